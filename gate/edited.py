@@ -205,6 +205,11 @@ class Crate:
         return found
 
 
+def module_of(crate, file):
+    parts = [crate, *file.removeprefix("src/").removesuffix(".rt").split("/")]
+    return parts[:-1] if parts[-1] in ("lib", "main", "mod") else parts
+
+
 def names_of(name, module, block, known):
     """Returns the names that the prover may give a function: a method's stands under its type's and its trait's."""
     if not block:

@@ -7,8 +7,7 @@ import collections, fnmatch, re
 
 import crates
 import passed
-from edited import FUNCTION, Crate, text_of
-from promised import module_of
+from edited import FUNCTION, Crate, module_of, text_of
 
 RECORD, REASONS = "gate/plants.txt", "gate/plant_reasons.txt"
 SOURCES = ("src", "specs", "proofs")

@@ -1,0 +1,120 @@
+"""A small checkout with a released program, and a toolchain that only plays its part: for tests of ./zirofen and the gate."""
+import hashlib
+import os
+import shutil
+import subprocess
+import tempfile
+
+TOP = os.path.dirname(os.path.dirname(os.path.abspath(__file__)))
+FILES = ("zirofen", "tools/build", "tools/program.sh", "tools/building.sh", "gate/from_nothing", "gate/kit.py",
+         "gate/crates.py", "tools/released")
+KIT = "some-kit logic 1"
+
+CRATES = """# name: the libraries that it uses
+low: arrayvec
+middle: low toml   # a comment
+beside: low
+zirofen: middle clap
+"""
+
+PROGRAM = """#!/bin/sh
+# NAME
+case "$1" in
+    --version) echo 'zirofen 0.3.1'; exit;;
+    --help) exit;;
+esac
+echo "NAME ran $*"
+cat
+exit 2
+"""
+
+TOOLCHAIN = """#!/bin/sh
+if [ "$1" = version ]; then cat "$PLAYED/kit"; exit; fi
+if [ "$1" = doc ]; then echo /none/START-HERE.md; exit; fi
+echo "$*" >>"$PLAYED/starts"
+echo 'logic=proved functions=179'
+echo 'rt: waiting for another rt to finish in /somewhere' >&2
+echo 'so far: 3 of 9 functions checked; the verdict comes last' >&2
+mktemp >"$PLAYED/temporary"
+mkdir -p out
+cp "$PLAYED/program" out/zirofen
+chmod +x out/zirofen
+if [ -e "$PLAYED/slow" ]; then sleep 60 & echo $! >"$PLAYED/child"; wait; fi
+if [ -e "$PLAYED/fails" ]; then echo 'error: no proof of it' >&2; exit 1; fi
+if [ -e "$PLAYED/changes" ]; then echo changed >../low/src/lib.rt; fi
+out/zirofen --help
+"""
+
+
+def write(path, text, executable=False):
+    os.makedirs(os.path.dirname(path), exist_ok=True)
+    with open(path, "w", encoding="ascii") as out:
+        out.write(text)
+    if executable:
+        os.chmod(path, 0o755)
+
+
+def read(path):
+    with open(path, encoding="ascii") as text:
+        return text.read()
+
+
+class Checkout:
+    """The checkout below `room`, whose name may be any."""
+
+    def __init__(self, test, name="check out"):
+        folder = tempfile.TemporaryDirectory()
+        test.addCleanup(folder.cleanup)
+        self.room = folder.name
+        self.top = os.path.join(self.room, name)
+        self.played = os.path.join(self.room, "played")
+        self.temporary = os.path.join(self.room, "temporary")
+        os.makedirs(self.temporary)
+        for crate in ("low", "middle", "beside", "zirofen"):
+            write(f"{self.top}/crates/{crate}/src/lib.rt", crate)
+            write(f"{self.top}/crates/{crate}/specs/Lib.antt", crate)
+        write(f"{self.top}/crates.txt", CRATES)
+        for file in FILES:
+            os.makedirs(os.path.dirname(f"{self.top}/{file}"), exist_ok=True)
+            shutil.copy(f"{TOP}/{file}", f"{self.top}/{file}")
+        write(f"{self.played}/kit", KIT + "\n")
+        write(f"{self.played}/program", PROGRAM.replace("NAME", "built"))
+        write(f"{self.played}/tools/rt", TOOLCHAIN, executable=True)
+        self.environment = dict(os.environ, PLAYED=self.played, TMPDIR=self.temporary,
+                                PATH=f"{self.played}/tools:{os.environ['PATH']}")
+        self.release(PROGRAM.replace("NAME", "released"))
+
+    def release(self, program, **changes):
+        """Writes release/ with the sums of what is there, and then some lines of its manifest otherwise."""
+        write(f"{self.top}/release/zirofen", program, executable=True)
+        lines = {"version": "0.3.1", "kit": KIT, "sources": self.sum_of_sources(),
+                 "program": hashlib.sha256(program.encode()).hexdigest(), **changes}
+        write(f"{self.top}/release/MANIFEST", "".join(f"{key} {value}\n" for key, value in lines.items()))
+
+    def sum_of_sources(self):
+        words = ["bash", "-c", 'top=$1; . "$top/tools/program.sh"; sum_of_sources', "bash", self.top]
+        return subprocess.run(words, stdout=subprocess.PIPE, text=True, check=True).stdout.strip()
+
+    def call(self, *words, program=None, cwd=None, **environment):
+        return subprocess.run([program or f"{self.top}/zirofen", *words], input="given\n", text=True,
+                              capture_output=True, cwd=cwd or self.room, env={**self.environment, **environment})
+
+    def build(self, *words, **environment):
+        return self.call(*words, program=f"{self.top}/tools/build", **environment)
+
+    def builds(self):
+        """How often the toolchain was started."""
+        path = f"{self.played}/starts"
+        return len(read(path).splitlines()) if os.path.exists(path) else 0
+
+    def change(self, path, text, seconds=0):
+        """Writes a source, whose time is then this many seconds from now."""
+        write(f"{self.top}/{path}", text)
+        at = os.stat(f"{self.top}/{path}").st_mtime + seconds
+        os.utime(f"{self.top}/{path}", (at, at))
+
+    def listed(self):
+        """All that is in the checkout, with times and modes."""
+        return sorted((path, os.lstat(path).st_mtime_ns, os.lstat(path).st_mode)
+                      for at, folders, files in os.walk(self.top)
+                      for path in (os.path.join(at, name) for name in folders + files))

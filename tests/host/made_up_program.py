@@ -1,0 +1,156 @@
+#!/usr/bin/env python3
+"""Plays the program's part: it answers by the guards alone, so that whatever isn't contained is unsettled, or an escape
+where a limit file is open. What it can is told by the environment: MADE_UP=all,advise, or 70 for the status
+of a wrapper that has nothing built. A subtree named odd is a fault,
+and each call is written into the file CALLS."""
+import contextlib
+import functools
+import io
+import os
+import subprocess
+import sys
+
+HERE = os.path.dirname(os.path.realpath(__file__))
+sys.dont_write_bytecode = True
+sys.path.insert(0, f"{HERE}/../../host")
+
+from zirofen_host.collect.accounts import Accounts  # noqa: E402
+from zirofen_host.fault import Fault  # noqa: E402
+from zirofen_host.ask.delegations import Delegations  # noqa: E402
+from zirofen_host.collect.tree import read_tree  # noqa: E402
+from zirofen_host.collect.model import User  # noqa: E402
+from zirofen_host.profile import path_of, text_of  # noqa: E402
+
+
+def can(what):
+    return what in os.environ.get("MADE_UP", "").split(",")
+
+
+def play(words):
+    """A run in this process, as subprocess tells of one."""
+    out, err = io.StringIO(), io.StringIO()
+    with contextlib.redirect_stdout(out), contextlib.redirect_stderr(err):
+        status = main(list(words))
+    return subprocess.CompletedProcess(words, status, out.getvalue(), err.getvalue())
+
+
+def options(words):
+    found = {}
+    for key, value in zip(words[::2], words[1::2]):
+        found.setdefault(key, []).append(value)
+    return found
+
+
+def user_of(word):
+    uid, _, gids = word.partition(":")
+    return User(int(uid), tuple(map(int, gids.split(",") if gids else ())))
+
+
+def failing(delegations, user, subtree):
+    for each in delegations.guarded(path_of(subtree)):
+        entry = delegations.entry(each.path, each.name)
+        if user.reaches(entry):
+            yield each, entry
+
+
+def answer(delegations, user, subtree):
+    found = list(failing(delegations, user, subtree))
+    if not found:
+        return 0, ["contained"]
+    each, _ = found[0]
+    if each.guard == "limit-file":
+        return 1, ["escapes", f"set {subtree} {each.name} 0"]
+    return 2, [f"unsettled {each.guard} {text_of(each.path)}"]
+
+
+def audit(delegations, users, subtrees, is_all):
+    statuses = [0]
+    for word in users:
+        for subtree in subtrees:
+            status, lines = answer(delegations, user_of(word), subtree)
+            if status:
+                statuses.append(status)
+                print("\n".join([f"pair {word if is_all else word.split(':')[0]} {subtree}", *lines]))
+                if not is_all:
+                    return status
+    if statuses == [0]:
+        print("contained")
+    return 1 if 1 in statuses else max(statuses)
+
+
+def advise(delegations, pairs):
+    met = {}
+    for user, subtree in pairs:
+        for each, entry in failing(delegations, user, subtree):
+            met.setdefault((each.path, each.name), (each, entry, []))[2].append(user)
+    for each, entry, users in met.values():
+        path, classes = text_of(each.path), {user.class_of(entry) for user in users}
+        for by in ("owner", "group", "others"):
+            if by in classes:
+                print(f"fails {each.guard} {path} {each.name} {entry.uid}:{entry.gid} {entry.mode:03o} {by}")
+        if "owner" in classes:
+            print(f"chown {path} {each.name} 0:{entry.gid}")
+        inside = {entry.gid in user.gids for user in users}
+        mode = entry.mode & (0o757 if True in inside else 0o777) & (0o775 if False in inside else 0o777)
+        if mode != entry.mode:
+            print(f"chmod {path} {each.name} {mode:03o}")
+    if not met:
+        print("contained")
+    return 1 if met else 0
+
+
+def pairs_in(file):
+    with open(file, encoding="ascii") as text:
+        return [(user_of(user), subtree) for _, user, subtree in (line.split() for line in text)]
+
+
+@functools.lru_cache(maxsize=8)
+def delegations_in(file, _):
+    with open(file, encoding="ascii") as text:
+        return Delegations(read_tree(text.read()), Accounts())
+
+
+def fault(line, status=3):
+    print(line, file=sys.stderr)
+    print("  help below it\na line that is none", file=sys.stderr)
+    return status
+
+
+def main(words):
+    with open(os.environ["CALLS"], "a", encoding="ascii") as calls:
+        calls.write(" ".join(words) + "\n")
+    if words[-1] == "--help":
+        if words[0] == "advise" and not can("advise"):
+            return fault("fault: usage")
+        known = {"audit": "  --all  x\n" if can("all") else "", "advise": "  --pairs <FILE>  x\n"}
+        print("Options:\n  --tree <FILE>\n" + known.get(words[0], ""))
+        return 0
+    if words == ["--version"]:
+        print("made-up 1.0")
+        return 0
+    if can("70"):
+        return fault("zirofen: not built: there is no rt on the PATH", 70)
+    is_all = words[1] == "--all"
+    given = options(words[2 if is_all else 1:])
+    if any(path.endswith("/odd") for path in given.get("--subtree", ())):
+        return fault("fault: subtree missing")
+    file = given["--tree"][0]
+    try:
+        delegations = delegations_in(file, (os.stat(file).st_ino, os.stat(file).st_mtime_ns))
+    except (Fault, UnicodeDecodeError):
+        return fault("fault: tree not-toml")
+    if words[0] == "replay":
+        return 0
+    if words[0] == "audit":
+        return audit(delegations, given["--uid"], given["--subtree"], is_all)
+    if words[0] == "advise":
+        pairs = pairs_in(given["--pairs"][0])
+        return fault("fault: subtree missing") if any(path.endswith("/odd") for _, path in pairs) else advise(delegations, pairs)
+    user = User(int(given["--uid"][0]), tuple(map(int, given.get("--gid", ()))))
+    status, lines = answer(delegations, user, given["--subtree"][0])
+    print("\n".join(lines))
+    return status
+
+
+if __name__ == "__main__":
+    sys.exit(main(sys.argv[1:]))

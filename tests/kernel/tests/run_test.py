@@ -1,0 +1,83 @@
+"""Tests of a whole turn of tests/kernel/run, with the second model in the places of the program and of the kernels."""
+import contextlib
+import importlib.machinery
+import importlib.util
+import io
+import os
+import sys
+import tempfile
+import unittest
+import unittest.mock
+
+TOP = os.path.dirname(os.path.dirname(os.path.abspath(__file__)))
+sys.path[:0] = [TOP, os.path.join(TOP, "..", "model")]
+import played
+from trial import asking, machine, tally
+
+
+def loaded():
+    loader = importlib.machinery.SourceFileLoader("kernel_run", os.path.join(TOP, "run"))
+    module = importlib.util.module_from_spec(importlib.util.spec_from_loader(loader.name, loader))
+    loader.exec_module(module)
+    return module
+
+
+class RunTest(unittest.TestCase):
+    def run_with(self, room, *words, kernel=lambda _kernel, script, _seconds: (played.Kernel().run(script), "")):
+        """The status of a call and what it writes."""
+        run = loaded()
+        patches = [unittest.mock.patch.object(asking, "report_of", played.report_of),
+                   unittest.mock.patch.object(asking, "asked", played.report_of),
+                   unittest.mock.patch.object(machine, "run", kernel),
+                   unittest.mock.patch.object(machine, "need_machine", lambda: None),
+                   unittest.mock.patch.object(machine, "kernel_of", lambda version, _kept: ("", f"linux-image-{version}")),
+                   unittest.mock.patch.object(sys, "argv", ["run", "--program", sys.executable, "--kept", room, *words])]
+        with contextlib.ExitStack() as stack, contextlib.redirect_stdout(io.StringIO()) as said:
+            for patch in patches:
+                stack.enter_context(patch)
+            return run.main(), said.getvalue()
+
+    def test_a_turn_runs_every_kind_on_both_kernels(self):
+        with tempfile.TemporaryDirectory() as room:
+            results = os.path.join(room, "results")
+            status, said = self.run_with(room, "--seed", "1", "--cases", "2", "--results", results)
+            self.assertEqual(status, 0, said)
+            self.assertRegex(said.splitlines()[-1], r"^\d+ passed, 0 failed$")
+            with open(results) as text:
+                report = text.read()
+            for part in ("## 6.1\n", "## 6.12\n", "- Operations: 3 cases", "- Contained: 2 cases", "- Unexplained: 0."):
+                self.assertIn(part, report)
+            self.assertTrue(all(name in report.replace("\n  ", " ") for name in tally.WRONG))
+
+    def test_a_wrong_program_that_is_not_found_fails(self):
+        with tempfile.TemporaryDirectory() as room, unittest.mock.patch.object(tally, "WRONG", [*tally.WRONG, "is right"]):
+            status, said = self.run_with(room, "--seed", "1", "--cases", "1", "--kernel", "6")
+            self.assertEqual(status, 1)
+            self.assertRegex(said.splitlines()[-1], r"^\d+ passed, 1 failed$")
+            self.assertIn("not found: is right", said.replace("\n  ", " "))
+
+    def test_what_a_kernel_lets_through_is_found(self):
+        def kernel(_kernel, script, _seconds):
+            return played.Kernel().run(script).replace("o 1\n", "o 0\n"), ""
+        with tempfile.TemporaryDirectory() as room:
+            status, said = self.run_with(room, "--seed", "1", "--cases", "2", "--kernel", "6", kernel=kernel)
+            self.assertEqual(status, 1)
+            self.assertRegex(said.splitlines()[-1], r"^\d+ passed, [1-9]\d* failed$")
+            self.assertTrue(os.listdir(os.path.join(room, "differing")))
+
+    def test_a_boot_that_is_cut_fails(self):
+        def kernel(_kernel, script, _seconds):
+            return played.Kernel().run(script).removesuffix("end\n"), ""
+        with tempfile.TemporaryDirectory() as room:
+            status, said = self.run_with(room, "--seed", "1", "--cases", "2", "--kernel", "6", kernel=kernel)
+            self.assertEqual(status, 1)
+            self.assertIn("didn't come to its end", said)
+
+    def test_a_machine_that_says_nothing_is_missing(self):
+        with tempfile.TemporaryDirectory() as room:
+            status, said = self.run_with(room, "--cases", "1", kernel=lambda *_: ("", "panic"))
+            self.assertEqual((status, said), (2, "kernel: the machine says nothing: panic\n"))
+
+
+if __name__ == "__main__":
+    unittest.main()

@@ -1,0 +1,139 @@
+"""Where a running kernel differs: a rule for each entry of docs/MODEL.md's list, by the name that stands in bold before it.
+
+A rule of outcomes is asked of a difference of outcomes, and says whether the entry explains it. A rule of values is asked of a
+value that a kernel keeps otherwise than it was written. An entry with neither never comes up, since the cases are made so
+that it can't, or aren't compared in it: `LEFT_OUT` says how.
+"""
+import errno
+import os
+import re
+from dataclasses import dataclass
+
+from second import rules
+
+LIST = os.path.join(os.path.dirname(os.path.abspath(__file__)), "../../../docs/MODEL.md")
+PAGE = 4096
+PAGES_FROM = 2 ** 63 - PAGE
+SMALL = 2 ** 21
+GREATEST = {rules.DESCENDANTS: 2147483647, rules.DEPTH: 2147483647, "pids.max": 4194304}
+
+
+@dataclass
+class Outcome:
+    """A step of a user, the model's state before it and after, what the program says, and the kernel's error number and state."""
+    state: rules.State
+    user: tuple
+    step: tuple
+    said: str
+    number: int
+    there: rules.State
+
+    def lets_through(self):
+        return self.said != "ok" and self.number == 0
+
+    def refuses(self, *numbers):
+        return self.said == "ok" and self.number in numbers
+
+
+def internal_process(outcome):
+    """Refused here for cpu and pids alone."""
+    if not outcome.lets_through() or not outcome.said.startswith("refused internal-process"):
+        return False
+    if outcome.step[0] == "move":
+        enabled = outcome.state.cgroups[outcome.step[2]].enabled
+    else:
+        enabled = rules.enabled_after(outcome.state, outcome.step[1], outcome.step[2])
+    return "memory" not in enabled
+
+
+def value_taken(outcome):
+    """A value past the kernel's greatest is refused there, and a memory limit of 2^63 or more is let through."""
+    if outcome.step[0] != "set":
+        return False
+    _, _, file, value = outcome.step
+    if outcome.said == f"refused bad-value {file}":
+        return outcome.number == 0 and file.startswith("memory.") and value >= 2 ** 63
+    return outcome.refuses(errno.EINVAL, errno.ERANGE) and value != rules.MAX and value > GREATEST.get(file, rules.MOST)
+
+
+def value_kept(file, written, kept):
+    """The greatest of `cgroup.max.*` is kept as `max`; memory is kept in whole pages, and what is near to 2^63 as `max`."""
+    if file in (rules.DESCENDANTS, rules.DEPTH):
+        return written == GREATEST[file] and kept == rules.MAX
+    if not file.startswith("memory.") or written == rules.MAX:
+        return False
+    return kept == (written // PAGE * PAGE if written < PAGES_FROM else rules.MAX)
+
+
+def name_of_file(outcome):
+    """mkdir of a name that a file has there; and rmdir of one, where who writes the directory is asked first."""
+    if outcome.step[0] == "rmdir":
+        is_it = outcome.said.startswith("refused no-such-cgroup") and outcome.number == errno.EACCES
+    else:
+        is_it = outcome.step[0] == "mkdir" and outcome.number == errno.EEXIST
+    return is_it and is_file_name(outcome.step[1][-1])
+
+
+def is_file_name(name):
+    return name.split(".")[0] in ("cgroup", "cpu", "memory", "pids", "io", "irq") and "." in name
+
+
+def folder_in_the_way(outcome):
+    """A controller's files can't stand where a directory has the name of one."""
+    if outcome.step[0] != "control" or not outcome.refuses(errno.EEXIST):
+        return False
+    return any(is_file_name(child[-1]) for child in rules.children(outcome.state, outcome.step[1]))
+
+
+def effect_of_limits(outcome):
+    """A fork that a full pids.max refuses, or what memory a limit of almost nothing refuses, there or above."""
+    there = outcome.there
+    if outcome.step[0] not in ("fork", "mkdir", "control"):
+        return False
+    place = outcome.state.live[outcome.step[1]][1] if outcome.step[0] == "fork" and outcome.said == "ok" else outcome.step[1]
+    above = [path for path in rules.upwards(place) if path in there.cgroups] if isinstance(place, tuple) else []
+    if outcome.step[0] == "fork" and outcome.refuses(errno.EAGAIN):
+        places = [place for _, place in there.live.values()]
+        return any(limit_of(there, path, "pids.max") <= sum(rules.inside(at, path) for at in places) for path in above)
+    return outcome.refuses(errno.ENOMEM) and any(limit_of(there, path, "memory.max") < SMALL for path in above)
+
+
+def limit_of(state, path, file):
+    value = state.cgroups[path].values.get(file, rules.MAX)
+    return rules.MOST if value == rules.MAX else value
+
+
+RULES = {
+    "internal process": internal_process,
+    "range of values": value_taken,
+    "name of a file": name_of_file,
+    "directory in the way": folder_in_the_way,
+    "effects of limits": effect_of_limits,
+}
+VALUES = {"range of values": value_kept}
+LEFT_OUT = {
+    "weight of the idle": "no case writes cpu.idle before its weights are compared",
+    "unknown controller": "every case's kernel has the three controllers",
+    "long writes": "no line of a case is as long",
+    "zombies": "the init waits for what has ended",
+    "capabilities of the moved": "no case enables cpuset",
+    "setgid directories": "no case has a mode past 0777",
+    "no identity": "the cases have 4294967294 in its place",
+}
+
+
+def listed():
+    """The names of docs/MODEL.md's list, in its order."""
+    with open(LIST, encoding="utf-8") as text:
+        part = text.read().partition("## Where a running kernel differs")[2].partition("\n## ")[0]
+    return re.findall(r"^- \*\*(.+?)\*\*", part, re.MULTILINE)
+
+
+def kind_of(outcome):
+    """The entry that explains a difference of outcomes, or None."""
+    return next((name for name, explains in RULES.items() if explains(outcome)), None)
+
+
+def kind_of_value(file, written, kept):
+    """The entry that explains how a value is kept, or None."""
+    return next((name for name, explains in VALUES.items() if explains(file, written, kept)), None)

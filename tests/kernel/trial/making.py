@@ -1,0 +1,205 @@
+"""Random cases that a kernel can be told: trees, users and operations of tests/model/trials, without what Linux has no word for."""
+import itertools
+import random
+from dataclasses import dataclass, field, replace
+
+from second import rules, texts
+from trial import asking
+from trial.classes import GREATEST
+from trials import cases, spelling, trees
+
+NO_IDENTITY = 4294967295
+SOMEBODY = 4294967294
+SEARCH = 0o111
+STEPS = 16
+MOST_ROWS, LONGEST_PATH = 16, 1024
+TRIES = 100
+# what a user can try without privileges, and the model leaves out
+OTHERS = ("threads", "rename", "born", "xattr", "chown", "write")
+WRITTEN = ("cgroup.type", "cgroup.freeze", "cgroup.kill", "cgroup.threads", "cgroup.pressure", "memory.oom.group", "memory.reclaim",
+           "memory.swap.max", "memory.swap.high", "cpu.max", "cpu.weight.nice", "cpu.idle", "cpu.max.burst", "memory.peak",
+           "cgroup.controllers", "cgroup.events", "cgroup.stat", "cpu.pressure", "memory.pressure", "memory.zswap.max",
+           "irq.pressure")
+TEXTS = ("0", "1", "max", "threaded", "domain", "10", "+pids", "100000")
+
+
+@dataclass
+class Case:
+    """The text of a tree and what is carried out on it: changes by root, steps and then tries, both with their users; and the
+    subtrees that are looked at. The state is told before, after each change, each step and each try that was let through, and
+    where there are tries at the end again. A case of a wrong program has its name."""
+    kind: str
+    text: str
+    steps: list
+    subtrees: list
+    state: rules.State = field(default=None, repr=False)
+    mends: list = field(default_factory=list)
+    tries: list = field(default_factory=list)
+    turned: str = ""
+
+    def as_record(self):
+        return {"kind": self.kind, "text": self.text, "subtrees": [rules.text_of(top) for top in self.subtrees],
+                "mends": self.mends, "steps": self.steps, "tries": self.tries, "turned": self.turned}
+
+    @staticmethod
+    def of_record(record):
+        subtrees = [rules.path_of(top) for top in record["subtrees"]]
+        state = texts.tree_of(record["text"].encode())
+        return Case(record["kind"], record["text"], deeds_of(record["steps"]), subtrees, state, record["mends"],
+                    deeds_of(record["tries"]), record["turned"])
+
+
+def deeds_of(listed):
+    return [((uid, tuple(gids)), tupled(step)) for (uid, gids), step in listed]
+
+
+def tupled(value):
+    return tuple(map(tupled, value)) if isinstance(value, list) else value
+
+
+def identity(number):
+    return SOMEBODY if number == NO_IDENTITY else number
+
+
+def group_user(user):
+    """A process has one group at least: who has none gets one that nothing in a tree has."""
+    return identity(user[0]), tuple(map(identity, user[1])) or (4242,)
+
+
+def settle(rng, tree):
+    """Takes from a random tree what the kernel can't be told: each line a difference of docs/MODEL.md or what it leaves out."""
+    tree.user, tree.controllers = group_user(tree.user), list(rules.CONTROLLERS)
+    rename_rows(tree)
+    for process in tree.processes:
+        process["uid"] = identity(process["uid"])
+    for path, row in tree.rows.items():
+        settle_entry(row.setdefault("dir", {}), 0o755, SEARCH)
+        for name, entry in row.get("files", {}).items():
+            settle_entry(entry, 0o644, 0)
+            if "value" in entry:
+                entry["value"] = settled_value(rng, name, entry["value"])
+
+
+def settle_entry(entry, default, bits):
+    for key in ("uid", "gid"):
+        if key in entry:
+            entry[key] = identity(entry[key])
+    entry["mode"] = entry.get("mode", default) | bits
+
+
+def settled_value(rng, file, value):
+    """A value that stands there as it was written, and that doesn't end what runs."""
+    if value == rules.MAX or not file.startswith("memory."):
+        return value if value == rules.MAX else min(value, GREATEST.get(file, rules.MOST) - 1)
+    if value == rules.MOST:
+        return rules.MAX
+    return (value or (rng.choice([0, 1]) if file in ("memory.min", "memory.low") else 1)) * 2 ** 24
+
+
+def rename_rows(tree):
+    """No cgroup has the name of a file that its parent has, or gets."""
+    spelled = {path: tuple("m" if name == "memory.stat" else name for name in path) for path in tree.rows}
+    rows = {}
+    for path, row in tree.rows.items():
+        rows[spelled[path]] = {**row, "path": rules.text_of(spelled[path])}
+    for process in tree.processes:
+        place = rules.path_of(process["at"])
+        process["at"] = rules.text_of(spelled.get(place, place))
+    tree.rows, tree.subtree = rows, spelled.get(tree.subtree, tree.subtree)
+
+
+def settled_step(state, step):
+    """A step that a kernel can be told: directories can be searched, and a child has a PID of its own."""
+    if step[0] == "chmod" and step[2] == rules.DIR:
+        return (*step[:3], step[3] | SEARCH)
+    if step[0] == "fork":
+        return (*step[:2], next(pid for pid in itertools.count(5001) if pid not in state.used))
+    if step[0] == "set" and step[2] in ("memory.high", "memory.max") and step[3] != rules.MAX and step[3] < 2 ** 20:
+        return (*step[:3], step[3] * 2 ** 24 + 2 ** 24)
+    return step
+
+
+def settled(rng, tree):
+    """A tree, settled, with its text and its state, which is None where the text is faulty."""
+    settle(rng, tree)
+    text = spelling.document(rng, {**tree.document(rng), "format": 2}).decode().removeprefix("\ufeff")
+    return tree, text, cases.state_of(text.encode())
+
+
+def is_small(tree):
+    """A machine under emulation tells a small tree soon, and takes no path that is as long as one may be behind its own folder's."""
+    return max(len(tree.rows), len(tree.processes)) <= MOST_ROWS and all(len(row["path"]) <= LONGEST_PATH for row in tree.rows.values())
+
+
+def random_tree(rng):
+    """A small random tree with a subtree, settled, with its text and its state."""
+    while True:
+        tree, text, state = settled(rng, trees.random_tree(rng))
+        if state and tree.subtree and is_small(tree):
+            return tree, text, state
+
+
+def of_operations(rng, _program):
+    """A case of random operations of one user."""
+    tree, text, state = random_tree(rng)
+    return [Case("operations", text, [(tree.user, step) for step in steps_of(rng, tree, state)], [tree.subtree], state)]
+
+
+def steps_of(rng, tree, state):
+    steps = []
+    for _ in range(STEPS):
+        step = settled_step(state, cases.random_operation(rng, tree, state, tree.user))
+        state = rules.step(state, tree.user, step)[0]
+        steps.append(step)
+    return steps
+
+
+def of_escape(rng, program):
+    """A case whose steps are a printed escape, or none."""
+    tree, text, state = random_tree(rng)
+    _, escape = asking.check(program, text, tree.user, tree.subtree)
+    return [Case("escapes", text, [(tree.user, step) for step in escape], [tree.subtree], state)] if escape else []
+
+
+def of_contained(rng, program):
+    """A case of operations of every kind by users against all of whom its subtrees are contained, or none."""
+    tree, text, state = random_tree(rng)
+    users = list({tree.user, *(group_user(trees.user_of(rng)) for _ in range(rng.choice([0, 0, 1, 2])))})
+    tops = asking.contained(program, text, users, [path for path in state.cgroups if path])
+    if not tops or not state.live:
+        return []
+    return [Case("contained", text, [], tops[:3], state, tries=tries_of(rng, tree, state, users, TRIES))]
+
+
+def tries_of(rng, tree, state, users, count):
+    """Operations of every kind by these users, chosen in the trees that those before them leave in the model."""
+    tries = []
+    for number in range(count):
+        user = rng.choice(users)
+        step = other_step(rng, state, user, number) if rng.random() < 0.3 else settled_step(
+            state, cases.random_operation(rng, tree, state, user))
+        if step[0] in rules.BARS:
+            state = rules.step(state, user, step)[0]
+        tries.append((user, step))
+    return tries
+
+
+def other_step(rng, state, user, number):
+    kind = rng.choice(OTHERS)
+    path, other = (rules.text_of(rng.choice(list(state.cgroups))) for _ in range(2))
+    entry = rng.choice([rules.DIR, rules.PROCS, rules.CONTROL, *rules.LIMIT_FILES])
+    return {"threads": ("threads", rng.choice(list(state.live) or [7]), path), "rename": ("rename", path, other.rstrip("/") + "/r"),
+            "born": ("born", path, 9000 + number), "xattr": ("xattr", path, entry), "chown": ("chown", path, entry, user[0]),
+            "write": ("write", path, rng.choice(WRITTEN), rng.choice(TEXTS))}[kind]
+
+
+MAKERS = {"operations": of_operations, "escapes": of_escape, "contained": of_contained}
+
+
+def random_cases(maker, name, count, program):
+    """The first so many cases that a maker gives of a name."""
+    found, number = [], 0
+    while len(found) < count:
+        found += maker(random.Random(f"kernel {name} {number}"), program)
+        number += 1
+    return found

@@ -1,0 +1,110 @@
+"""The lines that tests/kernel/init.c takes and writes: from a case to a script, and from what was said to a record."""
+from dataclasses import dataclass, field
+
+from second import commands, rules
+from second.rules import text_of
+
+
+@dataclass
+class Record:
+    """What a kernel made of a case: what failed while it was built, the states, and the error number of each operation."""
+    faults: list = field(default_factory=list)
+    states: list = field(default_factory=list)
+    numbers: list = field(default_factory=list)
+
+
+def head():
+    return "files " + " ".join(rules.LIMIT_FILES)
+
+
+def spelled(step):
+    """A step's line: an operation of the model, or one of the other kinds, which are words already."""
+    return commands.spelling(step) if step[0] in rules.BARS else " ".join(map(str, step))
+
+
+def lines_of(number, case):
+    """A case's lines: the tree, what root changes of it, what users do and what they try."""
+    lines = [f"case {number}", *building_lines(case), "state", *(f"mend {line}" for line in case.mends)]
+    for verb, deeds in (("do", case.steps), ("try", case.tries)):
+        for user, step in deeds:
+            lines += ["user " + " ".join(map(str, [user[0], *user[1]])), f"{verb} {spelled(step)}"]
+    return [*lines, "state"] if case.tries else lines
+
+
+def building_lines(case):
+    """A tree, built by root from the top down, its processes, and then owners, modes and values."""
+    state = case.state
+    rows = sorted(state.cgroups.items(), key=lambda row: len(row[0]))
+    lines = [f"mkdir {text_of(path)}" for path, _ in rows if path]
+    for path, cgroup in rows:
+        if cgroup.enabled:
+            lines.append(f"control {text_of(path)} " + " ".join(f"+{name}" for name in sorted(cgroup.enabled)))
+    lines += [f"process {pid} {uid} {text_of(path)}" for pid, (uid, path) in sorted(state.live.items())]
+    for path, cgroup in rows:
+        lines += [f"set {text_of(path)} {file} {value}" for file, value in cgroup.values.items()
+                  if value != rules.default_of(file)]
+        lines += [f"own {text_of(path)} {name} {entry.uid} {entry.gid} {entry.mode:o}" for name, entry in cgroup.entries.items()]
+        if case.tries:
+            # a delegation that hands over the one hands over the other; the model has no cgroup.threads
+            procs = cgroup.entries[rules.PROCS]
+            lines.append(f"own {text_of(path)} cgroup.threads {procs.uid} {procs.gid} {procs.mode:o}")
+    return lines
+
+
+def is_whole(case, record):
+    """Whether a case was built, and carried out to its end."""
+    told = 1 + len(case.mends) + len(case.steps) + len(case.tries) + bool(case.tries)
+    return not record.faults and len(record.states) == told
+
+
+def script_of(cases):
+    return "\n".join([head()] + [line for number, case in enumerate(cases) for line in lines_of(number, case)]) + "\n"
+
+
+def records_of(said):
+    """The records by number of case, and whether the run came to its end."""
+    found, record, lines, changed = {}, Record(), set(), False
+    for line in said.split("\n"):
+        sign, rest = line[:1], line[1:]
+        changed = changed or sign in ("+", "-")
+        if line.startswith("case "):
+            record, lines = found.setdefault(int(line[5:]), Record()), set()
+        elif sign == "!":
+            record.faults.append(line)
+        elif line.startswith("o "):
+            record.numbers.append(int(line[2:]))
+        elif sign == "+":
+            lines.add(rest)
+        elif sign == "-":
+            lines.discard(rest)
+        elif line == ".":
+            record.states.append(state_of(lines) if changed or not record.states else record.states[-1])
+            changed = False
+    return found, said.endswith("end\n")
+
+
+def state_of(lines):
+    """A kernel's state in the model's terms; values that are no numbers stay texts."""
+    cgroups, live = {}, {}
+    for line in lines:
+        kind, *words = line.split(" ")
+        if kind == "p":
+            live[int(words[0])] = (int(words[1]), rules.path_of(words[2]))
+        else:
+            cgroups[rules.path_of(words[0])] = cgroup_of(words[1:])
+    return rules.State(frozenset(rules.CONTROLLERS), cgroups, live, frozenset(live))
+
+
+def cgroup_of(words):
+    enabled, *standing = words[:4]
+    entries = {name: entry_of(word.split(":")) for name, word in zip(rules.STANDING, standing)}
+    values = {}
+    for word in words[4:]:
+        name, _, rest = word.partition("=")
+        *entry, value = rest.split(":")
+        entries[name], values[name] = entry_of(entry), int(value) if value.isdigit() else value
+    return rules.Cgroup(entries, values, frozenset(enabled.split(",")) & frozenset(rules.CONTROLLERS))
+
+
+def entry_of(words):
+    return rules.Entry(int(words[0]), int(words[1]), int(words[2], 8))

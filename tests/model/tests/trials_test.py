@@ -1,0 +1,104 @@
+"""Tests of what tests/model/run and tests/model/hostile stand on; they need no program."""
+import collections
+import json
+import os
+import random
+import sys
+import tomllib
+import unittest
+
+sys.path.insert(0, os.path.dirname(os.path.dirname(os.path.abspath(__file__))))
+from second import commands, rules
+from trials import cases, labels, programs, spelling, trees, wrong
+
+ALL = frozenset([*commands.OPTIONS, "audit --all", "advise --pairs"])
+EXAMPLES = os.path.join(os.path.dirname(os.path.abspath(__file__)), "../../../examples")
+
+
+def example(name):
+    with open(os.path.join(EXAMPLES, name), "rb") as text:
+        return text.read()
+
+
+class ModelTest(unittest.TestCase):
+    def ask(self, words, tree, ops=b""):
+        lines, status, fault = commands.respond(words.split(" "), example(tree), {"ops": ops})
+        return lines + ([fault] if fault else []), status
+
+    def test_examples(self):
+        check = "check --uid 1000 --subtree /c0"
+        self.assertEqual(self.ask(check, "delegation.toml"), (["contained"], 0))
+        self.assertEqual(self.ask(check, "delegation-ancestor-owned.toml"),
+                         (["escapes", "chmod / cgroup.procs 646", "move 10 /c0"], 1))
+        self.assertEqual(self.ask(check, "delegation-parent-directory.toml"), (["unsettled parent-dir /"], 2))
+        self.assertEqual(self.ask(check, "delegation-over-limit.toml"), (["escapes"], 1))
+        self.assertEqual(self.ask("replay --uid 1000 --subtree /c0 --ops ops", "delegation.toml", b"exit 11\nexit"),
+                         (["ok", "fault: line 2 cut"], 3))
+
+    def test_advice_names_the_class_and_the_change(self):
+        entry = rules.Entry(1000, 5, 0o664)
+        self.assertEqual(rules.entry_changes([(1000, (5,))], entry, "/ dir"), ["chown / dir 0:5", "chmod / dir 644"])
+        self.assertEqual(rules.entry_changes([(1000, ())], entry, "/ dir"), ["chown / dir 0:5"])
+        self.assertEqual(rules.entry_changes([(1001, ())], rules.Entry(0, 5, 0o666), "/ dir"), ["chmod / dir 664"])
+        both = [(1001, ()), (1002, (5,))]
+        self.assertEqual(rules.entry_changes(both, rules.Entry(0, 5, 0o666), "/ dir"), ["chmod / dir 644"])
+
+
+class TrialsTest(unittest.TestCase):
+    def test_each_wrong_model_differs_by_a_text_that_stands_once(self):
+        self.assertGreaterEqual(len(wrong.TURNED), 70)
+        for name in wrong.TURNED:
+            self.assertIsNot(wrong.respond_of(name), commands.respond)
+            self.assertIsNone(programs.expected_of(cases.Case(["upgrade"], b"x = 07:32"), wrong.respond_of(name)), name)
+
+    def test_trees_are_as_large_as_is_said(self):
+        most = collections.Counter()
+        for number in range(1500):
+            tree = trees.random_tree(random.Random(number))
+            entries = [entry for row in tree.rows.values() for entry in [row.get("dir", {}), *row.get("files", {}).values()]]
+            sizes = {"gids": len({entry["gid"] for entry in entries if "gid" in entry}), "cgroups": len(tree.rows),
+                     "processes": len(tree.processes), "gids of a user": len(tree.user[1]),
+                     "bytes of a path": max(len(row["path"]) for row in tree.rows.values())}
+            most |= collections.Counter(sizes)
+        self.assertEqual(most, {"gids": 33, "cgroups": 60, "processes": 40, "gids of a user": 32, "bytes of a path": 4095})
+
+    def test_probes_come_up_at_every_depth(self):
+        found = set()
+        for number in range(400):
+            tree = trees.tree_to_probe(random.Random(number))
+            found |= {len(path) for path in tree.rows if path and path[-1].startswith("probe") and path[:-1] in rules.upwards(tree.subtree)}
+        self.assertGreaterEqual(found, set(range(2, 13)))
+
+    def test_each_spelling_spells_the_document(self):
+        for number in range(100):
+            rng = random.Random(number)
+            parts = trees.random_tree(rng).document(rng)
+            read = tomllib.loads(spelling.document(rng, parts).decode("utf-8").removeprefix("\ufeff"))
+            self.assertEqual(read, parts)
+
+    def test_a_case_is_made_again_by_its_seed_and_from_its_record(self):
+        for number in range(20):
+            case = cases.random_case("seed", number, ALL)
+            self.assertEqual(case, cases.random_case("seed", number, ALL))
+            self.assertEqual(case, cases.Case.of_record(json.loads(json.dumps(case.as_record()))))
+
+    def test_a_difference_is_seen(self):
+        expected = (["ok", "kept"], 0, "")
+        self.assertEqual(programs.difference((b"ok\nkept\n", 0, b""), expected), "")
+        for written in ((b"ok\nkept", 0, b""), (b"ok\nkept\n", 1, b""), (b"ok\nkept\n", 0, b"fault: read\n"), (b"", -11, b"")):
+            self.assertNotEqual(programs.difference(written, expected), "", written)
+        self.assertEqual(programs.form_fault((b"", 3, b"fault: tree not-toml\n")), "")
+        for written in ((b"", 3, b""), (b"", -11, b""), (b"", 4, b"fault: usage\n"), (b"", 3, b"oh\nfault: usage\n")):
+            self.assertNotEqual(programs.form_fault(written), "", written)
+
+    def test_a_program_is_run_with_the_stack_that_is_said(self):
+        with programs.Room("/bin/sh", 256 * 1024) as room:
+            self.assertEqual(room.run(cases.Case(["-c", "ulimit -s; exit 3"])), (b"256\n", 3, b""))
+            self.assertEqual(room.run(cases.Case(["-c", "kill -SEGV $$"]))[1], -11)
+
+    def test_all_that_is_wanted_can_be_said(self):
+        self.assertEqual(len(set(labels.wanted(ALL))), len(labels.wanted(ALL)))
+
+
+if __name__ == "__main__":
+    unittest.main()
