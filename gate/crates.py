@@ -1,27 +1,45 @@
-"""What crates.txt says: the crates of a repository, and what each uses."""
-import re
+#!/usr/bin/env python3
+"""What crates.txt says: the crates of a repository, and what each uses.
+
+  gate/crates.py                    at the top of a repository: writes the names of the crates
+  gate/crates.py --without NAME ..  writes crates.txt without these crates
+"""
+import re, sys
 
 
-def read(top):
-    """Returns what each crate uses, by name, in the order of the file."""
-    found = {}
+def rows(top):
+    """Yields each line of the file, the name of the crate that it tells of or None, and what that uses."""
     with open(f"{top}/crates.txt", encoding="utf-8") as file:
         for line in file:
             told = line.partition("#")[0].strip()
             row = re.fullmatch(r"(\w+)\s*:\s*([\w ]*)", told)
-            if row:
-                found[row[1]] = row[2].split()
-            elif told:
+            if told and not row:
                 raise ValueError(f"crates.txt has a line that is not 'NAME: LIBRARY ..': {told}")
-    return found
+            yield line, row and row[1], row[2].split() if row else []
+
+
+def read(top):
+    """Returns what each crate uses, by name, in the order of the file."""
+    return {name: uses for _, name, uses in rows(top) if name}
 
 
 def below(crates, name):
     """Returns the crates of the repository that one stands on, and itself."""
-    found, ahead = set(), [name]
-    while ahead:
-        it = ahead.pop()
-        if it in crates and it not in found:
-            found.add(it)
-            ahead += crates[it]
+    return {*in_order(crates, name)}
+
+
+def in_order(crates, name):
+    """Returns a crate and those of the repository that it stands on, each behind one that uses it, the nearest first."""
+    found = [name] if name in crates else []
+    for it in found:
+        found += [used for used in crates[it] if used in crates and used not in found]
     return found
+
+
+if __name__ == "__main__":
+    if sys.argv[1:2] == ["--without"]:
+        sys.stdout.writelines(line for line, name, _ in rows(".") if name not in sys.argv[2:])
+    elif sys.argv[1:]:
+        sys.exit(__doc__)
+    else:
+        print(*read("."), sep="\n")

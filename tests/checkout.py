@@ -3,11 +3,12 @@ import hashlib
 import os
 import shutil
 import subprocess
+import sys
 import tempfile
 
 TOP = os.path.dirname(os.path.dirname(os.path.abspath(__file__)))
-FILES = ("zirofen", "tools/build", "tools/program.sh", "tools/building.sh", "gate/from_nothing", "gate/kit.py",
-         "gate/crates.py", "tools/released")
+FILES = ("zirofen", "tools/build", "tools/program.py", "tools/building.py", "tools/released", "gate/from_nothing", "gate/kit.py",
+         "gate/crates.py")
 KIT = "some-kit logic 1"
 
 CRATES = """# name: the libraries that it uses
@@ -92,8 +93,13 @@ class Checkout:
         write(f"{self.top}/release/MANIFEST", "".join(f"{key} {value}\n" for key, value in lines.items()))
 
     def sum_of_sources(self):
-        words = ["bash", "-c", 'top=$1; . "$top/tools/program.sh"; sum_of_sources', "bash", self.top]
-        return subprocess.run(words, stdout=subprocess.PIPE, text=True, check=True).stdout.strip()
+        words = [sys.executable, "-c", "import program; print(program.sum_of_sources())"]
+        how = {"env": {**os.environ, "PYTHONPATH": f"{self.top}/tools"}, "stdout": subprocess.PIPE, "text": True, "check": True}
+        return subprocess.run(words, **how).stdout.strip()
+
+    def looked(self):
+        """What a choice in it rests on."""
+        return self.call("-c", '. "$1"; look "$2"', "look", f"{self.top}/zirofen", self.top, program="bash").stdout.rstrip("\n")
 
     def call(self, *words, program=None, cwd=None, **environment):
         return subprocess.run([program or f"{self.top}/zirofen", *words], input="given\n", text=True,

@@ -13,6 +13,8 @@ import tarfile
 import tempfile
 import unittest
 
+import program
+
 TOP = os.path.dirname(os.path.dirname(os.path.dirname(os.path.abspath(__file__))))
 
 
@@ -44,9 +46,8 @@ def members(data):
 
 def folder_of_program():
     """The folder of a program of this checkout's sources: the released one's or the built one's, else nothing."""
-    chosen = 'top=$0; . "$top/tools/program.sh"; folder_of "$(sum_of_sources)"'
-    folder = run("bash", "-c", chosen, TOP).stdout.strip()
-    return os.path.relpath(folder, TOP) if folder else None
+    found = program.of_sources()
+    return found and found.folder
 
 
 class PackageTest(unittest.TestCase):

@@ -6,6 +6,7 @@ import unittest
 import named_once
 import theorems
 from believed import World, closure, definitions_of, nearest_first
+from checkout import TOP
 
 WORDS = """-- Words of the crate below, which a reader of contracts meets.
 use Rattle.std.specs.Prelude.{◌≡◌, ◌+◌, ℕ, List, Option, Some, None}
@@ -336,7 +337,7 @@ class Repository(unittest.TestCase):
     """What holds of this repository's crates, whatever stands in them."""
 
     def setUp(self):
-        self.world = World(os.path.dirname(os.path.dirname(os.path.abspath(__file__))))
+        self.world = World(TOP)
 
     def reached(self, name, *clauses):
         found = closure([self.world.named(name, clauses)])[0]

@@ -190,8 +190,11 @@ class ChosenBeforeTest(WrapperTest):
     def setUp(self):
         super().setUp()
         self.kept = f"{self.checkout.top}/.chosen"
+        began = time.time()
+        self.checkout.change("crates.txt", CRATES)
         self.assert_ran(self.checkout.call("may"))
-        self.assertFalse(os.path.exists(self.kept), "kept beside what could be changed without a trace")
+        if time.time() - began < 1:
+            self.assertFalse(os.path.exists(self.kept), "kept beside what could be changed without a trace")
         time.sleep(2.1)
         self.assert_ran(self.checkout.call("may"))
 
@@ -207,7 +210,7 @@ class ChosenBeforeTest(WrapperTest):
 
     def test_it_is_what_decides(self):
         self.checkout.release(PROGRAM, sources="0" * 64)
-        seen = self.checkout.call("-c", 'top=$0; . "$top/tools/program.sh"; seen', self.checkout.top, program="bash").stdout.rstrip("\n")
+        seen = self.checkout.looked()
         write(self.kept, f"release\nzirofen 0.3.1\n{seen}")
         self.assert_ran(self.checkout.call("may", PATH=NO_TOOLCHAIN), name="NAME")
         write(self.kept, f"release\nzirofen 0.3.2\n{seen}")
@@ -231,7 +234,7 @@ class ChosenBeforeTest(WrapperTest):
     @unittest.skipUnless(os.geteuid() == 0, "takes another user")
     def test_what_another_user_kept_is_not_read(self):
         self.checkout.change("crates/low/src/lib.rt", "changed")
-        seen = self.checkout.call("-c", 'top=$0; . "$top/tools/program.sh"; seen', self.checkout.top, program="bash").stdout.rstrip("\n")
+        seen = self.checkout.looked()
         write(self.kept, f"release\nzirofen 0.3.1\n{seen}")
         os.chown(self.kept, 65534, 65534)
         self.assert_no_answer(self.checkout.call("may", PATH=NO_TOOLCHAIN), "no rt on the PATH", lines=2)

@@ -2,23 +2,25 @@
 import functools
 import os
 import subprocess
+import sys
 import tempfile
 
 from second import commands, rules
 from second.rules import text_of
 from trial.machine import Missing
 
-TOP = os.path.join(os.path.dirname(os.path.abspath(__file__)), "../../..")
-OF_SOURCES = 'top=$1; . "$top/tools/program.sh" && folder_of "$(sum_of_sources)"'
+sys.path.append(os.path.join(os.path.dirname(os.path.abspath(__file__)), "../../../tools"))
+import program as programs  # noqa: E402
+
 CHANGES = ("chown", "chmod", "set")
 
 
 def program_of_sources():
     """The program that ./zirofen runs in this checkout, where it needs no building."""
-    found = subprocess.run(["bash", "-c", OF_SOURCES, "bash", TOP], capture_output=True, text=True)
-    if found.returncode != 0:
+    found = programs.of_sources()
+    if not found:
         raise Missing("no program of these sources: tools/build makes one, or --program names one")
-    return os.path.join(found.stdout.rstrip("\n"), "zirofen")
+    return found.path
 
 
 def report_of(program, text, *words):
