@@ -18,7 +18,7 @@ from case import TOP
 
 HEAD_INDENT = "#     "
 HELP_INDENT = "  "
-PAGES, PAGE_INDENT = ("README.md", "docs/COMMANDS.md", "docs/FORMATS.md"), "    "
+PAGES, PAGE_INDENT = ("README.md", "docs/FORMATS.md"), "    "
 SAMPLE = "examples/user-manager.toml"
 STATUS = {"granted": 0, "contained": 0, "kept": 0, "ok": 0, "refused": 1, "escapes": 1, "broken": 1, "pair": 1,
           "unsettled": 2, "fails": 1, "fault:": 3}
