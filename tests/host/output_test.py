@@ -180,10 +180,10 @@ class OthersTest(OutputTest):
     """Where somebody else owns or writes what is on the way."""
 
     def test_a_folder_of_somebody_elses(self):
-        his = self.folder("his", ALICE)
-        self.assert_refused(f"{his}/page.html", f"somebody else owns or writes the folder {his}")
-        os.mkdir(f"{his}/roots")
-        self.assert_refused(f"{his}/roots/page.html", f"the folder {his}, and root writes into none of theirs")
+        hers = self.folder("hers", ALICE)
+        self.assert_refused(f"{hers}/page.html", f"somebody else owns or writes the folder {hers}")
+        os.mkdir(f"{hers}/roots")
+        self.assert_refused(f"{hers}/roots/page.html", f"the folder {hers}, and root writes into none of theirs")
         for mode in (0o775, 0o777, 0o757):
             written = self.folder(f"written{mode}", 0, mode)
             self.assert_refused(f"{written}/page.html", "somebody else owns or writes")
@@ -204,7 +204,7 @@ class OthersTest(OutputTest):
         """What stands at the name itself: a link and a file are put out of the way, and a pipe isn't waited for."""
         everybodys = self.folder("everybodys", 0, 0o1777)
         file = f"{everybodys}/page.html"
-        for make in (lambda: os.symlink(self.secret, file), lambda: write(file, "his\n")):
+        for make in (lambda: os.symlink(self.secret, file), lambda: write(file, "hers\n")):
             make()
             os.chown(file, ALICE, ALICE, follow_symlinks=False)
             self.write(file)
@@ -261,11 +261,11 @@ class OthersTest(OutputTest):
         self.assert_kept()
 
     def test_a_temporary_folder_in_somebody_elses(self):
-        his = self.folder("his", ALICE)
-        with mock.patch.dict(os.environ, TMPDIR=his), self.assertRaisesRegex(Fault, "^can't make a temporary folder in .*/his: "):
+        hers = self.folder("hers", ALICE)
+        with mock.patch.dict(os.environ, TMPDIR=hers), self.assertRaisesRegex(Fault, "^can't make a temporary folder in .*/hers: "):
             with output.temporary_folder():
                 pass
-        self.assertEqual(os.listdir(his), [])
+        self.assertEqual(os.listdir(hers), [])
 
 
 @unittest.skipUnless(os.geteuid() == 0, "only root gives files away")
@@ -290,12 +290,12 @@ class HelperTest(HostTest):
         return ended
 
     def test_who_owns_the_folder_of_a_page_is_told_of(self):
-        his = f"{self.host.folder}/his"
-        os.mkdir(his)
-        os.chown(his, ALICE, ALICE)
-        for words in (("--html", f"{his}/page.html"), ("--keep", f"{his}/tree.toml"), ("--baseline-update", f"{his}/baseline.json")):
+        hers = f"{self.host.folder}/hers"
+        os.mkdir(hers)
+        os.chown(hers, ALICE, ALICE)
+        for words in (("--html", f"{hers}/page.html"), ("--keep", f"{hers}/tree.toml"), ("--baseline-update", f"{hers}/baseline.json")):
             ended = self.check(*words)
-            self.assertEqual((ended.returncode, os.listdir(his)), (3, []))
+            self.assertEqual((ended.returncode, os.listdir(hers)), (3, []))
             self.assertEqual((ended.stdout + ended.stderr).count("root writes into none of theirs"), 1)
             self.assertEqual([line.split()[2:] for line in ended.stdout.splitlines()[1:3]], [["contained", "/a"], ["contained", "/b"]])
 
@@ -306,7 +306,7 @@ class HelperTest(HostTest):
         os.chmod(everybodys, 0o1777)
         write(secret)
         kept, baseline = f"{everybodys}/tree.toml", f"{everybodys}/baseline.json"
-        for make in (os.mkfifo, lambda file: os.symlink(secret, file), lambda file: write(file, "his\n")):
+        for make in (os.mkfifo, lambda file: os.symlink(secret, file), lambda file: write(file, "hers\n")):
             for file in (kept, f"{baseline}.new"):
                 make(file)
                 os.chown(file, ALICE, ALICE, follow_symlinks=False)

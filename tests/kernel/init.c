@@ -324,7 +324,7 @@ static int do_word(const struct word *able, char **words, int count)
     return EBADMSG;
 }
 
-/* An operation is carried out by a process of the user, with his groups and without capabilities. */
+/* An operation is carried out by a process of the user, with their groups and without capabilities. */
 static int operate(char **words, int count)
 {
     int status, wrong;

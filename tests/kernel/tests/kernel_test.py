@@ -15,9 +15,9 @@ import unittest.mock
 TOP = os.path.dirname(os.path.dirname(os.path.abspath(__file__)))
 sys.path[:0] = [TOP, os.path.join(TOP, "..", "model")]
 from second import commands, rules, texts
-from trial import advice, asking, classes, comparing, machine, made, making, script, tally, turned
+from trial import advice, asking, classes, comparing, machine, made, making, script, tally, mutants
 
-# how many wrong programs have to be found
+# how many mutants have to be found
 WRONG = 10
 KINDS = ("operations", "escapes", "contained", "advice", "wrong advice")
 
@@ -46,9 +46,9 @@ def second_advice(_program, text, pairs):
 
 class KernelTest(unittest.TestCase):
     def compared(self, turn=None):
-        """Of each case of operations that was recorded what it differs by, as a wrong program's where there is one."""
+        """Of each case of operations that was recorded what it differs by, as a mutant's where there is one."""
         for case, answers, record in recorded("operations"):
-            said = turned.answers_of(turn, case, answers) if turn else answers
+            said = mutants.answers_of(turn, case, answers) if turn else answers
             yield case, record, comparing.compare(case, said, record)
 
     def test_init_is_compiled_without_a_warning(self):
@@ -91,22 +91,22 @@ class KernelTest(unittest.TestCase):
 
     def test_wrong_advice_is_found_on_the_kernel(self):
         found = {case.turned for case, _, found in self.advised("wrong advice") if found.verdict.startswith("broken")}
-        self.assertEqual(found, set(turned.ADVICE))
+        self.assertEqual(found, set(mutants.ADVICE))
 
     def test_changes_that_were_not_made_are_found(self):
         told = set()
         for case, record, found in self.advised("advice"):
             self.assertEqual(comparing.changes_differences(case, case.mends, record), [])
-            for name, turn in turned.ADVICE.items():
+            for name, turn in mutants.ADVICE.items():
                 if turn(case.mends) != case.mends:
                     self.assertTrue(comparing.changes_differences(case, turn(case.mends), record), (name, case.mends))
                     told.add(name)
-        self.assertEqual(told, set(turned.ADVICE))
+        self.assertEqual(told, set(mutants.ADVICE))
 
     def test_wrong_programs_are_found(self):
-        found = [name for name, turn in turned.TURNED.items()
+        found = [name for name, turn in mutants.MUTANTS.items()
                  if any(not each.kind for _, _, compared in self.compared(turn) for each in compared.differences)]
-        self.assertEqual(found, list(turned.TURNED))
+        self.assertEqual(found, list(mutants.MUTANTS))
         self.assertGreaterEqual(len(found), WRONG)
 
     def test_each_wrong_program_is_wrong_at_its_own_step_of_the_made_case(self):
@@ -115,8 +115,8 @@ class KernelTest(unittest.TestCase):
         for user, step in case.steps:
             state, refusal = rules.step(state, user, step)
             answers.append(f"refused {refusal}" if refusal else "ok")
-        for name, turn in turned.TURNED.items():
-            said = turned.answers_of(turn, case, answers)
+        for name, turn in mutants.MUTANTS.items():
+            said = mutants.answers_of(turn, case, answers)
             self.assertEqual([at for at, pair in enumerate(zip(said, answers)) if len(set(pair)) > 1], [list(made.STEPS).index(name)], name)
 
     def test_state_that_differs_is_found(self):

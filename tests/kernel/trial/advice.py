@@ -5,14 +5,14 @@ from dataclasses import replace
 
 from second import commands, rules
 from second.rules import text_of
-from trial import asking, making, turned
+from trial import asking, making, mutants
 from trials import spelling, trees
 
 # so many operations are tried after the changes and the escape
 TRIES = 24
 # so many pairs at most are advised on at once
 MOST_PAIRS = 5
-# so many cases of each wrong program
+# so many cases of each mutant
 WRONG_CASES = 6
 USER = (1000, (5,))
 ABOVE, TOP, BESIDE, BELOW = ("above",), ("above", "top"), ("above", "beside"), ("above", "top", "a")
@@ -133,10 +133,10 @@ def made_cases(program):
 
 
 def wrong_cases(made):
-    """Of each wrong program some of the made cases, with the changes that it would advise."""
+    """Of each mutant some of the made cases, with the changes that it would advise."""
     found = []
     right = [case for case in made if case.kind == "advice" and (case.steps or rules.over(case.state, TOP))]
-    for name, turn in turned.ADVICE.items():
+    for name, turn in mutants.ADVICE.items():
         able = [(case, turn(case.mends)) for case in right if turn(case.mends) != case.mends]
         found += [replace(case, kind="wrong advice", turned=name, mends=mends, tries=case.tries[:4])
                   for case, mends in able[::max(1, len(able) // WRONG_CASES)][:WRONG_CASES]]

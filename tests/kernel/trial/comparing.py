@@ -4,7 +4,7 @@ from dataclasses import dataclass
 
 from second import commands, rules
 from second.rules import text_of
-from trial import advice, asking, classes, script, turned
+from trial import advice, asking, classes, script, mutants
 
 # the error numbers by which a kernel refuses what the program does, by the first word of the refusal
 NUMBERS = {
@@ -91,8 +91,8 @@ def compare(case, answers, record):
 
 
 def tells_apart(turn, case, answers, record):
-    """Whether a wrong program's answers differ from what a kernel did by what nothing explains."""
-    found = compare(case, turned.answers_of(turn, case, answers), record)
+    """Whether a mutant's answers differ from what a kernel did by what nothing explains."""
+    found = compare(case, mutants.answers_of(turn, case, answers), record)
     return any(not each.kind for each in found.differences)
 
 

@@ -1,4 +1,4 @@
-"""A made case of operations, in which each wrong program of turned.TURNED is wrong at a step of its own, so that it is found in a
+"""A made case of operations, in which each of mutants.MUTANTS is wrong at a step of its own, so that it is found in a
 run of however few cases."""
 from second import rules
 from trial import making
@@ -7,7 +7,7 @@ from trials import trees
 USER, OTHER = (1000, (5, 6)), 1001
 SHARED, ONE, TWO = ("shared",), ("shared", "one"), ("shared", "two")
 OWN, FLAT, CHILD, LEAF, BUSY = ("own",), ("own", "flat"), ("own", "child"), ("own", "child", "leaf"), ("own", "busy")
-# by the wrong program that says something else of it
+# by the mutant that says something else of it
 STEPS = {
     "asks nothing of the common ancestor": ("move", 10, TWO),
     "knows the first group alone": ("set", ONE, "pids.max", 7),

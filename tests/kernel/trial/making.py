@@ -27,7 +27,7 @@ TEXTS = ("0", "1", "max", "threaded", "domain", "10", "+pids", "100000")
 class Case:
     """The text of a tree and what is carried out on it: changes by root, steps and then tries, both with their users; and the
     subtrees that are looked at. The state is told before, after each change, each step and each try that was let through, and
-    where there are tries at the end again. A case of a wrong program has its name."""
+    where there are tries at the end again. A case of a mutant has its name."""
     kind: str
     text: str
     steps: list

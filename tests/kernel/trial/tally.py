@@ -3,9 +3,9 @@ import collections
 import json
 import os
 
-from trial import asking, comparing, script, turned
+from trial import asking, comparing, script, mutants
 
-WRONG = [*turned.TURNED, *turned.ADVICE]
+WRONG = [*mutants.MUTANTS, *mutants.ADVICE]
 
 
 class Tally:
@@ -49,7 +49,7 @@ class Tally:
         answers = asking.replay(self.program, case)
         found = self.compared(case, name, answers, record)
         if all(each.kind for each in found.differences):
-            for wrong, turn in turned.TURNED.items():
+            for wrong, turn in mutants.MUTANTS.items():
                 if wrong not in self.told and comparing.tells_apart(turn, case, answers, record):
                     self.told[wrong] = self.counts["operations cases"]
 
@@ -117,6 +117,6 @@ def lines_of(tally):
         f"{of['advice steps let through']} through.",
         f"- Differences by kind: {listed(tally.kinds)}.",
         f"- Unexplained: {tally.failures}.",
-        f"- Wrong programs: {len(tally.told)} of {len(WRONG)} found" + (f"; not found: {', '.join(missed)}" if missed else "")
+        f"- Mutants of the program: {len(tally.told)} of {len(WRONG)} found" + (f"; not found: {', '.join(missed)}" if missed else "")
         + ". By the case of its kind: " + ", ".join(f"{name} {number}" for name, number in tally.told.items()) + ".",
         f"- Time: {tally.seconds:.0f} s.", ""]

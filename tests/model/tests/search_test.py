@@ -10,7 +10,7 @@ FOLDER = os.path.dirname(os.path.dirname(os.path.abspath(__file__)))
 sys.path.insert(0, FOLDER)
 from second import lasting, rules
 from second.rules import CONTROL, DEPTH, DESCENDANTS, DIR, PROCS, Cgroup, Entry, State
-from trials import small, turned_rows
+from trials import small, row_mutants
 
 ONE, OTHER = small.USERS
 ALL_LETTERS = {"d": DIR, "p": PROCS, "c": CONTROL}
@@ -91,14 +91,14 @@ class RowTest(unittest.TestCase):
                 ("/a/s/q", "", [], {})]
         state = state_of(rows, {7: (0, ("a", "b"))})
         self.assertEqual(found(state, "/a/s"), (False, True))
-        self.assertTrue(turned_rows.holds(turned_rows.RARE[0], state, [ONE], ("a", "s")))
+        self.assertTrue(row_mutants.holds(row_mutants.RARE[0], state, [ONE], ("a", "s")))
 
     def test_a_limit_is_raised(self):
         rows = [("/", "", ["memory"], {}), ("/a", "p", ["memory"], {DESCENDANTS: 2}), ("/a/b", "", [], {}), ("/a/s", "d", [], {})]
         state = state_of(rows, {7: (0, ("a", "b"))})
         state.cgroups[("a",)].entries[DESCENDANTS] = Entry(ONE[0])
         self.assertEqual(found(state, "/a/s"), (False, True))
-        self.assertTrue(turned_rows.holds(turned_rows.RARE[1], state, [ONE], ("a", "s")))
+        self.assertTrue(row_mutants.holds(row_mutants.RARE[1], state, [ONE], ("a", "s")))
 
     def test_two_who_are_each_contained_alone_may_break_it_together(self):
         rows = [("/", "P", [], {}), ("/a", "p", [], {}), ("/a/s", "p", [], {}), ("/a/z", "P", [], {}), ("/b", "", [], {})]
@@ -119,7 +119,7 @@ class SearchTest(unittest.TestCase):
     def test_a_row_that_is_turned_is_told(self):
         state = state_of([("/", "P", [], {}), ("/s", "", [], {})], {7: (0, ())})
         self.assertFalse(lasting.second_row_holds(state, [ONE, OTHER], ("s",)))
-        self.assertTrue(turned_rows.holds("the first user's reach for all of them", state, [ONE, OTHER], ("s",)))
+        self.assertTrue(row_mutants.holds("the first user's reach for all of them", state, [ONE, OTHER], ("s",)))
 
 
 if __name__ == "__main__":

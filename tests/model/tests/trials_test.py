@@ -1,4 +1,4 @@
-"""Tests of what tests/model/run and tests/model/hostile stand on; they need no program."""
+"""Tests of what tests/model/run and tests/model/fuzz stand on; they need no program."""
 import collections
 import json
 import os
@@ -9,7 +9,7 @@ import unittest
 
 sys.path.insert(0, os.path.dirname(os.path.dirname(os.path.abspath(__file__))))
 from second import commands, rules
-from trials import cases, labels, programs, spelling, trees, wrong
+from trials import cases, labels, programs, spelling, trees, mutants
 
 ALL = frozenset([*commands.OPTIONS, "audit --all", "advise --pairs"])
 EXAMPLES = os.path.join(os.path.dirname(os.path.abspath(__file__)), "../../../examples")
@@ -46,10 +46,10 @@ class ModelTest(unittest.TestCase):
 
 class TrialsTest(unittest.TestCase):
     def test_each_wrong_model_differs_by_a_text_that_stands_once(self):
-        self.assertGreaterEqual(len(wrong.TURNED), 70)
-        for name in wrong.TURNED:
-            self.assertIsNot(wrong.respond_of(name), commands.respond)
-            self.assertIsNone(programs.expected_of(cases.Case(["upgrade"], b"x = 07:32"), wrong.respond_of(name)), name)
+        self.assertGreaterEqual(len(mutants.MUTANTS), 70)
+        for name in mutants.MUTANTS:
+            self.assertIsNot(mutants.respond_of(name), commands.respond)
+            self.assertIsNone(programs.expected_of(cases.Case(["upgrade"], b"x = 07:32"), mutants.respond_of(name)), name)
 
     def test_trees_are_as_large_as_is_said(self):
         most = collections.Counter()

@@ -77,7 +77,7 @@ def expected_of(case, respond=commands.respond):
     try:
         return case.expected(respond)
     except Exception as fault:
-        # a wrong model may have a class of its own
+        # a mutant may have a class of its own
         if type(fault).__name__ == documents.Unsure.__name__:
             return None
         raise

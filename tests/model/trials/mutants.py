@@ -1,11 +1,11 @@
-"""Wrong models: the second model with one thing turned. Each has to be told apart from the program."""
+"""Mutants of the second model, with one thing changed. Each has to be told apart from the program."""
 import functools
 import sys
 import types
 
 from second import commands, documents, rules, texts
 
-# in the order in which one takes from another: those before the one that is turned are the right model's own
+# in the order in which one takes from another: those before the one that is changed are the right model's own
 MODULES = {"documents": documents, "rules": rules, "texts": texts, "commands": commands}
 USERS = "itertools.product(dict.fromkeys(call.users), dict.fromkeys(tops))"
 MEMBER = 'return "group" if entry.gid in user[1] else "others"'
@@ -154,29 +154,29 @@ OF_DOCUMENTS = {
     "a byte order mark is no TOML": ('.removeprefix("\\ufeff")', ""),
     "16777216 bytes are too many": ("len(data) > MOST_BYTES", "len(data) >= MOST_BYTES"),
 }
-TURNED = {name: (module, *turn) for module, turns in zip(MODULES, (OF_DOCUMENTS, OF_RULES, OF_TEXTS, OF_COMMANDS))
+MUTANTS = {name: (module, *turn) for module, turns in zip(MODULES, (OF_DOCUMENTS, OF_RULES, OF_TEXTS, OF_COMMANDS))
           for name, turn in turns.items()}
 
 
 @functools.lru_cache(maxsize=None)
 def respond_of(name):
-    """The answers of a wrong model."""
-    turned, text, other = TURNED[name]
-    package = types.ModuleType(f"wrong{list(TURNED).index(name)}")
+    """The answers of a mutant."""
+    changed, text, other = MUTANTS[name]
+    package = types.ModuleType(f"mutant{list(MUTANTS).index(name)}")
     package.__path__ = []
     sys.modules[package.__name__] = package
     names = list(MODULES)
     for module in names:
         made = MODULES[module]
-        if names.index(module) >= names.index(turned):
-            made = made_anew(package, module, *([text, other] if module == turned else []))
+        if names.index(module) >= names.index(changed):
+            made = made_anew(package, module, *([text, other] if module == changed else []))
         sys.modules[f"{package.__name__}.{module}"] = made
         setattr(package, module, made)
     return package.commands.respond
 
 
 def made_anew(package, module, text="", other=""):
-    """A module of a package, made from its source with a text turned that stands there once."""
+    """A module of a package, made from its source with a text changed that stands there once."""
     with open(MODULES[module].__file__) as source:
         whole = source.read()
     if text and whole.count(text) != 1:

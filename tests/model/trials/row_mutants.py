@@ -1,4 +1,4 @@
-"""Second rows with one thing turned, each of which says of a subtree that a search breaks that it is contained."""
+"""Mutants of the second row, with one thing changed, each of which says of a subtree that a search breaks that it is contained."""
 from second import lasting, rules
 
 
@@ -35,8 +35,8 @@ def nothing_taken(_state, _users, _found, _path):
     return True
 
 
-# what is turned: the function that is replaced, and by which
-TURNED = {
+# what is changed: the function that is replaced, and by which
+MUTANTS = {
     "the first user's reach for all of them": ("is_reached", first_users_reach),
     "a controller is away for good where it is away": ("is_away", away_at_the_parent),
     "cgroups that can go leave no room": ("bounds", bounds_by_all),
@@ -48,13 +48,13 @@ TURNED = {
 }
 # random trees seldom break these: the tests have trees by hand that do
 RARE = ("cgroups that can go leave no room", "a limit that a user raises leaves no room")
-SEARCHED = [name for name in TURNED if name not in RARE]
-REAL = {name: getattr(lasting, name) for name, _ in TURNED.values()}
+SEARCHED = [name for name in MUTANTS if name not in RARE]
+REAL = {name: getattr(lasting, name) for name, _ in MUTANTS.values()}
 
 
 def holds(name, state, users, top):
-    """Whether the second row holds with one thing turned."""
-    attribute, function = TURNED[name]
+    """Whether a mutant of the second row holds."""
+    attribute, function = MUTANTS[name]
     setattr(lasting, attribute, function)
     try:
         return lasting.second_row_holds(state, users, top)

@@ -1,6 +1,6 @@
-"""Wrong programs: each turns one clause of what the program says of a case. Comparing has to find every one of them.
+"""Mutants of the program: each turns one clause of what the program says of a case. Comparing has to find every one of them.
 
-Those of `TURNED` say other outcomes of the operations, and are held against what a kernel made of them. The changes that those of
+Those of `MUTANTS` say other outcomes of the operations, and are held against what a kernel made of them. The changes that those of
 `ADVICE` advise are carried out on a kernel in place of the program's.
 """
 from second import rules
@@ -40,7 +40,7 @@ def first_group(state, user, step, said):
     return f"refused {found[0]}" if found else said
 
 
-TURNED = {
+MUTANTS = {
     "asks nothing of the common ancestor": source_alone,
     "moves its own processes alone": owner_asked,
     "doesn't exempt the root": root_not_exempt,
@@ -57,7 +57,7 @@ TURNED = {
 
 
 def answers_of(turn, case, answers):
-    """What a wrong program would say of a case's steps."""
+    """What a mutant would say of a case's steps."""
     state, turned = case.state, []
     for (user, step), said in zip(case.steps, answers):
         turned.append(turn(state, user, step, said))

@@ -24,8 +24,8 @@ def cut(text):
     return [text[:length] for length in range(len(text) + 1)]
 
 
-def turned(text):
-    """Each byte of a text turned: its case or lowest bit, to NUL, past ASCII, and to what TOML reads as a mark."""
+def changed(text):
+    """Each byte of a text changed: its case or lowest bit, to NUL, past ASCII, and to what TOML reads as a mark."""
     marks = b"\"'[]{}=,.#\n\r\t 0-\\"
     for at, byte in enumerate(text):
         for other in {byte ^ 0x20, byte ^ 1, 0, 0x80 | byte, marks[at % len(marks)]} - {byte}:
@@ -86,16 +86,16 @@ def doubled():
 
 
 def tree_texts():
-    for kind in (cut(SMALL), turned(SMALL), spliced(SMALL, 400), nested(), numbers(), odd_letters(), doubled()):
+    for kind in (cut(SMALL), changed(SMALL), spliced(SMALL, 400), nested(), numbers(), odd_letters(), doubled()):
         yield from kind
 
 
 def operation_texts():
     line = b"control /a +cpu -cpu\n"
     yield from cut(line)
-    yield from turned(line)
-    yield from turned(b"set /a cpu.weight 100\n")
-    yield from turned(b"chmod /a dir 755\n")
+    yield from changed(line)
+    yield from changed(b"set /a cpu.weight 100\n")
+    yield from changed(b"chmod /a dir 755\n")
     for part in (b"\0", b"\n", b" ", b"x", b"move 7 /\n", b"\r\n", b"\xff", b"control /" + b" +cpu" * 1600 + b"\n"):
         for count in (1, 2, 8191, 8192, 8193, 70000):
             yield part * min(count, 1 + 2 ** 21 // len(part))
