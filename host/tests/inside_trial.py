@@ -43,14 +43,15 @@ class Case:
     own: str = "ro"
     bound: str = ""
     more: tuple = ()
+    less: tuple = ()
     host_pids: bool = False
     host_cgroups: bool = False
-    # beside it runs a service of root's with few capabilities
+    # beside it runs a service of root's without any capability
     beside_few: bool = False
 
     @property
     def capabilities(self):
-        return {*DOCKERS, *self.more}
+        return {*DOCKERS, *self.more} - {*self.less}
 
     @property
     def path(self):
@@ -64,6 +65,7 @@ CASES = (
     Case("the host's hierarchy bound in", True, bound="rw"),
     Case("the host's hierarchy bound in read-only", True, bound="ro"),
     Case("the host's PIDs", True, own="rw", host_pids=True),
+    Case("the host's PIDs, no capability", True, host_pids=True, less=DOCKERS),
     Case("the host's PIDs, CAP_SYS_ADMIN", True, more=(ADMIN,), host_pids=True),
     Case("the host's PIDs, CAP_SYS_PTRACE", True, own="rw", more=(PTRACE,), host_pids=True),
     Case("writable mount, CAP_DAC_READ_SEARCH", True, own="rw", more=(DAC_READ_SEARCH,)),
@@ -72,7 +74,7 @@ CASES = (
     Case("CAP_SYS_MODULE", True, more=(MODULE,)),
     Case("CAP_SYS_RAWIO", True, more=(RAWIO,)),
     Case("privileged", True, own="rw", more=EVERY),
-    Case("the host's PIDs, beside a service with few capabilities", True, host_pids=True, beside_few=True),
+    Case("the host's PIDs, no capability, beside a service without any", True, host_pids=True, less=DOCKERS, beside_few=True),
     Case("usual", False),
     Case("writable mount", False, own="rw"),
     Case("no mount of cgroups", False, own=""),
@@ -236,8 +238,16 @@ def entered(seen):
 
 
 def roots_of_others(seen):
+    """What is at another's root, opened as whoever they are."""
     def act(pid):
-        place = f"/proc/{pid}/root{MOUNT}"
+        ids = {name: int(number) for name, number in re.findall(r"^(Uid|Gid):\s+(\d+)", read(f"/proc/{pid}/status"), re.M)}
+        LIBC.setfsgid(ids["Gid"])
+        LIBC.setfsuid(ids["Uid"])
+        try:
+            place = f"/proc/self/fd/{os.open(f'/proc/{pid}/root{MOUNT}', os.O_RDONLY | os.O_DIRECTORY)}"
+        finally:
+            LIBC.setfsuid(0)
+            LIBC.setfsgid(0)
         with open(f"{place}{NEIGHBOUR}/{LIMIT}", "r+", encoding="ascii"):
             return [place]
     return first_that(act, seen)
@@ -519,7 +529,7 @@ def phase(is_on, beside_few, options):
     was_on = "nsdelegate" in options_here()
     set_nsdelegate(is_on)
     if beside_few:
-        subprocess.run(["systemd-run", "--quiet", f"--unit={FEW}", "--property=CapabilityBoundingSet=CAP_CHOWN", "sleep", "infinity"],
+        subprocess.run(["systemd-run", "--quiet", f"--unit={FEW}", "--property=CapabilityBoundingSet=", "sleep", "infinity"],
                        check=True)
     os.makedirs(MOUNT + TOP, exist_ok=True)
     neighbour, containers, failed = Neighbour(), [], 0

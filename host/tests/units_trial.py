@@ -20,6 +20,8 @@ FOLDER = "/run/systemd/system"
 SLEEP = "ExecStart=/bin/sleep infinity\n"
 ACCOUNTS = ("zirofen-one", "zirofen-two")
 GROUP = "zirofen-team"
+# owner and mode of what nobody was handed
+ROOTS = ("0:0 644", "0:0 444", "0:0 200")
 
 
 @dataclass(frozen=True)
@@ -113,11 +115,13 @@ def flat(row, is_dynamic):
 
 
 def differing(planned, there, case):
-    """The entries of a cgroup that differ, with what a plan and a host have; only what both carry is compared."""
+    """The entries of a cgroup that differ, with what a plan and a host have. A file that a plan doesn't name is root's there, and no
+    value of it is compared."""
     if planned is None or there is None:
         return [] if planned is there else [f"{'not planned' if planned is None else 'planned'}, {'not' if there is None else ''} there"]
     was, now = (flat(row, "owner" in case.apart) for row in (planned, there))
-    return [f"{name}: planned {was.get(name, 'none')}, there {now.get(name, 'none')}" for name in sorted({*was, *now})
+    of_root = {name: found for name, found in now.items() if name not in was and found.startswith(ROOTS)}
+    return [f"{name}: planned {was.get(name, 'none')}, there {now.get(name, 'none')}" for name in sorted({*was, *now} - {*of_root})
             if was.get(name) != now.get(name) and name not in case.apart]
 
 
