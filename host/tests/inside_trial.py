@@ -84,9 +84,11 @@ CASES = (
     Case("the host's PIDs", False, host_pids=True),
     Case("privileged", False, own="rw", more=EVERY, host_pids=True),
 )
+# how long services may take to start
+SECONDS = 120
 # as Debian has them, and those of its buses that start when they are asked
 SERVICES = ("ssh", "cron", "systemd-logind", "systemd-udevd", "systemd-journald", "rsyslog", "unattended-upgrades", "dbus", "getty@tty1",
-            "console-getty", "systemd-resolved", "systemd-timesyncd", "systemd-machined", "systemd-hostnamed", "systemd-localed",
+            "systemd-resolved", "systemd-timesyncd", "systemd-machined", "systemd-hostnamed", "systemd-localed",
             "systemd-timedated", "polkit", "user@0")
 
 
@@ -564,7 +566,10 @@ def property_of(unit, name):
 def services(options):
     """Each stock service that runs, with what is told of its cgroup."""
     for name in SERVICES:
-        subprocess.run(["systemctl", "start", name], stdin=subprocess.DEVNULL, capture_output=True, timeout=120)
+        subprocess.run(["systemctl", "start", "--no-block", f"{name}.service"], stdin=subprocess.DEVNULL, capture_output=True)
+    end = time.monotonic() + SECONDS
+    while time.monotonic() < end and any(property_of(f"{name}.service", "ActiveState") == "activating" for name in SERVICES):
+        time.sleep(2)
     checked, failed, first = Checked(options), 0, os.readlink("/proc/1/ns/mnt")
     for name in SERVICES:
         unit = f"{name}.service"
