@@ -30,7 +30,7 @@ from zirofen_host.show import fleet, junit, metrics, page, sarif
 from zirofen_host.show.tree_view import Drawing, draw
 from zirofen_host.show.view import host_of
 
-ADMIN, PTRACE, MODULE, RAWIO, CHOWN = 1 << 21, 1 << 19, 1 << 16, 1 << 17, 1
+ADMIN, MODULE, RAWIO, SEARCH, CHOWN = 1 << 21, 1 << 16, 1 << 17, 1 << 2, 1
 EVERY = (1 << 41) - 1
 # PID 1's, and those of a container
 OWN, PIDS, MOUNTS = "cgroup:[4026531835]", "pid:[4026531836]", "mnt:[4026531841]"
@@ -41,6 +41,9 @@ DOCKER = "/system.slice/docker-4fb087512345.scope"
 NSDELEGATE = ("rw", "nsdelegate")
 HELD = "held by nsdelegate"
 FREE = "it writes no mount of cgroups, and has no CAP_SYS_ADMIN"
+BY_ADMIN = "it mounts cgroups and makes cgroup namespaces as it likes (CAP_SYS_ADMIN)"
+BY_HANDLE = "it opens what is above by a handle (CAP_DAC_READ_SEARCH)"
+BY_PIDS = "it gets at what the host's processes see (the host's PIDs)"
 
 
 def cgroups_at(top, way="rw", place="/sys/fs/cgroup", number=401):
@@ -206,21 +209,40 @@ class HeldTest(InsideTest):
         self.container(text=IMAGE + cgroups_at(DOCKER).replace("cgroup rw", "cgroup ro"))
         self.assertEqual(self.stood(()), (f"held: {FREE}", [], None))
 
-    def test_admin_with_its_own_pids(self):
-        self.container(bounding=ADMIN, way="ro")
-        self.assertEqual(self.stood(), (HELD, [], None))
-        self.assertEqual(self.stood(()), ("not held: it mounts cgroups as it likes (CAP_SYS_ADMIN); nsdelegate is off",
-                                          [f"mount -o remount,nsdelegate {self.host.mount}"], None))
+    def again(self, **more):
+        """Another container in the place of the one."""
+        self.host.cgroup(DOCKER)
+        shutil.rmtree(f"{self.host.proc}/100", ignore_errors=True)
+        self.container(**more)
+
+    def test_admin(self):
+        """It goes past nsdelegate by a cgroup namespace inside of its own, and past what isn't writable by a mount."""
+        for way in ("ro", "rw"):
+            with self.subTest(way):
+                self.again(bounding=ADMIN, way=way)
+                self.assertEqual(self.stood(), (f"not held: {BY_ADMIN}", [], "without CAP_SYS_ADMIN"))
+                self.assertEqual(self.found(())["status"], 1)
+
+    def test_handles(self):
+        """What is above is opened by its handle, and written where the mount that it is opened by is writable."""
+        self.container(bounding=SEARCH)
+        self.assertEqual(self.stood(), (f"not held: it writes {DOCKER} at /sys/fs/cgroup; {BY_HANDLE}", [], "without CAP_DAC_READ_SEARCH"))
+
+    def test_handles_by_a_mount_that_is_read_only(self):
+        self.container(bounding=SEARCH, way="ro")
+        self.assertEqual(self.stood(), (f"held: {FREE}", [], None))
+
+    def test_the_hosts_pids(self):
+        """Some process of the host's has no capability which the container hasn't: it gets at what that one sees."""
+        for bits in (CHOWN, 0):
+            for way in ("ro", "rw"):
+                with self.subTest(bits, way=way):
+                    self.again(bounding=bits, pids=PIDS, way=way)
+                    self.assertEqual(self.stood(), (f"not held: {BY_PIDS}", [], "a PID namespace of its own"))
 
     def test_admin_with_the_hosts_pids(self):
         self.container(bounding=ADMIN, pids=PIDS)
-        self.assertEqual(self.stood(), (
-            f"not held: it writes {DOCKER} at /sys/fs/cgroup; it mounts cgroups as it likes (CAP_SYS_ADMIN); it enters the host's "
-            "namespaces (CAP_SYS_ADMIN, the host's PIDs)", [], "a PID namespace of its own"))
-
-    def test_the_hosts_pids_alone(self):
-        self.container(pids=PIDS)
-        self.assertEqual(self.stood(), (HELD, [], None))
+        self.assertEqual(self.stood(), (f"not held: {BY_ADMIN}; {BY_PIDS}", [], "without CAP_SYS_ADMIN; a PID namespace of its own"))
 
     def test_the_hosts_hierarchy_bound_in(self):
         self.container(text=IMAGE + cgroups_at(DOCKER) + cgroups_at("/", place="/host", number=402))
@@ -236,7 +258,7 @@ class HeldTest(InsideTest):
         self.container("/b.scope", 101, text=text, bounding=ADMIN, cgroups="cgroup:[4026532700]", mounts="mnt:[4026532701]")
         held, other = made(self.found()).containers
         self.assertEqual((held.path, other.held), ("/b.scope", True))
-        self.assertEqual((held.held, held.ways), (False, ("CAP_SYS_ADMIN", "above")))
+        self.assertEqual((held.held, held.ways), (False, ("CAP_SYS_ADMIN",)))
 
     def test_a_part_of_the_hierarchy_above_it(self):
         self.container(top="/system.slice")
@@ -251,35 +273,24 @@ class HeldTest(InsideTest):
 
     def test_a_privileged_one(self):
         self.container(bounding=EVERY)
-        self.assertEqual(self.stood(), ("not held: it loads code into the kernel (CAP_SYS_MODULE); it writes the machine's memory "
-                                        "(CAP_SYS_RAWIO)", [], "without CAP_SYS_MODULE, CAP_SYS_RAWIO"))
+        self.assertEqual(self.stood(), (
+            "not held: it loads code into the kernel (CAP_SYS_MODULE); it writes the machine's memory (CAP_SYS_RAWIO); "
+            f"{BY_ADMIN}; it writes {DOCKER} at /sys/fs/cgroup; {BY_HANDLE}",
+            [], "without CAP_SYS_MODULE, CAP_SYS_RAWIO, CAP_SYS_ADMIN, CAP_DAC_READ_SEARCH"))
 
     def test_module_and_rawio_each_alone(self):
         for bits, name in ((MODULE, "CAP_SYS_MODULE"), (RAWIO, "CAP_SYS_RAWIO")):
             with self.subTest(name):
-                self.host.cgroup(DOCKER)
-                shutil.rmtree(f"{self.host.proc}/100", ignore_errors=True)
-                self.container(bounding=bits, way="ro")
+                self.again(bounding=bits, way="ro")
                 self.assertEqual(self.stood()[1:], ([], f"without {name}"))
-
-    def test_ptrace_with_the_hosts_pids(self):
-        self.container(bounding=PTRACE, pids=PIDS, way="ro")
-        self.assertEqual(self.stood(), ("not held: it acts in the host's processes (CAP_SYS_PTRACE, the host's PIDs)", [],
-                                        "a PID namespace of its own"))
-
-    def test_ptrace_with_its_own_pids(self):
-        self.container(bounding=PTRACE, way="ro")
-        self.assertEqual(self.stood()[0], f"{HELD}; {FREE}")
 
     def test_no_mount_of_cgroups(self):
         self.container(text=IMAGE)
         self.assertEqual(self.stood(()), (f"held: {FREE}", [], None))
 
     def test_capabilities_of_a_user_namespace_reach_its_mounts_alone(self):
-        self.container(bounding=EVERY, pids=PIDS, user=4026532900, way="ro")
-        self.assertEqual(self.stood(()), (
-            "not held: it mounts cgroups as it likes (CAP_SYS_ADMIN); nsdelegate is off; it enters the host's namespaces (CAP_SYS_ADMIN, "
-            "the host's PIDs)", [], "without CAP_SYS_ADMIN"))
+        self.container(bounding=EVERY, user=4026532900, way="ro")
+        self.assertEqual(self.stood(()), (f"not held: {BY_ADMIN}", [], "without CAP_SYS_ADMIN"))
 
     def test_the_worst_of_one_cgroups_processes_counts(self):
         self.container(way="ro")
@@ -294,7 +305,8 @@ class HeldTest(InsideTest):
             changed = "".join(line for line in text if not line.startswith("CapBnd"))
         with open(status, "w", encoding="ascii") as out:
             out.write(changed)
-        self.assertEqual(made(self.found()).containers[0].ways, ("CAP_SYS_MODULE", "CAP_SYS_RAWIO"))
+        self.assertEqual(made(self.found()).containers[0].ways,
+                         ("CAP_SYS_MODULE", "CAP_SYS_RAWIO", "CAP_SYS_ADMIN", "mount", "CAP_DAC_READ_SEARCH"))
 
     def test_a_threads_bounding_set_counts(self):
         self.container(threads=(0,))
@@ -307,13 +319,14 @@ class HeldTest(InsideTest):
     def test_every_way_out_and_none(self):
         """By the rule, over all that is looked at."""
         for bits in range(256):
-            is_on, own, host_pids, writable, above, module, ptrace, admin = (bool(bits >> at & 1) for at in range(8))
-            names = tuple(name for name, is_there in (("SYS_MODULE", module), ("SYS_PTRACE", ptrace), ("SYS_ADMIN", admin)) if is_there)
+            is_on, own, host_pids, writable, above, module, admin, search = (bool(bits >> at & 1) for at in range(8))
+            names = tuple(name for name, is_there in (("DAC_READ_SEARCH", search), ("SYS_MODULE", module), ("SYS_ADMIN", admin))
+                          if is_there)
             each = Inside(path_of("/a"), 1, ("root",), (CgroupMount("/c", path_of("/a"), writable, above),), names, own, host_pids, False)
             with self.subTest(bits):
                 found = judged(each, "/sys/fs/cgroup", is_on)
-                by_mounts, by_namespace = not writable and not admin, is_on and own and not above and not (admin and host_pids)
-                self.assertEqual(found.held, (by_mounts or by_namespace) and not module and not (ptrace and host_pids))
+                by_namespace = is_on and own and not above and not search
+                self.assertEqual(found.held, (not writable or by_namespace) and not (module or admin or host_pids))
                 self.assertEqual((bool(found.ways), bool(found.changes or found.setting)), (not found.held,) * 2)
 
 

@@ -2,7 +2,7 @@
 """Plays one hostile user of three on a real mount of cgroups, live, and counts how often the other two get their lines. Run by hand,
 as root, on a machine that may be loaded for minutes:
 
-    tests/host/live_trial.py HOST_FOLDER [--mount FOLDER] [--runs 20] [--only ROW,ROW] [--cgroups 1000] [--seconds 300]
+    tests/host/live_trial.py HOST_FOLDER [--mount FOLDER] [--runs 20] [--only ROW,ROW] [--cgroups 1000] [--seconds 300] [--each]
 
 HOST_FOLDER has zirofen-host. The users have uids without an account, and all that is made is removed again.
 """
@@ -476,6 +476,14 @@ def checked(name, place, options):
     return ran, lacks
 
 
+def told_at_once(number, ran, lacks, options):
+    """A run and what of it isn't as it has to be, with a line where each is told as it ends."""
+    if options.each:
+        print(f"run {number + 1}: {', '.join(lacks) or 'both answered'}, status {ran.status}, {ran.seconds:.1f} s, {ran.memory} MB, "
+              f"{ran.out.count(chr(10))} lines", flush=True)
+    return ran, lacks
+
+
 def wrong_files(place, folder, ran):
     """What is wrong with the files that were to be written: each is root's alone to write, and whole, or a line says why it isn't
     there; and root's own file is as it was."""
@@ -506,7 +514,7 @@ def play(name, place, options):
     try:
         if not hostile.is_ready:
             return f"{name}: not played: it wasn't ready"
-        ran, lacking = zip(*(checked(name, place, options) for _ in range(options.runs)))
+        ran, lacking = zip(*(told_at_once(number, *checked(name, place, options), options) for number in range(options.runs)))
         told = "; ".join(sorted({each for lacks in lacking for each in lacks}))
         return (f"{name}: {lacking.count([])} of {len(ran)}, status {'/'.join(map(str, sorted({each.status for each in ran})))}, at most "
                 f"{max(each.seconds for each in ran):.1f} s, {max(each.processor for each in ran):.1f} s of processor, "
@@ -578,6 +586,7 @@ def main():
     parser.add_argument("--mounts", type=int, default=2000)
     parser.add_argument("--files", type=int, default=15000)
     parser.add_argument("--seconds", type=int, default=300, help="that the hostile user, and a run, may take")
+    parser.add_argument("--each", action="store_true", help="a line for each run as it ends")
     parser.add_argument("--verbose", action="store_true", help="what a run wrote in which something is lacking")
     options = parser.parse_args()
     failed = 0

@@ -163,7 +163,7 @@ class RealMountTest(unittest.TestCase):
         self.assertEqual(lifted, {"writable": "lifted", "ro": "refused", "admin": "refused", "mounts": "ready"})
         self.assertEqual(self.insides(), ({
             "/writable": (False, ["mount", "nsdelegate"], by), "/ro": (True, [], by),
-            "/admin": (False, ["CAP_SYS_ADMIN", "nsdelegate"], by)}, 1))
+            "/admin": (False, ["CAP_SYS_ADMIN"], by)}, 1))
 
     def service(self, name):
         """One with mounts of its own, and the host's root, as PrivateTmp= makes it."""

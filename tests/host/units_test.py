@@ -88,6 +88,7 @@ class MadeTest(UnitsTest):
         handed = Entry(900, 901, 0o644)
         self.assertEqual((found.marks, row.directory, row.entry("cgroup.procs"), row.entry("cgroup.subtree_control"),
                           found.files["cgroup.threads"]), ({MARK: b"1"}, Entry(900, 901, 0o755), handed, handed, handed))
+        self.assertEqual([found.files[name] for name in ("memory.oom.group", "memory.reclaim")], [handed, handed])
         # no limit file is
         self.assertEqual({row.entry(name) for name in row.values}, {Entry(0, 0, 0o644)})
 
@@ -100,6 +101,21 @@ class MadeTest(UnitsTest):
             enabled = [line.split("+")[1] for line in lines if line.startswith("control / ")]
             self.assertEqual(("mark /system.slice/a.service" in lines, enabled), (is_delegated, controllers), text)
             self.assertEqual(any(line.startswith("chown") for line in lines), is_delegated)
+
+    def test_files_of_memory_are_handed_over_where_it_is_enabled(self):
+        above = "[Slice]\nMemoryAccounting=no\n"
+        for text, has_memory in (("", True), ("MemoryAccounting=no\n", False)):
+            lines, _ = self.planned(self.write("b.slice", above), self.write("b.service", f"""[Service]
+Slice=b.slice\nDelegate=cpu\nUser=app\n{text}"""))
+            self.assertEqual([line for line in lines if line.endswith("memory.reclaim 900:901")],
+                             ["chown /b.slice/b.service memory.reclaim 900:901"] * has_memory, text)
+
+    def test_a_text_that_carries_nothing_has_no_place_for_them(self):
+        snapshot = replace(snapshot_of(TREE), source=Source("a.toml", None))
+        unit = self.write("a.service", "[Service]\nUser=app\nDelegate=yes\nExecStart=/x\n")
+        lines, _ = units.planned(snapshot, ACCOUNTS, read_units((unit,), ()), 257, {})
+        changes.changed(snapshot, "\n".join(lines))
+        self.assertEqual([line.split()[2] for line in lines if line.startswith("chown")], ["dir", "cgroup.procs", "cgroup.subtree_control"])
 
     def test_whose_it_is(self):
         for text, owner, uid in (("User=app\nGroup=ops\n", "900:77", 900), ("User=900\n", "900:901", 900),

@@ -16,8 +16,8 @@ from zirofen_host.profile import ROOT, CgroupPath, is_inside, is_root, parts_of,
 
 BY_NAMESPACE, BY_ROOT = "cgroup namespace", "root"
 # by their numbers, the capabilities of a bounding set that decide whether cgroup files are kept from a container
-MODULE, RAWIO, PTRACE, ADMIN = "SYS_MODULE", "SYS_RAWIO", "SYS_PTRACE", "SYS_ADMIN"
-DECIDING = {16: MODULE, 17: RAWIO, 19: PTRACE, 21: ADMIN}
+SEARCH, MODULE, RAWIO, ADMIN = "DAC_READ_SEARCH", "SYS_MODULE", "SYS_RAWIO", "SYS_ADMIN"
+DECIDING = {2: SEARCH, 16: MODULE, 17: RAWIO, 21: ADMIN}
 UNITS = (b".scope", b".service")
 # of a cgroup that no unit is of, the names that stand for one
 TOPMOST = 3

@@ -16,8 +16,9 @@ from zirofen_host.profile import (CONTROL_FILES, CONTROLLERS, LIMIT_FILES, ROOT,
 SERVICE, SLICE = "service", "slice"
 # what a manager of this version and of newer ones knows
 SUBGROUPS = 254
-# handed over with a delegated unit, as far as a tree text or what it carries has it
+# handed over with a delegated unit; where the cgroup above enables memory what is in OF_MEMORY, too
 HANDED_OVER = ("dir", *CONTROL_FILES, "cgroup.threads")
+OF_MEMORY = ("memory.oom.group", "memory.reclaim")
 # of a subgroup all of its files are, and these are limits
 OF_A_SUBGROUP = tuple(file for file, (controller, _) in LIMIT_FILES.items() if controller is None)
 PAGE = 4096
@@ -58,6 +59,11 @@ class Plan:
         self.taken = {entry.uid for entry in entries} | {each.uid for each in self.accounts.accounts}
         self.taken |= {each.uid for each in tree.processes}
         self.pids = {each.pid for each in tree.processes}
+
+    @property
+    def can_carry(self) -> bool:
+        """Whether there is a place for what a tree text alone has none for."""
+        return self.snapshot.source.file is None or self.snapshot.source.carried is not None
 
     def cgroup(self, path: CgroupPath) -> None:
         """A cgroup is there, and all above it; files of one that was there are as a new one's."""
@@ -225,22 +231,27 @@ class Started:
         if subgroup and self.plan.systemd < SUBGROUPS:
             self.name_it("DelegateSubgroup", subgroup, f"systemd {self.plan.systemd} doesn't know it")
             subgroup = None
-        can_carry = self.plan.snapshot.source.file is None or self.plan.snapshot.source.carried is not None
         places = [path]
         if is_delegated:
-            if can_carry:
+            if self.plan.can_carry:
                 self.plan.lines.append(f"mark {text_of(path)}")
             if subgroup:
                 places.append(path_of(f"{text_of(path)}/{subgroup}"))
                 self.plan.cgroup(places[-1])
-            for place in places:
-                names = HANDED_OVER if place == path else (*HANDED_OVER, *OF_A_SUBGROUP)
-                self.plan.lines += [f"chown {text_of(place)} {name} {uid or 0}:{gid or 0}" for name in names
-                                    if uid is not None or gid is not None if can_carry or name != "cgroup.threads"]
+            for place in places if uid is not None or gid is not None else ():
+                names = self.handed_over(place, place != path)
+                self.plan.lines += [f"chown {text_of(place)} {name} {uid or 0}:{gid or 0}" for name in names]
         commands = self.unit.listed("ExecStart")
         if commands:
             runs_as_root = all(map(_AS_ROOT.match, commands))
             self.plan.lines.append(f"process {self.plan.pid()} {0 if runs_as_root else uid or 0} {text_of(places[-1])}")
+
+    def handed_over(self, path: CgroupPath, is_subgroup: bool) -> Iterator[str]:
+        """The entries of a cgroup that are given to whoever runs in it, as far as the text has a place for them."""
+        has_memory = "memory" in self.plan.enabled[parent_of(path) or ROOT]
+        for name in (*HANDED_OVER, *(OF_MEMORY if has_memory else ()), *(OF_A_SUBGROUP if is_subgroup else ())):
+            if self.plan.can_carry or name in ("dir", *CONTROL_FILES, *LIMIT_FILES):
+                yield name
 
     def tell_the_rest(self) -> None:
         """Each setting of what it has or who runs in it that can't be told here."""
