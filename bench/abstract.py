@@ -5,11 +5,13 @@ controllers that it enables as bits (cpu, memory, pids), and its limits of desce
 the user raises. Rows come parents first.
 """
 import os
+import random
 import sys
 from dataclasses import dataclass
 
 sys.path.insert(0, os.path.join(os.path.dirname(os.path.dirname(os.path.abspath(__file__))), "model"))
-from second import rules
+from second import commands, rules
+from trials import spelling
 
 LETTERS = {"d": rules.DIR, "p": rules.PROCS, "c": rules.CONTROL}
 
@@ -45,6 +47,25 @@ def of_state(state, user, top):
     own = {numbers[path] for uid, path in state.live.values() if uid == user[0]}
     others = {numbers[path] for uid, path in state.live.values() if uid != user[0]}
     return Abstract(bits(state.controllers), rows, sorted(others), sorted(own), numbers[top])
+
+
+def text_of(state):
+    """The text of a state, without what is as it would be without being said."""
+    parts = commands.document_of(state)
+    for row in parts["cgroup"]:
+        row["dir"] = said_of(row["dir"], rules.DIR_MODE, None)
+        values = {name: rules.default_of(name) for name in row["files"] if name in rules.LIMIT_FILES}
+        files = {name: said_of(entry, rules.FILE_MODE, values.get(name)) for name, entry in row["files"].items()}
+        row["files"] = {name: entry for name, entry in files.items() if entry}
+        for key in ("enabled", "dir", "files"):
+            if not row[key]:
+                del row[key]
+    return spelling.document(random.Random(0), parts)
+
+
+def said_of(entry, mode, value):
+    usual = {"uid": 0, "gid": 0, "mode": mode, "value": value}
+    return {key: said for key, said in entry.items() if said != usual[key]}
 
 
 def row_of(state, user, top, path, numbers):
