@@ -63,6 +63,32 @@ def answer(delegations, user, subtree):
     return 2, [f"unsettled {each.guard} {text_of(each.path)}"]
 
 
+def settled(delegations, users, subtree):
+    """What settle makes of what is left unsettled: of a directory a list, as long as MADE_UP_LIST says, and of other guards nothing where
+    one of the users is MADE_UP_OPENER, else that it is contained."""
+    is_opened = os.environ.get("MADE_UP_OPENER") in {str(user.uid) for user in users}
+    for user in users:
+        status, lines = answer(delegations, user, subtree)
+        if status == 2 and lines[0].startswith("unsettled parent-dir"):
+            made = [f"exit {number}" for number in range(1, int(os.environ.get("MADE_UP_LIST", "2")))]
+            status, lines = 1, ["escapes", *made, f"rmdir {subtree}"]
+        elif status == 2 and not is_opened:
+            status, lines = 0, ["contained"]
+        yield user, status, lines
+
+
+def audit_settled(delegations, users, subtrees):
+    found = {(user, subtree): (status, lines) for subtree in subtrees
+             for user, status, lines in settled(delegations, list(map(user_of, users)), subtree)}
+    listed = [(word, subtree, *found[user_of(word), subtree]) for word in users for subtree in subtrees]
+    listed = [each for each in listed if each[2]]
+    for word, subtree, _, lines in listed:
+        print("\n".join([f"pair {word} {subtree}", *lines]))
+    if not listed:
+        print("contained")
+    return min((each[2] for each in listed), default=0)
+
+
 def audit(delegations, users, subtrees, is_all):
     statuses = [0]
     for word in users:
@@ -122,7 +148,8 @@ def main(words):
     if words[-1] == "--help":
         if words[0] == "advise" and not can("advise"):
             return fault("fault: usage")
-        known = {"audit": "  --all  x\n" if can("all") else "", "advise": "  --pairs <FILE>  x\n"}
+        known = {"audit": ("  --all  x\n" if can("all") else "") + ("  --settle  x\n" if can("settle") else ""),
+                 "advise": "  --pairs <FILE>  x\n"}
         print("Options:\n  --tree <FILE>\n" + known.get(words[0], ""))
         return 0
     if words == ["--version"]:
@@ -130,8 +157,9 @@ def main(words):
         return 0
     if can("70"):
         return fault("zirofen: not built: there is no rt on the PATH", 70)
-    is_all = words[1] == "--all"
-    given = options(words[2 if is_all else 1:])
+    flags = [word for word in words[1:3] if word in ("--all", "--settle")]
+    is_all = "--all" in flags
+    given = options(words[1 + len(flags):])
     if any(path.endswith("/odd") for path in given.get("--subtree", ())):
         return fault("fault: subtree missing")
     file = given["--tree"][0]
@@ -141,13 +169,16 @@ def main(words):
         return fault("fault: tree not-toml")
     if words[0] == "replay":
         return 0
+    if words[0] == "audit" and "--settle" in flags:
+        return audit_settled(delegations, given["--uid"], given["--subtree"])
     if words[0] == "audit":
         return audit(delegations, given["--uid"], given["--subtree"], is_all)
     if words[0] == "advise":
         pairs = pairs_in(given["--pairs"][0])
         return fault("fault: subtree missing") if any(path.endswith("/odd") for _, path in pairs) else advise(delegations, pairs)
     user = User(int(given["--uid"][0]), tuple(map(int, given.get("--gid", ()))))
-    status, lines = answer(delegations, user, given["--subtree"][0])
+    subtree = given["--subtree"][0]
+    status, lines = answer(delegations, user, subtree) if words[0] == "check" else next(settled(delegations, [user], subtree))[1:]
     print("\n".join(lines))
     return status
 

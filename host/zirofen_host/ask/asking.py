@@ -1,14 +1,19 @@
 """Everybody asked of everything in a snapshot."""
 from dataclasses import dataclass
+from typing import Callable, Iterable, List, Mapping, Sequence
 
-from zirofen_host.ask.model import Answers
+from zirofen_host.ask.model import Answers, Plan, Question
 from zirofen_host.ask.program import abilities_of
 from zirofen_host.ask.questions import Questions, bounded_plan, further_of, plan_of, questions_of
 from zirofen_host.ask.spoiled import spoiled
-from zirofen_host.ask.texts import Programs, texts_of, write
+from zirofen_host.ask.texts import Programs, Text, texts_of, write
 from zirofen_host.collect.accounts import Accounts
-from zirofen_host.collect.model import Snapshot
+from zirofen_host.collect.model import Snapshot, Tree, User
 from zirofen_host.options import Options
+from zirofen_host.profile import CgroupPath
+
+# notes of cgroups that stand in no text
+LEFT_OUT = ("changing", "large", "name")
 
 
 @dataclass(frozen=True)
@@ -17,6 +22,26 @@ class Asked:
     questions: Questions
     answers: Answers
     programs: Programs
+
+
+def everybody(tree: Tree, plan: Plan, further: Iterable[Question]) -> List[User]:
+    """All who are asked of anything, and whoever else owns something in the tree."""
+    asked = {user for users, _ in (*plan.questions, *further) for user in users}
+    uids = {user.uid for user in asked}
+    owners = {entry.uid for row in tree.rows.values() for entry in (row.directory, *row.files.values())} - {0}
+    return sorted(asked | {User(uid, ()) for uid in owners - uids})
+
+
+def has_all_cgroups(snapshot: Snapshot, options: Options, texts: Sequence[Text]) -> bool:
+    """Whether one text has every cgroup of the host, on all of which an answer rests that isn't the guards'."""
+    return (options.only is None and len(texts) == 1 and len(texts[0].rows) == len(snapshot.tree.rows) and not snapshot.changing
+            and not any(note.kind in LEFT_OUT for note in snapshot.notes))
+
+
+def settleable(is_whole: bool, plan: Plan, not_asked: Mapping[CgroupPath, int]) -> Callable[[CgroupPath], bool]:
+    """Of which subtrees more may be asked than the guards: it rests on all cgroups and on all users, with all their groups."""
+    is_asked = is_whole and not plan.cut and not any(plan.left_out.values())
+    return lambda path: is_asked and not not_asked.get(path)
 
 
 def ask_all(snapshot: Snapshot, accounts: Accounts, options: Options, folder: str) -> Asked:
@@ -37,6 +62,9 @@ def ask_all(snapshot: Snapshot, accounts: Accounts, options: Options, folder: st
     further, not_asked = further_of(questions, plan, found)
     more, refused_then = programs.ask(further, abilities.has_audit_all)
     found.update(more)
+    if abilities.has_settle and abilities.has_audit_all:
+        found = programs.settled(found, everybody(snapshot.tree, plan, further), settleable(
+            has_all_cgroups(snapshot, options, texts.texts), plan, not_asked))
     refused = {**lost, **refused, **refused_then}
     return Asked(questions.without(refused),
                  Answers(plan, further, found, not_asked, refused, () if options.no_processes else texts.without_processes(),

@@ -80,6 +80,7 @@ class Abilities:
     has_audit_all: bool
     has_advise: bool
     version: Optional[str]
+    has_settle: bool = False
 
 
 @dataclass(frozen=True)

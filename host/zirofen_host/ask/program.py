@@ -1,7 +1,8 @@
 """Asking the program of users and subtrees: every pair that isn't contained, and what to change.
 
 `audit --all` and `advise --pairs` are used where the program's --help has them. Where there is no `audit --all`, `audit` is asked,
-which tells the first pair that isn't contained, again and again from behind the pair that was told.
+which tells the first pair that isn't contained, again and again from behind the pair that was told. Where there is an
+`audit --settle`, it is asked of what is left unsettled, with everybody together.
 """
 import os
 import signal
@@ -141,8 +142,30 @@ class Program:
         words += [word for path in subtrees for word in ("--subtree", text_of(path))]
         return self.run("audit", *options, "--tree", self.tree, *words)
 
+    def settled(self, found: Answered, users: Sequence[User]) -> Answered:
+        """The answers, with what `audit --settle` says of those that are unsettled, where all users can be asked of in one run: it
+        holds of them together."""
+        left = sorted({pair.subtree for pair, answer in found.items() if answer.status == UNSETTLED})
+        asked: Dict[Pair, Optional[Answer]] = {}
+        if sum(size(["--uid", user_word(user)]) for user in users) <= ROOM // 2:
+            for subtrees in blocks_of(left, lambda path: ["--subtree", text_of(path)], ROOM // 2):
+                progress.tell(f"settling {len(subtrees)} subtrees")
+                try:
+                    answers = self.listed(users, subtrees, "--all", "--settle")
+                except Refused as refused:
+                    if refused.is_whole:
+                        raise refused.fault() from None
+                    continue
+                asked.update({pair: answers.get(pair) for pair in found if pair.subtree in subtrees})
+        changed = {pair: asked.get(pair, answer) if answer.status == UNSETTLED else answer for pair, answer in found.items()}
+        return {pair: answer for pair, answer in changed.items() if answer is not None}
+
     def audit_all(self, users: Sequence[User], subtrees: Sequence[CgroupPath]) -> Answered:
-        ended = self.audit(users, subtrees, "--all")
+        return self.listed(users, subtrees, "--all")
+
+    def listed(self, users: Sequence[User], subtrees: Sequence[CgroupPath], *options: str) -> Answered:
+        """The answers of all pairs that an audit lists."""
+        ended = self.audit(users, subtrees, *options)
         by_word, paths = {user_word(user): user for user in users}, {text_of(path): path for path in subtrees}
         found: Answered = {}
         for head, lines in sections(ended.lines):
@@ -192,7 +215,7 @@ def abilities_of(path: str) -> Abilities:
     """What the program can do, by what it says of itself."""
     program = Program(path, "")
     audit, advise = help_of(program, "audit"), help_of(program, "advise")
-    return Abilities("--all" in audit.split(), "--pairs" in advise.split(), version_of(program))
+    return Abilities("--all" in audit.split(), "--pairs" in advise.split(), version_of(program), "--settle" in audit.split())
 
 
 def help_of(program: Program, *words: str) -> str:

@@ -11,10 +11,10 @@ from typing import AbstractSet, Callable, Dict, Iterable, List, Mapping, Sequenc
 
 from zirofen_host import output, progress
 from zirofen_host.ask.model import Advice, Pair, Question
-from zirofen_host.ask.program import Answered, Program
+from zirofen_host.ask.program import UNSETTLED, Answered, Program
 from zirofen_host.collect import snapshot as snapshots
 from zirofen_host.collect.looks import Looks
-from zirofen_host.collect.model import Note, Placed, Snapshot, Tree
+from zirofen_host.collect.model import Note, Placed, Snapshot, Tree, User
 from zirofen_host.collect.tree import head_text, in_order, process_text, row_text
 from zirofen_host.fault import Fault
 from zirofen_host.options import Options
@@ -221,6 +221,14 @@ class Programs:
                         raise
                     refused.update(dict.fromkeys(text.subtrees, str(fault)))
         return found, refused
+
+    def settled(self, found: Answered, users: Sequence[User], may_settle: Callable[[CgroupPath], bool]) -> Answered:
+        """The answers, with those of some subtrees settled where they were unsettled; these are all in one text."""
+        some = {pair: answer for pair, answer in found.items() if may_settle(pair.subtree) and pair.subtree in self.of}
+        if not any(answer.status == UNSETTLED for answer in some.values()):
+            return found
+        others = {pair: answer for pair, answer in found.items() if pair not in some}
+        return {**others, **self.of[next(iter(some)).subtree].settled(some, users)}
 
     def advise(self, pairs: Sequence[Pair]) -> List[Advice]:
         """What is advised for pairs of one text."""

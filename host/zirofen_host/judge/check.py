@@ -13,7 +13,7 @@ from zirofen_host.collect.holds import holds_of
 from zirofen_host.collect.looks import Looks
 from zirofen_host.collect.model import GROUP, OWNER, Note, Scope, Snapshot, User
 from zirofen_host.fault import Fault
-from zirofen_host.judge import inside, unseen, whole
+from zirofen_host.judge import inside, long_lists, unseen, whole
 from zirofen_host.judge.advised import Advised, advise
 from zirofen_host.judge.checked import Checked
 from zirofen_host.judge.finding_lines import SHOWN
@@ -85,7 +85,8 @@ def answer_of(checked: Checked, subtree: CgroupPath, lines: Tuple[str, ...], is_
     names = ["anybody" if uid == ANYBODY and holders.by != OWNER else str(uid) for uid in uids]
     who = ",".join(names) if len(uids) <= 3 else f"{len(uids)} users"
     is_named = len(uids) <= 3 and any(uid in checked.names.users for uid in uids) and "anybody" not in names
-    made, users = HolderAnswer(who, uids[:SHOWN], len(uids), gids, lines, is_above), checked.names.users
+    kept = long_lists.kept(lines, uids[0], text_of(subtree), checked.options.tree)
+    made, users = HolderAnswer(who, uids[:SHOWN], len(uids), gids, kept, is_above), checked.names.users
     return replace(made, names=tuple(checked.names.user(uid) if uid in users else str(uid) for uid in uids)) if is_named else made
 
 

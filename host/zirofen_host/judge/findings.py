@@ -7,6 +7,7 @@ from zirofen_host.ask.questions import unit_of
 from zirofen_host.collect.model import GROUP, OTHERS, OWNER, Entry, User
 from zirofen_host.collect.tree import in_order
 from zirofen_host.collect.walk import CHANGED, MANAGERS_MARK
+from zirofen_host.judge import long_lists
 from zirofen_host.judge.advised import Advised
 from zirofen_host.judge.checked import Checked
 from zirofen_host.judge.finding_lines import some
@@ -54,7 +55,8 @@ def entry_finding(checked: Checked, advised: Advised, found: LetsIn, closing: Tu
     (user, subtree), place, lines = found.worst, found.place, found.answer.lines
     # an entry of others is everybody's; who of them was asked is among the users
     is_own, path = checked.questions.holds(user, subtree), text_of(place.path)
-    example = None if is_own else Example(checked.names.who(user), user.uid, user.gids, text_of(subtree), lines)
+    kept = long_lists.kept(lines, user.uid, text_of(subtree), checked.options.tree)
+    example = None if is_own else Example(checked.names.who(user), user.uid, user.gids, text_of(subtree), kept)
     changes = checked.commands(advised.changes_of(found))
     return EntryFinding(path, place.name, owner_of(found.entry) if found.entry else None, lines[0].split(" ")[0],
                         whom_of(checked.names, found.whom), texts_of(found.subtrees), example,

@@ -6,6 +6,7 @@ from zirofen_host.ask.program import Program, Refused
 from zirofen_host.collect.bounded import REPLAYS
 from zirofen_host.collect.model import Snapshot, User
 from zirofen_host.judge.checked import Checked
+from zirofen_host.judge.long_lists import is_whole
 from zirofen_host.judge.model import EntryFinding, ShownList, Subtree
 from zirofen_host.profile import CgroupPath, is_number, path_of
 
@@ -84,7 +85,7 @@ def shown_lists(checked: Checked, subtrees: Iterable[Subtree], entries: Iterable
     seen: Set[Tuple[str, Tuple[str, ...]]] = set()
     for user, path, lines in escapes_in(checked, subtrees, entries):
         subtree = path_of(path)
-        if (path, lines) in seen or len(seen) == REPLAYS or subtree not in checked.programs.of:
+        if (path, lines) in seen or len(seen) == REPLAYS or subtree not in checked.programs.of or not is_whole(lines):
             continue
         seen.add((path, lines))
         found = tried(checked.snapshot, checked.programs.of[subtree], user, subtree, lines[1:])

@@ -5,6 +5,7 @@ from dataclasses import dataclass
 from typing import AbstractSet, Callable, Dict, Iterable, Iterator, List, Optional, Tuple
 
 from zirofen_host import output
+from zirofen_host.ask.asking import has_all_cgroups
 from zirofen_host.ask.delegations import Delegations
 from zirofen_host.ask.model import Answer, Holders, Pair
 from zirofen_host.ask.program import Program, Refused, abilities_of, answer_of, user_words, worst
@@ -28,6 +29,8 @@ class One:
     mount: str
     delegations: Delegations
     program: Program
+    # which is asked: settle, where the program has it and the text has all cgroups, else check
+    command: str
 
 
 def uid_of(word: str, accounts: Accounts, on_host: bool) -> Optional[int]:
@@ -104,7 +107,7 @@ def answer(one: One, user: User, too_many: int) -> Answer:
     if too_many:
         return Answer(FAULT, (f"{too_many} of their groups matter here, and the program takes {MOST_GROUPS}",))
     try:
-        ended = one.program.run("check", "--tree", one.program.tree, *user_words(user), "--subtree", text_of(one.path))
+        ended = one.program.run(one.command, "--tree", one.program.tree, *user_words(user), "--subtree", text_of(one.path))
         return answer_of(ended.status, ended.lines)
     except Refused as refused:
         return Answer(FAULT, (str(refused), *refused.help_lines))
@@ -150,7 +153,9 @@ def ask(snapshot: Snapshot, options: AskOptions, warn: Warn) -> Tuple[List[str],
         programs = program_for(snapshot, options, folder, delegations, {user.uid for user in users})
         for note in programs.failed:
             warn(note.detail)
-        one = One(path_of(options.path), snapshot.mount, delegations, programs.of[path_of(options.path)])
+        is_settled = has_all_cgroups(snapshot, options, programs.texts) and abilities_of(options.program).has_settle
+        one = One(path_of(options.path), snapshot.mount, delegations, programs.of[path_of(options.path)],
+                  "settle" if is_settled else "check")
         answers = {user: answer(one, user, count) for user, count in sorted(as_asked(one, users, warn).items())}
         if all(each.status == FAULT for each in answers.values()):
             line, *help_lines = next(iter(answers.values())).lines

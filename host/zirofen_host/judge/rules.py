@@ -4,6 +4,7 @@ from typing import Dict, Iterator, Optional, Tuple, Union
 
 from zirofen_host.collect.looks import FAILED
 from zirofen_host.collect.model import OWNER
+from zirofen_host.judge import long_lists
 from zirofen_host.judge.finding_lines import NOTHING_ASKED as NOTHING_ASKED_LINE
 from zirofen_host.judge.finding_lines import (INSIDE_MEANS, acceptance_line, differs_line, entry_line, fault_line, inside_line,
                                               opened_line, version_1_line)
@@ -96,7 +97,7 @@ class Finding:
 
 def of_entry(each: EntryFinding) -> Finding:
     word = PROVED.get(of_answer(each.answer), PROVED[Gravity.ESCAPES])[0]
-    example = each.example.lines[1:] if each.example else ()
+    example = tuple(long_lists.shown(each.example.lines)) if each.example else ()
     return Finding(RULES[f"{word}/{GUARDS.get(each.entry, UNKNOWN)}"], each.path, each.entry, entry_line([each]), each.whom,
                    each.subtrees, example, each.changes, each.setting, each.accepted, each.within)
 

@@ -1,10 +1,10 @@
 """A finding as an article of the page."""
-from dataclasses import dataclass
+from dataclasses import dataclass, replace
 from typing import Dict, Iterable, Iterator, List, Optional
 
 from zirofen_host.collect.model import User
 from zirofen_host.fault import Fault
-from zirofen_host.judge import shell
+from zirofen_host.judge import long_lists, shell
 from zirofen_host.judge.finding_lines import inside_count, owner_text
 from zirofen_host.judge.model import DiffersFinding, EntryFinding, FaultFinding, OpenedFinding, RootInside
 from zirofen_host.show import picture, words
@@ -208,6 +208,12 @@ def place_text(part: Part) -> str:
     return code(place_of(part)) + (f", which {words.where(place_of(part), subtrees)}" if subtrees else "")
 
 
+def shortened(steps: Steps, escape: Escape) -> Steps:
+    """The first steps of a list, and how many more there are."""
+    more = list(long_lists.shown(escape.lines))[long_lists.SHOWN:]
+    return replace(steps, told=(*steps.told[:long_lists.SHOWN], *([line] for line in more)))
+
+
 def articles(host: Host, at: Place) -> Iterator[Article]:
     """The findings in their order; an escape is told at the first that it is of."""
     first: Dict[Escape, int] = {}
@@ -216,7 +222,7 @@ def articles(host: Host, at: Place) -> Iterator[Article]:
         escape = host.escape(part) if isinstance(part, EntryFinding) else None
         if escape and finding.answer == ESCAPES:
             before = first.setdefault(escape, number)
-            steps = steps_of(host, escape.subtree, escape.lines[1:])
+            steps = shortened(steps_of(host, escape.subtree, escape.lines[1:]), escape)
             broken = Broken(escape, steps, None if before == number else id_of(at, before))
         elif escape:
             broken = Broken(escape, None, None)

@@ -5,6 +5,7 @@ from typing import Callable, Dict, Iterable, Iterator, List, Mapping, Optional, 
 
 from zirofen_host.fault import FAULT
 from zirofen_host.installed import MANUAL
+from zirofen_host.judge import long_lists
 from zirofen_host.judge.acceptances import accepted_subtrees
 from zirofen_host.judge.baseline import KINDS
 from zirofen_host.judge.finding_lines import (INSIDE_MEANS, NOTHING_ASKED, SHOWN, above_line, acceptance_line, differs_line, entry_line,
@@ -54,7 +55,7 @@ def rows_of(subtree: Subtree, mark: str = "", is_named: bool = False) -> Iterato
     """The table's rows of a subtree: one for each answer of whoever holds it, each with a mark where limits aren't looked at."""
     for each in subtree.answers:
         first = each.lines[0]
-        answer, below = (f"above: {first}", ()) if each.is_above else (first, each.lines[1:])
+        answer, below = (f"above: {first}", ()) if each.is_above else (first, tuple(long_lists.shown(each.lines)))
         yield who_text(each) if is_named else each.who, gids_text(each.gids), answer + mark, subtree.path, below
     if not subtree.answers:
         yield "-", "-", "held by root alone" + mark, subtree.path, ()
@@ -106,7 +107,7 @@ def entry_lines(entries: Sequence[EntryFinding]) -> Iterator[str]:
     example = entries[0].example
     if example:
         yield f"    by {example.who} of {example.subtree}: {example.lines[0]}"
-        yield from (f"    {line}" for line in example.lines[1:])
+        yield from (f"    {line}" for line in long_lists.shown(example.lines))
     yield from what_to_change(entries)
 
 

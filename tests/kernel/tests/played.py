@@ -2,7 +2,7 @@
 import errno
 from dataclasses import replace
 
-from second import commands, rules, texts
+from second import commands, rules, settled, texts
 from second.rules import text_of
 from trial import advice, comparing
 
@@ -19,9 +19,23 @@ def report_of(_program, text, command, *words):
     if "--ops" in words:
         with open(words[words.index("--ops") + 1], "rb") as ops:
             files[words[words.index("--ops") + 1]] = ops.read()
+    if "--help" in words:
+        return ["help"]
     lines, status, fault = commands.respond([command, *words], text.encode(), files)
+    if lines and isinstance(lines[0], commands.Open):
+        call = commands.Call([command, *words])
+        lines, status = unsettled_lines(texts.tree_of(text.encode()), call.users[0], rules.path_of(call.one("--subtree")))
     assert status in (0, 1, 2), fault
     return [commands.spelling(line) if isinstance(line, tuple) else line for line in lines]
+
+
+def unsettled_lines(state, user, top):
+    """Of what is left unsettled an emptied subtree's end, where that breaks it."""
+    inside = sorted((path for path in state.cgroups if rules.inside(path, top)), reverse=True)
+    ops = [("exit", pid) for pid, (_, place) in state.live.items() if rules.inside(place, top)] + [("rmdir", path) for path in inside]
+    if settled.is_escape(state, user, top, ops):
+        return ["escapes", *map(commands.spelling, ops)], 1
+    return commands.answer_lines(rules.answer(state, user, top)), 2
 
 
 class Kernel:

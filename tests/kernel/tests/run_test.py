@@ -45,7 +45,8 @@ class RunTest(unittest.TestCase):
             self.assertRegex(said.splitlines()[-1], r"^\d+ passed, 0 failed$")
             with open(results) as text:
                 report = text.read()
-            for part in ("## 6.1\n", "## 6.12\n", "- Operations: 3 cases", "- Contained: 2 cases", "- Unexplained: 0."):
+            for part in ("## 6.1\n", "## 6.12\n", "- Operations: 3 cases", "- Contained: 2 cases", "- Settled, escapes: 2 lists",
+                         "- Settled, contained: 2 pairs", "- Unexplained: 0."):
                 self.assertIn(part, report)
             self.assertTrue(all(name in report.replace("\n  ", " ") for name in tally.WRONG))
 

@@ -60,6 +60,20 @@ def check(program, text, user, top):
     return first, [commands.operation_of(line.encode()) for line in rest]
 
 
+def has_settle(program):
+    """Whether a program settles what check leaves unsettled."""
+    try:
+        return bool(report_of(program, "", "settle", "--help"))
+    except RuntimeError:
+        return False
+
+
+def settle(program, text, user, top):
+    """The answer's first line, and the operations of an escape."""
+    first, *rest = asked(program, text, "settle", *words_of(user), "--subtree", text_of(top))
+    return first, [commands.operation_of(line.encode()) for line in rest]
+
+
 def advise(program, text, user, top):
     """The lines of the changes, and none where the pair is contained."""
     return changes_in(asked(program, text, "advise", *words_of(user), "--subtree", text_of(top)))

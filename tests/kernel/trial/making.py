@@ -171,10 +171,11 @@ def of_contained(rng, program):
     return [Case("contained", text, [], tops[:3], state, tries=tries_of(rng, tree, state, users, TRIES))]
 
 
-def tries_of(rng, tree, state, users, count):
-    """Operations of every kind by these users, chosen in the trees that those before them leave in the model."""
+def tries_of(rng, tree, state, users, count, first=0):
+    """Operations of every kind by these users, chosen in the trees that those before them leave in the model; what is born has a number
+    from the first one on."""
     tries = []
-    for number in range(count):
+    for number in range(first, first + count):
         user = rng.choice(users)
         step = other_step(rng, state, user, number) if rng.random() < 0.3 else settled_step(
             state, cases.random_operation(rng, tree, state, user))

@@ -3,7 +3,7 @@ import collections
 import json
 import os
 
-from trial import asking, comparing, script, mutants
+from trial import asking, comparing, script, settled, mutants
 
 WRONG = [*mutants.MUTANTS, *mutants.ADVICE]
 
@@ -11,10 +11,10 @@ WRONG = [*mutants.MUTANTS, *mutants.ADVICE]
 class Tally:
     def __init__(self, kernel, program, folder):
         self.kernel, self.program, self.folder = kernel, program, folder
-        self.counts, self.kinds, self.breaks = collections.Counter(), collections.Counter(), collections.Counter()
+        self.counts, self.kinds, self.breaks = collections.Counter(), collections.Counter(), collections.defaultdict(collections.Counter)
         self.failures, self.told, self.seconds = 0, {}, 0
         self.takers = {"operations": self.operations, "escapes": self.escapes, "contained": self.contained, "advice": self.advice,
-                       "wrong advice": self.wrong_advice}
+                       "wrong advice": self.wrong_advice, settled.ESCAPES: self.escapes, settled.CONTAINED: self.contained}
 
     def take(self, case, name, record):
         self.counts[f"{case.kind} cases"] += 1
@@ -59,8 +59,8 @@ class Tally:
         if not script.is_whole(case, record):
             return
         there = comparing.break_of(case, record, case.subtrees[0])
-        self.breaks[" ".join(there.split(" ")[::2])] += 1
-        self.counts["escapes as said"] += there == answers[-1]
+        self.breaks[case.kind][" ".join(there.split(" ")[::2])] += 1
+        self.counts[f"{case.kind} as said"] += there == answers[-1]
         # a value that the kernel keeps as `max` isn't changed by a write of `max`
         if answers[-1] == "kept" or there != answers[-1] and not found.differences:
             self.fail(case, name, f"the program says {answers[-1]}, and there it is {there}")
@@ -69,9 +69,12 @@ class Tally:
         if not script.is_whole(case, record):
             self.fail(case, name, f"not built or carried out: {record.faults[:3]}, {len(record.states)} states")
             return
-        self.counts["contained steps"] += len(case.tries)
-        self.counts["contained steps let through"] += record.numbers.count(0)
-        self.counts["contained pairs"] += len(case.subtrees) * len({user for user, _ in case.tries})
+        users = {user for user, _ in case.tries} - {settled.THIRD}
+        self.counts[f"{case.kind} steps"] += len(case.tries)
+        self.counts[f"{case.kind} steps let through"] += record.numbers.count(0)
+        self.counts[f"{case.kind} pairs"] += len(case.subtrees) * len(users)
+        self.counts[f"{case.kind} steps of a third let through"] += sum(
+            user == settled.THIRD and not number for (user, _), number in zip(case.tries, record.numbers))
         for top in case.subtrees:
             there = comparing.break_of(case, record, top)
             if there != "kept":
@@ -101,6 +104,18 @@ def listed(counter):
     return ", ".join(f"{name} {number}" for name, number in sorted(counter.items())) or "none"
 
 
+def settled_lines(tally):
+    """What came of what settle says, where the program has it."""
+    of, escapes, contained = tally.counts, settled.ESCAPES, settled.CONTAINED
+    if not of[f"{escapes} cases"] + of[f"{contained} cases"]:
+        return []
+    return [
+        f"- Settled, escapes: {of[f'{escapes} cases']} lists of {of[f'{escapes} steps']} operations, {of[f'{escapes} as said']} of which "
+        f"break at the step and by the clause that the program says. There: {listed(tally.breaks[escapes])}.",
+        f"- Settled, contained: {of[f'{contained} pairs']} pairs, {of[f'{contained} steps']} steps of the user and of a third, of which "
+        f"the kernel let {of[f'{contained} steps let through']} through, {of[f'{contained} steps of a third let through']} of the third's."]
+
+
 def lines_of(tally):
     """A kernel's part of the report."""
     of, missed = tally.counts, tally.missed()
@@ -108,13 +123,14 @@ def lines_of(tally):
         f"## {tally.kernel}", "",
         f"- Operations: {of['operations cases']} cases, {of['operations steps']} operations compared with their states.",
         f"- Escapes: {of['escapes cases']} lists of {of['escapes steps']} operations, {of['escapes as said']} of which break at "
-        f"the step and by the clause that the program says. There: {listed(tally.breaks)}.",
+        f"the step and by the clause that the program says. There: {listed(tally.breaks['escapes'])}.",
         f"- Contained: {of['contained cases']} cases, {of['contained pairs']} pairs of a user and a subtree, "
         f"{of['contained steps']} steps, of which the kernel let {of['contained steps let through']} through.",
         f"- Advice: {of['advice cases']} pairs advised, {of['advice changes']} changes carried out. Of {of['advice escapes']} "
         f"escapes {of['advice escapes refused']} were refused afterwards, of their {of['advice escape steps']} operations "
         f"{of['advice escape steps refused']}. {of['advice steps']} further steps, of which the kernel let "
         f"{of['advice steps let through']} through.",
+        *settled_lines(tally),
         f"- Differences by kind: {listed(tally.kinds)}.",
         f"- Unexplained: {tally.failures}.",
         f"- Mutants of the program: {len(tally.told)} of {len(WRONG)} found" + (f"; not found: {', '.join(missed)}" if missed else "")

@@ -5,7 +5,7 @@ import functools
 import itertools
 import re
 
-from . import rules
+from . import rules, settled
 from .documents import Fault
 from .rules import text_of
 from .texts import LAST_ID, tree_of
@@ -18,10 +18,12 @@ PLAIN = r"\+?[0-9]+"
 OPTIONS = {
     "may": {"--tree": "", "--uid": "must", "--gid": "again", "--pid": "must", "--to": "must"},
     "check": {"--tree": "", "--uid": "must", "--gid": "again", "--subtree": "must"},
-    "audit": {"--tree": "", "--uid": "must again", "--subtree": "must again", "--all": "flag"},
+    "settle": {"--tree": "", "--uid": "must", "--gid": "again", "--subtree": "must"},
+    "audit": {"--tree": "", "--uid": "must again", "--subtree": "must again", "--all": "flag", "--settle": "flag"},
     "replay": {"--tree": "", "--uid": "must", "--gid": "again", "--ops": "must", "--subtree": ""},
     "upgrade": {"--tree": ""},
-    "advise": {"--tree": "", "--uid": "again", "--gid": "again", "--subtree": "again", "--pairs": ""},
+    "advise": {"--tree": "", "--uid": "again", "--gid": "again", "--subtree": "again", "--pairs": "",
+               "--settle": "flag"},
 }
 
 
@@ -197,9 +199,20 @@ def listed_user(word):
 # Reports
 
 
+class Open:
+    """A report of which more than one is right: it tells of a report's lines and status whether it is."""
+
+    def __init__(self, is_right):
+        self.is_right = is_right
+
+    def __str__(self):
+        return "another report: of these more than one is right"
+
+
 def respond(words, stdin, files):
-    """The lines of standard output, the status and the first line of standard error. A tree that is read from what isn't a
-    file is None in `files`, and so is a folder's name, which opens and can't be read, with the value False."""
+    """The lines of standard output, the status and the first line of standard error, or an `Open` in place of the lines, without a
+    status. A tree that is read from what isn't a file is None in `files`, and so is a folder's name, which opens and can't be read,
+    with the value False."""
     lines = []
     try:
         return lines, report(words, stdin, files, lines), ""
@@ -272,14 +285,74 @@ def check(call, state, tops, _files, lines):
     return STATUS[answer[0]]
 
 
+def answer_of(lines):
+    """The answer that lines spell, or None."""
+    kind, *words = lines[0].split(" ") if lines else [""]
+    if kind == "escapes" and not words:
+        operations = [operation_of(line.encode()) if len(line) <= LONGEST_LINE else None for line in lines[1:]]
+        return None if None in operations else (kind, operations)
+    if len(lines) != 1 or kind not in STATUS or len(words) != (2 if kind == "unsettled" else 0):
+        return None
+    return (kind, words[0], rules.path_of(words[1])) if words else (kind,)
+
+
+def settle(call, state, tops, _files, lines):
+    user, top = call.users[0], tops[0]
+    known = settled.known(state, user, top)
+    if known is None:
+        lines.append(Open(lambda said, status: is_said(said, status, lambda answer: settled.is_right(state, user, top, answer))))
+        return None
+    lines += answer_lines(known)
+    return STATUS[known[0]]
+
+
+def is_said(lines, status, is_right):
+    """Whether lines spell an answer that is right, with its status."""
+    answer = answer_of(lines)
+    return answer is not None and status == STATUS[answer[0]] and is_right(answer)
+
+
+def settled_audit(call, state, tops, lines):
+    """Against whom a list is found is left to the program, and so whom it lists."""
+    users, tops = list(dict.fromkeys(call.users)), list(dict.fromkeys(tops))
+    is_right = is_list_said if "--all" in call.given else is_first_said
+    lines.append(Open(lambda said, status: is_right(state, users, tops, said, status)))
+
+
+def is_first_said(state, users, tops, said, status):
+    if said == ["contained"]:
+        return status == 0 and settled.are_listed(state, users, tops, {})
+    pairs = list(itertools.product(users, tops))
+    named = [at for at, (user, top) in enumerate(pairs) if said[:1] == [head_of(user[:1], top)]]
+    return is_said(said[1:], status, lambda answer: any(settled.is_first(state, pairs[:at], pairs[at], answer) for at in named))
+
+
+def is_list_said(state, users, tops, said, status):
+    heads = {head_of(user, top): (user, top) for user, top in itertools.product(users, tops)}
+    starts = [at for at, line in enumerate(said) if line in heads]
+    listed = {heads[said[start]]: answer_of(said[start + 1:end]) for start, end in zip(starts, [*starts[1:], None])}
+    if not starts:
+        return said == ["contained"] and status == 0 and settled.are_listed(state, users, tops, {})
+    in_order = starts[0] == 0 and [said[start] for start in starts] == [head for head, pair in heads.items() if pair in listed]
+    return in_order and None not in listed.values() and status == min(STATUS[answer[0]] for answer in listed.values()) \
+        and settled.are_listed(state, users, tops, listed)
+
+
+def head_of(user, top):
+    """The line of a pair, with the user's groups where these are given."""
+    gids = ":" + ",".join(map(str, user[1])) if user[1:] and user[1] else ""
+    return f"pair {user[0]}{gids} {text_of(top)}"
+
+
 def audit(call, state, tops, _files, lines):
+    if "--settle" in call.given:
+        return settled_audit(call, state, tops, lines)
     listed = "--all" in call.given
     kinds = set()
     for user, top in itertools.product(dict.fromkeys(call.users), dict.fromkeys(tops)):
         answer = rules.answer(state, user, top)
         if answer[0] != "contained":
-            gids = ":" + ",".join(map(str, user[1])) if listed and user[1] else ""
-            lines += [f"pair {user[0]}{gids} {text_of(top)}", *answer_lines(answer)]
+            lines += [head_of(user if listed else user[:1], top), *answer_lines(answer)]
             kinds.add(answer[0])
             if not listed:
                 return STATUS[answer[0]]
@@ -303,8 +376,9 @@ def replay(call, state, tops, files, lines):
 
 
 def advise(call, state, tops, _files, lines):
-    pairs = zip(call.users, tops) if "--pairs" in call.given else itertools.product(call.users, tops)
-    lines += rules.advice(state, list(dict.fromkeys(pairs)))
+    pairs = list(dict.fromkeys(zip(call.users, tops) if "--pairs" in call.given else itertools.product(call.users, tops)))
+    if not ("--settle" in call.given and all(settled.known(state, *pair) == ("contained",) for pair in pairs)):
+        lines += rules.advice(state, pairs)
     if lines:
         return 1
     lines.append("contained")
@@ -313,11 +387,14 @@ def advise(call, state, tops, _files, lines):
 
 def upgrade(_call, state, _tops, _files, lines):
     """One element in place of lines: the document that is written, whose spelling is the library's."""
+    lines.append(document_of(state))
+    return 0
+
+
+def document_of(state):
     rows = [full_row(path, state.cgroups[path]) for path in sorted(state.cgroups)]
     processes = [{"pid": pid, "uid": uid, "at": text_of(path)} for pid, (uid, path) in sorted(state.live.items())]
-    lines.append({"format": 2, "controllers": [c for c in rules.CONTROLLERS if c in state.controllers], "cgroup": rows,
-                  "process": processes})
-    return 0
+    return {"format": 2, "controllers": [c for c in rules.CONTROLLERS if c in state.controllers], "cgroup": rows, "process": processes}
 
 
 def full_row(path, cgroup):
@@ -328,4 +405,4 @@ def full_row(path, cgroup):
     return {"path": text_of(path), "enabled": enabled, "dir": files.pop(rules.DIR), "files": files}
 
 
-REPORTS = {"may": may, "check": check, "audit": audit, "replay": replay, "advise": advise, "upgrade": upgrade}
+REPORTS = {"may": may, "check": check, "settle": settle, "audit": audit, "replay": replay, "advise": advise, "upgrade": upgrade}

@@ -4,8 +4,8 @@ What lasts is found by taking away what nothing supports until all that is left 
 """
 from dataclasses import dataclass
 
-from second import rules
-from second.rules import CONTROL, CONTROLLERS, DEPTH, DESCENDANTS, DIR, MAX, PROCS
+from . import rules
+from .rules import CONTROL, CONTROLLERS, DEPTH, DESCENDANTS, DIR, MAX, PROCS
 
 
 @dataclass

@@ -4,7 +4,7 @@ from dataclasses import dataclass, field
 
 from second import commands, documents, rules, texts
 from second.rules import text_of
-from trials import faults, spelling, trees
+from trials import faults, small, spelling, trees
 
 TREE, OPS, PAIRS = "tree.toml", "list.ops", "list.pairs"
 
@@ -37,7 +37,9 @@ class Case:
 def random_case(seed, number, known):
     """The case of a seed and a number, of the commands that the program has."""
     rng = random.Random(f"{seed} {number}")
-    tree = trees.random_tree(rng)
+    able = [name for name in MAKERS if name.removesuffix(" alone") in known]
+    command = rng.choices(able, [WEIGHTS[name] for name in able])[0]
+    tree = trees.tree_of_state(rng) if "settle" in command and rng.random() < 0.7 else trees.random_tree(rng)
     parts = tree.document(rng)
     faulty = rng.random() < 0.25
     if faulty:
@@ -47,8 +49,6 @@ def random_case(seed, number, known):
         data = faults.turn_bytes(rng, data)
     if rng.random() < 0.003:
         data += b"#" * (documents.MOST_BYTES + rng.choice([0, 0, 1]) - len(data))
-    able = [name for name in MAKERS if name.removesuffix(" alone") in known]
-    command = rng.choices(able, [WEIGHTS[name] for name in able])[0]
     case = Case(MAKERS[command](rng, tree, state_of(data)))
     if command.startswith("replay"):
         case.files[OPS] = operations(rng, tree, data, case.words)
@@ -113,6 +113,10 @@ def may_words(rng, tree, state):
 
 def check_words(rng, tree, state):
     return ["check", *user_words(asked_user(rng, tree)), "--subtree", subtree_word(rng, tree, state)]
+
+
+def settle_words(rng, tree, state):
+    return ["settle", *check_words(rng, tree, state)[1:]]
 
 
 def advise_words(rng, tree, state):
@@ -187,6 +191,19 @@ def all_words(rng, tree, state):
     return [*audit_words(rng, tree, state), "--all"]
 
 
+def settled_audit_words(rng, tree, state):
+    users = rng.sample([tree.user, *small.USERS, trees.user_of(rng), other_user(rng, tree)], rng.choice([1, 2, 2, 3]))
+    words = ["audit"] + [word for user in users for word in ("--uid", listed_user(rng, *user))]
+    for _ in range(rng.choice([1, 1, 2, 3])):
+        words += ["--subtree", subtree_word(rng, tree, state)]
+    words += ["--settle"] + ["--all"] * (rng.random() < 0.75)
+    return words
+
+
+def settled_advice_words(rng, tree, state):
+    return [*advise_words(rng, tree, state), "--settle"]
+
+
 def replay_words(rng, tree, state):
     return [*replay_alone_words(rng, tree, state), "--subtree", subtree_word(rng, tree, state)]
 
@@ -200,9 +217,11 @@ def upgrade_words(_rng, _tree, _state):
 
 
 MAKERS = {"may": may_words, "check": check_words, "audit": audit_words, "audit --all": all_words, "advise": advise_words,
-          "advise --pairs": pairs_words,
+          "advise --pairs": pairs_words, "settle": settle_words, "audit --settle": settled_audit_words,
+          "advise --settle": settled_advice_words,
           "replay": replay_words, "replay alone": replay_alone_words, "upgrade": upgrade_words}
-WEIGHTS = {"may": 14, "check": 30, "audit": 12, "audit --all": 12, "advise": 14, "advise --pairs": 12, "replay": 28, "replay alone": 6, "upgrade": 7}
+WEIGHTS = {"may": 14, "check": 30, "audit": 12, "audit --all": 12, "advise": 14, "advise --pairs": 12, "settle": 24,
+           "audit --settle": 14, "advise --settle": 8, "replay": 28, "replay alone": 6, "upgrade": 7}
 
 
 # Operations
@@ -417,7 +436,7 @@ def unknown_word(rng, case):
 
 
 def join_option(rng, case):
-    options = [at for at in range(1, len(case.words) - 1) if case.words[at].startswith("--") and case.words[at] != "--all"]
+    options = [at for at, word in enumerate(case.words[:-1]) if at and word.startswith("--") and word not in ("--all", "--settle")]
     if options:
         at = rng.choice(options)
         case.words[at:at + 2] = [f"{case.words[at]}={case.words[at + 1]}"]

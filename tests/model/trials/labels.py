@@ -15,35 +15,41 @@ CLAUSES = {
     "chmod": ["ok", "no-such-cgroup", "no-such-file", "not-owner"],
 }
 GUARDS = ["common-ancestor", "limit-file", "parent-control", "parent-dir", "already-over"]
+# the guards that may fail first where no try breaks a subtree
+SETTLED = [GUARDS[at] for at in (0, 2, 3)]
 TRIES = ["nothing", "set", "control", "rmdir", "move", "mkdir move"]
 TREE_FAULTS = """too-long, not-toml, shape top, format, too-many, shape cgroup, shape process, bad-controller top, bad-path cgroup,
 bad-controller cgroup, bad-entry cgroup, bad-value cgroup, duplicate cgroup, no-root, no-parent cgroup, top-down cgroup,
 no-such-file cgroup, bad-pid process, bad-entry process, duplicate-pid process, no-such-place process, internal-process process"""
 FAULTS = ["usage", "uid", "gid", "pid", "path", "subtree root", "subtree missing", "line too-long", "line cut", "line bad-word",
           "too-many-steps", "read", "write", *("tree " + name for name in re.split(r",\s+", TREE_FAULTS))]
-STATUSES = {"may": 2, "check": 3, "audit": 3, "audit --all": 3, "replay": 2, "upgrade": 1, "advise": 2, "advise --pairs": 2}
+STATUSES = {"may": 2, "check": 3, "audit": 3, "audit --all": 3, "replay": 2, "upgrade": 1, "advise": 2, "advise --pairs": 2, "settle": 3,
+            "audit --settle": 3, "audit --all --settle": 3, "advise --settle": 2}
 
 
 def wanted(known):
     """Each label that has to come up."""
-    labels = [f"{name}: status {status}" for name, most in STATUSES.items() if name in known for status in [*range(most), 3]]
+    labels = [f"{name}: status {status}" for name, most in STATUSES.items() if name.replace("--all --settle", "--settle") in known
+              for status in [*range(most), 3]]
     labels += [f"operation {kind}: {outcome}" for kind, outcomes in CLAUSES.items() for outcome in outcomes]
     labels += [f"may: {outcome}" for outcome in ["granted", *CLAUSES["move"][1:]]]
     labels += [f"verdict: {word}" for word in ["kept", "gone", "crossed", "limits", "descendants", "depth"]]
     labels += [f"check: {guard} fails first" for guard in [*GUARDS, "none"]]
     labels += [f"check: escapes by {name}" for name in TRIES]
     labels += [f"check: escapes by an opening and {name}" for name in TRIES[1:]]
-    labels += [f"check: unsettled {GUARDS[at]}" for at in (0, 2, 3)]
+    labels += [f"check: unsettled {guard}" for guard in SETTLED]
     if "advise" in known:
         labels += [f"advise: {guard} by {reason}" for guard in GUARDS[:4] for reason in ("owner", "group", "others")]
         labels += ["advise: already-over", "advise: two classes of one entry"] + [f"advise: change {change}" for change in ("chown", "chmod", "chown chmod", "set")]
+    if "settle" in known:
+        labels += [f"settle: {guard} fails first, then {kind}" for guard in SETTLED for kind in commands.STATUS]
     return labels + [f"fault: {name}" for name in FAULTS]
 
 
 def labels_of(case, expected):
     """The labels of a case with the lines, the status and the fault that it should give."""
     lines, status, fault = expected
-    name = " ".join(case.words[:1] + [word for word in ("--all", "--pairs") if word in case.words])
+    name = " ".join(case.words[:1] + [word for word in ("--all", "--pairs", "--settle") if word in case.words])
     found = [f"{name}: status {status}"] if name in STATUSES else []
     if fault:
         found.append(re.sub(r"(cgroup|process|line) \d+", r"\1", fault))
@@ -94,6 +100,13 @@ def check_labels(case, lines):
     return found
 
 
+def settle_labels(case, lines):
+    """Of a subtree that check leaves unsettled the guard, and what is said."""
+    call = commands.Call(case.words)
+    answer = rules.answer(state_of(case.files.get(TREE, case.stdin)), call.users[0], rules.path_of(call.one("--subtree")))
+    return [f"settle: {answer[1]} fails first, then {lines[0].split(' ')[0]}"] if answer[0] == "unsettled" else []
+
+
 def advise_labels(_case, lines):
     found, changes = set(), []
     for line in lines[::-1]:
@@ -110,4 +123,4 @@ def advise_labels(_case, lines):
     return sorted(found)
 
 
-LABELS = {"may": may_labels, "check": check_labels, "advise": advise_labels, "advise --pairs": advise_labels}
+LABELS = {"may": may_labels, "check": check_labels, "advise": advise_labels, "advise --pairs": advise_labels, "settle": settle_labels}

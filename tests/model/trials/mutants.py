@@ -3,10 +3,10 @@ import functools
 import sys
 import types
 
-from second import commands, documents, rules, texts
+from second import commands, documents, lasting, rules, settled, texts
 
 # in the order in which one takes from another: those before the one that is changed are the right model's own
-MODULES = {"documents": documents, "rules": rules, "texts": texts, "commands": commands}
+MODULES = {"documents": documents, "rules": rules, "lasting": lasting, "settled": settled, "texts": texts, "commands": commands}
 USERS = "itertools.product(dict.fromkeys(call.users), dict.fromkeys(tops))"
 MEMBER = 'return "group" if entry.gid in user[1] else "others"'
 LIVE_ITEMS = "for other, process in state.live.items() if other != pid}"
@@ -137,6 +137,42 @@ OF_COMMANDS = {
     "upgrade writes processes in the order of their digits": (
         "in sorted(state.live.items())]", "in sorted(state.live.items(), key=lambda each: str(each[0]))]"),
 }
+STAYS_BY_A_CHILD = "\n                      or any(child in others for child in rules.children(state, path))"
+ON_BY_A_CHILD = " or any((child, controller) in on for child in rules.children(state, path))"
+BY_MEMORY = '"memory" in state.cgroups[path].enabled and is_on(state, users, lasting.on, path, "memory")'
+OFF_ABOVE = "return (path[:-1], controller) in off if path"
+SITES = "grows_none(state, users, lasting, path) for path in closed)"
+OF_LASTING = {
+    "a cgroup takes no processes by whatever it enables": (
+        BY_MEMORY, "any(is_on(state, users, lasting.on, path, controller) for controller in state.cgroups[path].enabled)"),
+    "a cgroup isn't kept by one below": (STAYS_BY_A_CHILD, ""),
+    "every cgroup stays": ("stays = supported(set(state.cgroups), lambda path, others: not path",
+                           "stays = supported(set(state.cgroups), lambda path, others: True or not path"),
+    "a controller isn't kept on by a child": (ON_BY_A_CHILD, ""),
+    "a controller is never disabled": ("return not is_reached(state, users, path, CONTROL)" + ON_BY_A_CHILD, "return True"),
+    "a controller that is away is away for good": (OFF_ABOVE, "return controller not in rules.available(state, path) if path"),
+    "a controller that is away is never away for good": (OFF_ABOVE, "return False if path"),
+    "no cgroup is made": (SITES, SITES.replace("grows_none(state, users, lasting, path)", "True")),
+    "none is made at a cgroup above the subtree": (SITES, SITES.replace("grows_none(", "(path in edges or grows_none(").replace(
+        "path) for", "path)) for")),
+    "limits leave room": ("or is_full(state, users, lasting, path)", ""),
+    "no process is moved": ("all(takes_none(state, users, lasting, path) and", "all("),
+    "of a user's reach owning is none": (
+        "any(rules.reaches(user, entry) for user in users)", "any(rules.writes(user, entry) for user in users)"),
+    "the parent's controllers go unasked": ("if any((top[:-1], controller) not in lasting.on | lasting.off for controller in CONTROLLERS):",
+                                            "if False:"),
+    "places beside the subtree go unasked": ("or rules.common(path, top) in edges]", "]"),
+}
+OF_SETTLED = {
+    "the first user's reach for that of all": ("holds = is_contained(state, others, top)", "holds = is_contained(state, others[:1], top)"),
+    "all but those for whom the guards hold are asked together": (
+        "holds = is_contained(state, others, top)",
+        'holds = is_contained(state, [user for user in others if answers[user][0] != "contained"], top)'),
+    "who has a list is asked with all others": ("holds = is_contained(state, others, top)", "holds = is_contained(state, users, top)"),
+    "who is contained alone isn't listed": (
+        "(None if holds or answers[user][0] ==", "(None if is_contained(state, [user], top) or answers[user][0] =="),
+    "a list goes on behind what it breaks": ('startswith(f"broken {len(operations)} ")', 'startswith(f"broken {len(operations) - 1} ")'),
+}
 OF_TEXTS = {
     "format 1 has the group's bit": ("0 <= mode <= 0o777) or form == 1 and mode & 0o020 != 0", "0 <= mode <= 0o777)"),
     "format 1 has gids": ("if form == 2:", "if form:"),
@@ -154,7 +190,7 @@ OF_DOCUMENTS = {
     "a byte order mark is no TOML": ('.removeprefix("\\ufeff")', ""),
     "16777216 bytes are too many": ("len(data) > MOST_BYTES", "len(data) >= MOST_BYTES"),
 }
-MUTANTS = {name: (module, *turn) for module, turns in zip(MODULES, (OF_DOCUMENTS, OF_RULES, OF_TEXTS, OF_COMMANDS))
+MUTANTS = {name: (module, *turn) for module, turns in zip(MODULES, (OF_DOCUMENTS, OF_RULES, OF_LASTING, OF_SETTLED, OF_TEXTS, OF_COMMANDS))
           for name, turn in turns.items()}
 
 

@@ -1,8 +1,10 @@
 """Random trees, as documents of a tree text: delegations that hold, and such with one thing or another open."""
+import itertools
 from dataclasses import dataclass
 
-from second import rules
+from second import commands, rules
 from second.rules import text_of
+from trials import small
 
 NAMES = ["a", "b", "c", "probe0", "probe1", "x.y", "a-b", "memory.stat", "~", "it's", 'q"q', "\\x2d", "a=[b]#"]
 # names of which one is the front of another, and what follows is less than a slash: in order otherwise than their texts are
@@ -81,6 +83,16 @@ def random_tree(rng):
         overfill(rng, tree)
     add_processes(rng, tree)
     return tree
+
+
+def tree_of_state(rng):
+    """A small state of a search, most of whose subtrees fail a guard and break by no try."""
+    state = small.random_state(rng)
+    parts = commands.document_of(state)
+    rows = {path: row for path, row in zip(sorted(state.cgroups), parts["cgroup"])}
+    pairs = list(itertools.product(small.USERS, [path for path in rows if path]))
+    hard = [(user, top) for user, top in pairs if rules.answer(state, user, top)[0] == "unsettled"]
+    return Tree(2, parts["controllers"], rows, parts["process"], *rng.choice(hard or pairs))
 
 
 def tree_to_probe(rng):

@@ -1,0 +1,33 @@
+"""Lists of operations that may be long: what a report keeps of them, and what is shown."""
+import re
+import shlex
+from typing import Iterator, Optional, Sequence, Tuple
+
+# operations of a list
+KEPT, SHOWN = 64, 12
+_MORE = re.compile(r"# ([0-9]+) more: ")
+
+
+def kept(lines: Sequence[str], user: int, subtree: str, tree: Optional[str]) -> Tuple[str, ...]:
+    """An answer's lines as a report keeps them: behind so many operations stands how many more there are, and the command that prints
+    them."""
+    more = len(lines) - 1 - KEPT
+    if more <= 0:
+        return tuple(lines)
+    of_tree = f" --tree {shlex.quote(tree)}" if tree else ""
+    return (*lines[:1 + KEPT], f"# {more} more: zirofen-host ask{of_tree} {user} {shlex.quote(subtree)}")
+
+
+def shown(lines: Sequence[str]) -> Iterator[str]:
+    """The operations of an answer's lines that are shown, and how many more there are."""
+    operations = lines[1:]
+    yield from operations[:SHOWN]
+    last = _MORE.match(operations[-1]) if operations else None
+    more = len(operations) - SHOWN + (int(last[1]) - 1 if last else 0)
+    if more > 0:
+        yield f".. and {more} more operations"
+
+
+def is_whole(lines: Sequence[str]) -> bool:
+    """Whether a report has all of a list."""
+    return not lines or not _MORE.match(lines[-1])
