@@ -61,7 +61,7 @@ CASES = (
     Case("zt-sub.service", {"zt-sub.service": service("User=zirofen-two\nDelegate=yes\nDelegateSubgroup=main\nMemoryMax=30M\n")},
          "DelegateSubgroup="),
     Case("zt-root.service", {"zt-root.service": service("Delegate=cpu\nStartupCPUWeight=30\nCPUQuota=50%\nTasksMax=10\n")},
-         "Delegate= of root's, StartupCPUWeight=, CPUQuota="),
+         "Delegate= of root's, StartupCPUWeight=, CPUQuota=", ("cpu.weight",)),
     Case("zt-group.service", {"zt-group.service": service("Group=zirofen-team\nDelegate=yes\n")}, "Group= alone, Delegate="),
     Case("zt-bare.service", {"zt-bare.service": service("User=zirofen-one\nSlice=zt-bare.slice\nMemoryAccounting=no\nTasksAccounting=no\n"
                                                         "CPUAccounting=no\n"),

@@ -200,9 +200,16 @@ class Started:
         wanted = set(delegated or ())
         wanted |= {name for name, setting in (("memory", "MemoryAccounting"), ("pids", "TasksAccounting"))
                    if (self.unit.last(setting) or "yes").lower() not in NO}
-        wanted |= {str(LIMIT_FILES[LIMITS[each.name]][0]) for each in self.unit.settings if each.name in LIMITS}
+        wanted |= {str(LIMIT_FILES[file][0]) for setting, file in LIMITS.items() if self.is_limited(setting, file)}
         return wanted | ({"cpu"} if any(each.name.startswith("CPU") and not ACCOUNTING.match(each.name)
                                         for each in self.unit.settings) else set())
+
+    def is_limited(self, setting: str, file: str) -> bool:
+        """Whether it has a limit. Of processes a service has the manager's DefaultTasksMax=, where it says nothing."""
+        value = self.unit.last(setting)
+        if value is None:
+            return setting == "TasksMax" and self.unit.name.kind == SERVICE
+        return of_text(file, value) != str(LIMIT_FILES[file][1])
 
     def start(self) -> None:
         path, delegated = self.path(), self.delegated()
@@ -238,9 +245,10 @@ class Started:
             if subgroup:
                 places.append(path_of(f"{text_of(path)}/{subgroup}"))
                 self.plan.cgroup(places[-1])
-            for place in places if uid is not None or gid is not None else ():
+            # by a group alone nothing is handed over
+            for place in places if uid is not None else ():
                 names = self.handed_over(place, place != path)
-                self.plan.lines += [f"chown {text_of(place)} {name} {uid or 0}:{gid or 0}" for name in names]
+                self.plan.lines += [f"chown {text_of(place)} {name} {uid}:{gid or 0}" for name in names]
         commands = self.unit.listed("ExecStart")
         if commands:
             runs_as_root = all(map(_AS_ROOT.match, commands))
