@@ -121,15 +121,16 @@ Slice=b.slice\nDelegate=cpu\nUser=app\n{text}"""))
     def test_whose_it_is(self):
         for text, owner, uid in (("User=app\nGroup=ops\n", "900:77", 900), ("User=900\n", "900:901", 900),
                                  ("User=1234\n", "1234:1234", 1234),
-                                 ("User=root\nGroup=ops\n", "0:77", 0), ("User=root\n", "0:0", 0),
+                                 ("Group=ops\n", "0:77", 0), ("User=root\nGroup=ops\n", "0:77", 0), ("User=root\n", "0:0", 0),
                                  ("DynamicUser=yes\n", "61185:61185", 61185)):
             lines, named = self.service(f"Delegate=yes\n{text}")
             self.assertEqual(named, [])
             self.assertIn(f"chown /system.slice/a.service cgroup.procs {owner}", lines, text)
             self.assertEqual(lines[-1].split()[2], str(uid))
-        # a group alone is given nothing
-        for text in ("", "Group=ops\n"):
-            self.assertFalse([line for line in self.service(f"Delegate=yes\n{text}")[0] if line.startswith("chown")])
+        # an older manager gives nothing to a group alone
+        for text, systemd in (("", 257), ("Group=ops\n", 252)):
+            lines, _ = self.service(f"Delegate=yes\n{text}", systemd=systemd)
+            self.assertFalse([line for line in lines if line.startswith("chown")])
         lines, named = self.service("Delegate=yes\nUser=nobody-knows\nGroup=none\n")
         self.assertIn("chown /system.slice/a.service dir 61185:0", lines)
         self.assertEqual(named, ["a.service: User=nobody-knows: no account that is known: it is taken for one that isn't anybody else's",

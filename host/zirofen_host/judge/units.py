@@ -14,7 +14,7 @@ from zirofen_host.profile import (CONTROL_FILES, CONTROLLERS, LIMIT_FILES, ROOT,
                                   path_of, text_of)
 
 SERVICE, SLICE = "service", "slice"
-# what a manager of this version and of newer ones knows
+# what a manager of this version and of newer ones knows: subgroups, and giving a unit to a group alone
 SUBGROUPS = 254
 # handed over with a delegated unit; where the cgroup above enables memory what is in OF_MEMORY, too
 HANDED_OVER = ("dir", *CONTROL_FILES, "cgroup.threads")
@@ -245,10 +245,10 @@ class Started:
             if subgroup:
                 places.append(path_of(f"{text_of(path)}/{subgroup}"))
                 self.plan.cgroup(places[-1])
-            # by a group alone nothing is handed over
-            for place in places if uid is not None else ():
+            is_given = uid is not None or gid is not None and self.plan.systemd >= SUBGROUPS
+            for place in places if is_given else ():
                 names = self.handed_over(place, place != path)
-                self.plan.lines += [f"chown {text_of(place)} {name} {uid}:{gid or 0}" for name in names]
+                self.plan.lines += [f"chown {text_of(place)} {name} {uid or 0}:{gid or 0}" for name in names]
         commands = self.unit.listed("ExecStart")
         if commands:
             runs_as_root = all(map(_AS_ROOT.match, commands))
