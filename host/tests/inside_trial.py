@@ -299,6 +299,8 @@ def without_nsdelegate(seen):
         mount(None, place, None, REMOUNT | USUAL, "memory_recursiveprot")
 
 
+# what the host sees of these acts
+SEEN = {"its own limit", "a limit outside", "moves in"}
 # what needs no place to be done at
 DEEDS = {"acts in another process": seize, "loads a module": load, "writes the machine's ports": memory,
          "remounts": without_nsdelegate}
@@ -345,7 +347,12 @@ def tried(name, seen):
         places = {**WAYS, **BESIDE}[name](seen)
     except OSError as error:
         return {"": errno.errorcode.get(error.errno, str(error.errno))}
-    return {act: end for place in places for act, end in acts_at(place, seen)}
+    ends = {}
+    for place in places:
+        for act, end in acts_at(place, seen):
+            # what is done at one of them is done
+            ends[act] = ends.get(act, end) and end
+    return ends
 
 
 def serve(asked, answers, capabilities):
@@ -483,7 +490,7 @@ def deeds_of(container, neighbour, inside, names):
         claimed = {act for act, end in ends.items() if not end}
         # a remount that changes nothing of the hierarchy is none
         claimed -= {"remounts"} - seen
-        if claimed ^ seen - {"remounts"} - {"moves out", *DEEDS} and seen - claimed:
+        if claimed & SEEN - seen:
             raise RuntimeError(f"{container.case.path}: {name}: {claimed} was told, and {seen} seen")
         if claimed | seen:
             done[name] = sorted(claimed | seen)
@@ -538,7 +545,8 @@ def phase(is_on, beside_few, options):
     os.makedirs(MOUNT + TOP, exist_ok=True)
     neighbour, containers, failed = Neighbour(), [], 0
     try:
-        containers = [Container(case) for case in cases]
+        for case in cases:
+            containers.append(Container(case))
         checked = Checked(options)
         inside = [pid for each in containers for pid in each.pids]
         for container in containers:
