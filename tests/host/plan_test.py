@@ -7,12 +7,13 @@ import unittest
 from dataclasses import replace
 
 import report_schema
-from check_test import MANAGER, MARK, REAL_PROGRAM, HostTest, owned
+from check_test import MANAGER, REAL_PROGRAM, HostTest, owned
 from made_up import COMMAND, TOP, path_of
 from zirofen_host.collect import changes, elsewhere
 from zirofen_host.collect.elsewhere import Accepted
 from zirofen_host.collect.model import AccountLists, Carried, Entry, Source
 from zirofen_host.collect.tree import read_tree
+from zirofen_host.collect.walk import MARKS
 from zirofen_host.fault import Fault
 from zirofen_host.judge import plan
 from zirofen_host.options import PlanOptions
@@ -94,7 +95,7 @@ class ChangesTest(unittest.TestCase):
         self.assertEqual([each for each in found.tree.processes if each.pid == 9], [(9, 33, path_of("/b"))])
         cgroup = found.cgroups[path_of("/b")]
         self.assertEqual((cgroup.marks, cgroup.files["cgroup.kill"], cgroup.files["memory.swap.max"]),
-                         ({MARK: b"1"}, Entry(33, 33, 0o644), Entry(0, 0, 0o666)))
+                         ({name: b"1" for name in MARKS}, Entry(33, 33, 0o644), Entry(0, 0, 0o666)))
 
     def test_what_a_kernel_doesnt_let_root_do(self):
         for line, why in (

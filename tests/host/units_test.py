@@ -6,12 +6,13 @@ import tempfile
 import unittest
 from dataclasses import replace
 
-from check_test import MARK, REAL_PROGRAM
+from check_test import REAL_PROGRAM
 from made_up import COMMAND, TOP, path_of
 from plan_test import snapshot_of
 from zirofen_host.collect import changes
 from zirofen_host.collect.model import Account, AccountLists, Carried, Entry, Group, Source
 from zirofen_host.collect.unit_files import FOLDERS, UnitName, read_units, specifiers
+from zirofen_host.collect.walk import MARKS
 from zirofen_host.fault import Fault
 from zirofen_host.judge import units
 
@@ -87,7 +88,7 @@ class MadeTest(UnitsTest):
         found, row = self.behind.cgroups[path_of("/system.slice/a.service")], self.row("/system.slice/a.service")
         handed = Entry(900, 901, 0o644)
         self.assertEqual((found.marks, row.directory, row.entry("cgroup.procs"), row.entry("cgroup.subtree_control"),
-                          found.files["cgroup.threads"]), ({MARK: b"1"}, Entry(900, 901, 0o755), handed, handed, handed))
+                          found.files["cgroup.threads"]), ({name: b"1" for name in MARKS}, Entry(900, 901, 0o755), handed, handed, handed))
         self.assertEqual([found.files[name] for name in ("memory.oom.group", "memory.reclaim")], [handed, handed])
         # no limit file is
         self.assertEqual({row.entry(name) for name in row.values}, {Entry(0, 0, 0o644)})
@@ -120,18 +121,33 @@ Slice=b.slice\nDelegate=cpu\nUser=app\n{text}"""))
     def test_whose_it_is(self):
         for text, owner, uid in (("User=app\nGroup=ops\n", "900:77", 900), ("User=900\n", "900:901", 900),
                                  ("User=1234\n", "1234:1234", 1234),
-                                 ("Group=ops\n", "0:77", 0), ("User=root\n", "0:0", 0), ("DynamicUser=yes\n", "61185:61185", 61185)):
+                                 ("Group=ops\n", "0:77", 0), ("User=root\nGroup=ops\n", "0:77", 0), ("User=root\n", "0:0", 0),
+                                 ("DynamicUser=yes\n", "61185:61185", 61185)):
             lines, named = self.service(f"Delegate=yes\n{text}")
             self.assertEqual(named, [])
             self.assertIn(f"chown /system.slice/a.service cgroup.procs {owner}", lines, text)
             self.assertEqual(lines[-1].split()[2], str(uid))
-        self.assertFalse([line for line in self.service("Delegate=yes\n")[0] if line.startswith("chown")])
+        # an older manager gives nothing to a group alone
+        for text, systemd in (("", 257), ("Group=ops\n", 252)):
+            lines, _ = self.service(f"Delegate=yes\n{text}", systemd=systemd)
+            self.assertFalse([line for line in lines if line.startswith("chown")])
         lines, named = self.service("Delegate=yes\nUser=nobody-knows\nGroup=none\n")
         self.assertIn("chown /system.slice/a.service dir 61185:0", lines)
         self.assertEqual(named, ["a.service: User=nobody-knows: no account that is known: it is taken for one that isn't anybody else's",
                                  "a.service: Group=none: no group that is known"])
         both, _ = self.planned(*(self.write(name, "[Service]\nDynamicUser=on\nExecStart=/x\n") for name in ("b.service", "c.service")))
         self.assertEqual([line.split()[1:3] for line in both if line.startswith("process")], [["4194303", "61185"], ["4194302", "61186"]])
+
+    def test_pids_are_counted_for_the_usual_limit(self):
+        """Without accounting too, as long as a service has a limit; a slice has none by itself."""
+        slices = "[Slice]\nTasksAccounting=no\nMemoryAccounting=no\n"
+        for text, enabled in (("", ["pids"]), ("TasksMax=5\n", ["pids"]), ("TasksMax=infinity\n", []),
+                              ("TasksMax=infinity\nTasksAccounting=yes\n", ["pids"]),
+                              ("TasksMax=infinity\nMemoryMax=infinity\n", []), ("TasksMax=infinity\nMemoryMin=infinity\n", ["memory"]),
+                              ("MemoryAccounting=yes\n", ["memory", "pids"])):
+            self.planned(self.write("b.slice", slices), self.write("b.service", f"""[Service]
+Slice=b.slice\nTasksAccounting=no\nMemoryAccounting=no\n{text}"""))
+            self.assertEqual(list(self.row("/b.slice").enabled), enabled, text)
 
     def test_a_subgroup_as_the_version_has_it(self):
         text = "Delegate=yes\nUser=app\nDelegateSubgroup=main\n"

@@ -20,6 +20,10 @@ FOLDER = "/run/systemd/system"
 SLEEP = "ExecStart=/bin/sleep infinity\n"
 ACCOUNTS = ("zirofen-one", "zirofen-two")
 GROUP = "zirofen-team"
+# the limits that a tree text carries; a plan has no values of others
+LIMITS = ("cgroup.max.descendants", "cgroup.max.depth", "cpu.weight", "memory.min", "memory.low", "memory.high", "memory.max", "pids.max")
+# of a subgroup these are its user's too, which a plan leaves out: they lie inside of what was handed over
+OF_A_SUBGROUP = ("cgroup.freeze", "cgroup.kill", "cgroup.pressure", "cgroup.type")
 # owner and mode of what nobody was handed
 ROOTS = ("0:0 644", "0:0 444", "0:0 200")
 
@@ -30,7 +34,7 @@ class Case:
     name: str
     files: dict
     settings: str
-    # entries of its cgroup, with why a plan and a host differ there
+    # what isn't compared: entries that it says it can't tell, and whose a dynamic user's are
     apart: tuple = ()
 
 
@@ -59,9 +63,9 @@ CASES = (
     Case("zt-named.service", {"zt-named.service": service("DynamicUser=yes\nUser=zirofen-three\nTasksMax=20\n")},
          "DynamicUser= with User=", ("owner",)),
     Case("zt-sub.service", {"zt-sub.service": service("User=zirofen-two\nDelegate=yes\nDelegateSubgroup=main\nMemoryMax=30M\n")},
-         "DelegateSubgroup="),
+         "DelegateSubgroup=", OF_A_SUBGROUP),
     Case("zt-root.service", {"zt-root.service": service("Delegate=cpu\nStartupCPUWeight=30\nCPUQuota=50%\nTasksMax=10\n")},
-         "Delegate= of root's, StartupCPUWeight=, CPUQuota="),
+         "Delegate= of root's, StartupCPUWeight=, CPUQuota=", ("cpu.weight",)),
     Case("zt-group.service", {"zt-group.service": service("Group=zirofen-team\nDelegate=yes\n")}, "Group= alone, Delegate="),
     Case("zt-bare.service", {"zt-bare.service": service("User=zirofen-one\nSlice=zt-bare.slice\nMemoryAccounting=no\nTasksAccounting=no\n"
                                                         "CPUAccounting=no\n"),
@@ -110,13 +114,12 @@ def flat(row, is_dynamic):
     found = {"enabled": " ".join(row["enabled"]), "marks": " ".join(sorted(row["marks"]))}
     for name, entry in (("dir", row["dir"]), *row["files"].items()):
         uid, gid = (("dynamic" if is_dynamic and each >= 61184 else each) for each in (entry["uid"], entry["gid"]))
-        found[name] = f"{uid}:{gid} {entry['mode']}" + (f" {entry['value']}" if "value" in entry else "")
+        found[name] = f"{uid}:{gid} {entry['mode']}" + (f" {entry['value']}" if name in LIMITS else "")
     return found
 
 
 def differing(planned, there, case):
-    """The entries of a cgroup that differ, with what a plan and a host have. A file that a plan doesn't name is root's there, and no
-    value of it is compared."""
+    """The entries of a cgroup that differ, with what a plan and a host have. A file that a plan doesn't name has to be root's."""
     if planned is None or there is None:
         return [] if planned is there else [f"{'not planned' if planned is None else 'planned'}, {'not' if there is None else ''} there"]
     was, now = (flat(row, "owner" in case.apart) for row in (planned, there))

@@ -6,7 +6,7 @@ from typing import Callable, Dict, Iterable, Iterator, List, Mapping, NoReturn, 
 from zirofen_host.collect.accounts import is_id
 from zirofen_host.collect.model import DEFAULT_FILE, Cgroup, Entry, Placed, Row, Snapshot, Tree, Value
 from zirofen_host.collect.snapshot import LARGEST_PID
-from zirofen_host.collect.walk import MANAGERS_MARK
+from zirofen_host.collect.walk import MARKS
 from zirofen_host.fault import Fault
 from zirofen_host.files import is_known
 from zirofen_host.profile import (CONTROL_FILES, CONTROLLERS, DIRECTORY_MODE, LIMIT_FILES, LONGEST_PATH, CgroupPath, accepts, ancestors,
@@ -195,9 +195,9 @@ class Changes:
         word, = words
         path, source = self.path(word), self.snapshot.source
         if source.file is not None and source.carried is None:
-            refuse("the text carries nothing of its host, and has no place for a mark")
+            refuse("the text carries nothing of its host, and has no place for marks")
         found = self.cgroups[path]
-        self.cgroups[path] = replace(found, marks={**found.marks, MANAGERS_MARK: b"1"})
+        self.cgroups[path] = replace(found, marks={**found.marks, **{name: b"1" for name in MARKS}})
 
 
 def without(files: Mapping[str, Entry], file: str) -> Mapping[str, Entry]:

@@ -14,7 +14,7 @@ from zirofen_host.profile import (CONTROL_FILES, CONTROLLERS, LIMIT_FILES, ROOT,
                                   path_of, text_of)
 
 SERVICE, SLICE = "service", "slice"
-# what a manager of this version and of newer ones knows
+# what a manager of this version and of newer ones knows: subgroups, and giving a unit to a group alone
 SUBGROUPS = 254
 # handed over with a delegated unit; where the cgroup above enables memory what is in OF_MEMORY, too
 HANDED_OVER = ("dir", *CONTROL_FILES, "cgroup.threads")
@@ -200,9 +200,16 @@ class Started:
         wanted = set(delegated or ())
         wanted |= {name for name, setting in (("memory", "MemoryAccounting"), ("pids", "TasksAccounting"))
                    if (self.unit.last(setting) or "yes").lower() not in NO}
-        wanted |= {str(LIMIT_FILES[LIMITS[each.name]][0]) for each in self.unit.settings if each.name in LIMITS}
+        wanted |= {str(LIMIT_FILES[file][0]) for setting, file in LIMITS.items() if self.is_limited(setting, file)}
         return wanted | ({"cpu"} if any(each.name.startswith("CPU") and not ACCOUNTING.match(each.name)
                                         for each in self.unit.settings) else set())
+
+    def is_limited(self, setting: str, file: str) -> bool:
+        """Whether it has a limit. Of processes a service has the manager's DefaultTasksMax=, where it says nothing."""
+        value = self.unit.last(setting)
+        if value is None:
+            return setting == "TasksMax" and self.unit.name.kind == SERVICE
+        return of_text(file, value) != str(LIMIT_FILES[file][1])
 
     def start(self) -> None:
         path, delegated = self.path(), self.delegated()
@@ -238,7 +245,8 @@ class Started:
             if subgroup:
                 places.append(path_of(f"{text_of(path)}/{subgroup}"))
                 self.plan.cgroup(places[-1])
-            for place in places if uid is not None or gid is not None else ():
+            is_given = uid is not None or gid is not None and self.plan.systemd >= SUBGROUPS
+            for place in places if is_given else ():
                 names = self.handed_over(place, place != path)
                 self.plan.lines += [f"chown {text_of(place)} {name} {uid or 0}:{gid or 0}" for name in names]
         commands = self.unit.listed("ExecStart")
