@@ -147,6 +147,7 @@ class Program:
         holds of them together."""
         left = sorted({pair.subtree for pair, answer in found.items() if answer.status == UNSETTLED})
         asked: Dict[Pair, Optional[Answer]] = {}
+        together = set(users)
         if sum(size(["--uid", user_word(user)]) for user in users) <= ROOM // 2:
             for subtrees in blocks_of(left, lambda path: ["--subtree", text_of(path)], ROOM // 2):
                 progress.tell(f"settling {len(subtrees)} subtrees")
@@ -156,7 +157,7 @@ class Program:
                     if refused.is_whole:
                         raise refused.fault() from None
                     continue
-                asked.update({pair: answers.get(pair) for pair in found if pair.subtree in subtrees})
+                asked.update({pair: answers.get(pair) for pair in found if pair.subtree in subtrees and pair.user in together})
         changed = {pair: asked.get(pair, answer) if answer.status == UNSETTLED else answer for pair, answer in found.items()}
         return {pair: answer for pair, answer in changed.items() if answer is not None}
 

@@ -15,7 +15,8 @@ import unittest.mock
 TOP = os.path.dirname(os.path.dirname(os.path.abspath(__file__)))
 sys.path[:0] = [TOP, os.path.join(TOP, "..", "model")]
 from second import commands, rules, texts
-from trial import advice, asking, classes, comparing, machine, made, making, script, tally, mutants
+from trial import advice, asking, classes, comparing, machine, made, making, mutants, script, settled, tally
+from trials import trees
 
 # how many mutants have to be found
 WRONG = 10
@@ -196,6 +197,20 @@ class KernelTest(unittest.TestCase):
         ways = {(guard, way) for guard in ("common-ancestor", "limit-file", "parent-control", "parent-dir")
                 for way in ("owner", "group", "others")}
         self.assertEqual(failed, ways | {("already-over", "")})
+
+    def test_a_third_stays_on_their_side(self):
+        for number in range(30):
+            rng = random.Random(number)
+            tree, _, state = making.settled(rng, trees.tree_of_state(rng))
+            top = tree.subtree
+            for user, step in settled.beside_a_third(rng, tree, state) if state.live else []:
+                if user == settled.THIRD:
+                    self.assertIn(step[0], ("move", "fork", "exit"))
+                    after = rules.next_state(state, user, step)
+                    self.assertEqual(rules.crossing(state, after, top), [])
+                    state = after
+                elif step[0] in rules.BARS:
+                    state = rules.step(state, user, step)[0]
 
     def test_a_tally_counts_what_fails(self):
         with tempfile.TemporaryDirectory() as room, unittest.mock.patch.object(asking, "check", second_check):

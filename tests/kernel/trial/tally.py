@@ -117,22 +117,21 @@ def settled_lines(tally):
 
 
 def lines_of(tally):
-    """A kernel's part of the report."""
+    """A kernel's part of the report: of each kind that was asked for its own line, and then what is of all."""
     of, missed = tally.counts, tally.missed()
-    return [
-        f"## {tally.kernel}", "",
-        f"- Operations: {of['operations cases']} cases, {of['operations steps']} operations compared with their states.",
-        f"- Escapes: {of['escapes cases']} lists of {of['escapes steps']} operations, {of['escapes as said']} of which break at "
+    kinds = {
+        "operations": f"- Operations: {of['operations cases']} cases, {of['operations steps']} operations compared with their states.",
+        "escapes": f"- Escapes: {of['escapes cases']} lists of {of['escapes steps']} operations, {of['escapes as said']} of which break at "
         f"the step and by the clause that the program says. There: {listed(tally.breaks['escapes'])}.",
-        f"- Contained: {of['contained cases']} cases, {of['contained pairs']} pairs of a user and a subtree, "
+        "contained": f"- Contained: {of['contained cases']} cases, {of['contained pairs']} pairs of a user and a subtree, "
         f"{of['contained steps']} steps, of which the kernel let {of['contained steps let through']} through.",
-        f"- Advice: {of['advice cases']} pairs advised, {of['advice changes']} changes carried out. Of {of['advice escapes']} "
+        "advice": f"- Advice: {of['advice cases']} pairs advised, {of['advice changes']} changes carried out. Of {of['advice escapes']} "
         f"escapes {of['advice escapes refused']} were refused afterwards, of their {of['advice escape steps']} operations "
         f"{of['advice escape steps refused']}. {of['advice steps']} further steps, of which the kernel let "
-        f"{of['advice steps let through']} through.",
-        *settled_lines(tally),
-        f"- Differences by kind: {listed(tally.kinds)}.",
-        f"- Unexplained: {tally.failures}.",
+        f"{of['advice steps let through']} through."}
+    found = [
         f"- Mutants of the program: {len(tally.told)} of {len(WRONG)} found" + (f"; not found: {', '.join(missed)}" if missed else "")
-        + ". By the case of its kind: " + ", ".join(f"{name} {number}" for name, number in tally.told.items()) + ".",
-        f"- Time: {tally.seconds:.0f} s.", ""]
+        + ". By the case of its kind: " + ", ".join(f"{name} {number}" for name, number in tally.told.items()) + "."]
+    return [f"## {tally.kernel}", "", *(line for kind, line in kinds.items() if of[f"{kind} cases"]), *settled_lines(tally),
+            f"- Differences by kind: {listed(tally.kinds)}.", f"- Unexplained: {tally.failures}.",
+            *(found if of["operations cases"] else []), f"- Time: {tally.seconds:.0f} s.", ""]

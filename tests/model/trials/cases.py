@@ -37,9 +37,7 @@ class Case:
 def random_case(seed, number, known):
     """The case of a seed and a number, of the commands that the program has."""
     rng = random.Random(f"{seed} {number}")
-    able = [name for name in MAKERS if name.removesuffix(" alone") in known]
-    command = rng.choices(able, [WEIGHTS[name] for name in able])[0]
-    tree = trees.tree_of_state(rng) if "settle" in command and rng.random() < 0.7 else trees.random_tree(rng)
+    tree = trees.random_tree(rng)
     parts = tree.document(rng)
     faulty = rng.random() < 0.25
     if faulty:
@@ -49,6 +47,11 @@ def random_case(seed, number, known):
         data = faults.turn_bytes(rng, data)
     if rng.random() < 0.003:
         data += b"#" * (documents.MOST_BYTES + rng.choice([0, 0, 1]) - len(data))
+    able = [name for name in MAKERS if name.removesuffix(" alone") in known]
+    command = rng.choices(able, [WEIGHTS[name] for name in able])[0]
+    if "settle" in command and rng.random() < 0.75:
+        tree = trees.tree_of_state(rng)
+        data = spelling.document(rng, tree.document(rng))
     case = Case(MAKERS[command](rng, tree, state_of(data)))
     if command.startswith("replay"):
         case.files[OPS] = operations(rng, tree, data, case.words)

@@ -194,6 +194,15 @@ MUTANTS = {name: (module, *turn) for module, turns in zip(MODULES, (OF_DOCUMENTS
           for name, turn in turns.items()}
 
 
+# of a module the command without which a program isn't told from what is turned there
+NEEDS = {"lasting": "settle", "settled": "audit --settle"}
+
+
+def able(known):
+    """The wrong models of which something shows in the commands that a program has."""
+    return [name for name, (module, *_) in TURNED.items() if NEEDS.get(module, "may") in known]
+
+
 @functools.lru_cache(maxsize=None)
 def respond_of(name):
     """The answers of a mutant."""

@@ -36,6 +36,22 @@ def state_about_room(rng, paths):
     return state
 
 
+def state_of_site(rng):
+    """Processes are moved past one cgroup alone, and to nowhere but into new cgroups there."""
+    paths, controllers = [(), ("a",), ("a", "b"), ("a", "b", "c")], frozenset(["memory"])
+    paths += [path for path in random_paths(rng, rng.randint(1, 3)) if path]
+    inner = [path for path in paths if any(other[:-1] == path for other in paths if other)]
+    cgroups = cgroups_of(rng, controllers, {path: controllers if path in inner else frozenset() for path in paths},
+                         {DIR: 0, rules.PROCS: 0, rules.CONTROL: 0})
+    above = ("a",)
+    for name in (rules.PROCS, DIR):
+        cgroups[above].entries[name] = random_entry(rng, 1, name == DIR)
+    state = with_processes(rng, controllers, cgroups)
+    if rng.random() < 0.3:
+        cgroups[above].values[DESCENDANTS] = len(rules.below(state, above))
+    return state
+
+
 def cgroups_of(rng, controllers, enabled, chances):
     cgroups = {}
     for path, those in enabled.items():
