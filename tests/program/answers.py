@@ -14,6 +14,7 @@ CUT = b"exit 11\nmkdir /c0/a"
 FILLED = ["ok", "ok", "ok", "ok", "ok", "refused descendant-limit /c0", "refused no-access /c0 memory.max", "refused no-access / cgroup.procs"]
 FILLED_OPS = ["--ops", f"{EXAMPLES}/delegation-filled.ops"]
 LIMIT_SET = ["escapes", "set /c0 memory.max max"]
+EMPTIED = ["exit 11", "rmdir /c0/c01", "rmdir /c0/c00", "rmdir /c0"]
 # the tree of an escape, the subtree, and what a replay of its operations says
 ESCAPES = [
     ("delegation-limit-writable", "/c0", ["ok", "broken 1 limits"]),
@@ -80,6 +81,20 @@ def checks(_):
     yield fault("usage", "check", "--uid", "1000")
 
 
+def settled(_):
+    yield Case(["settle", *asked("1000", "/c0")], 0, ["contained"])
+    yield Case(["settle", *tree("parent-procs-owned"), *asked("1000", "/p/s")], 0, ["contained"])
+    yield Case(["settle", *tree("delegation-limit-writable"), *asked("1000", "/c0")], 1, LIMIT_SET)
+    yield Case(["settle", *tree("delegation-parent-directory"), *asked("1000", "/c0")], 1, ["escapes", *EMPTIED])
+    yield Case(["settle", *tree("parent-procs-no-process"), *asked("1000", "/p/s")], 2, ["unsettled common-ancestor /p"])
+    yield fault("uid", "settle", *asked("0", "/c0"))
+    yield fault("path", "settle", *asked("1000", "c0"))
+    yield fault("subtree root", "settle", *asked("1000", "/"))
+    yield fault("subtree missing", "settle", *asked("1000", "/zz"))
+    yield fault("read", "settle", *tree("none"), *asked("0", "c0"))
+    yield fault("usage", "settle", "--uid", "1000")
+
+
 def audits(_):
     second = tree("delegation-second-user")
     both = ["--subtree", "/c0", "--subtree", "/c1"]
@@ -144,6 +159,9 @@ def replays(program):
     for name, subtree, lines in ESCAPES:
         _, *operations = call(program, ["check", *tree(name), *asked("1000", subtree)]).output.splitlines(keepends=True)
         yield Case(["replay", *tree(name), *asked("1000", subtree), "--ops", "-"], 1, lines, given=b"".join(operations))
+    _, *planned = call(program, ["settle", *tree("delegation-parent-directory"), *asked("1000", "/c0")]).output.splitlines(keepends=True)
+    yield Case(["replay", *tree("delegation-parent-directory"), *asked("1000", "/c0"), "--ops", "-"], 1,
+               ["ok", "ok", "ok", "ok", "broken 4 gone"], given=b"".join(planned))
 
 
 def upgrades(program):
@@ -160,7 +178,7 @@ def upgrades(program):
 
 
 def cases(program):
-    for table in command_lines, migrations, checks, audits, advices, replays, upgrades:
+    for table in command_lines, migrations, checks, settled, audits, advices, replays, upgrades:
         yield from table(program)
 
 

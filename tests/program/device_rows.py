@@ -20,6 +20,11 @@ ANSWERS = (
     ("parent-delegated", "check --tree {tree} --uid 1000 --subtree /p/s", 1, "escapes|mkdir /p/probe0|move 20 /p/probe0"),
     ("delegation-parent-directory", "check --uid 1000 --subtree /c0", 2, "unsettled parent-dir /"),
     ("parent-procs-owned", "check --uid 1000 --subtree /p/s", 2, "unsettled common-ancestor /p"),
+    ("delegation", "settle --tree {tree} --uid 1000 --subtree /c0", 0, "contained"),
+    ("parent-procs-owned", "settle --uid 1000 --subtree /p/s", 0, "contained"),
+    ("delegation-limit-writable", "settle --uid 1000 --subtree /c0", 1, "escapes|set /c0 memory.max max"),
+    ("delegation-parent-directory", "settle --uid 1000 --subtree /c0", 1, "escapes|exit 11|rmdir /c0/c01|rmdir /c0/c00|rmdir /c0"),
+    ("parent-procs-no-process", "settle --uid 1000 --subtree /p/s", 2, "unsettled common-ancestor /p"),
     ("delegation", "audit --uid 1000 --uid 1001:5,6 --subtree /c0 --subtree /c1", 0, "contained"),
     ("delegation-ancestor-group", "audit --tree {tree} --uid 1000 --subtree /c0", 0, "contained"),
     ("delegation-second-user", "audit --uid 1000 --uid 1001 --subtree /c0 --subtree /c1", 1,
@@ -47,6 +52,8 @@ FAULTS = (
     ("may --uid 1000 --pid 0 --to /c0/c01", "pid", ""),
     ("check --uid 1000 --subtree c0", "path", ""),
     ("check --uid 1000 --subtree /", "subtree root", ""),
+    ("settle --uid 0 --subtree /c0", "uid", ""),
+    ("settle --uid 1000 --subtree /zz", "subtree missing", ""),
     ("audit --uid 1000 --subtree /c0 --subtree /zz", "subtree missing", ""),
     ("replay --uid 1000 --subtree /zz --ops {none}", "subtree missing", ""),
     ("may --tree {folder} --uid 1000 --pid 11 --to /c0/c01", "read", ""),
@@ -133,7 +140,7 @@ ASKED = (
     ("delegation-second-user", "audit --all --tree {tree} --uid 1000 --uid 1001 --subtree /c0 --subtree /c1", 1),
     ("delegation-parent-directory", "audit --all --uid 1000 --uid 1001 --subtree /c0 --subtree /c1", 2),
 )
-COMMANDS = ("may", "check", "audit", "replay", "upgrade", "advise")
+COMMANDS = ("may", "check", "settle", "audit", "replay", "upgrade", "advise")
 HELP = ("--help", "--version", "may --help", "replay --help")
 
 

@@ -83,6 +83,8 @@ def command_lines():
     yield Row(CHECK[:1] + CHECK[3:], "usage", ["--uid <UID>"])
     yield Row(["check", "--user", *CHECK[2:]], "usage", ["unexpected argument '--user'"])
     yield Row(["check", "--uid", "1000", "--subtre", "/c0"], "usage", ["'--subtre'", "--subtree"])
+    yield Row(["setle", *CHECK[1:]], "usage", ["unrecognized subcommand 'setle'", "settle"])
+    yield Row(["settle", "--uid", "1000", "--all", "--subtree", "/c0"], "usage", ["unexpected argument '--all'"])
     yield Row(["check", "--uid", "alice", "--subtree", "/c0"], "usage", ["invalid value 'alice' for '--uid <UID>'", "`id -u NAME`"])
     yield Row(["check", "--uid", "-5", "--subtree", "/c0"], "usage", ["-5", "no uid, gid or PID is negative"])
     yield Row(["check", "--uid", "4294967296", "--subtree", "/c0"], "usage", ["'4294967296'", "a number from 1 to 4294967295"])
@@ -109,6 +111,7 @@ def command_lines():
 
 def arguments():
     yield Row(["check", "--uid", "0", "--subtree", "/c0"], "uid", ["root"])
+    yield Row(["settle", "--uid", "0", "--subtree", "/c0"], "uid", ["root"])
     yield Row([*CHECK, *["--gid", "5"] * 33], "gid", ["32"])
     yield Row(["may", "--uid", "1000", "--pid", "0", "--to", "/c0"], "pid", ["1 to 4194303"])
     yield Row(["may", "--uid", "1000", "--pid", "4194304", "--to", "/c0"], "pid", ["1 to 4194303"])

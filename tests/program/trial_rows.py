@@ -9,6 +9,7 @@ LIMIT_WRITABLE, ANCESTOR_WRITABLE, ANCESTOR_OWNED, OVER_LIMIT, PARENT_DIRECTORY,
     f"delegation-{it}" for it in ("limit-writable", "ancestor-writable", "ancestor-owned", "over-limit", "parent-directory",
                                   "parent-control", "second-user", "process-at-top", "name-prefix"))
 EMPTY_ANCESTOR, EMPTY_DIRECTORY, NESTED = "empty-ancestor-writable", "empty-parent-directory", "parent-delegated"
+PROCS_OWNED, NO_PROCESS = "parent-procs-owned", "parent-procs-no-process"
 NO_PARENT, INTERNAL_PROCESS = "fault-no-parent", "fault-internal-process"
 
 # the tree, the lines and what is said of each, the verdict
@@ -125,6 +126,8 @@ def byte_trials():
     yield "may_bytes", DELEGATION, ["may", "1000", "11", "/c0/c01"], "granted\nstatus 0\n"
     for tree, subtree, report, status in CHECKS[:CHECKS_OF_BYTES]:
         yield "check_bytes", tree, ["check", "1000", subtree], f"{lines(report)}status {status}\n"
+    yield "settle_bytes", PROCS_OWNED, ["settle", "1000", "/p/s"], "contained\nstatus 0\n"
+    yield "settle_bytes", NO_PROCESS, ["settle", "1000", "/p/s"], "unsettled common-ancestor /p\nstatus 2\n"
     yield "audit_bytes", DELEGATION, ["audit", "1000", "1001", "/c0", "/c1"], "contained\nstatus 0\n"
     yield "audit_bytes", SECOND_USER, ["audit", "1000", "1001", "/c0", "/c1"], "pair 1001 /c0\nescapes\nset /c0 memory.max max\nstatus 1\n"
     yield "audit_all_bytes", DELEGATION, ["audit_all", "1000", "1001", "/c0", "/c1"], "contained\nstatus 0\n"
@@ -150,6 +153,7 @@ def free_byte_trials():
     yield "may_bytes", ["may", "0", "11", "/c0"], "fault: uid\n"
     yield "may_bytes", ["may", "1000", "0", "/c0"], "fault: pid\n"
     yield "check_bytes", ["check", "0", "/c0"], "fault: uid\n"
+    yield "settle_bytes", ["settle", "0", "/c0"], "fault: uid\n"
     yield "advise_bytes", ["advise", "0", "/c0"], "fault: uid\n"
     yield "advise_pairs_bytes", ["advise_pairs", "1000", "/c0", "0", "/c0"], "fault: uid\n"
     yield "replay_bytes", ["replay", "0", "-"], "fault: uid\n"

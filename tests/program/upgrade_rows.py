@@ -131,6 +131,7 @@ def asked_of_all(tree):
         user = ["--uid", str(uid), *(word for gid in gids for word in ("--gid", str(gid)))]
         for path in paths:
             yield Asked(["check", *user, "--subtree", path], "")
+            yield Asked(["settle", *user, "--subtree", path], "")
             yield Asked(["advise", *user, "--subtree", path], "")
         for pid, path in zip(itertools.cycle(pids), ["/", *paths] if pids else ()):
             yield Asked(["may", *user, "--pid", str(pid), "--to", path], "")

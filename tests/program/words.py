@@ -83,6 +83,7 @@ def rows():
         yield ["may", "--uid", number, "--pid", "11", "--to", "/c0"], False
         yield ["may", "--uid", "1000", "--gid", number, "--pid", pid, "--to", "/c0"], False
         yield ["check", "--uid", number, "--gid", number, "--subtree", "/c0"], False
+        yield ["settle", "--uid", number, "--gid", number, "--subtree", "/c0"], False
         yield ["advise", "--uid", number, "--gid", number, "--subtree", "/c0"], False
         yield ["replay", "--uid", number, "--ops", os.devnull], False
         yield ["audit", "--uid", listed or number, "--subtree", "/c0"], listed is None
@@ -91,6 +92,7 @@ def rows():
         yield ["may", "--uid", "1000", "--gid", word, "--pid", "11", "--to", "/c0"], True
         yield ["may", "--uid", "1000", "--pid", word, "--to", "/c0"], True
         yield ["check", "--uid", word, "--subtree", "/c0"], True
+        yield ["settle", "--uid", word, "--subtree", "/c0"], True
         yield ["advise", "--uid", word, "--subtree", "/c0"], True
         yield ["replay", "--uid", word, "--ops", os.devnull], True
         yield ["audit", "--uid", word, "--subtree", "/c0"], True

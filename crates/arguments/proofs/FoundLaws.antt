@@ -67,6 +67,11 @@ module _ (f g : Found) (same : rows_of f ≡ rows_of g) where
     user = sym user_same ∙ h.user;
     subtree = sym (first_same (codes "subtree")) ∙ h.subtree;
   }
+  holds_same (request.Settle check) h = record {
+    tree = h.tree ∙ file_same (codes "tree");
+    user = sym user_same ∙ h.user;
+    subtree = sym (first_same (codes "subtree")) ∙ h.subtree;
+  }
   holds_same (request.Audit audit) h = record {
     tree = h.tree ∙ file_same (codes "tree");
     users = sym users_same ∙ h.users;

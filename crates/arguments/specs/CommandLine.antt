@@ -67,6 +67,6 @@ program_command = record (new_shape (codes "zirofen")) { has_version = true; sub
 abbrev pub command_line : App
 command_line = record {
   top = record program_command { is_leaf = false };
-  subs = may_command ∷ subtree_command (codes "check") ∷ audit_command ∷ advise_command ∷ replay_command
-      ∷ upgrade_command ∷ [];
+  subs = may_command ∷ subtree_command (codes "check") ∷ subtree_command (codes "settle") ∷ audit_command ∷ advise_command
+      ∷ replay_command ∷ upgrade_command ∷ [];
 }

@@ -148,6 +148,7 @@ abbrev pub command_of : Request → Option (List ℕ)
 command_of (request.Help text) = None
 command_of (request.May may) = Some (codes "may")
 command_of (request.Check check) = Some (codes "check")
+command_of (request.Settle check) = Some (codes "settle")
 command_of (request.Audit audit) = Some (codes "audit")
 command_of (request.Advise advise) = Some (codes "advise")
 command_of (request.AdvisePairs advise) = Some (codes "advise")
@@ -158,6 +159,7 @@ abbrev pub Holds : Found → Request → Type 0
 Holds found (request.Help text) = Unit {0}
 Holds found (request.May may) = IsMay found may
 Holds found (request.Check check) = IsCheck found check
+Holds found (request.Settle check) = IsCheck found check
 Holds found (request.Audit audit) = IsAudit found audit
 Holds found (request.Advise advise) = IsAdvise found advise
 Holds found (request.AdvisePairs advise) = IsAdvisePairs found advise

@@ -27,6 +27,7 @@ abbrev pub Makes : List Text → Request → Type 0
 Makes words (request.Help help) = IsNoMistake (kind_of help) × IsAmong (kind_of help) (fault_of command_line words)
 Makes words (request.May may) = NamesCommand words (codes "may") (λ found. IsMay found may)
 Makes words (request.Check check) = NamesCommand words (codes "check") (λ found. IsCheck found check)
+Makes words (request.Settle check) = NamesCommand words (codes "settle") (λ found. IsCheck found check)
 Makes words (request.Audit audit) = NamesCommand words (codes "audit") (λ found. IsAudit found audit)
 Makes words (request.Advise advise) = NamesCommand words (codes "advise") (λ found. IsAdvise found advise)
 Makes words (request.AdvisePairs advise) = NamesCommand words (codes "advise") (λ found. IsAdvisePairs found advise)

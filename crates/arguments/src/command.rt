@@ -40,6 +40,25 @@ Example:
   escapes
   set /c0 memory.max max";
 
+const SETTLE: &str =
+    "Says whether a subtree is shown to be contained against a user, and looks further than check where that is unsettled";
+
+const SETTLE_HELP: &str = "\
+Status: 0 contained, 1 escapes, 2 unsettled, 3 a fault
+What check says, to the byte, where that is `contained` or `escapes`. Where it is `unsettled`, `contained` means the same, by
+a second row of guards, whatever others do to their processes meanwhile; `escapes` has below it operations of the user, one a
+line, that were planned, carried out in the tree, and break the subtree by the last; and else `unsettled` says what check does.
+`fault: usage` means that the command line isn't as it says above.
+zirofen-tree(5) and zirofen(1), or docs/FORMATS.md, have the tree's format, and every line that is written.
+
+Example:
+  zirofen settle --tree examples/delegation-parent-directory.toml --uid 1000 --subtree /c0
+  escapes
+  exit 11
+  rmdir /c0/c01
+  rmdir /c0/c00
+  rmdir /c0";
+
 const AUDIT_HELP: &str = "\
 Status: 0 contained, 1 escapes, 2 unsettled, 3 a fault
 `contained` means that every subtree is held whatever all these users do, in whatever order, where nobody else acts. Else
@@ -107,6 +126,7 @@ pub(crate) fn command<'a>(alloc: Global) -> Result<Command<'a>, AllocError>
     program_command(alloc)
         .subcommand(may_command(alloc)?)?
         .subcommand(subtree_command(alloc, "check", CHECK, CHECK_HELP)?)?
+        .subcommand(subtree_command(alloc, "settle", SETTLE, SETTLE_HELP)?)?
         .subcommand(audit_command(alloc)?)?
         .subcommand(advise_command(alloc)?)?
         .subcommand(replay_command(alloc)?)?

@@ -23,6 +23,8 @@ pub enum Request<'a> {
     Help(clap::Error),
     May(May<'a>),
     Check(Check<'a>),
+    /// What `check` is asked, looked at further.
+    Settle(Check<'a>),
     Audit(Audit<'a>),
     Advise(Advise<'a>),
     AdvisePairs(AdvisePairs<'a>),
@@ -74,6 +76,7 @@ impl<'a> Request<'a> {
         match name {
             "may" => Ok(Request::May(May::from_matches(alloc, given)?)),
             "check" => Ok(Request::Check(Check::from_matches(alloc, given)?)),
+            "settle" => Ok(Request::Settle(Check::from_matches(alloc, given)?)),
             "audit" => Ok(Request::Audit(Audit::from_matches(alloc, given)?)),
             "advise" => Request::of_advise(alloc, given),
             "replay" => Ok(Request::Replay(Replay::from_matches(alloc, given)?)),

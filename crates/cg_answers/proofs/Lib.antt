@@ -1,1 +1,1 @@
-mod Settling
+pub mod Settling

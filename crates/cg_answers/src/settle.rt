@@ -1,5 +1,7 @@
 //! The answer of `check`, and where that is unsettled what else is known.
-ghost use Rattle.std.specs.Prelude.{◌≡◌, Ok, IfOk, IfErr};
+ghost use Rattle.std.specs.Prelude.{◌≡◌, Ok, None, IfOk, IfErr, IsOk};
+ghost use Rattle.cg_model.specs.Checks.{subtree_faults};
+ghost use Rattle.cg_model.specs.Clauses.{first};
 ghost use Rattle.cg_model.specs.Guards.{IsSubtree};
 ghost use Rattle.cg_model.specs.Held.{IsContained};
 ghost use Rattle.cg_model.specs.WellFormed.{IsWellFormed};
@@ -28,6 +30,7 @@ pub fn settle<H: Hierarchy + Drop>(
     subtree: &Path,
 ) -> Result<Answer, CheckFault>
     ensures settled { IfOk result (IsSettled (H.state tree.now) user.now subtree.now) }
+    ensures there { IsOk result → first (subtree_faults (H.state tree.now) subtree.now) ≡ None }
     ensures fault { IfErr result (IsSettledFault (H.state tree.now) subtree.now) }
     ensures contained { result ≡ Ok Answer.Contained → IsContained (H.state tree.now) user.now subtree.now }
 {

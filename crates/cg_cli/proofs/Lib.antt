@@ -3,7 +3,9 @@ pub mod ReplayReports
 mod ReplayRuns
 mod ReplayEnds
 mod ReplayReads
+pub mod Asked
 pub mod CheckReports
+mod SettleReports
 pub mod AdviseReports
 pub mod AdvisedTrees
 pub mod NamedPairs

@@ -7,6 +7,7 @@ pub mod Courses
 pub mod Replays
 pub mod Replaying
 pub mod Containment
+pub mod Settling
 pub mod Upgrades
 pub mod Audits
 pub mod Once

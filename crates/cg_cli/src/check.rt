@@ -43,7 +43,7 @@ pub fn check_bytes<W: Write>(
 struct Containment;
 
 impl Question for Containment {
-    ghost report = { λ _ st user subtree. subtree_report st user subtree };
+    ghost says = { λ _ st user subtree said. said ≡ subtree_report st user subtree };
 
     fn answer<H: Hierarchy + Drop>(
         &self,

@@ -1,5 +1,5 @@
 //! Laws over the definitions alone, whose functions do nothing, and what is read of a tree that is written.
-ghost use Rattle.std.specs.Prelude.{◌≡◌, ◌≢◌, List, [], MatchResult};
+ghost use Rattle.std.specs.Prelude.{◌≡◌, ◌≢◌, ℕ, List, [], Ok, MatchResult};
 ghost use Rattle.std.specs.List.{All};
 ghost use Rattle.cg_cgroup.specs.Paths.{Names};
 ghost use Rattle.cg_cgroup.specs.Identity.{Identity};
@@ -7,6 +7,10 @@ ghost use Rattle.cg_model.specs.States.{State};
 ghost use Rattle.cg_model.specs.WellFormed.{IsWellFormed};
 ghost use Rattle.cg_model.specs.Several.{AreContained};
 ghost use Rattle.cg_model.specs.Mends.{Pair, advised};
+ghost use Rattle.cg_format.specs.Readings.{Reading};
+ghost use Rattle.cg_cli.specs.Containment.{check_report};
+ghost use Rattle.cg_cli.specs.Reports.{Report};
+ghost use Rattle.cg_cli.specs.Settling.{AskedSays, FurtherSays, IsFurther};
 ghost use Rattle.cg_cli.specs.Advising.{AreContainedAsNamed, IsAdvisable, AreNamed};
 ghost use Rattle.cg_format.specs.declared.fault.TreeFault.TheVariants.{NoMemory as MemoryFault, TooLong};
 ghost use Rattle.cg_print.specs.Carried.{IsCarried, IsTooLong};
@@ -28,6 +32,13 @@ pub fn advised_are_contained()
     ensures all { (st : State) (pairs : List Pair) (users : List Identity) (subtrees : List Names)
         → IsWellFormed st → All (IsAdvisable st) pairs → AreNamed pairs users subtrees → users ≢ []
         → AreContained (advised st pairs) users subtrees }
+{}
+
+/// What `settle` reports is what `check` reports, a fault too, but where `check` ends with the status 2.
+pub fn settle_keeps_what_check_says()
+    ensures { (tree : Reading) (uid : ℕ) (gids subtree : List ℕ) (said : Report)
+        → AskedSays (FurtherSays IsFurther) tree uid gids subtree said
+        → (check_report tree uid gids subtree).ending ≢ Ok 2 → said ≡ check_report tree uid gids subtree }
 {}
 
 /// The tree that `read_tree` reads of what `tree_text` writes of a tree. Where a text can carry the tree it is an equal one,

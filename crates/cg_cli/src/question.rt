@@ -5,9 +5,10 @@ ghost use Rattle.cg_cgroup.specs.Paths.{Names};
 ghost use Rattle.cg_model.specs.States.{State};
 ghost use Rattle.cg_model.specs.Held.{IsContained};
 ghost use Rattle.cg_format.specs.Readings.{OnText};
-ghost use Rattle.cg_cli.specs.Containment.{asked_report, MeansContained};
+ghost use Rattle.cg_cli.specs.Containment.{MeansContained};
 ghost use Rattle.cg_cli.specs.Faults.{lifted_check};
-ghost use Rattle.cg_cli.specs.Reports.{Report, Reports, fault_report, takes_memory};
+ghost use Rattle.cg_cli.specs.Reports.{Report, fault_report, takes_memory};
+ghost use Rattle.cg_cli.specs.Settling.{AskedReports};
 
 use crate::arguments::{UserIds, read_path, read_user};
 use crate::fault::CliFault;
@@ -22,7 +23,8 @@ use std::io::Write;
 
 /// What is asked about a user and a subtree.
 pub trait Question {
-    ghost report: { Self → State → Identity → Names → Report };
+    /// The reports that may be made.
+    ghost says: { Self → State → Identity → Names → Report → Type 0 };
 
     /// What is said of them in a tree, and the status, which is 0 only where the subtree is contained.
     fn answer<H: Hierarchy + Drop>(
@@ -33,9 +35,9 @@ pub trait Question {
         subtree: &Path,
     ) -> Result<(Vec<u8>, u8), CheckFault>
         ensures said { MatchResult result
-            (λ said. report self.now (H.state tree.now) user.now subtree.now ≡ record { text = said.0.items; ending = Ok said.1 })
+            (λ said. says self.now (H.state tree.now) user.now subtree.now (record { text = said.0.items; ending = Ok said.1 }))
             (λ fault. fault ≢ CheckFault.NoMemory
-            → report self.now (H.state tree.now) user.now subtree.now ≡ fault_report (lifted_check fault)) }
+            → says self.now (H.state tree.now) user.now subtree.now (fault_report (lifted_check fault))) }
         ensures contained { IfOk result (λ said. said.1 ≡ 0 → IsContained (H.state tree.now) user.now subtree.now) };
 }
 
@@ -48,10 +50,10 @@ pub fn ask<Q: Question, W: Write>(
     subtree: &str,
     out: &mut W,
 ) -> Result<u8, CliFault>
-    requires { (st : State) (who : Identity) (path : Names) → takes_memory (Q.report question.now st who path).ending ≡ true }
-    ensures report { OnText tree.now (λ read. Reports
-        (asked_report (Q.report question.now) read user.entry.uid user.entry.gids.now subtree.now)
-        (W.contents out.old) (W.contents out.new) result) }
+    requires { (st : State) (who : Identity) (path : Names)
+        → (said : Report) × Q.says question.now st who path said × (takes_memory said.ending ≡ true) }
+    ensures report { OnText tree.now (λ read. AskedReports (Q.says question.now)
+        read user.entry.uid user.entry.gids.now subtree.now (W.contents out.old) (W.contents out.new) result) }
     ensures contained { MeansContained tree.now user.entry.uid user.entry.gids.now subtree.now result }
 {
     let user = read_user(user)?;

@@ -6,7 +6,7 @@ use std::alloc::{AllocError, Global};
 pub(crate) fn tree_of<'a>(request: &Request<'a>) -> Option<&'a str> {
     match request {
         Request::May(request) => request.tree,
-        Request::Check(request) => request.tree,
+        Request::Check(request) | Request::Settle(request) => request.tree,
         Request::Audit(request) => request.tree,
         Request::Advise(request) => request.tree,
         Request::AdvisePairs(request) => request.sources.tree(),
@@ -32,7 +32,9 @@ pub(crate) fn paths_of<'a>(
 ) -> Result<Vec<&'a str>, AllocError> {
     match request {
         Request::May(request) => Vec::from_slice(alloc, &[request.to]),
-        Request::Check(request) => Vec::from_slice(alloc, &[request.subtree]),
+        Request::Check(request) | Request::Settle(request) => {
+            Vec::from_slice(alloc, &[request.subtree])
+        }
         Request::Audit(request) => Vec::from_slice(alloc, request.subtrees.as_slice()),
         Request::Advise(request) => Vec::from_slice(alloc, request.subtrees.as_slice()),
         Request::Replay(request) => match request.subtree {

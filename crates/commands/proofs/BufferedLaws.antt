@@ -118,6 +118,8 @@ CarriesOut-Keeps (request.May may) files given old mid new result h k =
     OnTree-Keeps _ _ _ old mid new result (λ tree said. Reports-Keeps _ old mid new result said k) h k
 CarriesOut-Keeps (request.Check check) files given old mid new result h k =
     OnTree-Keeps _ _ _ old mid new result (λ tree said. Reports-Keeps _ old mid new result said k) h k
+CarriesOut-Keeps (request.Settle check) files given old mid new result h k =
+    OnTree-Keeps _ _ _ old mid new result (λ tree said. (said.0, said.1, Reports-Keeps said.0 old mid new result said.2 k)) h k
 CarriesOut-Keeps (request.Audit audit) files given old mid new result h k =
     OnTree-Keeps _ _ _ old mid new result (λ tree said. AuditSays-Keeps audit old mid new result tree said k) h k
 CarriesOut-Keeps (request.Advise advise) files given old mid new result h k =

@@ -14,6 +14,7 @@ use Rattle.arguments.specs.declared.request.Request.TheVariants as request
 use Rattle.cg_format.specs.Readings.{Reading, OnText}
 use Rattle.cg_cli.specs.May.{may_report}
 use Rattle.cg_cli.specs.Containment.{check_report}
+use Rattle.cg_cli.specs.Settling.{AskedReports, FurtherSays, IsFurther}
 use Rattle.cg_cli.specs.Audits.{audit_report}
 use Rattle.cg_cli.specs.AllPairs.{all_report, ReportsPairs}
 use Rattle.cg_cli.specs.Advising.{advise_report, advise_pairs_report}
@@ -59,6 +60,11 @@ may_said may tree = may_report tree may.user.uid may.user.gids.items may.pid may
 abbrev pub check_said : Check → Reading → Report
 check_said check tree = check_report tree check.user.uid check.user.gids.items check.subtree.now
 
+-- one of the reports that go further than that of check
+abbrev pub SettlesAs : Check → Option (List ℕ) → Option (List ℕ) → Result ℕ CliFault → Reading → Type 0
+SettlesAs check old new result tree =
+    AskedReports (FurtherSays IsFurther) tree check.user.uid check.user.gids.items check.subtree.now old new result
+
 abbrev pub advise_said : Advise → Reading → Report
 advise_said advise tree = advise_report tree (map ids_of advise.users.items) (map (λ subtree. subtree.now) advise.subtrees.items)
 
@@ -90,6 +96,10 @@ OnTree known answers old new result = ((tree : List ℕ) × IsTree known tree ×
 abbrev pub ReportsOnTree : Option (List ℕ) → (Reading → Report) → Option (List ℕ) → Option (List ℕ) → Result ℕ CliFault → Type 0
 ReportsOnTree known said old new result = OnTree known (λ tree. Reports (said tree) old new result) old new result
 
+-- A report of the text of a tree that may go further.
+abbrev pub SettlesOnTree : Option (List ℕ) → Check → Option (List ℕ) → Option (List ℕ) → Result ℕ CliFault → Type 0
+SettlesOnTree known check old new result = OnTree known (SettlesAs check old new result) old new result
+
 -- The report on the pairs of a text and the text of a tree.
 abbrev pub ReportsOnPairs : List ℕ → List ℕ → Option (List ℕ) → Option (List ℕ) → Result ℕ CliFault → Type 0
 ReportsOnPairs tree text old new result = OnText tree (λ read. Reports (pairs_said text read) old new result) ⊎ IsUnread old new result
@@ -114,6 +124,8 @@ CarriesOut (request.May may) files given old new result =
     ReportsOnTree (source files (name_of may.tree) given) (may_said may) old new result
 CarriesOut (request.Check check) files given old new result =
     ReportsOnTree (source files (name_of check.tree) given) (check_said check) old new result
+CarriesOut (request.Settle check) files given old new result =
+    SettlesOnTree (source files (name_of check.tree) given) check old new result
 CarriesOut (request.Audit audit) files given old new result =
     OnTree (source files (name_of audit.tree) given) (AuditSays audit old new result) old new result
 CarriesOut (request.Advise advise) files given old new result =

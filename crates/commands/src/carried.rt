@@ -7,7 +7,7 @@ ghost use Rattle.cg_cli.specs.Audits.{audit_report};
 ghost use Rattle.cg_cli.specs.Reports.{Reports};
 ghost use Rattle.cg_cli.specs.Upgrades.{Upgrades};
 ghost use Rattle.arguments.specs.Given.{ids_of, ids_of_pair, tree_file, other_file};
-ghost use Rattle.commands.specs.Requests.{source, name_of, IsTree, may_said, check_said, advise_said, AuditSays, OnTree, ReportsOnTree, ArePairs, ReportsOnPairs, OnPairs, replay_said, ReplaysOver, ReplaysOnTree, CarriesOut};
+ghost use Rattle.commands.specs.Requests.{source, name_of, IsTree, may_said, check_said, advise_said, AuditSays, OnTree, ReportsOnTree, SettlesOnTree, ArePairs, ReportsOnPairs, OnPairs, replay_said, ReplaysOver, ReplaysOnTree, CarriesOut};
 
 use crate::pairs::{line_at, read_pairs};
 use arguments::named_pair::NamedPair;
@@ -24,6 +24,7 @@ use cg_cli::check::check_bytes;
 use cg_cli::fault::CliFault;
 use cg_cli::may::may_bytes;
 use cg_cli::replay::replay_from;
+use cg_cli::settle::settle_bytes;
 use cg_cli::upgrade::upgrade_bytes;
 use std::alloc::Global;
 use std::io::{BufReader, Read, Write};
@@ -49,6 +50,7 @@ pub(crate) fn carried_out<F: Files, I: Read + Drop, W: Write>(
         Request::Help(help) => shown(alloc, help, out),
         Request::May(request) => may(alloc, request, files, input, out),
         Request::Check(request) => check(alloc, request, files, input, out),
+        Request::Settle(request) => settle(alloc, request, files, input, out),
         Request::Audit(request) => audit(alloc, request, files, input, out),
         Request::Advise(request) => advise(alloc, request, files, input, out),
         Request::AdvisePairs(asked) => advise_pairs(alloc, *asked, files, input, line, out),
@@ -98,6 +100,20 @@ fn check<F: Files, I: Read + Drop, W: Write>(
 {
     let tree = tree_text(alloc, files, asked.tree, input)?;
     check_bytes(alloc, tree.as_slice(), ids(&asked.user), asked.subtree, out)
+}
+
+fn settle<F: Files, I: Read + Drop, W: Write>(
+    alloc: Global,
+    asked: &Check<'_>,
+    files: &F,
+    input: I,
+    out: &mut W,
+) -> Result<u8, CliFault>
+    ensures { SettlesOnTree (source (F.given files.now) (name_of asked.now.tree) (I.remaining input)) asked.now
+        (W.contents out.old) (W.contents out.new) result }
+{
+    let tree = tree_text(alloc, files, asked.tree, input)?;
+    settle_bytes(alloc, tree.as_slice(), ids(&asked.user), asked.subtree, out)
 }
 
 fn advise<F: Files, I: Read + Drop, W: Write>(

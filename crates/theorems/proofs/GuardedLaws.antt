@@ -45,7 +45,7 @@ path_named : (found : Option Names) (path : Names) → or_fault found BadPath �
 path_named None path is = let never : ⊥ = cc in absurd never
 path_named (Some one) path is = let same : one ≡ path = cc in ap Some same
 
-named_read : (uid : ℕ) (gids : List ℕ) (user : Identity) → user_of uid gids ≡ Some user → user_read uid gids ≡ Ok user
+pub named_read : (uid : ℕ) (gids : List ℕ) (user : Identity) → user_of uid gids ≡ Some user → user_read uid gids ≡ Ok user
 named_read uid gids user is = by_uid (nat_eq uid 0) refl
   where
     nobody : uid ≡ 0 → ⊥

@@ -4,5 +4,6 @@ mod ListedLaws
 mod AdviceLaws
 mod PairedLaws
 mod ReplayedLaws
+mod SettledLaws
 mod MayLaws
 mod ProgramLaws

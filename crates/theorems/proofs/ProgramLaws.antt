@@ -7,12 +7,18 @@ use Rattle.cg_cgroup.specs.Paths.{Names, path_at}
 use Rattle.cg_cgroup.specs.Users.{user_of}
 use Rattle.cg_cgroup.specs.Identity.{Identity}
 use Rattle.cg_model.specs.States.{State}
-use Rattle.cg_model.specs.Held.{IsContained}
+use Rattle.cg_model.specs.Held.{IsHeld, by_user, IsContained}
+use Rattle.cg_model.specs.Answers.{answer}
+use Rattle.cg_model.specs.declared.answer.Answer.{Answer}
+use Rattle.cg_model.specs.declared.answer.Answer.TheVariants.{Contained, Escapes}
+use Rattle.cg_model.specs.declared.operation.Op.{Op}
 use Rattle.cg_model.specs.Several.{AreContained}
 use Rattle.cg_format.specs.Readings.{Reading, IsReading}
 use Rattle.cg_format.specs.TextOf.{IsTextOf}
 use Rattle.cg_format.proofs.ReadingLaws.{one_reading}
 use Rattle.cg_cli.specs.AllPairs.{all_report, ReportsPairs}
+use Rattle.cg_cli.specs.Containment.{answer_report}
+use Rattle.cg_cli.specs.Settling.{IsFurther}
 use Rattle.cg_cli.specs.Audits.{users_read, paths_read, audit_report}
 use Rattle.cg_cli.specs.Replays.{closed, replay_report}
 use Rattle.cg_cli.specs.Replaying.{Reporting, Replays}
@@ -32,12 +38,13 @@ use Rattle.arguments.specs.declared.request.Replay.{Replay}
 use Rattle.arguments.specs.declared.request.Request.{Request}
 use Rattle.arguments.specs.declared.request.Request.TheVariants as request
 use Rattle.streams.specs.declared.write.WriteFailed.{WriteFailed}
-use Rattle.commands.specs.Requests.{Files, IsUnread, source, name_of, may_said, check_said, advise_said, pairs_said, AuditSays, replay_said, OnTree, OnPairs, ReplaysOver, CarriesOut}
+use Rattle.commands.specs.Requests.{Files, IsUnread, source, name_of, may_said, check_said, SettlesAs, advise_said, pairs_said, AuditSays, replay_said, OnTree, OnPairs, ReplaysOver, CarriesOut}
 use Rattle.commands.specs.Runs.{IsFlushed, CarriesOutBuffered, LeadsTo, LiesBelow, RunsTo}
 use Rattle.commands.specs.declared.fault.Fault.{Fault}
 use Rattle.commands.specs.declared.fault.Fault.TheVariants.{Usage, Cli}
 use Rattle.commands.proofs.BufferedLaws.{CarriesOut-Keeps}
 use Rattle.theorems.proofs.GuardedLaws.{contained_by_status}
+use Rattle.theorems.proofs.SettledLaws.{settled_as}
 use Rattle.theorems.proofs.StatusLaws.{all_contained_by_status}
 
 -- ---- what lies in the first writer
@@ -164,6 +171,19 @@ module _ (files : Files) (given old new : Option (List ℕ)) (status : ℕ) wher
               contained_by_status text st check.user.uid check.user.gids.items user check.subtree.now subtree of_text of_user of_path
               (report.0 ∙ ap Ok zero),
         )
+
+    pub settle_ended : (check : Check) (user : Identity) (subtree : Names)
+        → CarriesOut (request.Settle check) files given old new (Ok status)
+        → source files (name_of check.tree) given ≡ Some text → IsTextOf st text
+        → user_of check.user.uid check.user.gids.items ≡ Some user → path_at check.subtree.now ≡ Some subtree
+        → (found : Answer) × Reports (answer_report subtree found) old new (Ok status)
+        × IsFurther st user subtree (answer st user subtree) found
+        × (found ≡ Contained → IsContained st user subtree)
+        × ((ops : List Op) → found ≡ Escapes ops → ¬ (IsHeld st (by_user user ops) subtree))
+    settle_ended check user subtree carried of_known of_text of_user of_path =
+        settled_as st user subtree check.user.uid check.user.gids.items check.subtree.now of_user of_path of_text.says.formed old new status
+        (on_state (SettlesAs check old new (Ok status)) (source files (name_of check.tree) given) old new status text st of_known of_text
+        carried)
 
     pub advise_ended : (advise : Advise) → CarriesOut (request.Advise advise) files given old new (Ok status)
         → source files (name_of advise.tree) given ≡ Some text → IsTextOf st text → Reports (advise_said advise (Ok st)) old new (Ok status)

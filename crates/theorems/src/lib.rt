@@ -23,6 +23,7 @@ ghost use Rattle.cg_model.specs.Once.{once};
 ghost use Rattle.cg_model.specs.Listed.{Listed, listed, unlisted};
 ghost use Rattle.cg_model.specs.Mends.{Pair, advised};
 ghost use Rattle.cg_model.specs.Advised.{IsAdvised, AreCountable};
+ghost use Rattle.cg_model.specs.declared.answer.Answer.{Answer};
 ghost use Rattle.cg_model.specs.declared.answer.Answer.TheVariants.{Contained, Escapes};
 ghost use Rattle.cg_model.specs.declared.operation.Op.{Op};
 ghost use Rattle.cg_model.specs.declared.operation.Op.TheVariants.{Move};
@@ -46,7 +47,8 @@ ghost use Rattle.cg_cli.specs.Arguments.{user_read, pid_read, path_read};
 ghost use Rattle.cg_cli.specs.May.{may_report};
 ghost use Rattle.cg_cli.specs.Courses.{verdict_status};
 ghost use Rattle.cg_cli.specs.Replays.{is_newline, longest_line, outcome_of, replay_report};
-ghost use Rattle.cg_cli.specs.Containment.{check_report};
+ghost use Rattle.cg_cli.specs.Containment.{answer_report, check_report};
+ghost use Rattle.cg_cli.specs.Settling.{IsFurther};
 ghost use Rattle.cg_cli.specs.Audits.{users_read, paths_read, audit_report};
 ghost use Rattle.cg_cli.specs.Once.{same_user};
 ghost use Rattle.cg_cli.specs.AllPairs.{all_report, ReportsPairs, UnlistedAreContained};
@@ -252,6 +254,14 @@ pub fn the_program()
         → Reports (check_said check (Ok st)) old new (Ok status)
         × (status ≡ 0 → (user : Identity) (subtree : Names) → user_of check.user.uid check.user.gids.items ≡ Some user
         → path_at check.subtree.now ≡ Some subtree → IsContained st user subtree) }
+    ensures settle { (check : Check) (files : Files) (given old new : Option (List ℕ)) (status : ℕ) (text : List ℕ) (st : State) (user : Identity) (subtree : Names)
+        → CarriesOut (request.Settle check) files given old new (Ok status)
+        → source files (name_of check.tree) given ≡ Some text → IsTextOf st text
+        → user_of check.user.uid check.user.gids.items ≡ Some user → path_at check.subtree.now ≡ Some subtree
+        → (found : Answer) × Reports (answer_report subtree found) old new (Ok status)
+        × IsFurther st user subtree (answer st user subtree) found
+        × (found ≡ Contained → IsContained st user subtree)
+        × ((ops : List Op) → found ≡ Escapes ops → ¬ (IsHeld st (by_user user ops) subtree)) }
     ensures audit { (audit : Audit) (files : Files) (given old new : Option (List ℕ)) (status : ℕ) (text : List ℕ) (st : State)
         → CarriesOut (request.Audit audit) files given old new (Ok status) → audit.all ≡ false
         → source files (name_of audit.tree) given ≡ Some text → IsTextOf st text

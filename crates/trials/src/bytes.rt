@@ -13,6 +13,7 @@ use cg_cli::check::check_bytes;
 use cg_cli::fault::{CliFault, fault_text};
 use cg_cli::may::may_bytes;
 use cg_cli::replay::{replay_bytes, replay_from};
+use cg_cli::settle::settle_bytes;
 use cg_cli::upgrade::upgrade_bytes;
 use std::alloc::Global;
 
@@ -24,6 +25,7 @@ const ROOM: usize = 65536;
 enum Call<'a> {
     May(UserIds<'a>, u32, &'a str),
     Check(UserIds<'a>, &'a str),
+    Settle(UserIds<'a>, &'a str),
     Advise(UserIds<'a>, &'a str),
     AdvisePairs(Vec<PairIds<'a>>),
     Upgrade,
@@ -38,6 +40,7 @@ impl Call<'_> {
         match self {
             Call::May(user, pid, to) => may_bytes(alloc, tree, *user, *pid, to, out),
             Call::Check(user, subtree) => check_bytes(alloc, tree, *user, subtree, out),
+            Call::Settle(user, subtree) => settle_bytes(alloc, tree, *user, subtree, out),
             Call::Advise(user, subtree) => { advise_bytes(alloc, tree, &[*user], &[*subtree], out) }
             Call::AdvisePairs(pairs) => advise_pairs_bytes(alloc, tree, pairs.as_slice(), out),
             Call::Upgrade => upgrade_bytes(alloc, tree, out),
@@ -115,6 +118,7 @@ fn call_told<'a>(alloc: Global, words: &mut Words<'a>) -> Result<Call<'a>, Stopp
     match words.next()? {
         "may" => Ok(Call::May(user(words.id()?), words.id()?, words.next()?)),
         "check" => Ok(Call::Check(user(words.id()?), words.next()?)),
+        "settle" => Ok(Call::Settle(user(words.id()?), words.next()?)),
         "advise" => Ok(Call::Advise(user(words.id()?), words.next()?)),
         "advise_pairs" => Ok(Call::AdvisePairs(paired(alloc, words)?)),
         "upgrade" => Ok(Call::Upgrade),

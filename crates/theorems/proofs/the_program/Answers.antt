@@ -1,4 +1,4 @@
-use Rattle.theorems.proofs.ProgramLaws.{carried_by_status, led_to_fault, help_ended, may_ended, check_ended, audit_ended, all_ended, advise_ended, advise_pairs_ended, upgrade_ended, replay_ended}
+use Rattle.theorems.proofs.ProgramLaws.{carried_by_status, led_to_fault, help_ended, may_ended, check_ended, settle_ended, audit_ended, all_ended, advise_ended, advise_pairs_ended, upgrade_ended, replay_ended}
 use Rattle.theorems.proofs.the_program.Goals as goal
 
 pub returns : goal.returns
@@ -8,6 +8,8 @@ returns c = record {
   help = λ help files given old new status. help_ended files given old new status help;
   may = λ may files given old new status text st. may_ended files given old new status text st may;
   check = λ check files given old new status text st. check_ended files given old new status text st check;
+  settle = λ check files given old new status text st user subtree.
+      settle_ended files given old new status text st check user subtree;
   audit = λ audit files given old new status text st carried first of_known of_text.
       audit_ended files given old new status text st audit carried of_known of_text first;
   audit_all = λ audit files given old new status text st carried each of_known of_text.

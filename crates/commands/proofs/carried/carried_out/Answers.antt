@@ -9,6 +9,9 @@ returns-in-May g c = rw c.in-May.is c.may.ensures
 pub returns-in-Check : goal.returns-in-Check
 returns-in-Check g c = rw c.in-Check.is c.check.ensures
 
+pub returns-in-Settle : goal.returns-in-Settle
+returns-in-Settle g c = rw c.in-Settle.is c.settle.ensures
+
 pub returns-in-Audit : goal.returns-in-Audit
 returns-in-Audit g c = rw c.in-Audit.is c.audit.ensures
 

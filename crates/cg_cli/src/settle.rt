@@ -1,0 +1,63 @@
+//! What is known of a subtree against a user, where check tells less.
+ghost use Rattle.cg_answers.specs.Settled.{IsSettledFrom};
+ghost use Rattle.cg_format.specs.Readings.{OnText};
+ghost use Rattle.cg_cli.specs.Containment.{MeansContained};
+ghost use Rattle.cg_cli.specs.Settling.{AskedReports, FurtherSays, IsFurther};
+
+use crate::arguments::UserIds;
+use crate::check::status;
+use crate::fault::CliFault;
+use crate::question::{Question, ask};
+use cg_answers::settle::settle;
+use cg_cgroup::memory::NoMemory;
+use cg_cgroup::path::Path;
+use cg_cgroup::user::User;
+use cg_model::fault::CheckFault;
+use cg_report::answer::answer_text;
+use cg_tree::hierarchy::Hierarchy;
+use std::alloc::Global;
+use std::io::Write;
+
+/// Writes what `check` does, but where that is `unsettled` also `contained`, with status 0, where the second row of guards
+/// holds, or `escapes`, with status 1, and a line for each operation of a list that is planned and breaks the subtree.
+///
+/// # Errors
+/// The first that holds of `Uid`, `Gids`, `BadPath`, `Tree` and `Subtree`, and then nothing is written; `Write` where a
+/// write failed or took nothing; `NoMemory` where an allocation was refused.
+pub fn settle_bytes<W: Write>(
+    alloc: Global,
+    tree: &[u8],
+    user: UserIds<'_>,
+    subtree: &str,
+    out: &mut W,
+) -> Result<u8, CliFault>
+    ensures report { OnText tree.now (λ read. AskedReports (FurtherSays IsSettledFrom)
+        read user.entry.uid user.entry.gids.now subtree.now (W.contents out.old) (W.contents out.new) result) }
+    ensures further { OnText tree.now (λ read. AskedReports (FurtherSays IsFurther)
+        read user.entry.uid user.entry.gids.now subtree.now (W.contents out.old) (W.contents out.new) result) }
+    ensures contained { MeansContained tree.now user.entry.uid user.entry.gids.now subtree.now result }
+{
+    ask(alloc, &Settling, tree, user, subtree, out)
+}
+
+/// What is known of the subtree.
+#[derive(Drop)]
+struct Settling;
+
+impl Question for Settling {
+    ghost says = { λ _. FurtherSays IsSettledFrom };
+
+    fn answer<H: Hierarchy + Drop>(
+        &self,
+        alloc: Global,
+        tree: &H,
+        user: &User,
+        subtree: &Path,
+    ) -> Result<(Vec<u8>, u8), CheckFault> {
+        let answer = settle(alloc, tree, user, subtree)?;
+        match answer_text(alloc, subtree, &answer) {
+            Ok(text) => Ok((text, status(&answer))),
+            Err(NoMemory) => Err(CheckFault::NoMemory),
+        }
+    }
+}
