@@ -1,1 +1,5 @@
 pub mod Settling
+pub mod Places
+pub mod Knowing
+pub mod Auditing
+pub mod Rows
