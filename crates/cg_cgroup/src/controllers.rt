@@ -55,8 +55,7 @@ impl ControllerSet {
     pub fn is_within(self, other: &ControllerSet) -> bool
         ensures { result ≡ is_within self other.now }
     {
-        Controller::ALL
-            .iter()
-            .all(|controller| !self.contains(*controller) || other.contains(*controller))
+        Controller::ALL.iter().all(|controller| !self.contains(*controller)
+            || other.contains(*controller))
     }
 }

@@ -319,8 +319,8 @@ pub fn differing(had: ControllerSet, has: ControllerSet) -> ControllerSet
     ensures { result ≡ differing had has }
 {
     ControllerSet {
-        flags: Controller::ALL
-            .map(|controller| had.contains(controller) != has.contains(controller)),
+        flags: Controller::ALL.map(|controller| had.contains(controller)
+            != has.contains(controller)),
     }
 }
 

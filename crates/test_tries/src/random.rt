@@ -170,8 +170,8 @@ fn users() -> Option<[User; 3]> {
 /// A random tree: what some random steps of these users leave of a root that is the first user's, with three processes.
 fn tree(alloc: Global, random: &mut Random, users: &[User]) -> Result<Rows, PathFault> {
     let all = ControllerSet {
-    flags: [true, true, true],
-};
+        flags: [true, true, true],
+    };
     let Some(keeper) = users.first() else {
         return Err(PathFault::BadPath);
     };

@@ -51,8 +51,8 @@ fn plain() -> Cgroup {
         max_depth: limit(0, Limit::Max),
         files: BroughtFiles::none(),
         enabled: ControllerSet {
-    flags: [false, false, false],
-},
+            flags: [false, false, false],
+        },
     }
 }
 
@@ -134,8 +134,8 @@ fn the_delegation_example(rt: HostRuntime) -> Result<(), Fail> {
     let alloc = rt.alloc();
     let tree = read_tree(alloc, DELEGATION)?;
     let all = ControllerSet {
-    flags: [true, true, true],
-};
+        flags: [true, true, true],
+    };
     assert_eq!(rt; tree.controllers(), all);
     assert_eq!(rt;
         paths_of(alloc, &tree)?.as_str(),
