@@ -73,7 +73,8 @@ enables-set_by test controller = mapped_at test false controller
 
 pub enables-with_controller : (set : ControllerSet) (controller : Controller) (on : Bool) (other : Controller)
     → enables (with_controller set controller on) other ≡ cond (same_controller controller other) on (enables set other)
-enables-with_controller set controller on other = enables-set_by (λ other. cond (same_controller controller other) on (enables set other)) other
+enables-with_controller set controller on other =
+    enables-set_by (λ other. cond (same_controller controller other) on (enables set other)) other
 
 pub same_flags : (set other : ControllerSet) → set.flags ≡ other.flags → set ≡ other
 same_flags set other same =
@@ -88,7 +89,8 @@ flags_are set = ap (λ count. map (λ n. get_or set.flags n false) (numbers coun
 
 -- two sets with the same controllers are one
 pub same_set : (set other : ControllerSet) → ((controller : Controller) → enables set controller ≡ enables other controller) → set ≡ other
-same_set set other h = same_flags set other (sym (flags_are set) ∙ (λ i. map (λ controller. h controller i) all_controllers) ∙ flags_are other)
+same_set set other h =
+    same_flags set other (sym (flags_are set) ∙ (λ i. map (λ controller. h controller i) all_controllers) ∙ flags_are other)
 
 pub set_by-enables : (set : ControllerSet) → set_by (enables set) ≡ set
 set_by-enables set = same_set (set_by (enables set)) set (enables-set_by (enables set))
@@ -120,4 +122,5 @@ is_within-enables set other h controller e =
 pub is_within-each : (set other : ControllerSet)
     → ((controller : Controller) → enables set controller ≡ true → enables other controller ≡ true) → is_within set other ≡ true
 is_within-each set other h =
-    all_controllers_pass (λ controller. not (enables set controller) || enables other controller) (λ controller. off_or_on _ _ (h controller))
+    all_controllers_pass (λ controller. not (enables set controller) || enables other controller)
+    (λ controller. off_or_on _ _ (h controller))
