@@ -1,7 +1,7 @@
 -- The names of a set's controllers are read as that set.
-use Rattle.std.proofs.Common.{◌≡◌, ℕ, Bool, true, false, ◌&&◌, ◌||◌, cond, filter, List, [], ◌∷◌, map as map_list, Option, Some, None, option_and_then, refl, sym, ap, ◌∙◌}
+use Rattle.std.proofs.Common.{◌≡◌, Bool, true, false, ◌&&◌, ◌||◌, cond, filter, List, [], ◌∷◌, map as map_list, Some, option_and_then, refl, sym, ap, ◌∙◌}
 use Rattle.std.specs.List.{list_any}
-use Rattle.cg_cgroup.specs.Files.{all_controllers, controller_name, controller_named, same_controller, enables, with_controller, no_controllers}
+use Rattle.cg_cgroup.specs.Files.{all_controllers, controller_name, same_controller, enables, with_controller, no_controllers}
 use Rattle.cg_cgroup.specs.declared.files.Controller.{Controller}
 use Rattle.cg_cgroup.specs.declared.files.Controller.TheVariants.{Cpu}
 use Rattle.cg_cgroup.specs.declared.controllers.ControllerSet.{ControllerSet}

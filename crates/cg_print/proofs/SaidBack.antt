@@ -1,5 +1,5 @@
 -- The tables of a tree's document say what they were written of.
-use Rattle.std.proofs.Common.{◌≡◌, ℕ, ◌≤◌, pos, Bool, true, false, cond, le-leb, List, [], ◌∷◌, map as map_list, codes, Option, Some, None, is_some, option_map, option_and_then, unwrap_or, refl, sym, ap, ◌∙◌}
+use Rattle.std.proofs.Common.{◌≡◌, ℕ, ◌≤◌, pos, true, cond, le-leb, List, [], ◌∷◌, map as map_list, codes, Option, Some, None, is_some, option_map, option_and_then, unwrap_or, refl, sym, ap, ◌∙◌}
 use Rattle.std.specs.Prelude.{◌&&◌, filter_map}
 use Rattle.toml.specs.Data.{Data, string, Members, no_members, as_str, as_table}
 use Rattle.toml.specs.View.{items_of}

@@ -4,7 +4,7 @@ use Rattle.std.specs.List.{list_all, list_any}
 use Rattle.std.proofs.lemmas.Bool.{and_parts, and_cases, and_from, or_left, or_right, or_cases, not-true, not_from_false, true_from_ne_false, cases_lt}
 use Rattle.cg_cgroup.specs.Paths.{Names, same_path, parent, inside, below, is_child, common}
 use Rattle.cg_cgroup.specs.Identity.{Identity}
-use Rattle.cg_cgroup.specs.Files.{all_controllers, all_files}
+use Rattle.cg_cgroup.specs.Files.{all_files}
 use Rattle.cg_cgroup.specs.declared.files.Controller.{Controller}
 use Rattle.cg_cgroup.specs.declared.files.Controller.TheVariants.{Memory}
 use Rattle.cg_cgroup.specs.declared.files.Limit.{Limit}
