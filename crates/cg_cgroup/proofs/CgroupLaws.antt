@@ -1,6 +1,6 @@
 -- What the entries, files and values of a cgroup are after each change, and those of a new cgroup.
 use Rattle.std.proofs.Common.{◌≡◌, ◌≢◌, ℕ, ◌<◌, Bool, true, false, cond, refl, sym, ap, ◌∙◌, nat_eq, arith, eqb-true}
-use Rattle.std.proofs.Common.{List, [], ◌∷◌, length, map, get_or, zero, suc}
+use Rattle.std.proofs.Common.{List, [], ◌∷◌, length, map, get_or}
 use Rattle.std.specs.Prelude.{Option, Some, None, is_some, unwrap_or}
 use Rattle.std.proofs.lemmas.List.{get_or-set_same, get_or-set_other}
 use mathlib.Core.HLevel.{is_prop→PathP}
@@ -11,7 +11,7 @@ use Rattle.cg_cgroup.specs.Identity.{Identity}
 use Rattle.cg_cgroup.specs.Files.{all_files, brought_files, kind_of, place_of, accepts, default_value, stands_under, same_file, same_entry}
 use Rattle.cg_cgroup.specs.Cgroups.{held_at, with_held, file_of, entry_in, value_in, with_file, with_value_of, with_value_in, with_mode_of, with_file_mode_of, with_mode_in, file_made_by, refitted, with_files_of, cgroup_made_by}
 use Rattle.cg_cgroup.specs.declared.files.Limit.{Limit}
-use Rattle.cg_cgroup.specs.declared.files.ControllerSet.{ControllerSet}
+use Rattle.cg_cgroup.specs.declared.controllers.ControllerSet.{ControllerSet}
 use Rattle.cg_cgroup.specs.declared.files.LimitFile.{LimitFile}
 use Rattle.cg_cgroup.specs.declared.files.LimitFile.TheVariants.{MaxDescendants, MaxDepth, CpuWeight}
 use Rattle.cg_cgroup.specs.declared.files.EntryName.{EntryName}
@@ -19,6 +19,7 @@ use Rattle.cg_cgroup.specs.declared.files.EntryName.TheVariants.{Dir, Procs, Sub
 use Rattle.cg_cgroup.specs.declared.cgroup.LimitEntry.{LimitEntry}
 use Rattle.cg_cgroup.specs.declared.brought.BroughtFiles.{BroughtFiles}
 use Rattle.cg_cgroup.specs.declared.cgroup.Cgroup.{Cgroup}
+use Rattle.cg_cgroup.proofs.Places.{numbers, held_all}
 
 -- ---- names
 
@@ -73,20 +74,6 @@ held-with_held files place other f within =
           ∙ ap (λ k. option_map f (held_at files k)) same
       | false ↦ λ e. get_or-set_other files.entries place other (option_map f (held_at files place)) None (grind (arith, e))
     ] refl
-
--- the numbers below another
-abbrev numbers : ℕ → List ℕ
-numbers zero = []
-numbers (suc count) = 0 ∷ map suc (numbers count)
-
-later : {A : Type 0} (f : ℕ → A) (places : List ℕ) → map f (map suc places) ≡ map (λ place. f (suc place)) places
-later f [] = refl
-later f (place ∷ places) = ap (λ rest. f (suc place) ∷ rest) (later f places)
-
-held_all : {A : Type 0} (held : List A) (none : A) → map (λ place. get_or held place none) (numbers (length held)) ≡ held
-held_all [] none = refl
-held_all (one ∷ held) none =
-    ap (λ rest. one ∷ rest) (later (λ place. get_or (one ∷ held) place none) (numbers (length held)) ∙ held_all held none)
 
 -- the files that a row has, in their order
 entries_are : (row : Cgroup) → map (file_of row) brought_files ≡ row.files.entries

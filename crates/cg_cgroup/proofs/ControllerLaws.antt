@@ -1,31 +1,126 @@
--- Sets of controllers, read controller by controller.
-use Rattle.std.proofs.Common.{◌≡◌, Bool, true, false, refl, ap, ◌∙◌, arith}
-use Rattle.cg_cgroup.specs.Files.{enables, enables_nothing, is_within}
+-- Sets of controllers, read controller by controller, whichever and however many they are.
+use Rattle.std.proofs.Common.{◌≡◌, ℕ, ◌<◌, Bool, true, false, not, ◌&&◌, ◌||◌, cond, refl, sym, ap, subst, ◌∙◌, nat_eq, arith, eqb-true, true≢false}
+use Rattle.std.proofs.Common.{List, [], ◌∷◌, length, map, get_or, zero, suc}
+use Rattle.std.proofs.lemmas.Bool.{and_parts, and_from}
+use Rattle.std.specs.List.{list_all, AllByRecursion}
+use mathlib.Core.HLevel.{is_prop→PathP}
+use native.Mathlib.Nat.{ℕ_set}
+use Rattle.cg_cgroup.proofs.Places.{numbers, held_all}
+use Rattle.cg_cgroup.specs.Files.{all_controllers, controller_kind, same_controller, enables, set_by, with_controller, enables_nothing, is_within}
 use Rattle.cg_cgroup.specs.declared.files.Controller.{Controller}
-use Rattle.cg_cgroup.specs.declared.files.Controller.TheVariants.{Cpu, Memory, Pids}
-use Rattle.cg_cgroup.specs.declared.files.ControllerSet.{ControllerSet}
+use Rattle.cg_cgroup.specs.declared.files.Controller.TheVariants.{Cpu}
+use Rattle.cg_cgroup.specs.declared.controllers.ControllerSet.{ControllerSet}
+
+-- ---- the list of controllers
+
+pub number_within : (controller : Controller) → (controller_kind controller).number < length all_controllers
+number_within Cpu = omega arith
+number_within controller = omega arith
+
+numbered : (controller : Controller) → get_or all_controllers (controller_kind controller).number Cpu ≡ controller
+numbered Cpu = refl
+numbered controller = refl
+
+pub same_controller-refl : (controller : Controller) → same_controller controller controller ≡ true
+same_controller-refl Cpu = refl
+same_controller-refl controller = refl
+
+pub same_controller-true : (controller other : Controller) → same_controller controller other ≡ true → controller ≡ other
+same_controller-true controller other h =
+    sym (numbered controller)
+    ∙ ap (λ n. get_or all_controllers n Cpu) (eqb-true (controller_kind controller).number (controller_kind other).number h)
+    ∙ numbered other
+
+-- what a list has of all controllers, it has at their numbers
+pub mapped_at : {A : Type 0} (f : Controller → A) (none : A) (controller : Controller)
+    → get_or (map f all_controllers) (controller_kind controller).number none ≡ f controller
+mapped_at f none Cpu = refl
+mapped_at f none controller = refl
+
+each_at : (P : Controller → Type 0) (controllers : List Controller) (n : ℕ) → AllByRecursion P controllers → n < length controllers
+    → P (get_or controllers n Cpu)
+each_at P [] n all within = absurd (omega (arith, within))
+each_at P (controller ∷ controllers) zero all within = all.0
+each_at P (controller ∷ controllers) (suc n) all within = each_at P controllers n all.1 (omega (arith, within))
+
+-- what holds of all that are listed holds of each
+pub each_listed : (P : Controller → Type 0) → AllByRecursion P all_controllers → (controller : Controller) → P controller
+each_listed P all controller =
+    subst P (numbered controller) (each_at P all_controllers (controller_kind controller).number all (number_within controller))
+
+passing : (test : Controller → Bool) (controllers : List Controller) → list_all test controllers ≡ true
+    → AllByRecursion (λ controller. test controller ≡ true) controllers
+passing test [] h = tt
+passing test (controller ∷ controllers) h = let parts = and_parts _ _ h in (parts.0, passing test controllers parts.1)
+
+-- what a test of all has passed, each passes
+pub each_controller : (test : Controller → Bool) → list_all test all_controllers ≡ true → (controller : Controller) → test controller ≡ true
+each_controller test h = each_listed (λ controller. test controller ≡ true) (passing test all_controllers h)
+
+all_pass : (test : Controller → Bool) → ((controller : Controller) → test controller ≡ true) → (controllers : List Controller)
+    → list_all test controllers ≡ true
+all_pass test h [] = refl
+all_pass test h (controller ∷ controllers) = and_from _ _ (h controller) (all_pass test h controllers)
+
+pub all_controllers_pass : (test : Controller → Bool) → ((controller : Controller) → test controller ≡ true)
+    → list_all test all_controllers ≡ true
+all_controllers_pass test h = all_pass test h all_controllers
+
+-- ---- sets
+
+pub enables-set_by : (test : Controller → Bool) (controller : Controller) → enables (set_by test) controller ≡ test controller
+enables-set_by test controller = mapped_at test false controller
+
+pub enables-with_controller : (set : ControllerSet) (controller : Controller) (on : Bool) (other : Controller)
+    → enables (with_controller set controller on) other ≡ cond (same_controller controller other) on (enables set other)
+enables-with_controller set controller on other =
+    enables-set_by (λ other. cond (same_controller controller other) on (enables set other)) other
+
+pub same_flags : (set other : ControllerSet) → set.flags ≡ other.flags → set ≡ other
+same_flags set other same =
+    λ i. record {
+      flags = same i;
+      whole = is_prop→PathP (λ j. length (same j) ≡ length all_controllers) (λ j. ℕ_set _ _) set.whole other.whole i;
+    }
+
+-- the flags of a set, in their order
+flags_are : (set : ControllerSet) → map (enables set) all_controllers ≡ set.flags
+flags_are set = ap (λ count. map (λ n. get_or set.flags n false) (numbers count)) (sym set.whole) ∙ held_all set.flags false
 
 -- two sets with the same controllers are one
 pub same_set : (set other : ControllerSet) → ((controller : Controller) → enables set controller ≡ enables other controller) → set ≡ other
 same_set set other h =
-    ap (λ (b : Bool). record set { cpu = b }) (h Cpu)
-    ∙ (ap (λ (b : Bool). record set { cpu = other.cpu; memory = b }) (h Memory) ∙ ap (λ (b : Bool). record other { pids = b }) (h Pids))
+    same_flags set other (sym (flags_are set) ∙ (λ i. map (λ controller. h controller i) all_controllers) ∙ flags_are other)
+
+pub set_by-enables : (set : ControllerSet) → set_by (enables set) ≡ set
+set_by-enables set = same_set (set_by (enables set)) set (enables-set_by (enables set))
+
+not_true : (b : Bool) → not b ≡ true → b ≡ false
+not_true true h = absurd (true≢false (sym h))
+not_true false h = refl
 
 pub enables_nothing-enables : (set : ControllerSet) → enables_nothing set ≡ true → (controller : Controller)
     → enables set controller ≡ false
-enables_nothing-enables set h Cpu = grind arith
-enables_nothing-enables set h Memory = grind arith
-enables_nothing-enables set h Pids = grind arith
+enables_nothing-enables set h controller = not_true _ (each_controller (λ controller. not (enables set controller)) h controller)
 
 pub enables_nothing-none : (set : ControllerSet) → ((controller : Controller) → enables set controller ≡ false) → enables_nothing set ≡ true
-enables_nothing-none set h = rw (h Cpu, h Memory, h Pids) refl
+enables_nothing-none set h = all_controllers_pass (λ controller. not (enables set controller)) (λ controller. ap not (h controller))
+
+unless_off : (on other : Bool) → (not on || other) ≡ true → on ≡ true → other ≡ true
+unless_off true other h e = h
+unless_off false other h e = absurd (true≢false (sym e))
+
+off_or_on : (on other : Bool) → (on ≡ true → other ≡ true) → (not on || other) ≡ true
+off_or_on true other h = h refl
+off_or_on false other h = refl
 
 pub is_within-enables : (set other : ControllerSet) → is_within set other ≡ true → (controller : Controller) → enables set controller ≡ true
     → enables other controller ≡ true
-is_within-enables set other h Cpu e = grind arith
-is_within-enables set other h Memory e = grind arith
-is_within-enables set other h Pids e = grind arith
+is_within-enables set other h controller e =
+    unless_off _ _ (each_controller (λ controller. not (enables set controller) || enables other controller) h controller) e
 
 pub is_within-each : (set other : ControllerSet)
     → ((controller : Controller) → enables set controller ≡ true → enables other controller ≡ true) → is_within set other ≡ true
-is_within-each set other h = let cpu = h Cpu in let memory = h Memory in let pids = h Pids in grind (arith, cpu, memory, pids)
+is_within-each set other h =
+    all_controllers_pass (λ controller. not (enables set controller) || enables other controller)
+    (λ controller. off_or_on _ _ (h controller))

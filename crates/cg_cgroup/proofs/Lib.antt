@@ -8,6 +8,7 @@ pub mod PathSteps
 pub mod Options
 pub mod PathAt
 pub mod PathLaws
+mod Places
 pub mod CgroupLaws
 pub mod AllFiles
 pub mod NameLaws

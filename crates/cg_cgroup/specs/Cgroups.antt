@@ -8,7 +8,7 @@ use Rattle.std.proofs.lemmas.List.{length-set}
 use Rattle.cg_cgroup.specs.Files.{brought_files, place_of, default_value, stands_under, no_controllers}
 use Rattle.cg_cgroup.specs.declared.user.Entry.{Entry}
 use Rattle.cg_cgroup.specs.declared.files.Limit.{Limit}
-use Rattle.cg_cgroup.specs.declared.files.ControllerSet.{ControllerSet}
+use Rattle.cg_cgroup.specs.declared.controllers.ControllerSet.{ControllerSet}
 use Rattle.cg_cgroup.specs.declared.files.LimitFile.{LimitFile}
 use Rattle.cg_cgroup.specs.declared.files.LimitFile.TheVariants.{MaxDescendants, MaxDepth}
 use Rattle.cg_cgroup.specs.declared.files.EntryName.{EntryName}

@@ -1,14 +1,14 @@
 -- Controllers and limit files: how they are found by their names, where they stand, and the values that they take.
-use Rattle.std.specs.Prelude.{◌≡◌, ℕ, Bool, true, false, ◌&&◌, ◌||◌, not, nat_eq, nat_le, map, List, ◌∷◌, Option, Some, None, codes}
+use Rattle.std.specs.Prelude.{◌≡◌, ℕ, Bool, true, false, ◌&&◌, ◌||◌, not, nat_eq, nat_le, cond, get_or, map, List, ◌∷◌, Option, Some, None, codes}
 use Rattle.std.specs.List.{find, list_all}
+use Rattle.std.proofs.Common.{refl}
 use Rattle.cg_cgroup.specs.Paths.{same_name}
 use Rattle.cg_cgroup.specs.Texts as texts
-pub use Rattle.cg_cgroup.specs.Kinds.{all_controllers, controller_name, all_files, file_name, kind_of, brought_files, place_of}
+pub use Rattle.cg_cgroup.specs.Kinds.{all_controllers, controller_kind, controller_name, all_files, file_name, kind_of, brought_files, place_of}
 use Rattle.cg_cgroup.specs.declared.files.Limit.{Limit}
 use Rattle.cg_cgroup.specs.declared.files.Limit.TheVariants.{Max, At}
 use Rattle.cg_cgroup.specs.declared.files.Controller.{Controller}
-use Rattle.cg_cgroup.specs.declared.files.Controller.TheVariants.{Cpu, Memory, Pids}
-use Rattle.cg_cgroup.specs.declared.files.ControllerSet.{ControllerSet}
+use Rattle.cg_cgroup.specs.declared.controllers.ControllerSet.{ControllerSet}
 use Rattle.cg_cgroup.specs.declared.files.LimitFile.{LimitFile}
 use Rattle.cg_cgroup.specs.declared.files.EntryName.{EntryName}
 use Rattle.cg_cgroup.specs.declared.files.EntryName.TheVariants.{Dir, Procs, SubtreeControl, File}
@@ -24,30 +24,24 @@ abbrev pub controller_named : List ℕ → Option Controller
 controller_named text = find (λ controller. same_name text (controller_name controller)) all_controllers
 
 abbrev pub same_controller : Controller → Controller → Bool
-same_controller Cpu Cpu = true
-same_controller Memory Memory = true
-same_controller Pids Pids = true
-same_controller controller other = false
+same_controller controller other = nat_eq (controller_kind controller).number (controller_kind other).number
 
+-- a set has a flag for each controller, at its number
 abbrev pub enables : ControllerSet → Controller → Bool
-enables set Cpu = set.cpu
-enables set Memory = set.memory
-enables set Pids = set.pids
+enables set controller = get_or set.flags (controller_kind controller).number false
 
 -- the controllers that pass a test
 abbrev pub set_by : (Controller → Bool) → ControllerSet
-set_by test = record { cpu = test Cpu; memory = test Memory; pids = test Pids }
+set_by test = record { flags = map test all_controllers; whole = refl }
 
 abbrev pub with_controller : ControllerSet → Controller → Bool → ControllerSet
-with_controller set Cpu on = record set { cpu = on }
-with_controller set Memory on = record set { memory = on }
-with_controller set Pids on = record set { pids = on }
+with_controller set controller on = set_by (λ other. cond (same_controller controller other) on (enables set other))
 
 abbrev pub no_controllers : ControllerSet
-no_controllers = record { cpu = false; memory = false; pids = false }
+no_controllers = set_by (λ controller. false)
 
 abbrev pub enables_nothing : ControllerSet → Bool
-enables_nothing set = not set.cpu && (not set.memory && not set.pids)
+enables_nothing set = list_all (λ controller. not (enables set controller)) all_controllers
 
 -- each controller of the first set is in the second
 abbrev pub is_within : ControllerSet → ControllerSet → Bool

@@ -11,10 +11,18 @@ use Rattle.cg_cgroup.specs.declared.files.LimitFile.TheVariants.{MaxDescendants,
 abbrev pub all_controllers : List Controller
 all_controllers = Cpu ∷ Memory ∷ Pids ∷ []
 
+-- A controller: its number in that order, and its name.
+pub record ControllerKind : Type 0 where
+  pub number : ℕ
+  pub name : List ℕ
+
+abbrev pub controller_kind : Controller → ControllerKind
+controller_kind Cpu = record { number = 0; name = codes "cpu" }
+controller_kind Memory = record { number = 1; name = codes "memory" }
+controller_kind Pids = record { number = 2; name = codes "pids" }
+
 abbrev pub controller_name : Controller → List ℕ
-controller_name Cpu = codes "cpu"
-controller_name Memory = codes "memory"
-controller_name Pids = codes "pids"
+controller_name controller = (controller_kind controller).name
 
 -- The order used everywhere. Core Interface Files; CPU, Memory and PID. The two of the core come first.
 abbrev pub all_files : List LimitFile

@@ -2,7 +2,9 @@
 ghost use Rattle.std.specs.Prelude.{ℕ, ◌≡◌, ◌≢◌, ◌<◌, ◌≤◌, true, false, length, IfSome, IfNone};
 ghost use Rattle.std.specs.List.{find};
 ghost use Rattle.cg_cgroup.specs.Paths.{same_name};
-ghost use Rattle.cg_cgroup.specs.Files.{kind_of, brought_files, place_of, enables, with_controller, no_controllers, enables_nothing, is_within, controller_of, default_value, accepts, stands_under, all_controllers, all_files, AreNames, controller_name, controller_named, file_name, file_named, entry_text, entry_named};
+ghost use Rattle.cg_cgroup.specs.Files.{kind_of, brought_files, place_of, controller_of, default_value, accepts, stands_under, all_controllers, all_files, AreNames, controller_name, controller_named, file_name, file_named, entry_text, entry_named};
+
+pub use crate::controllers::ControllerSet;
 
 /// The value of a limit file: `max`, or a number.
 #[derive(Clone, Copy, Debug, PartialEq, Eq)]
@@ -46,63 +48,6 @@ impl Controller {
             "pids" => Some(Controller::Pids),
             _ => None,
         }
-    }
-}
-
-/// A set of controllers.
-#[derive(Clone, Copy, Debug, PartialEq, Eq)]
-pub struct ControllerSet {
-    pub cpu: bool,
-    pub memory: bool,
-    pub pids: bool,
-}
-
-impl ControllerSet {
-    /// The set of no controller.
-    pub fn none() -> ControllerSet
-        ensures { result ≡ no_controllers }
-    {
-        ControllerSet {
-            cpu: false,
-            memory: false,
-            pids: false,
-        }
-    }
-
-    /// Whether a controller is in the set.
-    pub fn contains(self, controller: Controller) -> bool
-        ensures { result ≡ enables self controller }
-    {
-        match controller {
-            Controller::Cpu => self.cpu,
-            Controller::Memory => self.memory,
-            Controller::Pids => self.pids,
-        }
-    }
-
-    /// Whether no controller is in the set.
-    pub fn is_empty(self) -> bool
-        ensures { result ≡ enables_nothing self }
-    {
-        !self.cpu && !self.memory && !self.pids
-    }
-
-    /// The set with a controller in it, or without it.
-    pub fn with(self, controller: Controller, on: bool) -> ControllerSet
-        ensures { result ≡ with_controller self controller on }
-    {
-        match controller {
-            Controller::Cpu => ControllerSet { cpu: on, ..self },
-            Controller::Memory => ControllerSet { memory: on, ..self },
-            Controller::Pids => ControllerSet { pids: on, ..self },
-        }
-    }
-
-    /// Whether each controller of the set is in the other one.
-    pub fn is_within(self, other: &ControllerSet) -> bool
-        ensures { result ≡ is_within self other.now }
-    {
-        (!self.cpu || other.cpu) && (!self.memory || other.memory) && (!self.pids || other.pids)
     }
 }
 

@@ -3,6 +3,7 @@
 
 pub mod brought;
 pub mod cgroup;
+pub mod controllers;
 pub mod files;
 pub mod memory;
 pub mod path;

@@ -11,9 +11,9 @@ use Rattle.std.specs.FinMap.{FinMap}
 use Rattle.cg_cgroup.specs.Paths.{Names, path_cmp, same_path, inside, below, is_child, parent, is_root}
 use Rattle.cg_cgroup.specs.Files.{no_controllers, enables}
 use Rattle.cg_cgroup.specs.declared.files.Controller.{Controller}
-use Rattle.cg_cgroup.specs.declared.files.Controller.TheVariants.{Cpu, Memory, Pids}
-use Rattle.cg_cgroup.specs.declared.files.ControllerSet.{ControllerSet}
+use Rattle.cg_cgroup.specs.declared.controllers.ControllerSet.{ControllerSet}
 use Rattle.cg_cgroup.specs.declared.cgroup.Cgroup.{Cgroup}
+use Rattle.cg_cgroup.proofs.ControllerLaws.{mapped_at, enables-set_by}
 use Rattle.cg_cgroup.proofs.PathOrder.{path_cmp_total, same_path-is, same_path-not, same_path_refl, same_path-other}
 use Rattle.cg_cgroup.proofs.PathParents.{length-parent, parent-is_child}
 use Rattle.cg_cgroup.proofs.PathLaws.{inside_decides, inside-length}
@@ -285,14 +285,10 @@ module _ (places : FinMap path_cmp ℕ) (links : List Link) (nodes : List Node) 
       ∙ sym afresh
     where
       none_enabled : (controller : Controller) (u : ℕ) → cond (enables no_controllers controller) (1 + u) u ≡ u
-      none_enabled Cpu u = refl
-      none_enabled Memory u = refl
-      none_enabled Pids u = refl
+      none_enabled controller u = ap (λ on. cond on (1 + u) u) (enables-set_by (λ other. false) controller)
 
       nothing : (controller : Controller) → uses_of no_uses controller ≡ 0
-      nothing Cpu = refl
-      nothing Memory = refl
-      nothing Pids = refl
+      nothing controller = mapped_at (λ other. 0) 0 controller
 
   -- a limit of each link is that of the cgroup
   limit_next : {A : Type 0} (g : Link → A) (h : Cgroup → A) → ((l : Link) → g ((tallied_link More) l) ≡ g l) → g (new_link i row) ≡ h row

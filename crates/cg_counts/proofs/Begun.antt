@@ -4,8 +4,8 @@ use Rattle.std.specs.FinMap as map
 use Rattle.std.specs.FinMap.{FinMap}
 use Rattle.cg_cgroup.specs.Paths.{Names, path_cmp, same_path, below, is_child, parent}
 use Rattle.cg_cgroup.specs.declared.files.Controller.{Controller}
-use Rattle.cg_cgroup.specs.declared.files.Controller.TheVariants.{Cpu, Memory, Pids}
 use Rattle.cg_cgroup.specs.declared.cgroup.Cgroup.{Cgroup}
+use Rattle.cg_cgroup.proofs.ControllerLaws.{mapped_at}
 use Rattle.cg_cgroup.proofs.PathOrder.{path_cmp_total, same_path-is}
 use Rattle.cg_cgroup.proofs.Options.{same_some}
 use Rattle.cg_steps.proofs.MapLaws.{any_entry, list_any-map}
@@ -89,9 +89,7 @@ module _ (row : Cgroup) where
   }
     where
       nothing : (controller : Controller) → uses_of no_uses controller ≡ 0
-      nothing Cpu = refl
-      nothing Memory = refl
-      nothing Pids = refl
+      nothing controller = mapped_at (λ other. 0) 0 controller
 
       no_other : (r : Names) → is_child [] r ≡ true → map.get one r ≡ None
       no_other [] child = absurd (true≢false (sym child))

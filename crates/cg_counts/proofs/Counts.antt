@@ -9,19 +9,19 @@ use Rattle.std.specs.FinMap.{FinMap}
 use Rattle.cg_cgroup.specs.Paths.{Names, path_cmp, same_path, inside, below, is_child, parent, is_root}
 use Rattle.cg_cgroup.specs.Files.{enables, no_controllers}
 use Rattle.cg_cgroup.specs.declared.files.Controller.{Controller}
-use Rattle.cg_cgroup.specs.declared.files.Controller.TheVariants.{Cpu, Memory, Pids}
-use Rattle.cg_cgroup.specs.declared.files.ControllerSet.{ControllerSet}
+use Rattle.cg_cgroup.specs.declared.controllers.ControllerSet.{ControllerSet}
+use Rattle.cg_cgroup.proofs.ControllerLaws.{mapped_at, enables-set_by}
 use Rattle.cg_cgroup.proofs.PathOrder.{path_cmp_total, path_cmp-IsAntisymmetric, same_path-is, same_path_refl}
 use Rattle.cg_cgroup.proofs.PathParents.{is_child-parent, parent-is_child}
 use Rattle.cg_steps.proofs.MapLaws.{any_entry}
 use Rattle.cg_steps.proofs.MapFolds.{gathered, gathered-insert, gathered-remove, insert-remove, get-remove-same}
 use Rattle.cg_steps.proofs.StateCounts.{gathered-map, one_more, one_more-Commutes}
 use Rattle.cg_places.proofs.Counted.{gathered-count, count-none}
-use Rattle.cg_places.specs.Nodes.{Node, more_if, less_if, uses_of, uses_after}
+use Rattle.cg_places.specs.Nodes.{Node, more_if, less_if, uses_of, uses_then, uses_after}
 use Rattle.cg_places.specs.Values.{values_of}
 use Rattle.cg_places.proofs.Values.{keys-values}
 use Rattle.cg_counts.specs.Kept.{enabled_of, child_uses}
-use Rattle.cg_places.specs.declared.nodes.Uses.{Uses}
+use Rattle.cg_places.specs.declared.uses.Uses.{Uses}
 use Rattle.cg_counts.proofs.Climb.{below_parent}
 
 -- ---- children that enable a controller
@@ -82,9 +82,7 @@ module _ (sets : FinMap path_cmp ControllerSet) (p : Names) where
 uses-after : (had has : ControllerSet) (uses : Uses) (controller : Controller)
     → uses_of (uses_after had has uses) controller
     ≡ more_if (enables has controller) (less_if (enables had controller) (uses_of uses controller))
-uses-after had has uses Cpu = refl
-uses-after had has uses Memory = refl
-uses-after had has uses Pids = refl
+uses-after had has uses controller = mapped_at (uses_then had has uses) 0 controller
 
 exact : (was is : Bool) (n r : ℕ) → n ≡ cond was (1 + r) r → r < 9223372036854775808 → more_if is (less_if was n) ≡ cond is (1 + r) r
 exact true true n r h small = omega (arith, h)
@@ -105,9 +103,10 @@ exact_less false n r h = h
 -- a child fewer
 pub recount_fewer : (had : ControllerSet) (uses : Uses) (controller : Controller) (r : ℕ)
     → uses_of uses controller ≡ cond (enables had controller) (1 + r) r → uses_of (uses_after had no_controllers uses) controller ≡ r
-recount_fewer had uses Cpu r h = exact_less had.cpu uses.cpu r h
-recount_fewer had uses Memory r h = exact_less had.memory uses.memory r h
-recount_fewer had uses Pids r h = exact_less had.pids uses.pids r h
+recount_fewer had uses controller r h =
+    uses-after had no_controllers uses controller
+    ∙ ap (λ on. more_if on (less_if (enables had controller) (uses_of uses controller))) (enables-set_by (λ other. false) controller)
+    ∙ exact_less (enables had controller) (uses_of uses controller) r h
 
 -- ---- who is a child
 

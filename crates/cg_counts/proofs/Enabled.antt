@@ -10,13 +10,14 @@ use Rattle.cg_cgroup.specs.Identity.{Identity}
 use Rattle.cg_cgroup.specs.Files.{enables, controller_of, stands_under}
 use Rattle.cg_cgroup.specs.Cgroups.{file_of, file_made_by, with_files_of, cgroup_made_by}
 use Rattle.cg_cgroup.specs.declared.files.Controller.{Controller}
-use Rattle.cg_cgroup.specs.declared.files.Controller.TheVariants.{Cpu, Memory, Pids}
+use Rattle.cg_cgroup.specs.declared.files.Controller.TheVariants.{Cpu}
 use Rattle.cg_cgroup.specs.declared.cgroup.LimitEntry.{LimitEntry}
-use Rattle.cg_cgroup.specs.declared.files.ControllerSet.{ControllerSet}
+use Rattle.cg_cgroup.specs.declared.controllers.ControllerSet.{ControllerSet}
 use Rattle.cg_cgroup.specs.declared.files.LimitFile.{LimitFile}
 use Rattle.cg_cgroup.specs.declared.files.LimitFile.TheVariants.{MaxDescendants, MaxDepth}
 use Rattle.cg_cgroup.specs.declared.cgroup.Cgroup.{Cgroup}
 use Rattle.cg_model.specs.States.{enabling, enabling_these}
+use Rattle.cg_cgroup.proofs.ControllerLaws.{enables-set_by}
 use Rattle.cg_cgroup.proofs.PathOrder.{same_path-is, same_path_refl, same_path_comm, path_cmp-IsAntisymmetric}
 use Rattle.cg_cgroup.proofs.PathParents.{length-parent, is_child-parent, parent-is_child, is_root-is_child, parent-root}
 use Rattle.cg_cgroup.proofs.CgroupLaws.{same_cgroup}
@@ -64,9 +65,10 @@ controller_taken : (controller : Controller) (had enabled : ControllerSet) (held
     → is_some held ≡ enables had controller
     → cond (enables (differing had enabled) controller) (cond (enables enabled controller) (Some made) None) held
     ≡ cond (enables enabled controller) (Some (unwrap_or held made)) None
-controller_taken Cpu had enabled held made fitted = file_from had.cpu enabled.cpu held made fitted
-controller_taken Memory had enabled held made fitted = file_from had.memory enabled.memory held made fitted
-controller_taken Pids had enabled held made fitted = file_from had.pids enabled.pids held made fitted
+controller_taken controller had enabled held made fitted =
+    ap (λ differ. cond differ (cond (enables enabled controller) (Some made) None) held)
+    (enables-set_by (λ other. differs (enables had other) (enables enabled other)) controller)
+    ∙ file_from (enables had controller) (enables enabled controller) held made fitted
 
 file_taken : (had enabled : ControllerSet) (user : Identity) (row : Cgroup) (file : LimitFile)
     → is_some (file_of row file) ≡ stands_under had file

@@ -4,7 +4,7 @@ use Rattle.std.specs.List.{list_all}
 use Rattle.toml.specs.Data.{Members}
 use Rattle.cg_cgroup.specs.Paths.{is_root, parent}
 use Rattle.cg_cgroup.specs.Files.{all_files, no_controllers, is_within, stands_under}
-use Rattle.cg_cgroup.specs.declared.files.ControllerSet.{ControllerSet}
+use Rattle.cg_cgroup.specs.declared.controllers.ControllerSet.{ControllerSet}
 use Rattle.cg_cgroup.specs.declared.files.EntryName.TheVariants.{File}
 use Rattle.cg_model.specs.Clauses.{unless, present}
 use Rattle.cg_format.specs.Said.{path_said, controllers_said, is_named}

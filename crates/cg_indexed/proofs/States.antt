@@ -1,15 +1,13 @@
 -- What each change of kept cgroups does to the state that they show.
 use Rattle.std.proofs.Common.{◌≡◌, Bool, true, false, cond, refl, sym, ap, subst, ◌∙◌, true≢false, Some, None, Option, is_some, option_map, [], ◌∷◌}
-use Rattle.std.specs.Prelude.{option_and_then, not, ◌&&◌}
-use mathlib.Core.Bool.{beq}
-use Rattle.std.specs.Cmp.{first_so, second_so}
+use Rattle.std.specs.Prelude.{option_and_then, not}
 use Rattle.std.specs.FinMap as map
 use Rattle.std.specs.FinMap.{FinMap}
 use Rattle.cg_cgroup.specs.Paths.{Names, path_cmp, same_path, is_child, is_root, parent}
 use Rattle.cg_cgroup.specs.Identity.{Identity}
 use Rattle.cg_cgroup.specs.Files.{stands_under, no_controllers}
 use Rattle.cg_cgroup.specs.Cgroups.{with_files_of}
-use Rattle.cg_cgroup.specs.declared.files.ControllerSet.{ControllerSet}
+use Rattle.cg_cgroup.specs.declared.controllers.ControllerSet.{ControllerSet}
 use Rattle.cg_cgroup.specs.declared.cgroup.Cgroup.{Cgroup}
 use Rattle.cg_model.specs.States.{State, row_at, change_at, change_each, enabling, enabling_these, with_row, with_enabled}
 use Rattle.cg_model.specs.WellFormed.{IsWellFormed, has_row, enabled_above, enabled_at}
@@ -25,6 +23,8 @@ use Rattle.cg_rows.specs.RowsForm.{state_of_tables}
 use Rattle.cg_counts.specs.Kept.{Held, AreFittedBelow, cgroups_of, change_held, change_each_held, with_row_of, enabling_held, new_held}
 use Rattle.cg_indexed.specs.Indexed.{state_of, IsIndexed}
 use Rattle.cg_indexed.proofs.Living.{AreCounted, get-change_held, counted_change}
+use Rattle.cg_cgroup.specs.contracts.controllers.ControllerSetPartialEq.TheImpl as sets
+use Rattle.cg_places.proofs.Alike.{set_same}
 use Rattle.cg_places.proofs.Values.{same_maps, get-mapped, values-insert, option_map-twice}
 
 -- where the cgroup alone stays
@@ -157,25 +157,12 @@ there_by_part st p part h =
 
 -- ---- sets that a comparison finds no difference in
 
-same_flag : (a b : Bool) → beq a b ≡ true → a ≡ b
-same_flag true true h = refl
-same_flag true false h = absurd (true≢false (sym h))
-same_flag false true h = absurd (true≢false (sym h))
-same_flag false false h = refl
-
 not_not : (b : Bool) → not b ≡ false → b ≡ true
 not_not true h = refl
 not_not false h = absurd (true≢false h)
 
-pub same_sets : (a b : ControllerSet) → not (beq a.cpu b.cpu && (beq a.memory b.memory && beq a.pids b.pids)) ≡ false → a ≡ b
-same_sets a b h =
-    let all = not_not _ h in
-    let rest = second_so (beq a.cpu b.cpu) _ all in
-    λ i. record {
-      cpu = same_flag a.cpu b.cpu (first_so _ _ all) i;
-      memory = same_flag a.memory b.memory (first_so _ _ rest) i;
-      pids = same_flag a.pids b.pids (second_so (beq a.memory b.memory) _ rest) i;
-    }
+pub same_sets : (a b : ControllerSet) → not (sets.ghosts.eq a b) ≡ false → a ≡ b
+same_sets a b h = set_same a b (not_not _ h)
 
 -- ---- a root alone
 

@@ -7,7 +7,7 @@ use Rattle.cg_cgroup.specs.Paths.{Names, same_path, is_child}
 use Rattle.cg_cgroup.specs.Identity.{Identity}
 use Rattle.cg_cgroup.specs.Files.{stands_under}
 use Rattle.cg_cgroup.specs.Cgroups.{file_of, refitted, file_made_by}
-use Rattle.cg_cgroup.specs.declared.files.ControllerSet.{ControllerSet}
+use Rattle.cg_cgroup.specs.declared.controllers.ControllerSet.{ControllerSet}
 use Rattle.cg_cgroup.specs.declared.files.LimitFile.{LimitFile}
 use Rattle.cg_cgroup.specs.declared.files.EntryName.TheVariants.{File}
 use Rattle.cg_cgroup.specs.declared.cgroup.LimitEntry.{LimitEntry}

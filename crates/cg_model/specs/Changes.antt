@@ -1,10 +1,9 @@
 -- The changes of one write to a cgroup.subtree_control.
 use Rattle.std.specs.Prelude.{Bool, List, reverse, find, Option, unwrap_or}
 use Rattle.std.specs.Option.{option_map}
-use Rattle.cg_cgroup.specs.Files.{same_controller}
+use Rattle.cg_cgroup.specs.Files.{same_controller, enables, set_by}
 use Rattle.cg_cgroup.specs.declared.files.Controller.{Controller}
-use Rattle.cg_cgroup.specs.declared.files.Controller.TheVariants.{Cpu, Memory, Pids}
-use Rattle.cg_cgroup.specs.declared.files.ControllerSet.{ControllerSet}
+use Rattle.cg_cgroup.specs.declared.controllers.ControllerSet.{ControllerSet}
 use Rattle.cg_model.specs.declared.changes.Change.{Change}
 
 -- Enabling and Disabling: of several changes on one controller the last is effective.
@@ -13,8 +12,4 @@ effective changes controller = option_map (λ change. change.on) (find (λ chang
 
 -- what is enabled once the changes have taken effect
 abbrev pub enabled_after : ControllerSet → List Change → ControllerSet
-enabled_after enabled changes = record {
-  cpu = unwrap_or (effective changes Cpu) enabled.cpu;
-  memory = unwrap_or (effective changes Memory) enabled.memory;
-  pids = unwrap_or (effective changes Pids) enabled.pids;
-}
+enabled_after enabled changes = set_by (λ controller. unwrap_or (effective changes controller) (enables enabled controller))

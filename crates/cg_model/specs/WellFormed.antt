@@ -6,7 +6,7 @@ use Rattle.cg_cgroup.specs.Cgroups.{file_of, entry_in}
 use Rattle.cg_model.specs.States.{State, row_at, process_at, is_used, has_live, child_enables}
 use Rattle.cg_cgroup.specs.declared.user.Entry.{Entry}
 use Rattle.cg_cgroup.specs.declared.files.Controller.{Controller}
-use Rattle.cg_cgroup.specs.declared.files.ControllerSet.{ControllerSet}
+use Rattle.cg_cgroup.specs.declared.controllers.ControllerSet.{ControllerSet}
 use Rattle.cg_cgroup.specs.declared.files.LimitFile.{LimitFile}
 use Rattle.cg_cgroup.specs.declared.files.EntryName.{EntryName}
 use Rattle.cg_cgroup.specs.declared.cgroup.LimitEntry.{LimitEntry}

@@ -71,9 +71,10 @@ impl Changes {
         ensures { result ≡ enabled_after enabled self.now }
     {
         ControllerSet {
-            cpu: self.effective(Controller::Cpu).unwrap_or(enabled.cpu),
-            memory: self.effective(Controller::Memory).unwrap_or(enabled.memory),
-            pids: self.effective(Controller::Pids).unwrap_or(enabled.pids),
+            flags: Controller::ALL.map(|controller| {
+                self.effective(controller)
+                    .unwrap_or(enabled.contains(controller))
+            }),
         }
     }
 }

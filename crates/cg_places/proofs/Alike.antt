@@ -1,15 +1,17 @@
 -- The derived `==` of cgroups says that they are the same, field by field.
-use Rattle.std.proofs.Common.{rules, ◌≡◌, subst, refl, Bool, true, ◌&&◌, List, [], ◌∷◌, Option}
+use Rattle.std.proofs.Common.{rules, ◌≡◌, subst, refl, Bool, true, false, ◌&&◌, List, [], ◌∷◌, Option}
 use Rattle.cg_cgroup.specs.declared.user.Entry.{Entry}
-use Rattle.cg_cgroup.specs.declared.files.ControllerSet.{ControllerSet}
+use Rattle.cg_cgroup.specs.declared.controllers.ControllerSet.{ControllerSet}
 use Rattle.cg_cgroup.specs.declared.cgroup.LimitEntry.{LimitEntry}
 use Rattle.cg_cgroup.specs.declared.brought.BroughtFiles.{BroughtFiles}
 use Rattle.cg_cgroup.specs.declared.cgroup.Cgroup.{Cgroup}
 use Rattle.cg_cgroup.proofs.CgroupLaws.{same_brought}
+use Rattle.cg_cgroup.proofs.ControllerLaws.{same_flags}
+use mathlib.Core.Bool.{beq}
 use Rattle.cg_cgroup.specs.contracts.user.EntryPartialEq.TheImpl as entries
 use Rattle.cg_cgroup.specs.contracts.cgroup.LimitEntryPartialEq.TheImpl as limits
 use Rattle.cg_cgroup.specs.contracts.brought.BroughtFilesPartialEq.TheImpl as brought
-use Rattle.cg_cgroup.specs.contracts.files.ControllerSetPartialEq.TheImpl as sets
+use Rattle.cg_cgroup.specs.contracts.controllers.ControllerSetPartialEq.TheImpl as sets
 use Rattle.cg_cgroup.specs.contracts.cgroup.CgroupPartialEq.TheImpl as cgroups
 use Rattle.cg_cgroup.specs.contracts.cgroup.CgroupEq.TheImpl.Laws as equal
 use Rattle.std.proofs.lemmas.Bool.{and_parts}
@@ -25,8 +27,22 @@ limit_same x y e = search rules
 held_same : (x y : Option LimitEntry) → option_eq limits.ghosts.eq x y ≡ true → x ≡ y
 held_same x y e = search (rules, limit_same)
 
-set_same : (x y : ControllerSet) → sets.ghosts.eq x y ≡ true → x ≡ y
-set_same x y e = search rules
+flag_same : (x y : Bool) → beq x y ≡ true → x ≡ y
+flag_same true true e = refl
+flag_same true false e = cc
+flag_same false true e = cc
+flag_same false false e = refl
+
+flags_same : (xs ys : List Bool) → pointwise beq xs ys ≡ true → xs ≡ ys
+flags_same [] [] e = refl
+flags_same [] (y ∷ ys) e = cc
+flags_same (x ∷ xs) [] e = cc
+flags_same (x ∷ xs) (y ∷ ys) e =
+    let parts = and_parts (beq x y) (pointwise beq xs ys) e in
+    λ i. flag_same x y parts.0 i ∷ flags_same xs ys parts.1 i
+
+pub set_same : (x y : ControllerSet) → sets.ghosts.eq x y ≡ true → x ≡ y
+set_same x y e = same_flags x y (flags_same x.flags y.flags e)
 
 both : {P Q : Type 0} (a b : Bool) → (a ≡ true → P) → (b ≡ true → Q) → (a && b) ≡ true → P × Q
 both a b p q e = (p (and_parts a b e).0, q (and_parts a b e).1)

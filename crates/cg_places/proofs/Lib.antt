@@ -1,5 +1,5 @@
 pub mod TextKeys
-mod Alike
+pub mod Alike
 pub mod Turns
 pub mod Refits
 pub mod Taken

@@ -1,7 +1,7 @@
 -- Cgroups refitted one by one.
 use Rattle.std.proofs.Common.{◌≡◌, ℕ, ◌<◌, ◌≤◌, ◌&&◌, cond, nat_eq, List, length}
 use Rattle.std.specs.Prelude.{is_none}
-use Rattle.cg_cgroup.specs.declared.files.ControllerSet.{ControllerSet}
+use Rattle.cg_cgroup.specs.declared.controllers.ControllerSet.{ControllerSet}
 use Rattle.cg_cgroup.specs.declared.cgroup.Cgroup.{Cgroup}
 use Rattle.cg_places.specs.Nodes.{shared_at, slot_at, refitted_shared, refitted_slot, links_to}
 use Rattle.cg_places.specs.declared.links.Link.{Link}

@@ -7,14 +7,14 @@ use Rattle.std.proofs.Math.ListN as seq
 use Rattle.std.specs.Global.{Vec}
 use Rattle.std.specs.Vec.{with_items}
 use Rattle.std.specs.Cmp.{first_so}
-use Rattle.cg_cgroup.specs.declared.files.ControllerSet.{ControllerSet}
+use Rattle.cg_cgroup.specs.declared.controllers.ControllerSet.{ControllerSet}
 use Rattle.cg_cgroup.specs.declared.cgroup.Cgroup.{Cgroup}
 use Rattle.cg_places.specs.Links.{link_at, put_at}
 use Rattle.cg_places.specs.Nodes.{Node, new_node, no_cgroup, new_slot, node_at, slot_at, shared_at, node_of, nodes_of, AreShared, HasGrown, refitted_node, refitted_shared, refitted_slot, links_to, IsKin, Refits, RefitsShared, RefitsSlots}
 use Rattle.cg_places.specs.declared.links.Link.{Link}
 use Rattle.cg_places.specs.declared.nodes.Shared.{Shared}
 use Rattle.cg_places.specs.declared.nodes.Slot.{Slot}
-use Rattle.cg_places.specs.declared.nodes.Uses.{Uses}
+use Rattle.cg_places.specs.declared.uses.Uses.{Uses}
 use Rattle.cg_places.proofs.Puts.{put_mapped, set_through}
 
 pub node_seen : (shared : List Shared) (slots : List Slot) (i : ℕ) → node_at (nodes_of shared slots) i ≡ node_of shared (slot_at slots i)

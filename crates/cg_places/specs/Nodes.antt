@@ -3,12 +3,12 @@
 use Rattle.std.specs.Prelude.{◌≡◌, ℕ, ◌<◌, Bool, true, ◌&&◌, not, cond, nat_eq, List, [], ◌++◌, map, length, get_or, Option, Some, None, is_none, slice_set}
 use Rattle.std.specs.Option.{option_map}
 use mathlib.Core.Bool.{beq}
-use Rattle.cg_cgroup.specs.Files.{enables, no_controllers, set_by, stands_under}
+use Rattle.std.proofs.Common.{refl}
+use Rattle.cg_cgroup.specs.Files.{all_controllers, controller_kind, enables, no_controllers, set_by, stands_under}
 use Rattle.cg_cgroup.specs.Cgroups.{file_of, files_by, cgroup_made_by}
 use Rattle.cg_model.specs.States.{enabling_these}
 use Rattle.cg_cgroup.specs.declared.files.Controller.{Controller}
-use Rattle.cg_cgroup.specs.declared.files.Controller.TheVariants.{Cpu, Memory, Pids}
-use Rattle.cg_cgroup.specs.declared.files.ControllerSet.{ControllerSet}
+use Rattle.cg_cgroup.specs.declared.controllers.ControllerSet.{ControllerSet}
 use Rattle.cg_cgroup.specs.declared.cgroup.Cgroup.{Cgroup}
 use Rattle.cg_places.specs.Links.{link_at, tallied}
 use Rattle.cg_places.specs.declared.links.Link.{Link}
@@ -16,14 +16,14 @@ use Rattle.cg_places.specs.declared.links.Tally.{Tally}
 use Rattle.cg_places.specs.declared.links.Tally.TheVariants.{More, Fewer}
 use Rattle.cg_places.specs.declared.nodes.Shared.{Shared}
 use Rattle.cg_places.specs.declared.nodes.Slot.{Slot}
-use Rattle.cg_places.specs.declared.nodes.Uses.{Uses}
+use Rattle.cg_places.specs.declared.uses.Uses.{Uses}
 
 -- what is read where there is no place
 abbrev pub no_cgroup : Cgroup
 no_cgroup = cgroup_made_by (record { uid = 0; gids = [] }) no_controllers
 
 abbrev pub no_uses : Uses
-no_uses = record { cpu = 0; memory = 0; pids = 0 }
+no_uses = record { counts = map (λ controller. 0) all_controllers; whole = refl }
 
 -- What is at a place: a cgroup, how many live processes are at it, and how many of its children enable each controller.
 -- Where it shares its cgroup, `kin` is the place of the parent whose children share it.
@@ -85,9 +85,7 @@ kin_if shares above = cond shares (Some above) None
 -- ---- what is counted
 
 abbrev pub uses_of : Uses → Controller → ℕ
-uses_of uses Cpu = uses.cpu
-uses_of uses Memory = uses.memory
-uses_of uses Pids = uses.pids
+uses_of uses controller = get_or uses.counts (controller_kind controller).number 0
 
 abbrev pub more_if : Bool → ℕ → ℕ
 more_if so n = cond so (tallied More n) n
@@ -96,12 +94,11 @@ abbrev pub less_if : Bool → ℕ → ℕ
 less_if so n = cond so (tallied Fewer n) n
 
 -- once a child that enabled `had` enables `has`
+abbrev pub uses_then : ControllerSet → ControllerSet → Uses → Controller → ℕ
+uses_then had has uses controller = more_if (enables has controller) (less_if (enables had controller) (uses_of uses controller))
+
 abbrev pub uses_after : ControllerSet → ControllerSet → Uses → Uses
-uses_after had has uses = record {
-  cpu = more_if has.cpu (less_if had.cpu uses.cpu);
-  memory = more_if has.memory (less_if had.memory uses.memory);
-  pids = more_if has.pids (less_if had.pids uses.pids);
-}
+uses_after had has uses = record { counts = map (uses_then had has uses) all_controllers; whole = refl }
 
 abbrev pub with_cgroup : Cgroup → Node → Node
 with_cgroup row node = record node { cgroup = row; kin = None }

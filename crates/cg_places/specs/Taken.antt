@@ -4,7 +4,7 @@ use Rattle.std.specs.Prelude.{◌≡◌, ℕ, ◌<◌, Bool, cond, length, get_o
 use Rattle.cg_cgroup.specs.Files.{brought_files, stands_under}
 use Rattle.cg_cgroup.specs.Cgroups.{held_at}
 use Rattle.cg_cgroup.specs.declared.brought.BroughtFiles.{BroughtFiles}
-use Rattle.cg_cgroup.specs.declared.files.ControllerSet.{ControllerSet}
+use Rattle.cg_cgroup.specs.declared.controllers.ControllerSet.{ControllerSet}
 use Rattle.cg_cgroup.specs.declared.files.LimitFile.TheVariants.{CpuWeight}
 
 -- whether one of these controllers brings the file of a place

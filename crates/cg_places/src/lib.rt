@@ -4,3 +4,4 @@
 pub mod links;
 pub mod nodes;
 pub mod path_index;
+pub mod uses;

@@ -1,62 +1,17 @@
 //! Cgroups at their places, and what is counted of their children and processes.
 ghost use Rattle.std.specs.Prelude.{◌≡◌, true, ◌<◌, length, slice_set, [], ◌∷◌, None, IfOk, OnOk, OnErr};
 ghost use Rattle.cg_places.specs.Links.{put_at};
-ghost use Rattle.cg_places.specs.Nodes.{Refits, RefitsShared, RefitsSlots, HasGrown, IsSharedAt, kin_if, new_node, new_slot, node_at, slot_at, more_if, less_if, uses_after, uses_of, with_cgroup, with_own, with_live, with_uses, tallied_node, recounted, enabled_at, differing, with_files_from};
+ghost use Rattle.cg_places.specs.Nodes.{Refits, RefitsShared, RefitsSlots, HasGrown, IsSharedAt, kin_if, new_node, new_slot, node_at, slot_at, with_cgroup, with_own, with_live, with_uses, tallied_node, recounted, enabled_at, differing, with_files_from};
 ghost use Rattle.cg_places.specs.Taken.{Takes};
 
 use crate::links::{Link, Tally};
+use crate::uses::Uses;
 use cg_cgroup::brought::BroughtFiles;
 use cg_cgroup::cgroup::Cgroup;
 use cg_cgroup::files::{BROUGHT_COUNT, Controller, ControllerSet, LimitFile};
 use cg_cgroup::memory::NoMemory;
 use std::alloc::Global;
 use std::marker::Model;
-
-/// How many children of a cgroup enable each controller.
-#[derive(Clone, Copy)]
-pub struct Uses {
-    pub cpu: u64,
-    pub memory: u64,
-    pub pids: u64,
-}
-
-impl Uses {
-    /// Those of a controller.
-    pub fn of(self, controller: Controller) -> u64
-        ensures { result ≡ uses_of self controller }
-    {
-        match controller {
-            Controller::Cpu => self.cpu,
-            Controller::Memory => self.memory,
-            Controller::Pids => self.pids,
-        }
-    }
-
-    /// Once a child that enabled `had` enables `has`.
-    fn after(self, had: ControllerSet, has: ControllerSet) -> Uses
-        ensures { result ≡ uses_after had has self }
-    {
-        Uses {
-            cpu: more_if(has.cpu, less_if(had.cpu, self.cpu)),
-            memory: more_if(has.memory, less_if(had.memory, self.memory)),
-            pids: more_if(has.pids, less_if(had.pids, self.pids)),
-        }
-    }
-}
-
-/// One more, if so.
-fn more_if(so: bool, count: u64) -> u64
-    ensures { result ≡ more_if so count }
-{
-    if so { count.saturating_add(1) } else { count }
-}
-
-/// One fewer, if so.
-fn less_if(so: bool, count: u64) -> u64
-    ensures { result ≡ less_if so count }
-{
-    if so { count.saturating_sub(1) } else { count }
-}
 
 /// What is kept at a place.
 #[derive(Clone, Copy)]
@@ -79,11 +34,7 @@ impl Slot {
         Slot {
             cgroup,
             live: 0,
-            uses: Uses {
-                cpu: 0,
-                memory: 0,
-                pids: 0,
-            },
+            uses: Uses::none(),
             shared,
         }
     }
@@ -368,9 +319,8 @@ pub fn differing(had: ControllerSet, has: ControllerSet) -> ControllerSet
     ensures { result ≡ differing had has }
 {
     ControllerSet {
-        cpu: had.cpu != has.cpu,
-        memory: had.memory != has.memory,
-        pids: had.pids != has.pids,
+        flags: Controller::ALL.map(|controller| had.contains(controller)
+            != has.contains(controller)),
     }
 }
 

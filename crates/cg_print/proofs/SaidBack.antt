@@ -1,5 +1,5 @@
 -- The tables of a tree's document say what they were written of.
-use Rattle.std.proofs.Common.{◌≡◌, ℕ, ◌≤◌, pos, Bool, true, false, cond, le-leb, List, [], ◌∷◌, map as map_list, codes, Option, Some, None, is_some, option_map, option_and_then, unwrap_or, refl, sym, ap, ◌∙◌}
+use Rattle.std.proofs.Common.{◌≡◌, ℕ, ◌≤◌, pos, true, cond, le-leb, List, [], ◌∷◌, map as map_list, codes, Option, Some, None, is_some, option_map, option_and_then, unwrap_or, refl, sym, ap, ◌∙◌}
 use Rattle.std.specs.Prelude.{◌&&◌, filter_map}
 use Rattle.toml.specs.Data.{Data, string, Members, no_members, as_str, as_table}
 use Rattle.toml.specs.View.{items_of}
@@ -11,7 +11,7 @@ use Rattle.cg_cgroup.specs.Cgroups.{file_of, entry_in}
 use Rattle.cg_cgroup.specs.declared.user.Entry.{Entry}
 use Rattle.cg_cgroup.specs.declared.files.Limit.{Limit}
 use Rattle.cg_cgroup.specs.declared.files.Limit.TheVariants.{Max, At}
-use Rattle.cg_cgroup.specs.declared.files.ControllerSet.{ControllerSet}
+use Rattle.cg_cgroup.specs.declared.controllers.ControllerSet.{ControllerSet}
 use Rattle.cg_cgroup.specs.declared.files.LimitFile.{LimitFile}
 use Rattle.cg_cgroup.specs.declared.files.EntryName.{EntryName}
 use Rattle.cg_cgroup.specs.declared.files.EntryName.TheVariants.{Dir, Procs, SubtreeControl, File}
@@ -28,6 +28,7 @@ use Rattle.cg_format.specs.declared.format.Format.TheVariants.{Two}
 use Rattle.cg_print.specs.Keys.{with_key}
 use Rattle.cg_print.specs.Documents.{names_in, entry_table, value_written, limit_table, table_of_file, cgroup_table, process_table, cgroups_written, processes_written, tree_document}
 use Rattle.cg_print.specs.Carried.{IsId, HasIds, IsNamedRow, IsNamedProcess}
+use Rattle.cg_print.proofs.ControllersBack.{set_again}
 use Rattle.cg_print.proofs.FormBack.{at_key, at_file}
 
 -- ---- owners, values and controllers
@@ -72,26 +73,13 @@ value_again : (file : LimitFile) (held : LimitEntry) → accepts file held.value
 unfolding limit_table entry_table with_key
 value_again file held is = limit_again file held.value is
 
-abbrev set_of : (cpu memory pids : Bool) → ControllerSet
-set_of cpu memory pids = record { cpu = cpu; memory = memory; pids = pids }
-
-each_set : (cpu memory pids : Bool) → controllers_read (names_in (set_of cpu memory pids)) ≡ Some (set_of cpu memory pids)
-each_set true true true = refl
-each_set true true false = refl
-each_set true false true = refl
-each_set true false false = refl
-each_set false true true = refl
-each_set false true false = refl
-each_set false false true = refl
-each_set false false false = refl
-
 texts_again : (names : List (List ℕ)) → filter_map as_str (elements (items_of (map_list string names))) ≡ names
 texts_again [] = refl
 texts_again (name ∷ names) = ap (λ rest. name ∷ rest) (texts_again names)
 
 controllers_again : (set : ControllerSet)
     → controllers_read (filter_map as_str (elements (items_of (map_list string (names_in set))))) ≡ Some set
-controllers_again set = ap controllers_read (texts_again (names_in set)) ∙ each_set set.cpu set.memory set.pids
+controllers_again set = ap controllers_read (texts_again (names_in set)) ∙ set_again set
 
 -- ---- the entries of a cgroup
 

@@ -10,7 +10,7 @@ use Rattle.cg_model.specs.States.{State, row_at, process_at, change_at}
 use Rattle.cg_model.specs.WellFormed.{IsWellFormed, IsFormedRow, has_row, available_at, enabled_above}
 use Rattle.cg_rows.specs.Processes.{LiveAndUsed, no_processes}
 use Rattle.cg_rows.specs.RowsForm.{state_of_tables, state_of_root, IsRoot}
-use Rattle.cg_cgroup.specs.declared.files.ControllerSet.{ControllerSet}
+use Rattle.cg_cgroup.specs.declared.controllers.ControllerSet.{ControllerSet}
 use Rattle.cg_cgroup.specs.declared.cgroup.Cgroup.{Cgroup}
 use Rattle.cg_cgroup.specs.declared.process.Process.{Process}
 use Rattle.cg_cgroup.proofs.PathOrder.{path_cmp_total}

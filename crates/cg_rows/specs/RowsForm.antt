@@ -7,7 +7,7 @@ use Rattle.cg_cgroup.specs.Paths.{path_cmp}
 use Rattle.cg_cgroup.specs.Files.{no_controllers, is_within}
 use Rattle.cg_model.specs.States.{State}
 use Rattle.cg_model.specs.WellFormed.{IsFormedRow}
-use Rattle.cg_cgroup.specs.declared.files.ControllerSet.{ControllerSet}
+use Rattle.cg_cgroup.specs.declared.controllers.ControllerSet.{ControllerSet}
 use Rattle.cg_cgroup.specs.declared.cgroup.Cgroup.{Cgroup}
 use Rattle.cg_rows.specs.Processes.{LiveAndUsed}
 

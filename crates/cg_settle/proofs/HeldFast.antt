@@ -6,7 +6,7 @@ use Rattle.cg_cgroup.specs.Paths.{Names, same_path, parent, inside, below, is_ch
 use Rattle.cg_cgroup.specs.Identity.{Identity}
 use Rattle.cg_cgroup.specs.Files.{enables, enables_nothing, stands_under, same_file}
 use Rattle.cg_cgroup.specs.declared.files.Controller.TheVariants.{Memory}
-use Rattle.cg_cgroup.specs.declared.files.ControllerSet.{ControllerSet}
+use Rattle.cg_cgroup.specs.declared.controllers.ControllerSet.{ControllerSet}
 use Rattle.cg_cgroup.specs.declared.files.LimitFile.{LimitFile}
 use Rattle.cg_cgroup.specs.declared.files.EntryName.TheVariants.{Procs, File}
 use Rattle.cg_cgroup.proofs.CgroupLaws.{same_file-true}

@@ -4,13 +4,14 @@ use Rattle.std.specs.List.{list_all, list_any}
 use Rattle.std.proofs.lemmas.Bool.{and_parts, and_cases, and_from, or_left, or_right, or_cases, not-true, not_from_false, true_from_ne_false, cases_lt}
 use Rattle.cg_cgroup.specs.Paths.{Names, same_path, parent, inside, below, is_child, common}
 use Rattle.cg_cgroup.specs.Identity.{Identity}
-use Rattle.cg_cgroup.specs.Files.{all_controllers, all_files}
+use Rattle.cg_cgroup.specs.Files.{all_files}
 use Rattle.cg_cgroup.specs.declared.files.Controller.{Controller}
-use Rattle.cg_cgroup.specs.declared.files.Controller.TheVariants.{Cpu, Memory, Pids}
+use Rattle.cg_cgroup.specs.declared.files.Controller.TheVariants.{Memory}
 use Rattle.cg_cgroup.specs.declared.files.Limit.{Limit}
 use Rattle.cg_cgroup.specs.declared.files.Limit.TheVariants.{Max, At}
 use Rattle.cg_cgroup.specs.declared.files.EntryName.TheVariants.{Procs, File}
 use Rattle.cg_cgroup.proofs.AllFiles.{each_passes, all_pass}
+use Rattle.cg_cgroup.proofs.ControllerLaws.{each_controller, all_controllers_pass}
 use Rattle.cg_cgroup.proofs.PathOrder.{same_path-is, same_path_refl}
 use Rattle.cg_cgroup.proofs.PathParents.{inside-is, inside-take}
 use Rattle.cg_model.specs.States.{State, paths_of}
@@ -51,14 +52,6 @@ row_each st test each =
     one_fails [] h = absurd (true≢false h)
     one_fails (path ∷ paths) h =
         ⊎_elim (λ none. or_left _ _ (not_from_false _ none)) (λ later. or_right _ _ (one_fails paths later)) (and_cases _ _ h)
-
-each_controller : (test : Controller → Bool) → list_all test all_controllers ≡ true → (controller : Controller) → test controller ≡ true
-each_controller test h Cpu = (and_parts _ _ h).0
-each_controller test h Memory = (and_parts _ _ (and_parts _ _ h).1).0
-each_controller test h Pids = (and_parts _ _ (and_parts _ _ (and_parts _ _ h).1).1).0
-
-all_of : (test : Controller → Bool) → ((controller : Controller) → test controller ≡ true) → list_all test all_controllers ≡ true
-all_of test each = and_from _ _ (each Cpu) (and_from _ _ (each Memory) (and_from _ _ (each Pids) refl))
 
 module _ (st : State) (users : List Identity) (lasting : Lasting)
     (there : (path : Names) → lasting.stays path ≡ true → has_row st path ≡ true)
@@ -212,7 +205,7 @@ module _ (st : State) (users : List Identity) (lasting : Lasting)
     pub by-fast : is_held_fast st users lasting subtree ≡ true
     by-fast =
         and_from _ _ fast.stays
-        (and_from _ _ (all_of _ (λ controller. ⊎_elim (or_left _ _) (or_right _ _) (fast.control controller)))
+        (and_from _ _ (all_controllers_pass _ (λ controller. ⊎_elim (or_left _ _) (or_right _ _) (fast.control controller)))
         (and_from _ _ (all_pass _ (λ file. not_from_false _ (fast.files file)) all_files)
         (and_from _ _ (to-closed (length subtree) (omega arith)) (and_from _ _ fast.descendants fast.depth))))
 

@@ -3,28 +3,26 @@ use Rattle.std.proofs.lemmas.Bool.{false_from_ne_true}
 use Rattle.std.proofs.Common.{◌≡◌, Bool, true, false, not, ◌&&◌, ◌||◌, List, [], Option, Some, None, unwrap_or, refl, sym, ap, ◌∙◌, subst, true≢false}
 use Rattle.cg_cgroup.specs.Paths.{Names, is_root, parent}
 use Rattle.cg_cgroup.specs.Identity.{Identity}
-use Rattle.cg_cgroup.specs.Files.{enables, enables_nothing, is_within}
+use Rattle.cg_cgroup.specs.Files.{all_controllers, enables, enables_nothing, is_within}
 use Rattle.cg_model.specs.States.{State, row_at, has_live, child_enables}
 use Rattle.cg_model.specs.WellFormed.{IsWellFormed, MayEnable, enabled_at, available_at, may_hold}
 use Rattle.cg_cgroup.specs.declared.files.Controller.{Controller}
-use Rattle.cg_cgroup.specs.declared.files.Controller.TheVariants.{Cpu, Memory, Pids}
-use Rattle.cg_cgroup.specs.declared.files.ControllerSet.{ControllerSet}
+use Rattle.cg_cgroup.specs.declared.controllers.ControllerSet.{ControllerSet}
 use Rattle.cg_cgroup.specs.declared.cgroup.Cgroup.{Cgroup}
 use Rattle.cg_cgroup.proofs.PathOrder.{same_path-is}
 use Rattle.cg_cgroup.proofs.PathParents.{parent-is_child, is_root-is_child}
-use Rattle.cg_cgroup.proofs.ControllerLaws.{enables_nothing-enables, enables_nothing-none, is_within-enables, is_within-each}
+use Rattle.cg_cgroup.proofs.ControllerLaws.{enables-set_by, each_listed, enables_nothing-enables, enables_nothing-none, is_within-enables, is_within-each}
 use Rattle.cg_steps.proofs.StateTests.{child_enables-row, has_live-process}
 use Rattle.cg_steps.proofs.FormedParts.{may_hold-row, enabled_at-row}
 use Rattle.cg_model.specs.Changes.{effective, enabled_after}
 use Rattle.cg_model.specs.Bars.{change_bars, changes_bars, control_bars}
 use Rattle.cg_model.specs.declared.changes.Change.{Change}
-use Rattle.cg_steps.proofs.ClauseLaws.{no_parts, no_unless, no_present}
+use Rattle.cg_steps.proofs.ClauseLaws.{no_parts, no_unless, no_present, none_each}
 
 pub enables-enabled_after : (enabled : ControllerSet) (changes : List Change) (controller : Controller)
     → enables (enabled_after enabled changes) controller ≡ unwrap_or (effective changes controller) (enables enabled controller)
-enables-enabled_after enabled changes Cpu = refl
-enables-enabled_after enabled changes Memory = refl
-enables-enabled_after enabled changes Pids = refl
+enables-enabled_after enabled changes =
+    enables-set_by (λ controller. unwrap_or (effective changes controller) (enables enabled controller))
 
 -- what a child enables, its parent does
 child_enables-parent : (st : State) (path : Names) (row : Cgroup) (controller : Controller) → IsWellFormed st → row_at st path ≡ Some row
@@ -82,17 +80,17 @@ no_internal_cases false false false true before h held kept = h
 
 pub each_change : (st : State) (path : Names) (changes : List Change) (row : Cgroup) → changes_bars st path changes row ≡ []
     → (controller : Controller) → change_bars st path row controller (effective changes controller) ≡ []
-each_change st path changes row h Cpu = (no_parts _ _ (no_parts _ _ h).0).0
-each_change st path changes row h Memory = (no_parts _ _ (no_parts _ _ (no_parts _ _ h).0).1).0
-each_change st path changes row h Pids = (no_parts _ _ (no_parts _ _ (no_parts _ _ (no_parts _ _ h).0).1).1).0
+each_change st path changes row h =
+    each_listed (λ controller. change_bars st path row controller (effective changes controller) ≡ [])
+    (none_each (λ controller. change_bars st path row controller (effective changes controller)) all_controllers (no_parts _ _ h).0)
 
 module _ (st : State) (path : Names) (changes : List Change) (row : Cgroup) (whole : IsWellFormed st) (is : row_at st path ≡ Some row)
     (h : changes_bars st path changes row ≡ []) where
   pub may_enable : MayEnable st path (enabled_after row.enabled changes)
   may_enable = record {
-    available = is_within-each _ (available_at st path) (λ controller on.
+    available = is_within-each (enabled_after row.enabled changes) (available_at st path) (λ controller on.
         on_available st path row controller (effective changes controller) (each_change st path changes row h controller)
-        (is_within-enables row.enabled _ (whole.top_down path row is) controller)
+        (is_within-enables row.enabled (available_at st path) (whole.top_down path row is) controller)
         (sym (enables-enabled_after row.enabled changes controller) ∙ on));
     children = λ controller child.
         enables-enabled_after row.enabled changes controller

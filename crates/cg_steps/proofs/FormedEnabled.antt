@@ -7,7 +7,7 @@ use Rattle.cg_cgroup.specs.Files.{no_controllers, enables_nothing, is_within}
 use Rattle.cg_cgroup.specs.Cgroups.{with_files_of}
 use Rattle.cg_model.specs.States.{State, row_at, process_at, has_live, enabling_these, enabling, with_enabled}
 use Rattle.cg_model.specs.WellFormed.{has_row, enabled_at, enabled_above, available_at, may_hold, MayEnable, IsFormedRow, IsWellFormed}
-use Rattle.cg_cgroup.specs.declared.files.ControllerSet.{ControllerSet}
+use Rattle.cg_cgroup.specs.declared.controllers.ControllerSet.{ControllerSet}
 use Rattle.cg_cgroup.specs.declared.cgroup.Cgroup.{Cgroup}
 use Rattle.cg_cgroup.specs.declared.process.Process.{Process}
 use Rattle.cg_cgroup.proofs.Options.{some_value, mapped_from, is_some-mapped}

@@ -13,7 +13,7 @@ use Rattle.cg_cgroup.specs.Cgroups.{with_value_in, with_mode_in}
 use Rattle.cg_model.specs.States.{State, row_at, process_at, is_used, change_at, with_value, with_mode, placed_at, with_place, with_process, without_process}
 use Rattle.cg_model.specs.WellFormed.{may_hold, IsFormedRow, IsWellFormed}
 use Rattle.cg_cgroup.specs.declared.files.Limit.{Limit}
-use Rattle.cg_cgroup.specs.declared.files.ControllerSet.{ControllerSet}
+use Rattle.cg_cgroup.specs.declared.controllers.ControllerSet.{ControllerSet}
 use Rattle.cg_cgroup.specs.declared.files.LimitFile.{LimitFile}
 use Rattle.cg_cgroup.specs.declared.files.EntryName.{EntryName}
 use Rattle.cg_cgroup.specs.declared.cgroup.Cgroup.{Cgroup}

@@ -5,7 +5,7 @@ use Rattle.cg_cgroup.specs.Paths.{Names, path_cmp, is_root, parent}
 use Rattle.cg_cgroup.specs.Files.{no_controllers, enables_nothing, is_within}
 use Rattle.cg_model.specs.States.{State, row_at}
 use Rattle.cg_model.specs.WellFormed.{has_row, enabled_at, enabled_above, may_hold, IsFormedRow, IsWellFormed}
-use Rattle.cg_cgroup.specs.declared.files.ControllerSet.{ControllerSet}
+use Rattle.cg_cgroup.specs.declared.controllers.ControllerSet.{ControllerSet}
 use Rattle.cg_cgroup.specs.declared.cgroup.Cgroup.{Cgroup}
 use Rattle.cg_cgroup.proofs.Options.{mapped_from, is_some-mapped}
 use Rattle.cg_steps.proofs.FormedParts.{may_hold-row, row-may_hold}

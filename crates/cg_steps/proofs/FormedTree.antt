@@ -7,7 +7,7 @@ use Rattle.cg_cgroup.specs.Files.{no_controllers, is_within}
 use Rattle.cg_cgroup.specs.Cgroups.{cgroup_made_by}
 use Rattle.cg_model.specs.States.{State, row_at, has_child, has_live, with_row, without_row}
 use Rattle.cg_model.specs.WellFormed.{has_row, enabled_at, enabled_above, available_at, IsFormedRow, IsWellFormed}
-use Rattle.cg_cgroup.specs.declared.files.ControllerSet.{ControllerSet}
+use Rattle.cg_cgroup.specs.declared.controllers.ControllerSet.{ControllerSet}
 use Rattle.cg_cgroup.specs.declared.cgroup.Cgroup.{Cgroup}
 use Rattle.cg_cgroup.proofs.Options.{some_value}
 use Rattle.cg_cgroup.proofs.PathOrder.{same_path-is, same_path_comm}

@@ -7,7 +7,7 @@ use Rattle.cg_cgroup.specs.Cgroups.{file_of, entry_in, value_in, with_value_in, 
 use Rattle.cg_model.specs.States.{State, row_at, file_at, entry_at, value_at, enabling, with_row, without_row, with_value, with_mode, with_enabled}
 use Rattle.cg_model.specs.WellFormed.{enabled_at}
 use Rattle.cg_cgroup.specs.declared.files.Limit.{Limit}
-use Rattle.cg_cgroup.specs.declared.files.ControllerSet.{ControllerSet}
+use Rattle.cg_cgroup.specs.declared.controllers.ControllerSet.{ControllerSet}
 use Rattle.cg_cgroup.specs.declared.files.LimitFile.{LimitFile}
 use Rattle.cg_cgroup.specs.declared.files.EntryName.{EntryName}
 use Rattle.cg_cgroup.specs.declared.files.EntryName.TheVariants.{Dir, Procs, SubtreeControl, File}

@@ -6,7 +6,7 @@ use Rattle.cg_cgroup.specs.Files.{controller_of, stands_under, same_file, same_e
 use Rattle.cg_cgroup.specs.Cgroups.{file_of, cgroup_made_by}
 use Rattle.cg_model.specs.States.{State, row_at, process_at, is_used, file_at, entry_at, value_at, with_enabled, with_process}
 use Rattle.cg_model.specs.WellFormed.{has_row, enabled_at}
-use Rattle.cg_cgroup.specs.declared.files.ControllerSet.{ControllerSet}
+use Rattle.cg_cgroup.specs.declared.controllers.ControllerSet.{ControllerSet}
 use Rattle.cg_cgroup.specs.declared.files.LimitFile.{LimitFile}
 use Rattle.cg_cgroup.specs.declared.files.LimitFile.TheVariants.{MaxDescendants, MaxDepth}
 use Rattle.cg_cgroup.specs.declared.files.EntryName.{EntryName}

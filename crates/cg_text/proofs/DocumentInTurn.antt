@@ -6,7 +6,7 @@ use Rattle.std.proofs.lemmas.Bool.{and_parts, and_from}
 use Rattle.toml.specs.Data.{Data, table, Members, as_table}
 use Rattle.toml.specs.View.{view}
 use Rattle.toml.specs.declared.value.Value.{Value}
-use Rattle.cg_cgroup.specs.declared.files.ControllerSet.{ControllerSet}
+use Rattle.cg_cgroup.specs.declared.controllers.ControllerSet.{ControllerSet}
 use Rattle.cg_model.specs.Clauses.{unless, absent, present, first}
 use Rattle.cg_model.specs.States.{State}
 use Rattle.cg_steps.proofs.ClauseLaws.{first_none, first_some}

@@ -23,7 +23,7 @@ use Rattle.cg_cgroup.specs.Paths.{Names, path_cmp, is_root}
 use Rattle.cg_cgroup.specs.Files.{enables_nothing}
 use Rattle.cg_cgroup.proofs.Options.{same_some}
 use Rattle.cg_cgroup.specs.declared.cgroup.Cgroup.{Cgroup}
-use Rattle.cg_cgroup.specs.declared.files.ControllerSet.{ControllerSet}
+use Rattle.cg_cgroup.specs.declared.controllers.ControllerSet.{ControllerSet}
 use Rattle.cg_cgroup.specs.declared.process.Process.{Process}
 use Rattle.cg_rows.specs.Processes.{LiveAndUsed}
 use Rattle.cg_rows.proofs.StdMaps.{get-shown}

@@ -2,20 +2,14 @@
 use Rattle.std.proofs.Common.{◌≡◌, Bool, true, false, not, ◌&&◌, ◌||◌, Option, Some, None, List, [], ◌∷◌, refl, sym, ap, ◌∙◌, true≢false, arith}
 use Rattle.std.specs.List.{list_all, list_any}
 use Rattle.std.proofs.lemmas.Bool.{false_from_ne_true, and_from, both_ways}
-use Rattle.cg_cgroup.specs.Files.{all_files, enables, is_within, set_by, stands_under, controller_of, same_controller}
+use Rattle.cg_cgroup.specs.Files.{all_files, enables, is_within, stands_under, controller_of, same_controller}
 use Rattle.cg_cgroup.specs.declared.files.Controller.{Controller}
-use Rattle.cg_cgroup.specs.declared.files.Controller.TheVariants.{Cpu, Memory, Pids}
-use Rattle.cg_cgroup.specs.declared.files.ControllerSet.{ControllerSet}
+use Rattle.cg_cgroup.specs.declared.controllers.ControllerSet.{ControllerSet}
 use Rattle.cg_cgroup.specs.declared.files.LimitFile.{LimitFile}
 use Rattle.cg_cgroup.proofs.AllFiles.{each_passes}
-use Rattle.cg_cgroup.proofs.ControllerLaws.{is_within-each, is_within-enables}
+use Rattle.cg_cgroup.proofs.ControllerLaws.{enables-set_by, same_controller-refl, same_controller-true, is_within-each, is_within-enables}
 use Rattle.cg_format.proofs.TablesSay.{all_so}
 use Rattle.cg_text.specs.Rows.{is_of, needed_where}
-
-enables-set_by : (test : Controller → Bool) (controller : Controller) → enables (set_by test) controller ≡ test controller
-enables-set_by test Cpu = refl
-enables-set_by test Memory = refl
-enables-set_by test Pids = refl
 
 none_of : {A : Type 0} (test : A → Bool) (xs : List A) → list_all (λ x. not (test x)) xs ≡ true → list_any test xs ≡ false
 none_of test [] h = refl
@@ -24,17 +18,6 @@ none_of test (x ∷ xs) h = grind (arith, none_of test xs)
 some_of : {A : Type 0} (test : A → Bool) (xs : List A) → list_any test xs ≡ false → list_all (λ x. not (test x)) xs ≡ true
 some_of test [] h = refl
 some_of test (x ∷ xs) h = grind (arith, some_of test xs)
-
-same_controller-itself : (controller : Controller) → same_controller controller controller ≡ true
-same_controller-itself Cpu = refl
-same_controller-itself Memory = refl
-same_controller-itself Pids = refl
-
-same_controller-is : (one other : Controller) → same_controller one other ≡ true → one ≡ other
-same_controller-is Cpu Cpu h = refl
-same_controller-is Memory Memory h = refl
-same_controller-is Pids Pids h = refl
-same_controller-is one other h = cc
 
 module _ (named : LimitFile → Bool) (above : ControllerSet) where
   abbrev passes : LimitFile → Bool
@@ -52,7 +35,7 @@ module _ (named : LimitFile → Bool) (above : ControllerSet) where
       elim (same_controller own controller) as (λ b. not (b && false) ≡ true) [ true ↦ refl | false ↦ refl ]
   unnamed controller off (Some own) true h =
       elim (same_controller own controller) as (λ b. same_controller own controller ≡ b → not (b && true) ≡ true) [
-        | true ↦ λ same. absurd (true≢false (sym h ∙ ap (enables above) (same_controller-is own controller same) ∙ off))
+        | true ↦ λ same. absurd (true≢false (sym h ∙ ap (enables above) (same_controller-true own controller same) ∙ off))
         | false ↦ λ _. refl
       ] refl
 
@@ -83,7 +66,7 @@ module _ (named : LimitFile → Bool) (above : ControllerSet) where
             let failed = each_passes (λ f. not (names_of own f)) (some_of (names_of own) all_files none) file in
             let taken : names_of own file ≡ true =
             (λ i. elim (is i) [ None ↦ false | Some c ↦ same_controller c own ] && h i)
-            ∙ and_from _ _ (same_controller-itself own) refl in
+            ∙ and_from _ _ (same_controller-refl own) refl in
             absurd (true≢false (sym failed ∙ ap not taken))
       ] refl))
 

@@ -12,7 +12,7 @@ use Rattle.std.proofs.lemmas.List.Sorted.{sorted_far, ranks_by, IsPermutation-re
 use Rattle.std.proofs.lemmas.Option.{slice_get-get_or}
 use Rattle.cg_cgroup.specs.Paths.{Names, path_cmp, same_path, inside, common}
 use Rattle.cg_cgroup.specs.Files.{no_controllers}
-use Rattle.cg_cgroup.specs.declared.files.ControllerSet.{ControllerSet}
+use Rattle.cg_cgroup.specs.declared.controllers.ControllerSet.{ControllerSet}
 use Rattle.cg_cgroup.specs.declared.cgroup.Cgroup.{Cgroup}
 use Rattle.cg_cgroup.proofs.Options.{none_value}
 use Rattle.cg_cgroup.proofs.PathOrder.{path_cmp_total, path_cmp-IsAntisymmetric, same_path-is, same_path_refl, same_path_comm, same_path-not}

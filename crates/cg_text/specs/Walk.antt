@@ -7,7 +7,7 @@ use Rattle.std.specs.List.Sorted.{IsSortedByKey}
 use Rattle.cg_cgroup.specs.Paths.{Names, path_cmp, same_path, is_root, parent, inside}
 use Rattle.cg_cgroup.specs.Files.{no_controllers, is_within, stands_under}
 use Rattle.cg_cgroup.specs.Cgroups.{file_of, files_by}
-use Rattle.cg_cgroup.specs.declared.files.ControllerSet.{ControllerSet}
+use Rattle.cg_cgroup.specs.declared.controllers.ControllerSet.{ControllerSet}
 use Rattle.cg_cgroup.specs.declared.files.LimitFile.{LimitFile}
 use Rattle.cg_cgroup.specs.declared.cgroup.LimitEntry.{LimitEntry}
 use Rattle.cg_cgroup.specs.declared.cgroup.Cgroup.{Cgroup}

@@ -1,16 +1,17 @@
 -- A change of one controller at the parent breaks where it is allowed and changes what the parent enables.
-use Rattle.std.proofs.Common.{◌≡◌, Bool, true, false, cond, not, ◌&&◌, List, [], ◌∷◌, is_some, option_map, option_and_then, refl, sym, ap, ◌∙◌, true≢false}
+use Rattle.std.proofs.Common.{◌≡◌, Bool, true, false, cond, not, ◌&&◌, List, [], ◌∷◌, Option, Some, None, unwrap_or, is_some, option_map, option_and_then, refl, sym, ap, ◌∙◌, true≢false}
 use Rattle.std.specs.List.{AllByRecursion}
 use Rattle.cg_cgroup.specs.Paths.{Names, parent, is_root}
 use Rattle.cg_cgroup.specs.Identity.{Identity}
-use Rattle.cg_cgroup.specs.Files.{enables, stands_under, no_controllers}
+use Rattle.cg_cgroup.specs.Files.{enables, same_controller, stands_under, no_controllers}
 use Rattle.cg_cgroup.specs.Cgroups.{file_of}
 use Rattle.cg_cgroup.specs.declared.files.Controller.{Controller}
 use Rattle.cg_cgroup.specs.declared.files.Controller.TheVariants.{Cpu, Memory, Pids}
-use Rattle.cg_cgroup.specs.declared.files.ControllerSet.{ControllerSet}
+use Rattle.cg_cgroup.specs.declared.controllers.ControllerSet.{ControllerSet}
 use Rattle.cg_cgroup.specs.declared.files.LimitFile.{LimitFile}
 use Rattle.cg_cgroup.specs.declared.files.LimitFile.TheVariants.{CpuWeight, MemoryMax, PidsMax}
 use Rattle.cg_cgroup.proofs.Options.{some_value, is_some-mapped}
+use Rattle.cg_cgroup.proofs.ControllerLaws.{same_set, same_controller-true}
 use Rattle.cg_model.specs.States.{State, row_at, file_at}
 use Rattle.cg_model.specs.WellFormed.{IsWellFormed, has_row, enabled_at}
 use Rattle.cg_steps.proofs.StateCounts.{paths_of-with_enabled, count_below-same_paths, depth_below-same_paths}
@@ -20,6 +21,7 @@ use Rattle.cg_model.specs.Bars.{bars}
 use Rattle.cg_model.specs.Changes.{enabled_after}
 use Rattle.cg_model.specs.Next.{next}
 use Rattle.cg_steps.proofs.StepFormed.{formed-next}
+use Rattle.cg_steps.proofs.AllowedControl.{enables-enabled_after}
 use Rattle.cg_model.specs.declared.operation.Op.{Op}
 use Rattle.cg_model.specs.declared.operation.Op.TheVariants.{Control}
 use Rattle.cg_model.specs.Guards.{IsSubtree}
@@ -76,14 +78,22 @@ abbrev pub changes_enabled : Bool → Controller → ControllerSet → Bool
 changes_enabled on controller enabled = cond on (not (enables enabled controller)) (enables enabled controller)
 
 -- a change without effect leaves what is enabled
+as_it_was : (on : Bool) (controller : Controller) (enabled : ControllerSet) → changes_enabled on controller enabled ≡ false
+    → on ≡ enables enabled controller
+as_it_was true controller enabled h = negated (enables enabled controller) h
+as_it_was false controller enabled h = sym h
+
 same_enabled : (on : Bool) (controller : Controller) (enabled : ControllerSet) → changes_enabled on controller enabled ≡ false
     → enabled_by on controller enabled ≡ enabled
-same_enabled true Cpu enabled h = λ i. record { cpu = negated enabled.cpu h i; memory = enabled.memory; pids = enabled.pids }
-same_enabled true Memory enabled h = λ i. record { cpu = enabled.cpu; memory = negated enabled.memory h i; pids = enabled.pids }
-same_enabled true Pids enabled h = λ i. record { cpu = enabled.cpu; memory = enabled.memory; pids = negated enabled.pids h i }
-same_enabled false Cpu enabled h = λ i. record { cpu = sym h i; memory = enabled.memory; pids = enabled.pids }
-same_enabled false Memory enabled h = λ i. record { cpu = enabled.cpu; memory = sym h i; pids = enabled.pids }
-same_enabled false Pids enabled h = λ i. record { cpu = enabled.cpu; memory = enabled.memory; pids = sym h i }
+same_enabled on controller enabled h =
+    same_set (enabled_by on controller enabled) enabled (λ other.
+        enables-enabled_after enabled (change_of on controller ∷ []) other
+        ∙ elim (same_controller controller other) as (λ same. same_controller controller other ≡ same
+        → unwrap_or (option_map (λ change. change.on) (cond same (Some (change_of on controller)) None)) (enables enabled other)
+        ≡ enables enabled other) [
+          | true ↦ λ same. as_it_was on controller enabled h ∙ ap (enables enabled) (same_controller-true controller other same)
+          | false ↦ λ _. refl
+        ] refl)
 
 toggled : (on was : Bool) → cond on (not was) was ≡ true → was ≡ on → ⊥
 toggled true true h e = true≢false (sym h)

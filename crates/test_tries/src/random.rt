@@ -170,9 +170,7 @@ fn users() -> Option<[User; 3]> {
 /// A random tree: what some random steps of these users leave of a root that is the first user's, with three processes.
 fn tree(alloc: Global, random: &mut Random, users: &[User]) -> Result<Rows, PathFault> {
     let all = ControllerSet {
-        cpu: true,
-        memory: true,
-        pids: true,
+        flags: [true, true, true],
     };
     let Some(keeper) = users.first() else {
         return Err(PathFault::BadPath);

@@ -116,9 +116,7 @@ impl<'a> Entries<'a> {
         ensures { result ≡ needed_by self.entry }
     {
         ControllerSet {
-            cpu: self.needs(Controller::Cpu),
-            memory: self.needs(Controller::Memory),
-            pids: self.needs(Controller::Pids),
+            flags: Controller::ALL.map(|controller| self.needs(controller)),
         }
     }
 

@@ -5,7 +5,7 @@ ghost use Rattle.toml.specs.Data.{Members};
 ghost use Rattle.cg_cgroup.specs.Paths.{path_cmp, is_root};
 ghost use Rattle.cg_cgroup.specs.Files.{brought_files, stands_under};
 ghost use Rattle.cg_cgroup.specs.Cgroups.{file_of};
-ghost use Rattle.cg_cgroup.specs.declared.files.ControllerSet.{ControllerSet};
+ghost use Rattle.cg_cgroup.specs.declared.controllers.ControllerSet.{ControllerSet};
 ghost use Rattle.cg_model.specs.Clauses.{first};
 ghost use Rattle.cg_format.specs.declared.format.Format.{Format};
 ghost use Rattle.cg_text.specs.declared.tree.row.Row.{Row};

@@ -15,9 +15,7 @@ use std::test::Fail;
 use test_trees::texts::{DELEGATION, PARENT_DELEGATED};
 
 const MEMORY: ControllerSet = ControllerSet {
-    cpu: false,
-    memory: true,
-    pids: false,
+    flags: [false, true, false],
 };
 
 fn directory(uid: u32) -> Entry {
@@ -53,9 +51,7 @@ fn plain() -> Cgroup {
         max_depth: limit(0, Limit::Max),
         files: BroughtFiles::none(),
         enabled: ControllerSet {
-            cpu: false,
-            memory: false,
-            pids: false,
+            flags: [false, false, false],
         },
     }
 }
@@ -138,9 +134,7 @@ fn the_delegation_example(rt: HostRuntime) -> Result<(), Fail> {
     let alloc = rt.alloc();
     let tree = read_tree(alloc, DELEGATION)?;
     let all = ControllerSet {
-        cpu: true,
-        memory: true,
-        pids: true,
+        flags: [true, true, true],
     };
     assert_eq!(rt; tree.controllers(), all);
     assert_eq!(rt;

@@ -20,9 +20,7 @@ use test_trees::random::Random;
 
 /// All controllers.
 const ALL: ControllerSet = ControllerSet {
-    cpu: true,
-    memory: true,
-    pids: true,
+    flags: [true, true, true],
 };
 
 /// Adds a process at the root, where the root may hold it.

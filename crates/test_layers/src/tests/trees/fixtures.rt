@@ -330,16 +330,12 @@ pub fn end<H: Hierarchy>(tree: &mut H, number: u32) -> Result<bool, Fail> {
 
 /// All controllers.
 pub const ALL: ControllerSet = ControllerSet {
-    cpu: true,
-    memory: true,
-    pids: true,
+    flags: [true, true, true],
 };
 
 /// Memory alone.
 pub const MEMORY: ControllerSet = ControllerSet {
-    cpu: false,
-    memory: true,
-    pids: false,
+    flags: [false, true, false],
 };
 
 /// A tree with a root alone, of these owners, where the root has these controllers.

@@ -5,7 +5,7 @@ use Rattle.cg_places.specs.Links.{no_link, link_at}
 use Rattle.cg_cgroup.specs.Paths.{Names, is_child}
 use Rattle.cg_cgroup.specs.Cgroups.{cgroup_made_by}
 use Rattle.cg_cgroup.specs.declared.cgroup.Cgroup.{Cgroup}
-use Rattle.cg_cgroup.specs.declared.files.ControllerSet.{ControllerSet}
+use Rattle.cg_cgroup.specs.declared.controllers.ControllerSet.{ControllerSet}
 use Rattle.cg_places.specs.Nodes.{Node, node_at, differing, enabled_at, Refits}
 use Rattle.cg_places.specs.Values.{values_of}
 use Rattle.cg_counts.specs.Kept.{held_of, AreKept, enabling_held, change_each_held}
