@@ -112,11 +112,11 @@ def limit(rng, rows, chance):
             row.depth = max(0, max(levels, default=0) + rng.choice([0, 0, 1, -1]))
 
 
-def state_of(abstract, user):
-    """A state of an abstract tree: what the user reaches is theirs, and all else root's."""
+def state_of(abstract, user, name_of="c{}".format):
+    """A state of an abstract tree: what the user reaches is theirs, and all else root's. Rows are named by their number."""
     paths = []
     for number, row in enumerate(abstract.rows):
-        paths.append(paths[row.parent] + (f"c{number}",) if number else ())
+        paths.append(paths[row.parent] + (name_of(number),) if number else ())
     enabled = [frozenset(name for bit, name in enumerate(rules.CONTROLLERS) if row.enabled >> bit & 1) for row in abstract.rows]
     controllers = frozenset(name for bit, name in enumerate(rules.CONTROLLERS) if abstract.controllers >> bit & 1)
     cgroups = {path: rules.Cgroup({}, {}, those) for path, those in zip(paths, enabled)}
