@@ -79,7 +79,7 @@ pub set_again : (set : ControllerSet) → controllers_read (names_in set) ≡ So
 set_again set =
     names_read no_controllers (filter (enables set) all_controllers)
     ∙ ap Some (same_set (added no_controllers (filter (enables set) all_controllers)) set (λ other.
-        enables-added no_controllers (filter (enables set) all_controllers) other
-        ∙ (λ i. among_filtered (enables set) all_controllers other i || enables-set_by (λ controller. false) other i)
-        ∙ ap (λ there. (enables set other && there) || false) (listed other)
-        ∙ and_true (enables set other)))
+    enables-added no_controllers (filter (enables set) all_controllers) other
+    ∙ (λ i. among_filtered (enables set) all_controllers other i || enables-set_by (λ controller. false) other i)
+    ∙ ap (λ there. (enables set other && there) || false) (listed other)
+    ∙ and_true (enables set other)))

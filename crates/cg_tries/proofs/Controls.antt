@@ -87,13 +87,13 @@ same_enabled : (on : Bool) (controller : Controller) (enabled : ControllerSet) �
     → enabled_by on controller enabled ≡ enabled
 same_enabled on controller enabled h =
     same_set (enabled_by on controller enabled) enabled (λ other.
-        enables-enabled_after enabled (change_of on controller ∷ []) other
-        ∙ elim (same_controller controller other) as (λ same. same_controller controller other ≡ same
-        → unwrap_or (option_map (λ change. change.on) (cond same (Some (change_of on controller)) None)) (enables enabled other)
-        ≡ enables enabled other) [
-          | true ↦ λ same. as_it_was on controller enabled h ∙ ap (enables enabled) (same_controller-true controller other same)
-          | false ↦ λ _. refl
-        ] refl)
+    enables-enabled_after enabled (change_of on controller ∷ []) other
+    ∙ elim (same_controller controller other) as (λ same. same_controller controller other ≡ same
+    → unwrap_or (option_map (λ change. change.on) (cond same (Some (change_of on controller)) None)) (enables enabled other)
+    ≡ enables enabled other) [
+      | true ↦ λ same. as_it_was on controller enabled h ∙ ap (enables enabled) (same_controller-true controller other same)
+      | false ↦ λ _. refl
+    ] refl)
 
 toggled : (on was : Bool) → cond on (not was) was ≡ true → was ≡ on → ⊥
 toggled true true h e = true≢false (sym h)

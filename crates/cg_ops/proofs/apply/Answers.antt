@@ -15,18 +15,18 @@ returns-clause-done g c =
     let st = g.H.Hierarchy.state c.args.tree.now in
     let user = c.args.user.now in
     λ _. (
-    none_first (bars st user c.args.op.now) c.in_default.ensures,
-    elim c.match-op.branch [
-      | in-Move+in_ok-set_place-in-Move w ↦
-          ap g.H.Hierarchy.state w.tree-is ∙ (w.in_ok-set_place-in-Move.ensures.ok ∙ ap (next st user) (sym w.in-Move.is))
-      | in-Control w ↦ ap g.H.Hierarchy.state w.tree-is ∙ (w.carry_out.ensures ∙ ap (next st user) (sym w.in-Control.is))
-      | in-Mkdir+in_ok-mkdir-in-Mkdir w ↦
-          ap g.H.Hierarchy.state w.tree-is ∙ (w.in_ok-mkdir-in-Mkdir.ensures.ok ∙ ap (next st user) (sym w.in-Mkdir.is))
-      | in-Rmdir w ↦ ap g.H.Hierarchy.state w.tree-is ∙ (w.remove.ensures ∙ ap (next st user) (sym w.in-Rmdir.is))
-      | in-Set w ↦ ap g.H.Hierarchy.state w.tree-is ∙ (w.set_limit.ensures ∙ ap (next st user) (sym w.in-Set.is))
-      | in-Fork+in_ok-fork-in-Fork w ↦
-          ap g.H.Hierarchy.state w.tree-is ∙ (w.in_ok-fork-in-Fork.ensures.ok ∙ ap (next st user) (sym w.in-Fork.is))
-      | in-Exit w ↦ ap g.H.Hierarchy.state w.tree-is ∙ (w.end_process.ensures ∙ ap (next st user) (sym w.in-Exit.is))
-      | in-Chmod w ↦ ap g.H.Hierarchy.state w.tree-is ∙ (w.set_mode.ensures ∙ ap (next st user) (sym w.in-Chmod.is))
-    ],
+      none_first (bars st user c.args.op.now) c.in_default.ensures,
+      elim c.match-op.branch [
+        | in-Move+in_ok-set_place-in-Move w ↦
+            ap g.H.Hierarchy.state w.tree-is ∙ (w.in_ok-set_place-in-Move.ensures.ok ∙ ap (next st user) (sym w.in-Move.is))
+        | in-Control w ↦ ap g.H.Hierarchy.state w.tree-is ∙ (w.carry_out.ensures ∙ ap (next st user) (sym w.in-Control.is))
+        | in-Mkdir+in_ok-mkdir-in-Mkdir w ↦
+            ap g.H.Hierarchy.state w.tree-is ∙ (w.in_ok-mkdir-in-Mkdir.ensures.ok ∙ ap (next st user) (sym w.in-Mkdir.is))
+        | in-Rmdir w ↦ ap g.H.Hierarchy.state w.tree-is ∙ (w.remove.ensures ∙ ap (next st user) (sym w.in-Rmdir.is))
+        | in-Set w ↦ ap g.H.Hierarchy.state w.tree-is ∙ (w.set_limit.ensures ∙ ap (next st user) (sym w.in-Set.is))
+        | in-Fork+in_ok-fork-in-Fork w ↦
+            ap g.H.Hierarchy.state w.tree-is ∙ (w.in_ok-fork-in-Fork.ensures.ok ∙ ap (next st user) (sym w.in-Fork.is))
+        | in-Exit w ↦ ap g.H.Hierarchy.state w.tree-is ∙ (w.end_process.ensures ∙ ap (next st user) (sym w.in-Exit.is))
+        | in-Chmod w ↦ ap g.H.Hierarchy.state w.tree-is ∙ (w.set_mode.ensures ∙ ap (next st user) (sym w.in-Chmod.is))
+      ],
     )
