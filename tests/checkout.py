@@ -120,7 +120,7 @@ class Checkout:
         os.utime(f"{self.top}/{path}", (at, at))
 
     def listed(self):
-        """All that is in the checkout, with times and modes."""
+        """All that is in the checkout, with times and modes, but for the choice, which is kept once the sources are a second old."""
         return sorted((path, os.lstat(path).st_mtime_ns, os.lstat(path).st_mode)
                       for at, folders, files in os.walk(self.top)
-                      for path in (os.path.join(at, name) for name in folders + files))
+                      for path in (os.path.join(at, name) for name in folders + files if name != ".chosen"))

@@ -203,9 +203,9 @@ class ChosenBeforeTest(WrapperTest):
         self.assertEqual((first, second), ("release", "zirofen 0.3.1"))
         self.assertEqual(len(rest), sum(len(files) for at, _, files in os.walk(self.checkout.top) if "/src" in at)
                          + len(("crates.txt", "release", "zirofen", "MANIFEST")) + len(("low", "middle", "beside", "zirofen")))
-        before = self.checkout.listed()
+        before = self.checkout.listed(), os.lstat(self.kept).st_mtime_ns
         self.assert_ran(self.checkout.call("may", PATH=NO_TOOLCHAIN))
-        self.assertEqual(self.checkout.listed(), before)
+        self.assertEqual((self.checkout.listed(), os.lstat(self.kept).st_mtime_ns), before)
         self.assertEqual([name for name in os.listdir(self.checkout.top) if name.startswith(".")], [".chosen"])
 
     def test_it_is_what_decides(self):

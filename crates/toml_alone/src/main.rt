@@ -1,4 +1,4 @@
-//! Reads a TOML text from standard input and does nothing with it: what `bench/run` compares the reading of a tree with.
+//! Reads a TOML text from standard input and does nothing with it: what `tools/bench/run` compares the reading of a tree with.
 #![tactic(auto)]
 
 use std::io::Read;
