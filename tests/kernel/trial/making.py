@@ -1,7 +1,7 @@
 """Random cases that a kernel can be told: trees, users and operations of tests/model/trials, without what Linux has no word for."""
 import itertools
 import random
-from dataclasses import dataclass, field, replace
+from dataclasses import dataclass, field
 
 from second import rules, texts
 from trial import asking

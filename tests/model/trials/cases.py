@@ -45,7 +45,7 @@ def random_case(seed, number, known):
     data = spelling.document(rng, parts)
     if rng.random() < 0.05:
         data = faults.turn_bytes(rng, data)
-    if rng.random() < 0.003:
+    if rng.random() < 0.006:
         data += b"#" * (documents.MOST_BYTES + rng.choice([0, 0, 1]) - len(data))
     able = [name for name in MAKERS if name.removesuffix(" alone") in known]
     command = rng.choices(able, [WEIGHTS[name] for name in able])[0]

@@ -200,7 +200,7 @@ NEEDS = {"lasting": "settle", "settled": "audit --settle"}
 
 def able(known):
     """The wrong models of which something shows in the commands that a program has."""
-    return [name for name, (module, *_) in TURNED.items() if NEEDS.get(module, "may") in known]
+    return [name for name, (module, *_) in MUTANTS.items() if NEEDS.get(module, "may") in known]
 
 
 @functools.lru_cache(maxsize=None)
