@@ -181,6 +181,8 @@ pub struct Advise<'a> {
     pub tree: Option<&'a str>,
     pub users: Vec<NamedUser>,
     pub subtrees: Vec<&'a str>,
+    /// Whether it is looked as far as `settle` does first.
+    pub settle: bool,
 }
 
 impl<'a> Advise<'a> {
@@ -197,6 +199,7 @@ impl<'a> Advise<'a> {
             tree: file_of(matches, "tree"),
             users: users_beside(alloc, words, numbers(alloc, matches, "gid")?)?,
             subtrees: given(matches, "subtree")?.to_vec(alloc)?,
+            settle: matches.get_flag("settle"),
         })
     }
 }
@@ -206,6 +209,8 @@ impl<'a> Advise<'a> {
 #[derive(Clone, Copy, Debug, PartialEq, Eq)]
 pub struct AdvisePairs<'a> {
     pub sources: Sources<'a>,
+    /// Whether it is looked as far as `settle` does first.
+    pub settle: bool,
 }
 
 impl<'a> AdvisePairs<'a> {
@@ -221,6 +226,7 @@ impl<'a> AdvisePairs<'a> {
         }
         Ok(AdvisePairs {
             sources: Sources::from_matches(matches, "pairs")?,
+            settle: matches.get_flag("settle"),
         })
     }
 }
