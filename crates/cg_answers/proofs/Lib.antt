@@ -1,1 +1,5 @@
 mod Settling
+pub mod Places
+pub mod Knowing
+pub mod Auditing
+pub mod Rows

@@ -1,1 +1,4 @@
 pub mod Settled
+pub mod Audited
+pub mod Places
+pub mod Rows

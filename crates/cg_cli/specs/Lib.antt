@@ -14,3 +14,5 @@ pub mod AllPairs
 pub mod Asking
 pub mod Advising
 pub mod Pairs
+pub mod SettledPairs
+pub mod SettledRows

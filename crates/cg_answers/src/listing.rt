@@ -1,0 +1,73 @@
+//! What is known of several subtrees against several users, by user and then subtree.
+ghost use Rattle.std.specs.Prelude.{◌≡◌, ◌≢◌, [], ◌<◌, vec_len, Vec, None, IfOk, OnOk};
+ghost use Rattle.std.specs.List.{All, flat_map};
+ghost use Rattle.cg_model.specs.Clauses.{first};
+ghost use Rattle.cg_model.specs.WellFormed.{IsWellFormed};
+ghost use Rattle.cg_model.specs.Checks.{subtree_faults};
+ghost use Rattle.cg_answers.specs.Places.{AreBefore};
+ghost use Rattle.cg_answers.specs.declared.audited.Found.{Found};
+ghost use Rattle.cg_answers.specs.Rows.{with_one, in_rows, AreListed};
+
+use crate::audited::{Found, audited};
+use cg_cgroup::memory::NoMemory;
+use cg_cgroup::path::Path;
+use cg_cgroup::user::User;
+use cg_guards::identities::Identities;
+use cg_tree::hierarchy::Hierarchy;
+use std::alloc::Global;
+
+/// A row for each user, of what is known of them with each subtree where that isn't containment, by the subtrees' places.
+///
+/// All is known before anything is said, since what is known of a user goes by the others; what is kept is a row for each user,
+/// and what is listed.
+pub fn listed_rows<H: Hierarchy + Drop>(
+    alloc: Global,
+    tree: &H,
+    users: &[User],
+    subtrees: &[Path],
+) -> Result<Vec<Vec<Found>>, NoMemory>
+    requires formed { subtrees.now ≢ [] → IsWellFormed (H.state tree.now) }
+    requires there { first (flat_map (subtree_faults (H.state tree.now)) subtrees.now) ≡ None }
+    ensures { IfOk result (λ rows. AreListed (H.state tree.now) users.now subtrees.now rows.items) }
+{
+    let identities = Identities::of(alloc, users)?;
+    let mut rows = empty_rows(alloc, users.len())?;
+    for (place, subtree) in subtrees.iter().enumerate() {
+        let found = audited(alloc, tree, users, Some(&identities), subtree)?;
+        enter(&mut rows, place, found)?;
+    }
+    Ok(rows)
+}
+
+/// As many rows, each with nothing in it.
+fn empty_rows(alloc: Global, count: usize) -> Result<Vec<Vec<Found>>, NoMemory>
+    ensures count { IfOk result (λ rows. vec_len rows ≡ count) }
+    ensures empty { IfOk result (λ rows. All (λ (row : Vec Found). row.items ≡ []) rows.items) }
+{
+    let mut rows = Vec::new(alloc);
+    for _user in 0..count {
+        rows.push(Vec::new(alloc))?;
+    }
+    Ok(rows)
+}
+
+/// Enters in the users' rows what was found with a subtree.
+fn enter(rows: &mut Vec<Vec<Found>>, subtree: usize, found: Vec<Found>) -> Result<(), NoMemory>
+    requires { AreBefore (vec_len rows.old) found.items }
+    ensures { OnOk result (rows.new.items ≡ in_rows subtree found.items rows.old.items) }
+{
+    for each in found {
+        let Found { place, answer } = each;
+        add_to(rows, place, Found { place: subtree, answer })?;
+    }
+    Ok(())
+}
+
+/// Adds to the row of a place.
+fn add_to(rows: &mut Vec<Vec<Found>>, place: usize, found: Found) -> Result<(), NoMemory>
+    requires { place < vec_len rows.old }
+    ensures { OnOk result (rows.new.items ≡ with_one place found rows.old.items) }
+{
+    rows[place].push(found)?;
+    Ok(())
+}
