@@ -1,5 +1,5 @@
 -- What is known of several users together, from what is found of each alone; and that those who aren't listed are settled.
-use Rattle.std.proofs.Common.{◌≡◌, ◌≢◌, ℕ, zero, suc, ◌+◌, ◌<◌, ◌≤◌, Bool, true, false, not, cond, List, [], ◌∷◌, ◌++◌, length, get_or}
+use Rattle.std.proofs.Common.{◌≡◌, ◌≢◌, ℕ, zero, suc, ◌+◌, ◌<◌, Bool, true, false, not, cond, List, [], ◌∷◌, ◌++◌, length, get_or}
 use Rattle.std.proofs.Common.{refl, sym, ap, ◌∙◌, subst, arith}
 use Rattle.std.specs.List.{All, Contains}
 use Rattle.std.proofs.lemmas.List.{get_or_default}
@@ -41,30 +41,34 @@ picked_more {A} test n (y ∷ ys) x =
     by_test true last = refl
     by_test false last = refl
 
+-- an element of a list at a place from another on that passes
+abbrev PassesAt : {A : Type 0} → (ℕ → Bool) → ℕ → List A → A → Type 0
+PassesAt test n xs x = (place : ℕ) × (place < length xs) × (get_or xs place x ≡ x) × (test (n + place) ≡ true)
+
+module _ {A : Type 0} (test : ℕ → Bool) (n : ℕ) (y : A) (ys : List A) (x : A)
+    (again : Contains (picked test (suc n) ys) x → PassesAt test (suc n) ys x) where
+  passes_later : Contains (picked test (suc n) ys) x → PassesAt test n (y ∷ ys) x
+  passes_later within =
+      let found = again within in
+      let low = found.1 in
+      let same : suc n + found.0 ≡ n + suc found.0 = omega arith in
+      (suc found.0, omega (arith, low), found.2, (λ i. test (sym same i)) ∙ found.3)
+
+  passes_here : test n ≡ true → (k : ℕ) → k < suc (length (picked test (suc n) ys)) → get_or (y ∷ picked test (suc n) ys) k x ≡ x
+      → PassesAt test n (y ∷ ys) x
+  passes_here passes zero inside same =
+      let none : n + 0 ≡ n = omega arith in (0, omega arith, same, (λ i. test (none i)) ∙ passes)
+  passes_here passes (suc k) inside same = passes_later (k, omega (arith, inside), same)
+
+  passes_either : (b : Bool) → test n ≡ b → Contains (cond b (y ∷ picked test (suc n) ys) (picked test (suc n) ys)) x
+      → PassesAt test n (y ∷ ys) x
+  passes_either true passes within = passes_here passes within.0 within.1 within.2
+  passes_either false fails within = passes_later within
+
 -- one of them has a place that passes
-picked_passes : {A : Type 0} (test : ℕ → Bool) (n : ℕ) (xs : List A) (x : A) → Contains (picked test n xs) x
-    → (place : ℕ) × (place < length xs) × (get_or xs place x ≡ x) × (test (n + place) ≡ true)
+picked_passes : {A : Type 0} (test : ℕ → Bool) (n : ℕ) (xs : List A) (x : A) → Contains (picked test n xs) x → PassesAt test n xs x
 picked_passes test n [] x among = absurd (omega (arith, among.1))
-picked_passes {A} test n (y ∷ ys) x among = by_test (test n) refl among
-  where
-    Found : Type 0
-    Found = (place : ℕ) × (place < suc (length ys)) × (get_or (y ∷ ys) place x ≡ x) × (test (n + place) ≡ true)
-
-    later : Contains (picked test (suc n) ys) x → Found
-    later within =
-        let found = picked_passes test (suc n) ys x within in
-        let low = found.1 in
-        let same : suc n + found.0 ≡ n + suc found.0 = omega arith in
-        (suc found.0, omega (arith, low), found.2, (λ i. test (sym same i)) ∙ found.3)
-
-    by_place : test n ≡ true → (k : ℕ) → k < suc (length (picked test (suc n) ys)) → get_or (y ∷ picked test (suc n) ys) k x ≡ x → Found
-    by_place passes zero inside same =
-        let none : n + 0 ≡ n = omega arith in (0, omega arith, same, (λ i. test (none i)) ∙ passes)
-    by_place passes (suc k) inside same = later (k, omega (arith, inside), same)
-
-    by_test : (b : Bool) → test n ≡ b → Contains (cond b (y ∷ picked test (suc n) ys) (picked test (suc n) ys)) x → Found
-    by_test true passes within = by_place passes within.0 within.1 within.2
-    by_test false fails within = later within
+picked_passes test n (y ∷ ys) x among = passes_either test n y ys x (picked_passes test (suc n) ys x) (test n) refl among
 
 -- and whose place passes is one of them
 passes_picked : {A : Type 0} (test : ℕ → Bool) (n : ℕ) (xs : List A) (place : ℕ) (x : A) → place < length xs → get_or xs place x ≡ x
@@ -163,12 +167,12 @@ module _ (st : State) (users : List Identity) (subtree : Names) where
 
 -- ---- something is known, whatever is planned
 
-nobody : Identity
+abbrev nobody : Identity
 nobody = record { uid = 0; gids = [] }
 
 module _ (st : State) (users : List Identity) where
   module _ (subtree : Names) where
-    by_check : ℕ → Answer
+    abbrev by_check : ℕ → Answer
     by_check place = answer st (get_or users place nobody) subtree
 
     alone_as : (user : Identity) (a : Answer) → IsAlone st user subtree a a
@@ -193,7 +197,7 @@ module _ (st : State) (users : List Identity) where
   some_known subtrees = (
     (λ user place. (known_one (get_or subtrees place [])).0 user),
     λ place d within.
-    subst (λ path. AreKnown st users path (λ user. (known_one (get_or subtrees place [])).0 user))
+        subst (λ path. AreKnown st users path (λ user. (known_one (get_or subtrees place [])).0 user))
         (get_or_default subtrees place [] d within) (known_one (get_or subtrees place [])).1,
   )
 

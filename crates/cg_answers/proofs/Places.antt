@@ -1,7 +1,7 @@
 -- What was found of some, by their places: one more, those that are passed over, and those with a list alone.
 use Rattle.std.proofs.Common.{◌≡◌, ℕ, suc, ◌+◌, ◌-◌, ◌<◌, ◌≤◌, Bool, true, false, ◌&&◌, ◌||◌, nat_eq, nat_lt, cond, List, [], ◌∷◌, ◌++◌, length, get_or, drop}
-use Rattle.std.proofs.Common.{refl, sym, ap, ◌∙◌, subst, None, is_none, arith}
-use Rattle.std.specs.List.{AllByRecursion, list_any, filter, prefix_len}
+use Rattle.std.proofs.Common.{refl, sym, ap, ◌∙◌, subst, is_none, arith}
+use Rattle.std.specs.List.{list_any, filter, prefix_len}
 use Rattle.std.proofs.lemmas.Bool.{eqb-true, eqb-false, ne_eqb, ltb-true, ltb-false}
 use Rattle.std.proofs.lemmas.List.{get_or-drop, length-drop, drop-drop}
 use Rattle.std.proofs.lemmas.List.Elements.{at_read}
@@ -12,7 +12,6 @@ use Rattle.cg_model.specs.States.{State}
 use Rattle.cg_model.specs.Clauses.{first}
 use Rattle.cg_model.specs.Guards.{failures, is_guarded}
 use Rattle.cg_model.specs.Answers.{answer}
-use Rattle.cg_model.specs.Listed.{is_contained}
 use Rattle.cg_model.specs.declared.guard.Failed.{Failed}
 use Rattle.cg_model.specs.declared.answer.Answer.{Answer}
 use Rattle.cg_model.specs.declared.answer.Answer.TheVariants.{Contained, Escapes, Unsettled}

@@ -1,6 +1,6 @@
 -- How an answer is found: nobody has to believe it.
 -- What is listed of each of some users: a row for each, with what was found by the places of subtrees.
-use Rattle.std.specs.Prelude.{◌≡◌, ℕ, zero, suc, ◌<◌, List, [], ◌∷◌, ◌++◌, length, get_or, Vec}
+use Rattle.std.specs.Prelude.{◌≡◌, ℕ, zero, suc, ◌<◌, List, [], ◌∷◌, ◌++◌, length, get_or, slice_set}
 use Rattle.cg_cgroup.specs.Paths.{Names}
 use Rattle.cg_cgroup.specs.Identity.{Identity}
 use Rattle.cg_model.specs.States.{State}
@@ -10,13 +10,11 @@ use Rattle.cg_answers.specs.Audited.{AreKnownWithEach}
 use Rattle.cg_answers.specs.Places.{found_one}
 
 -- one behind the others in the row of a place
-abbrev pub with_one : ℕ → Found → List (Vec Found) → List (Vec Found)
-with_one place found [] = []
-with_one zero found (row ∷ rows) = record { items = row.items ++ found ∷ [] } ∷ rows
-with_one (suc place) found (row ∷ rows) = row ∷ with_one place found rows
+abbrev pub with_one : ℕ → Found → List (List Found) → List (List Found)
+with_one place found rows = slice_set rows place (get_or rows place [] ++ found ∷ [])
 
 -- what was found of some users with a subtree, in_rows in the users' rows at its place
-abbrev pub in_rows : ℕ → List Found → List (Vec Found) → List (Vec Found)
+abbrev pub in_rows : ℕ → List Found → List (List Found) → List (List Found)
 in_rows subtree [] rows = rows
 in_rows subtree (found ∷ others) rows = in_rows subtree others (with_one found.place (record { place = subtree; answer = found.answer }) rows)
 
@@ -26,12 +24,12 @@ row_of found zero = []
 row_of found (suc count) = row_of found count ++ found_one count (found count)
 
 -- a row for each of so many users, as far as so many subtrees
-pub record AreRows (users count : ℕ) (found : ℕ → ℕ → Answer) (rows : List (Vec Found)) : Type 0 where
+pub record AreRows (users count : ℕ) (found : ℕ → ℕ → Answer) (rows : List (List Found)) : Type 0 where
   pub all : length rows ≡ users
-  pub each : (user : ℕ) (d : Vec Found) → user < users → (get_or rows user d).items ≡ row_of (found user) count
+  pub each : (user : ℕ) (d : List Found) → user < users → get_or rows user d ≡ row_of (found user) count
 
 -- the rows of what is known of several users with several subtrees
-pub record AreListed (st : State) (users : List Identity) (subtrees : List Names) (rows : List (Vec Found)) : Type 0 where
+pub record AreListed (st : State) (users : List Identity) (subtrees : List Names) (rows : List (List Found)) : Type 0 where
   pub found : ℕ → ℕ → Answer
   pub known : AreKnownWithEach st users subtrees found
   pub as_rows : AreRows (length users) (length subtrees) found rows

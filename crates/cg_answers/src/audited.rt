@@ -55,13 +55,32 @@ pub fn audited<H: Hierarchy + Drop>(
     ensures known { IfOk result (λ found. AreKnown (H.state tree.now) users.now subtree.now (found_at found.items)) }
 {
     let found = alone(alloc, tree, users, identities, subtree)?;
-    if !is_any_unsettled(&found) {
-        return Ok(found);
+    if is_any_unsettled(found.as_slice()) {
+        return together(alloc, tree, users, subtree, found);
     }
-    if !others_are_held(alloc, tree, users, &found, subtree)? {
-        return Ok(found);
+    Ok(found)
+}
+
+/// What is known of all users, from what is known of each alone.
+fn together<H: Hierarchy + Drop>(
+    alloc: Global,
+    tree: &H,
+    users: &[User],
+    subtree: &Path,
+    found: Vec<Found>,
+) -> Result<Vec<Found>, NoMemory>
+    requires formed { IsWellFormed (H.state tree.now) }
+    requires there { first (subtree_faults (H.state tree.now) subtree.now) ≡ None }
+    requires alone { AreAlone (H.state tree.now) users.now subtree.now (length users.now) found.items }
+    ensures apart { IfOk result (λ known. AreApart known.items) }
+    ensures within { IfOk result (λ known. AreBefore (length users.now) known.items) }
+    ensures known { IfOk result (λ known. AreKnown (H.state tree.now) users.now subtree.now (found_at known.items)) }
+{
+    let held = others_are_held(alloc, tree, users, found.as_slice(), subtree)?;
+    if held {
+        return Ok(with_list(found));
     }
-    Ok(with_list(found))
+    Ok(found)
 }
 
 /// What is known of each user alone for whom a guard fails.
@@ -195,9 +214,10 @@ fn others(alloc: Global, users: &[User], found: &[Found]) -> Result<Vec<User>, N
     let listed = places_with_list(alloc, found)?;
     let mut others = Vec::new(alloc);
     for (place, user) in users.iter().enumerate() {
-        if !listed.contains(&place) {
-            others.push(copied(user))?;
+        if listed.contains(&place) {
+            continue;
         }
+        others.push(copied(user))?;
     }
     Ok(others)
 }
@@ -208,9 +228,10 @@ fn places_with_list(alloc: Global, found: &[Found]) -> Result<BTreeSet<usize>, N
 {
     let mut places = BTreeSet::new(alloc);
     for each in found {
-        if has_list(&each.answer) {
-            places.insert(each.place)?;
+        if !has_list(&each.answer) {
+            continue;
         }
+        places.insert(each.place)?;
     }
     Ok(places)
 }

@@ -1,5 +1,5 @@
 //! What is known of several subtrees against several users, by user and then subtree.
-ghost use Rattle.std.specs.Prelude.{◌≡◌, ◌≢◌, [], ◌<◌, vec_len, Vec, None, IfOk, OnOk};
+ghost use Rattle.std.specs.Prelude.{◌≡◌, ◌≢◌, [], ◌<◌, length, List, ◌++◌, ◌∷◌, OnErr, None, IfOk, OnOk};
 ghost use Rattle.std.specs.List.{All, flat_map};
 ghost use Rattle.cg_model.specs.Clauses.{first};
 ghost use Rattle.cg_model.specs.WellFormed.{IsWellFormed};
@@ -15,6 +15,49 @@ use cg_cgroup::user::User;
 use cg_guards::identities::Identities;
 use cg_tree::hierarchy::Hierarchy;
 use std::alloc::Global;
+use std::marker::Model;
+
+/// What is listed of a user, by the places of subtrees.
+#[derive(Drop)]
+pub struct Row {
+    items: Vec<Found>,
+}
+
+impl Model for Row {
+    ghost use Rattle.std.specs.Prelude.{List};
+    ghost use Rattle.cg_answers.specs.declared.audited.Found.{Found};
+
+    ghost Value = { List Found };
+
+    ghost view = { λ r. r.items.items };
+}
+
+impl Row {
+    /// Nothing.
+    fn new(alloc: Global) -> Row
+        ensures { result ≡ [] }
+    {
+        Row {
+            items: Vec::new(alloc),
+        }
+    }
+
+    /// Adds what was found with a subtree. Fails where memory is wanted.
+    fn push(&mut self, found: Found) -> Result<(), NoMemory>
+        ensures ok { OnOk result (self.new ≡ self.old ++ found ∷ []) }
+        ensures err { OnErr result (self.new ≡ self.old) }
+    {
+        self.items.push(found)?;
+        Ok(())
+    }
+
+    /// What is listed, in the order of the subtrees.
+    pub fn as_slice(&self) -> &[Found]
+        ensures { result.now ≡ self.now }
+    {
+        self.items.as_slice()
+    }
+}
 
 /// A row for each user, of what is known of them with each subtree where that isn't containment, by the subtrees' places.
 ///
@@ -25,7 +68,7 @@ pub fn listed_rows<H: Hierarchy + Drop>(
     tree: &H,
     users: &[User],
     subtrees: &[Path],
-) -> Result<Vec<Vec<Found>>, NoMemory>
+) -> Result<Vec<Row>, NoMemory>
     requires formed { subtrees.now ≢ [] → IsWellFormed (H.state tree.now) }
     requires there { first (flat_map (subtree_faults (H.state tree.now)) subtrees.now) ≡ None }
     ensures { IfOk result (λ rows. AreListed (H.state tree.now) users.now subtrees.now rows.items) }
@@ -40,32 +83,39 @@ pub fn listed_rows<H: Hierarchy + Drop>(
 }
 
 /// As many rows, each with nothing in it.
-fn empty_rows(alloc: Global, count: usize) -> Result<Vec<Vec<Found>>, NoMemory>
-    ensures count { IfOk result (λ rows. vec_len rows ≡ count) }
-    ensures empty { IfOk result (λ rows. All (λ (row : Vec Found). row.items ≡ []) rows.items) }
+fn empty_rows(alloc: Global, count: usize) -> Result<Vec<Row>, NoMemory>
+    ensures count { IfOk result (λ rows. length rows.items ≡ count) }
+    ensures empty { IfOk result (λ rows. All (λ (row : List Found). row ≡ []) rows.items) }
 {
     let mut rows = Vec::new(alloc);
     for _user in 0..count {
-        rows.push(Vec::new(alloc))?;
+        rows.push(Row::new(alloc))?;
     }
     Ok(rows)
 }
 
 /// Enters in the users' rows what was found with a subtree.
-fn enter(rows: &mut Vec<Vec<Found>>, subtree: usize, found: Vec<Found>) -> Result<(), NoMemory>
-    requires { AreBefore (vec_len rows.old) found.items }
+fn enter(rows: &mut Vec<Row>, subtree: usize, found: Vec<Found>) -> Result<(), NoMemory>
+    requires { AreBefore (length rows.old.items) found.items }
     ensures { OnOk result (rows.new.items ≡ in_rows subtree found.items rows.old.items) }
 {
     for each in found {
         let Found { place, answer } = each;
-        add_to(rows, place, Found { place: subtree, answer })?;
+        add_to(
+            rows,
+            place,
+            Found {
+                place: subtree,
+                answer,
+            },
+        )?;
     }
     Ok(())
 }
 
 /// Adds to the row of a place.
-fn add_to(rows: &mut Vec<Vec<Found>>, place: usize, found: Found) -> Result<(), NoMemory>
-    requires { place < vec_len rows.old }
+fn add_to(rows: &mut Vec<Row>, place: usize, found: Found) -> Result<(), NoMemory>
+    requires { place < length rows.old.items }
     ensures { OnOk result (rows.new.items ≡ with_one place found rows.old.items) }
 {
     rows[place].push(found)?;

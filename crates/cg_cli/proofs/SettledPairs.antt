@@ -1,6 +1,6 @@
 -- The rows of users as pairs, and the report on these.
 use Rattle.std.proofs.Common.{◌≡◌, ◌≢◌, ℕ, zero, suc, ◌+◌, ◌<◌, ◌≤◌, Bool, true, false, List, [], ◌∷◌, ◌++◌, length, get_or, take, take_all, drop}
-use Rattle.std.proofs.Common.{drop-cons, add-one, Option, Some, None, Result, Ok, Err, IfOk, IsErrAnd, Vec, refl, sym, ap, ◌∙◌, subst}
+use Rattle.std.proofs.Common.{drop-cons, add-one, Option, Some, None, Result, Ok, Err, IfOk, IsErrAnd, refl, sym, ap, ◌∙◌, subst}
 use Rattle.std.proofs.Common.{append_assoc, append-nil, arith}
 use Rattle.std.specs.List.{All, flat_map}
 use Rattle.std.specs.Io.KnownBytes.{Appends}
@@ -86,15 +86,15 @@ module _ (user : Identity) (subtrees : List Names) where
 
 -- ---- all rows
 
-rows_as : (users : List Identity) (subtrees : List Names) (rows : List (Vec Found)) (found : ℕ → ℕ → Answer) (place : ℕ)
+rows_as : (users : List Identity) (subtrees : List Names) (rows : List (List Found)) (found : ℕ → ℕ → Answer) (place : ℕ)
     → length rows ≡ length users
-    → ((user : ℕ) (d : Vec Found) → user < length users → (get_or rows user d).items ≡ row_of (found (place + user)) (length subtrees))
+    → ((user : ℕ) (d : List Found) → user < length users → get_or rows user d ≡ row_of (found (place + user)) (length subtrees))
     → rows_pairs users subtrees rows ≡ listed_from found place users subtrees
 rows_as [] subtrees rows found place all each = refl
 rows_as (user ∷ users) subtrees [] found place all each = let never : ⊥ = omega (arith, all) in absurd never
 rows_as (user ∷ users) subtrees (row ∷ rows) found place all each =
     let none : place + 0 ≡ place = omega arith in
-    let here : row_pairs user subtrees row.items ≡ listed_with (found place) user 0 subtrees =
+    let here : row_pairs user subtrees row ≡ listed_with (found place) user 0 subtrees =
     ap (row_pairs user subtrees) (each 0 row (omega arith) ∙ (λ i. row_of (found (none i)) (length subtrees)))
     ∙ row_as user subtrees (found place) (length subtrees) (omega arith)
     ∙ ap (listed_with (found place) user 0) (take_all (length subtrees) subtrees (omega arith)) in
@@ -135,7 +135,7 @@ module _ (st : State) (user : Identity) (subtree : Names) where
 nobody : Identity
 nobody = record { uid = 0; gids = [] }
 
-module _ (st : State) (users : List Identity) (subtrees : List Names) (rows : List (Vec Found)) (are : AreListed st users subtrees rows)
+module _ (st : State) (users : List Identity) (subtrees : List Names) (rows : List (List Found)) (are : AreListed st users subtrees rows)
     (none : first (flat_map (subtree_faults st) subtrees) ≡ None) where
   pub rows_all : length rows ≡ length users
   rows_all = are.as_rows.all
@@ -202,10 +202,10 @@ row_next user subtrees row i found subtree pairs old new worst within at inside 
     (drop-cons row i found within ∙ (λ j. sym at j ∷ drop (sym (add-one i) j) row)) far)
 
 -- the pairs of this user are the next
-pub rows_next : (users : List Identity) (subtrees : List Names) (rows : List (Vec Found)) (i : ℕ) (user : Identity) (row : Vec Found)
+pub rows_next : (users : List Identity) (subtrees : List Names) (rows : List (List Found)) (i : ℕ) (user : Identity) (row : List Found)
     (pairs : List Listed) (old new : Option (List ℕ)) (worst : ℕ) → i < length users → length rows ≡ length users
     → user ≡ get_or users i user → row ≡ get_or rows i row → Front pairs (rows_pairs (drop i users) subtrees (drop i rows)) old new worst
-    → Front pairs (row_pairs user subtrees row.items ++ rows_pairs (drop (i + 1) users) subtrees (drop (i + 1) rows)) old new worst
+    → Front pairs (row_pairs user subtrees row ++ rows_pairs (drop (i + 1) users) subtrees (drop (i + 1) rows)) old new worst
 rows_next users subtrees rows i user row pairs old new worst within all at row_at far =
     let of_users : drop i users ≡ user ∷ drop (i + 1) users =
     drop-cons users i user within ∙ (λ j. sym at j ∷ drop (sym (add-one i) j) users) in
@@ -213,7 +213,7 @@ rows_next users subtrees rows i user row pairs old new worst within all at row_a
     drop-cons rows i row (omega (arith, within, all)) ∙ (λ j. sym row_at j ∷ drop (sym (add-one i) j) rows) in
     subst (λ rest. Front pairs rest old new worst) (λ j. rows_pairs (of_users j) subtrees (of_rows j)) far
 
-pub no_row : (users : List Identity) (subtrees : List Names) (rows : List (Vec Found)) (i : ℕ) → length users ≤ i
+pub no_row : (users : List Identity) (subtrees : List Names) (rows : List (List Found)) (i : ℕ) → length users ≤ i
     → rows_pairs (drop i users) subtrees (drop i rows) ≡ []
 no_row users subtrees rows i all = (λ j. rows_pairs (drop_all i users all j) subtrees (drop i rows))
 
@@ -260,7 +260,7 @@ module _ (st : State) (users : List Identity) (subtrees : List Names) where
       handed_on (ReportsFound st users subtrees known known) NoMemory result is
       (found_wanted st users subtrees (first (flat_map (subtree_faults st) subtrees)) known)
 
-  pub rows_found : (rows : List (Vec Found)) → AreListed st users subtrees rows → first (flat_map (subtree_faults st) subtrees) ≡ None
+  pub rows_found : (rows : List (List Found)) → AreListed st users subtrees rows → first (flat_map (subtree_faults st) subtrees) ≡ None
       → (old new : Option (List ℕ)) (result : Result ℕ CliFault) → ReportsPairs (Ok (rows_pairs users subtrees rows)) old new result
       → ReportsFound st users subtrees old new result
   rows_found rows are none old new result reports =

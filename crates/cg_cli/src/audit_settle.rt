@@ -21,7 +21,7 @@ use crate::check::status;
 use crate::fault::CliFault;
 use crate::named::read_named;
 use cg_answers::audited::Found;
-use cg_answers::listing::listed_rows;
+use cg_answers::listing::{Row, listed_rows};
 use cg_cgroup::path::Path;
 use cg_cgroup::user::User;
 use cg_check::first_fault;
@@ -88,7 +88,7 @@ fn write_listing<W: Write>(
     alloc: Global,
     users: &[User],
     subtrees: &[Path],
-    rows: &[Vec<Found>],
+    rows: &[Row],
     out: &mut W,
 ) -> Result<u8, CliFault>
     requires all { length rows.now ≡ length users.now }
@@ -107,7 +107,7 @@ fn write_rows<W: Write>(
     alloc: Global,
     users: &[User],
     subtrees: &[Path],
-    rows: &[Vec<Found>],
+    rows: &[Row],
     out: &mut W,
 ) -> Result<u8, CliFault>
     requires all { length rows.now ≡ length users.now }
@@ -118,7 +118,7 @@ fn write_rows<W: Write>(
     for (place, user) in users.iter().enumerate() {
         worst = worse(
             worst,
-            write_row(alloc, user, subtrees, &rows[place], out)?,
+            write_row(alloc, user, subtrees, rows[place].as_slice(), out)?,
         );
     }
     Ok(worst)

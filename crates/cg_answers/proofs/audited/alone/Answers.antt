@@ -1,11 +1,10 @@
-use Rattle.std.proofs.Common.{◌-◌, List, length, take, drop, sym, subst, ◌∙◌}
+use Rattle.std.proofs.Common.{◌-◌, List, length, take, drop, sym, subst}
 use Rattle.std.specs.Prelude.{Option, option_copied}
 use Rattle.std.proofs.lemmas.List.{take_rest}
 use Rattle.cg_cgroup.specs.Identity.{Identity}
 use Rattle.cg_guards.specs.Reach.{AreCovered}
 use Rattle.cg_guards.specs.declared.identities.Identities.{Identities}
 use Rattle.cg_guards.proofs.OutOfReach.{drop_covered}
-use Rattle.cg_answers.specs.Places.{found_one}
 use Rattle.cg_answers.proofs.Places.{IsReached, reached_first, reached_next}
 use Rattle.cg_answers.proofs.audited.alone.Goals as goal
 
@@ -18,7 +17,7 @@ pub users-init : goal.users-init
 users-init g c = record {
   reached =
       subst (IsReached (g.H.Hierarchy.state c.args.tree.now) c.args.users.now c.args.subtree.now c.from_first-left.result.now)
-      (sym c.new.ensures.items)
+      (sym c.new-found.ensures.items)
       (reached_first (g.H.Hierarchy.state c.args.tree.now) c.args.users.now c.args.subtree.now c.from_first-left.result.now
       c.from_first-left.ensures);
   covered =

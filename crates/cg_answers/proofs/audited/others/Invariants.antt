@@ -6,4 +6,4 @@ use Rattle.cg_answers.proofs.audited.others.Given as goal
 -- those of the users before this place
 abbrev pub invariant-loop-place : goal.invariant-loop-place
 invariant-loop-place l =
-    l.others.items ≡ picked (λ place. not (has_list (found_at l.found place))) 0 (take l.place l.users)
+    l.others.items ≡ picked (λ place. not (has_list (found_at l.found place))) 0 (take l.place-counter l.users)

@@ -1,10 +1,10 @@
-use Rattle.std.proofs.Common.{◌≡◌, [], length, Vec}
+use Rattle.std.proofs.Common.{◌≡◌, [], length, List}
 use Rattle.std.specs.List.{All}
 use Rattle.cg_answers.specs.declared.audited.Found.{Found}
 use Rattle.cg_answers.proofs.listing.empty_rows.Given as goal
 
-abbrev pub invariant-loop-_user : goal.invariant-loop-_user
-invariant-loop-_user l = record {
+abbrev pub invariant-loop-user : goal.invariant-loop-user
+invariant-loop-user l = record {
   count : length l.rows.items ≡ l._user;
-  empty : All (λ (row : Vec Found). row.items ≡ []) l.rows.items;
+  empty : All (λ (row : List Found). row ≡ []) l.rows.items;
 }

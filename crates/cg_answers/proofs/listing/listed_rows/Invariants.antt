@@ -1,6 +1,10 @@
+use Rattle.std.proofs.Common.{◌≤◌, length}
 use Rattle.cg_answers.proofs.Rows.{AreListedTo}
 use Rattle.cg_answers.proofs.listing.listed_rows.Given as goal
 
 -- what is known with the subtrees before this one is in the rows
 abbrev pub invariant-loop-place : goal.invariant-loop-place
-invariant-loop-place g l = AreListedTo (g.H.Hierarchy.state l.tree) l.users l.subtrees l.place l.rows.items
+invariant-loop-place g l = record {
+  within : l.place ≤ length l.subtrees;
+  listed : AreListedTo (g.H.Hierarchy.state l.tree) l.users l.subtrees l.place l.rows.items;
+}
