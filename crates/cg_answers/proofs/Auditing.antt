@@ -49,17 +49,20 @@ turned x y = unsigned_tied x y
 
 -- one more, which has a list or hasn't
 module _ (found : List Found) (i : ℕ) (each : Found) (within : i < length found) (at : each ≡ get_or found i each) where
-  more : (place : ℕ) → is_listed_at (take (i + 1) found) place ≡ (is_listed_at (take i found) place || (nat_eq each.place place && has_list each.answer))
+  more : (place : ℕ) → is_listed_at (take (i + 1) found) place
+      ≡ (is_listed_at (take i found) place || (nat_eq each.place place && has_list each.answer))
   more place =
       list_any_more (λ (one : Found). nat_eq one.place place && has_list one.answer) found i each within
       ∙ (λ j. is_listed_at (take i found) place || (nat_eq (sym at j).place place && has_list (sym at j).answer))
 
-  pub place_entered : (before after : ℕ → Bool) → ((place : ℕ) → before place ≡ is_listed_at (take i found) place) → has_list each.answer ≡ true
+  pub place_entered : (before after : ℕ → Bool) → ((place : ℕ) → before place ≡ is_listed_at (take i found) place)
+      → has_list each.answer ≡ true
       → ((place : ℕ) → after place ≡ cond (eq_by_cmp nat_cmp each.place place) true (before place))
       → (place : ℕ) → after place ≡ is_listed_at (take (i + 1) found) place
   place_entered before after so_far has is place =
       is place ∙ (λ j. cond (turned each.place place j) true (so_far place j))
-      ∙ by_test (nat_eq each.place place) (is_listed_at (take i found) place) ∙ (λ j. is_listed_at (take i found) place || (nat_eq each.place place && sym has j))
+      ∙ by_test (nat_eq each.place place) (is_listed_at (take i found) place)
+      ∙ (λ j. is_listed_at (take i found) place || (nat_eq each.place place && sym has j))
       ∙ sym (more place)
     where
       by_test : (a b : Bool) → cond a true b ≡ b || (a && true)
@@ -82,7 +85,8 @@ module _ (found : List Found) (i : ℕ) (each : Found) (within : i < length foun
 
 -- ---- the others
 
-module _ (found : List Found) (users : List Identity) (i : ℕ) (user : Identity) (within : i < length users) (at : user ≡ get_or users i user)
+module _ (found : List Found) (users : List Identity) (i : ℕ) (user : Identity) (within : i < length users)
+    (at : user ≡ get_or users i user)
     (apart : AreApart found) where
   abbrev test : ℕ → Bool
   test place = not (has_list (found_at found place))

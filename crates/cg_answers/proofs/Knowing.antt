@@ -187,7 +187,8 @@ module _ (st : State) (users : List Identity) where
 
     known_by : (holds : Bool) → row st users subtree by_check ≡ holds → (found : ℕ → Answer) × AreKnown st users subtree found
     known_by true holds =
-        ((λ place. kept (by_check place)), known_together st users subtree by_check (λ place. kept (by_check place)) each_alone (λ place. refl) holds)
+        let after : ℕ → Answer = λ place. kept (by_check place) in
+        (after, known_together st users subtree by_check after each_alone (λ place. refl) holds)
     known_by false fails = (by_check, known_apart st users subtree by_check each_alone fails)
 
     known_one : (found : ℕ → Answer) × AreKnown st users subtree found
@@ -252,7 +253,8 @@ pub all-unlisted_settled : (st : State) (users : List Identity) (subtrees : List
     → (subtrees ≢ [] → IsWellFormed st) → All (IsSubtree st) subtrees → AreKnownWithEach st users subtrees found
     → UnlistedAreSettled st users subtrees found
 all-unlisted_settled st users subtrees found formed are known place d within some =
-    unlisted-settled st users (get_or subtrees place d) (λ user. found user place) (formed (some_there subtrees within)) (are place d within)
+    unlisted-settled st users (get_or subtrees place d) (λ user. found user place) (formed (some_there subtrees within))
+    (are place d within)
     (known place d within) some
   where
     some_there : (paths : List Names) → place < length paths → paths ≢ []

@@ -269,9 +269,11 @@ module _ (st : State) (users : List Identity) (subtree : Names) where
   reached_first left is =
       over 0 left [] (omega arith) (record { apart = tt; before = tt; alone = λ place d low inside. absurd (omega (arith, low)) }) is
 
-  pub reached_next : (left rest next : List Identity) (found : List Found) (user : Identity) (more : Answer) → IsReached st users subtree left found
+  pub reached_next : (left rest next : List Identity) (found : List Found) (user : Identity) (more : Answer)
+      → IsReached st users subtree left found
       → 0 < length left → user ≡ get_or left 0 user → Each more user → rest ≡ drop 1 left
-      → next ≡ drop (prefix_len all_guard rest) rest → IsReached st users subtree next (found ++ found_one (length users - length left) more)
+      → next ≡ drop (prefix_len all_guard rest) rest
+      → IsReached st users subtree next (found ++ found_one (length users - length left) more)
   reached_next left rest next found user more so_far some at is rest_is next_is =
       let n = length users - length left in
       let few = so_far.within in
@@ -287,6 +289,7 @@ module _ (st : State) (users : List Identity) (subtree : Names) where
       (next_is ∙ (λ i. drop (prefix_len all_guard (behind i)) (behind i)))
 
   -- where nobody is left
-  pub reached_all : (left : List Identity) (found : List Found) → IsReached st users subtree left found → length left ≡ 0 → Alone (length users) found
+  pub reached_all : (left : List Identity) (found : List Found) → IsReached st users subtree left found → length left ≡ 0
+      → Alone (length users) found
   reached_all left found so_far none =
       let all : length users - length left ≡ length users = omega (arith, none) in subst (λ c. Alone c found) all so_far.alone

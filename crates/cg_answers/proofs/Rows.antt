@@ -73,7 +73,8 @@ module _ (subtree : ℕ) where
           (λ i. own i ++ found_one subtree (none i)) ∙ append-nil (get_or rows user d ++ one ∷ [])
           ∙ (λ i. get_or rows user d ++ sym (one_listed each.answer apart.1) i)
       by_place false here =
-          (λ i. with_one-other each.place user one rows d (λ same. eqb-false each.place user here (sym same)) i ++ found_one subtree (found_at others user))
+          (λ i. with_one-other each.place user one rows d (λ same. eqb-false each.place user here (sym same)) i
+          ++ found_one subtree (found_at others user))
 
   -- one of them after another
   pub enters_one : (found : List Found) (k : ℕ) (each : Found) (rows now next : List (List Found)) → k < length found
@@ -134,7 +135,8 @@ module _ (st : State) (users : List Identity) (subtrees : List Names) where
     known_after place d low true here =
         let same : place ≡ count = eqb-true place count here in
         let path : get_or subtrees place d ≡ subtree = (λ i. get_or subtrees (same i) d) ∙ at d in
-        let all : (λ (user : ℕ). after user place) ≡ found_at column = (λ i user. cond (here i) (found_at column user) (far.found user place)) in
+        let all : (λ (user : ℕ). after user place) ≡ found_at column =
+        (λ i user. cond (here i) (found_at column user) (far.found user place)) in
         subst (λ f. AreKnown st users (get_or subtrees place d) f) (sym all)
         (subst (λ p. AreKnown st users p (found_at column)) (sym path) known)
     known_after place d low false here =
@@ -155,7 +157,8 @@ module _ (st : State) (users : List Identity) (subtrees : List Names) where
             each =
                 λ user d within.
                 ap (λ (r : List (List Found)). get_or r user d) is
-                ∙ in_rows-each count column rows user d apart (subst (λ n. AreBefore n column) (sym all) before) (omega (arith, all, within))
+                ∙ in_rows-each count column rows user d apart (subst (λ n. AreBefore n column) (sym all) before)
+                (omega (arith, all, within))
                 ∙ (λ i. far.as_rows.each user d within i ++ found_one count (sym (after_here user) i))
                 ∙ (λ i. same_row (far.found user) (after user) count (λ place low. sym (after_before user place low)) i
                 ++ found_one count (after user count));

@@ -16,7 +16,8 @@ with_one place found rows = slice_set rows place (get_or rows place [] ++ found 
 -- what was found of some users with a subtree, in_rows in the users' rows at its place
 abbrev pub in_rows : ℕ → List Found → List (List Found) → List (List Found)
 in_rows subtree [] rows = rows
-in_rows subtree (found ∷ others) rows = in_rows subtree others (with_one found.place (record { place = subtree; answer = found.answer }) rows)
+in_rows subtree (found ∷ others) rows =
+    in_rows subtree others (with_one found.place (record { place = subtree; answer = found.answer }) rows)
 
 -- what was found at so many first places
 abbrev pub row_of : (ℕ → Answer) → ℕ → List Found

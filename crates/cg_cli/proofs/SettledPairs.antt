@@ -39,7 +39,7 @@ use Rattle.cg_cli.specs.Faults.{lifted_check}
 use Rattle.cg_cli.specs.May.{tree_read}
 use Rattle.cg_cli.specs.Once.{same_user}
 use Rattle.cg_cli.specs.SettledPairs.{MayBeFound, MayFollow, MayReport, ReportsFound, ReportsSettled, TellsUnsettled}
-use Rattle.cg_cli.specs.SettledRows.{pair_of, row_pairs, rows_pairs, IsPairLine, IsRowOfLines}
+use Rattle.cg_cli.specs.SettledRows.{pair_found, row_pairs, rows_pairs, IsPairLine, IsRowOfLines}
 use Rattle.cg_cli.specs.declared.fault.CliFault.{CliFault}
 use Rattle.cg_cli.specs.declared.fault.CliFault.TheVariants.{Write, NoMemory}
 use Rattle.cg_cli.specs.Reports.{takes_memory}
@@ -62,7 +62,8 @@ with_more found user place (path ∷ subtrees) subtree =
     ∙ (λ i. listed_with found user place (path ∷ subtrees) ++ listed_unless_contained user subtree (found (same i)))
 
 module _ (user : Identity) (subtrees : List Names) where
-  one_pair : (place : ℕ) (a : Answer) → row_pairs user subtrees (found_one place a) ≡ listed_unless_contained user (get_or subtrees place []) a
+  one_pair : (place : ℕ) (a : Answer)
+      → row_pairs user subtrees (found_one place a) ≡ listed_unless_contained user (get_or subtrees place []) a
   one_pair place Contained = refl
   one_pair place (Escapes ops) = refl
   one_pair place (Unsettled failed) = refl
@@ -71,7 +72,7 @@ module _ (user : Identity) (subtrees : List Names) where
       → row_pairs user subtrees (row_of found count) ≡ listed_with found user 0 (take count subtrees)
   row_as found zero within = refl
   row_as found (suc count) within =
-      flat_map-append (pair_of user subtrees) (row_of found count) (found_one count (found count))
+      flat_map-append (pair_found user subtrees) (row_of found count) (found_one count (found count))
       ∙ (λ i. row_as found count (omega (arith, within)) i ++ one_pair count (found count) i)
       ∙ sym (ap (listed_with found user 0) more ∙ with_more found user 0 (take count subtrees) (get_or subtrees count [])
       ∙ (λ i. listed_with found user 0 (take count subtrees) ++ listed_unless_contained user (get_or subtrees count []) (found (long i))))
@@ -109,7 +110,8 @@ module _ (subtrees : List Names) where
       → All (IsPairLine subtrees) (found_one place a)
   one_line place Contained within shown = All-nil (IsPairLine subtrees)
   one_line place (Escapes ops) within shown =
-      All-cons (IsPairLine subtrees) (record { place = place; answer = Escapes ops }) [] (within, refl, shown) (All-nil (IsPairLine subtrees))
+      All-cons (IsPairLine subtrees) (record { place = place; answer = Escapes ops }) [] (within, refl, shown)
+      (All-nil (IsPairLine subtrees))
   one_line place (Unsettled failed) within shown =
       All-cons (IsPairLine subtrees) (record { place = place; answer = Unsettled failed }) [] (within, refl, shown)
       (All-nil (IsPairLine subtrees))
@@ -197,7 +199,8 @@ pub row_next : (user : Identity) (subtrees : List Names) (row : List Found) (i :
     → Front pairs (listed_unless_contained user subtree found.answer ++ row_pairs user subtrees (drop (i + 1) row)) old new worst
 row_next user subtrees row i found subtree pairs old new worst within at inside path far =
     let same : subtree ≡ get_or subtrees found.place [] = path ∙ get_or_default subtrees found.place subtree [] inside in
-    subst (λ p. Front pairs (listed_unless_contained user p found.answer ++ row_pairs user subtrees (drop (i + 1) row)) old new worst) (sym same)
+    subst (λ p. Front pairs (listed_unless_contained user p found.answer ++ row_pairs user subtrees (drop (i + 1) row)) old new worst)
+    (sym same)
     (subst (λ rest. Front pairs (row_pairs user subtrees rest) old new worst)
     (drop-cons row i found within ∙ (λ j. sym at j ∷ drop (sym (add-one i) j) row)) far)
 
@@ -252,7 +255,8 @@ module _ (st : State) (users : List Identity) (subtrees : List Names) where
   pub subtree_found : (fault : CheckFault) (known : Option (List ℕ)) → Some fault ≡ first (flat_map (subtree_faults st) subtrees)
       → ReportsFound st users subtrees known known (Err (lifted_check fault))
   subtree_found fault known is =
-      (Err (lifted_check fault), subst (λ o. MayBeFound st users subtrees o (Err (lifted_check fault))) is refl, fault_said (lifted_check fault) known)
+      let none = subst (λ o. MayBeFound st users subtrees o (Err (lifted_check fault))) is refl in
+      (Err (lifted_check fault), none, fault_said (lifted_check fault) known)
 
   pub memory_wanted : (known : Option (List ℕ)) (result : Result ℕ CliFault) → IsErrAnd result (λ found. found ≡ NoMemory)
       → ReportsFound st users subtrees known known result

@@ -9,11 +9,11 @@ use Rattle.cg_answers.specs.declared.audited.Found.{Found}
 use Rattle.cg_report.specs.AnswerLines.{IsShown}
 
 -- what was found with a subtree, by its place
-abbrev pub pair_of : Identity → List Names → Found → List Listed
-pair_of user subtrees found = listed_unless_contained user (get_or subtrees found.place []) found.answer
+abbrev pub pair_found : Identity → List Names → Found → List Listed
+pair_found user subtrees found = listed_unless_contained user (get_or subtrees found.place []) found.answer
 
 abbrev pub row_pairs : Identity → List Names → List Found → List Listed
-row_pairs user subtrees row = flat_map (pair_of user subtrees) row
+row_pairs user subtrees row = flat_map (pair_found user subtrees) row
 
 abbrev pub rows_pairs : List Identity → List Names → List (List Found) → List Listed
 rows_pairs [] subtrees rows = []
