@@ -40,10 +40,10 @@ BOTH = ["both the tree and the operations", "./-"]
 
 @dataclass(frozen=True)
 class Row:
-    """The words of a command line, in which OPS and TREE stand for files of theirs, the fault, and what is told below its line.
-    Standard input gives the tree where nothing else is said."""
+    """The words of a command line, in which OPS and TREE stand for files of theirs, the fault, or None of an answer, and what is told
+    below its line. Standard input gives the tree where nothing else is said."""
     words: list
-    line: str
+    line: str | None
     helps: tuple = ()
     tree: str = TREE
     ops: str = OPS
@@ -63,10 +63,12 @@ class Row:
     def failure(self, program):
         ended = self.ended(program)
         wrong = [f"the help has no {word!r}" for word in self.helps if not any(word in line for line in ended.help)]
-        if (ended.status, ended.fault) != (3, f"fault: {self.line}"):
+        if self.line and (ended.status, ended.fault) != (3, f"fault: {self.line}"):
             wrong.append(f"it isn't fault: {self.line}, with status 3")
+        if not self.line and (ended.status == 3 or ended.fault or bool(ended.help) != bool(self.helps)):
+            wrong.append("it is a fault, or help stands where there is to be none")
         if not all(line.startswith("  ") and line.isprintable() for line in ended.help):
-            wrong.append("a line below the first isn't two spaces in, or has a byte that acts on a terminal")
+            wrong.append("a line of help isn't two spaces in, or has a byte that acts on a terminal")
         return f"{'; '.join(wrong)}; it ended with status {ended.status} and wrote {ended.errors!r}" if wrong else ""
 
 
@@ -227,6 +229,27 @@ def trees():
     yield row("path = '/c0'", "path = '/c0'\nenabled = ['memory']", "internal-process process 1", "/c0")
 
 
+def answers():
+    """What is said beside an answer, which stays what it is: of users of whom the tree says nothing, and of no others."""
+    said = "uid 1001 and its gids own nothing in this tree"
+    names = {"root's": TREE, "a group's": TREE.replace("gid = 1000, mode", "gid = 5, mode").replace("0o644", "0o664"),
+             "everybody's": TREE.replace("0o644", "0o666"), "a process": TREE.replace("pid = 10\nuid = 1000", "pid = 10\nuid = 1001"),
+             "a limit file": TREE.replace("value = 4096", "uid = 1001, value = 4096")}
+    check, audit, advise = (["check", "--uid", "1001"], ["audit", "--uid", "1000", "--uid", "1001"], ["advise", "--uid", "1001"])
+    at = ["--subtree", "/c0"]
+    for words in (check, audit, [*audit, "--all"], advise, [*check, "--gid", "5"], [*audit[:4], "1001:5,6"]):
+        yield Row([*words, *at], None, [said], names["root's"])
+        yield Row([*words, *at], None, [said], names["everybody's"])
+        for name in ("a process", "a limit file"):
+            yield Row([*words, *at], None, (), names[name])
+    yield Row([*check, *at], None, [said], names["a group's"])
+    yield Row([*check, "--gid", "7", "--gid", "5", *at], None, (), names["a group's"])
+    yield Row(["audit", "--uid", "1001:5", *at], None, (), names["a group's"])
+    yield Row(["check", "--uid", "1000", *at], None, ())
+    yield Row(["may", "--uid", "1001", "--pid", "10", "--to", "/c0"], None, ())
+    yield Row(["upgrade"], None, ())
+
+
 def operations():
     def row(ops, line, *helps):
         return Row(REPLAY, line, helps, TREE, ops)
@@ -262,7 +285,7 @@ def operations():
 
 
 def rows(_):
-    yield from (*command_lines(), *arguments(), *trees(), *operations())
+    yield from (*command_lines(), *arguments(), *trees(), *answers(), *operations())
 
 
 if __name__ == "__main__":

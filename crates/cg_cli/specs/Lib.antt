@@ -2,6 +2,7 @@ pub mod Faults
 pub mod FaultLines
 pub mod Arguments
 pub mod Reports
+pub mod Strangers
 pub mod May
 pub mod Courses
 pub mod Replays

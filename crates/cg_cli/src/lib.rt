@@ -15,4 +15,5 @@ mod question;
 mod reading;
 pub mod replay;
 mod report;
+mod strangers;
 pub mod upgrade;

@@ -26,6 +26,8 @@ pub struct Seen<'w, 'i, 'l> {
     pub input: Option<&'i [u8]>,
     /// The line of operations or pairs at which the command ended, as far as it was read.
     pub line: Option<&'l [u8]>,
+    /// The first uid of whom the tree says nothing.
+    pub stranger: Option<u32>,
 }
 
 /// The help below the line of a fault, or nothing; a command line that is none of the program's has no fault of a call.
@@ -47,6 +49,16 @@ pub fn help_text<F: Files>(
         None => Ok(Vec::new(alloc)),
         Some(text) => Ok(indented(alloc, text.as_str().trim_end())?),
     }
+}
+
+/// That a tree says nothing of a user, who may have been named by mistake.
+pub fn stranger_text(alloc: Global, uid: u32) -> Result<Vec<u8>, NoMemory>
+    ensures { IfOk result (λ help. IsHelp help.items) }
+{
+    let text = format!(in alloc;
+        "uid {uid} and its gids own nothing in this tree, write nothing but what everybody writes, and have no process in it"
+    )?;
+    Ok(indented(alloc, text.as_str())?)
 }
 
 /// Whether there is anything to be looked at once more: not where a write failed, or memory was refused.

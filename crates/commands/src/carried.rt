@@ -33,14 +33,22 @@ use streams::line::{LineKept, line_of};
 use streams::read::read_input;
 use streams::write::write_whole;
 
-/// Carries out a request. What no file is named for is read from `input`, and the report goes to `out`. Where an operation line
-/// ends it, `line` is that line, as far as it was read and kept.
+/// What help is made of beside the fault.
+#[derive(Drop)]
+pub struct Noted {
+    /// The operation line that ended a replay, as far as it was read and kept.
+    pub line: Option<Vec<u8>>,
+    /// The first uid of whom the tree says nothing.
+    pub stranger: Option<u32>,
+}
+
+/// Carries out a request. What no file is named for is read from `input`, and the report goes to `out`.
 pub(crate) fn carried_out<F: Files, I: Read + Drop, W: Write>(
     alloc: Global,
     request: &Request<'_>,
     files: &F,
     input: I,
-    line: &mut Option<Vec<u8>>,
+    noted: &mut Noted,
     out: &mut W,
 ) -> Result<u8, CliFault>
     ensures { CarriesOut request.now (F.given files.now) (I.remaining input) (W.contents out.old) (W.contents out.new) result }
@@ -48,11 +56,16 @@ pub(crate) fn carried_out<F: Files, I: Read + Drop, W: Write>(
     match request {
         Request::Help(help) => shown(alloc, help, out),
         Request::May(request) => may(alloc, request, files, input, out),
-        Request::Check(request) => check(alloc, request, files, input, out),
-        Request::Audit(request) => audit(alloc, request, files, input, out),
-        Request::Advise(request) => advise(alloc, request, files, input, out),
-        Request::AdvisePairs(asked) => advise_pairs(alloc, *asked, files, input, line, out),
-        Request::Replay(asked) => replay(alloc, Replaying { asked, line }, files, input, out),
+        Request::Check(request) => check(alloc, request, files, input, &mut noted.stranger, out),
+        Request::Audit(request) => audit(alloc, request, files, input, &mut noted.stranger, out),
+        Request::Advise(request) => advise(alloc, request, files, input, &mut noted.stranger, out),
+        Request::AdvisePairs(asked) => {
+            advise_pairs(alloc, *asked, files, input, &mut noted.line, out)
+        }
+        Request::Replay(asked) => {
+            let line = &mut noted.line;
+            replay(alloc, Replaying { asked, line }, files, input, out)
+        }
         Request::Upgrade(request) => upgrade(alloc, request, files, input, out),
     }
 }
@@ -91,13 +104,21 @@ fn check<F: Files, I: Read + Drop, W: Write>(
     asked: &Check<'_>,
     files: &F,
     input: I,
+    stranger: &mut Option<u32>,
     out: &mut W,
 ) -> Result<u8, CliFault>
     ensures { ReportsOnTree (source (F.given files.now) (name_of asked.now.tree) (I.remaining input)) (check_said asked.now)
         (W.contents out.old) (W.contents out.new) result }
 {
     let tree = tree_text(alloc, files, asked.tree, input)?;
-    check_bytes(alloc, tree.as_slice(), ids(&asked.user), asked.subtree, out)
+    check_bytes(
+        alloc,
+        tree.as_slice(),
+        ids(&asked.user),
+        asked.subtree,
+        stranger,
+        out,
+    )
 }
 
 fn advise<F: Files, I: Read + Drop, W: Write>(
@@ -105,6 +126,7 @@ fn advise<F: Files, I: Read + Drop, W: Write>(
     asked: &Advise<'_>,
     files: &F,
     input: I,
+    stranger: &mut Option<u32>,
     out: &mut W,
 ) -> Result<u8, CliFault>
     ensures { ReportsOnTree (source (F.given files.now) (name_of asked.now.tree) (I.remaining input)) (advise_said asked.now)
@@ -117,6 +139,7 @@ fn advise<F: Files, I: Read + Drop, W: Write>(
         tree.as_slice(),
         users.as_slice(),
         asked.subtrees.as_slice(),
+        stranger,
         out,
     )
 }
@@ -223,6 +246,7 @@ fn audit<F: Files, I: Read + Drop, W: Write>(
     asked: &Audit<'_>,
     files: &F,
     input: I,
+    stranger: &mut Option<u32>,
     out: &mut W,
 ) -> Result<u8, CliFault>
     ensures { OnTree (source (F.given files.now) (name_of asked.now.tree) (I.remaining input))
@@ -231,7 +255,14 @@ fn audit<F: Files, I: Read + Drop, W: Write>(
 {
     let tree = tree_text(alloc, files, asked.tree, input)?;
     let users = all_ids(alloc, asked.users.as_slice())?;
-    audited(alloc, tree.as_slice(), users.as_slice(), asked, out)
+    audited(
+        alloc,
+        tree.as_slice(),
+        users.as_slice(),
+        asked,
+        stranger,
+        out,
+    )
 }
 
 /// Audits a tree, of which the first pair that isn't contained is asked for, or each.
@@ -240,6 +271,7 @@ fn audited<W: Write>(
     tree: &[u8],
     users: &[UserIds<'_>],
     request: &Audit<'_>,
+    stranger: &mut Option<u32>,
     out: &mut W,
 ) -> Result<u8, CliFault>
     ensures { OnText tree.now (λ read. MatchBool request.now.all
@@ -250,9 +282,9 @@ fn audited<W: Write>(
 {
     let subtrees = request.subtrees.as_slice();
     if request.all {
-        audit_all_bytes(alloc, tree, users, subtrees, out)
+        audit_all_bytes(alloc, tree, users, subtrees, stranger, out)
     } else {
-        audit_bytes(alloc, tree, users, subtrees, out)
+        audit_bytes(alloc, tree, users, subtrees, stranger, out)
     }
 }
 

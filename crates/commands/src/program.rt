@@ -1,16 +1,17 @@
 //! The whole program: what the host gives it in, its status and its streams out.
-ghost use Rattle.std.specs.Prelude.{◌≡◌, ◌≢◌, ◌⊎◌, ℕ, map, string_bytes, Result, Err, IsErrAnd, MatchOption, MatchResult};
+ghost use Rattle.std.specs.Prelude.{◌≡◌, ◌≢◌, ◌⊎◌, ℕ, List, map, string_bytes, Result, Err, IsErrAnd, MatchOption, MatchResult};
 ghost use Rattle.std.specs.IoError.{error_kind};
-ghost use Rattle.std.specs.Io.KnownBytes.{Keeps};
+ghost use Rattle.std.specs.Io.KnownBytes.{Appends, Keeps};
 ghost use Rattle.commands.specs.Runs.{exit_status, Tells, RunsTo};
 ghost use Rattle.commands.specs.declared.fault.Fault.{Fault};
 ghost use Rattle.commands.specs.declared.fault.Fault.TheVariants.{Cli, Usage as UsageFault};
 ghost use Rattle.streams.specs.declared.write.WriteFailed.{WriteFailed};
 ghost use Rattle.cg_cli.specs.declared.fault.CliFault.TheVariants.{NoMemory as MemoryFault};
 
+use crate::carried::Noted;
 use crate::fault::Fault;
 use crate::run::run;
-use cg_help::help::{Seen, help_text};
+use cg_help::help::{Seen, help_text, stranger_text};
 use std::alloc::Global;
 use std::io;
 use std::io::{ErrorKind, Read, Write};
@@ -60,6 +61,7 @@ pub fn run_program<F: Files, I: Read + Drop, W: Write + Drop, E: Write + Drop>(
                 words: None,
                 input: None,
                 line: None,
+                stranger: None,
             };
             let fault = Fault::of_words(error);
             let status = status_told(alloc, files, Err(fault), unseen, &mut errors);
@@ -71,12 +73,16 @@ pub fn run_program<F: Files, I: Read + Drop, W: Write + Drop, E: Write + Drop>(
         }
     };
     let mut input = Kept::new(alloc, input);
-    let mut line = None;
-    let ended = run(alloc, words.as_slice(), files, &mut input, &mut line, out);
+    let mut noted = Noted {
+        line: None,
+        stranger: None,
+    };
+    let ended = run(alloc, words.as_slice(), files, &mut input, &mut noted, out);
     let seen = Seen {
         words: Some(words.as_slice()),
         input: input.whole(),
-        line: line.as_ref().map(Vec::as_slice),
+        line: noted.line.as_ref().map(Vec::as_slice),
+        stranger: noted.stranger,
     };
     let status = status_told(alloc, files, ended.answer, seen, &mut errors);
     Ended {
@@ -86,7 +92,8 @@ pub fn run_program<F: Files, I: Read + Drop, W: Write + Drop, E: Write + Drop>(
     }
 }
 
-/// The status of an answer. Where it is a fault, its line is written, and help below it.
+/// The status of an answer. Where it is a fault, its line is written, and help below it; else help alone, of a user of whom the tree
+/// says nothing.
 fn status_told<F: Files, E: Write>(
     alloc: Global,
     files: &F,
@@ -98,7 +105,10 @@ fn status_told<F: Files, E: Write>(
     ensures told { Tells answer (E.contents errors.old) (E.contents errors.new) }
 {
     match answer {
-        Ok(status) => status,
+        Ok(status) => {
+            tell_stranger(alloc, seen.stranger, errors);
+            status
+        }
         Err(fault) => {
             tell(alloc, files, fault, seen, errors);
             FAULT
@@ -124,6 +134,18 @@ fn tell<F: Files, E: Write>(
         Fault::Cli(inner) => Some(inner),
     };
     if let Ok(help) = help_text(alloc, files, of_call.as_ref(), seen) {
+        let _ = write_whole(errors, help.as_slice());
+    }
+}
+
+/// Writes that the tree says nothing of a user, where there is one. Where that fails there is no help.
+fn tell_stranger<E: Write>(alloc: Global, stranger: Option<u32>, errors: &mut E)
+    ensures { (help : List ℕ) × Appends (E.contents errors.old) (E.contents errors.new) help }
+{
+    let Some(uid) = stranger else {
+        return;
+    };
+    if let Ok(help) = stranger_text(alloc, uid) {
         let _ = write_whole(errors, help.as_slice());
     }
 }
