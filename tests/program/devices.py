@@ -26,7 +26,7 @@ SECONDS_OF_A_RUN = 60
 FAULT = 3
 # bytes of a report that the program holds back
 BUFFER = 8192
-CLAP_WANTS_MEMORY = b"  error: out of memory\n"
+CLAP_OUT_OF_MEMORY = b"  error: out of memory\n"
 MOST_SHOWN = 3
 
 Ended = collections.namedtuple("Ended", "status out err")
@@ -106,7 +106,7 @@ def is_right(row, call, how, ended):
         return False
     # help below a fault's line comes from a second look, and where that fails there is none, or clap's own word of it
     line = row.err.partition(b"\n")[0] + b"\n"
-    if call != "write" and row.err and ended in [Ended(row.status, row.out, line + more) for more in (b"", CLAP_WANTS_MEMORY)]:
+    if call != "write" and row.err and ended in [Ended(row.status, row.out, line + more) for more in (b"", CLAP_OUT_OF_MEMORY)]:
         return True
     if call == "write":
         return is_right_written(row, ended)

@@ -94,7 +94,7 @@ module _ (words : List Text) (m : ArgMatches) (rows : subcommand_rows_of m ≡ s
 
 -- ---- words that `clap` doesn't take
 
--- what is shown, and no want of memory
+-- what is shown, and not out of memory
 pub shown_as : (words : List Text) (app : App) (error : Error) {kind : ErrorKind} → app ≡ command_line → kind ≡ kind_of error
     → (kind ≡ DisplayHelp) ⊎ (kind ≡ DisplayVersion) → HasKind (fault_of app words) error → Makes words (request.Help error)
 shown_as words app error line is (inl shown) (inl memory) = cc

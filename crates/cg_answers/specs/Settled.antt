@@ -30,6 +30,6 @@ IsSettledFrom st user subtree (Unsettled failed) found = IsSettledSo st user sub
 abbrev pub IsSettled : State → Identity → Names → Answer → Type 0
 IsSettled st user subtree found = IsSettledFrom st user subtree (answer st user subtree) found
 
--- a fault of the subtree, or want of memory
+-- a fault of the subtree, or out of memory
 abbrev pub IsSettledFault : State → Names → CheckFault → Type 0
 IsSettledFault st subtree fault = (fault ≡ NoMemory) ⊎ (first (subtree_faults st subtree) ≡ Some fault)

@@ -70,7 +70,7 @@ with_mode_in Procs mode row = record row { procs = with_mode_of mode row.procs }
 with_mode_in SubtreeControl mode row = record row { subtree_control = with_mode_of mode row.subtree_control }
 with_mode_in (File file) mode row = with_file file (with_file_mode_of mode) row
 
--- Own: a limit file that a user makes is his, with mode 0o644.
+-- Own: a limit file that a user makes is theirs, with mode 0o644.
 abbrev pub file_made_by : Identity → LimitFile → LimitEntry
 file_made_by user file = record { entry = entry_made_by user 420; value = default_value file }
 

@@ -21,11 +21,11 @@ in_group user gid = list_any (λ own. nat_eq own gid) user.gids
 abbrev pub primary : Identity → Option ℕ
 primary user = elim user.gids [ [] ↦ None | gid ∷ gids ↦ Some gid ]
 
--- The group of what a user makes: his primary group, or group 0 where he has none. Own.
+-- The group of what a user makes: their primary group, or group 0 where they have none. Own.
 abbrev pub group_of : Identity → ℕ
 group_of user = unwrap_or (primary user) 0
 
--- Own: what a user makes belongs to him and to that group.
+-- Own: what a user makes belongs to them and to that group.
 abbrev pub entry_made_by : Identity → ℕ → Entry
 entry_made_by user mode = record { uid = user.uid; gid = group_of user; mode = mode }
 
@@ -46,6 +46,6 @@ unfoldable pub writes : Identity → Entry → Bool
 writes user entry =
     cond (owns user entry) (has_bit entry.mode 128) (cond (in_group user entry.gid) (has_bit entry.mode 16) (has_bit entry.mode 2))
 
--- What a user writes or can open to himself.
+-- What a user writes, or can open to themselves.
 abbrev pub reaches : Identity → Entry → Bool
 reaches user entry = writes user entry || owns user entry

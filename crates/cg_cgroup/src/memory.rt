@@ -1,4 +1,4 @@
-//! Want of memory.
+//! Out of memory.
 ghost use Rattle.cg_cgroup.specs.declared.memory.NoMemory.{NoMemory};
 
 use std::alloc::{AllocError, AllocFailed};

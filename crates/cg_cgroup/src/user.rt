@@ -15,7 +15,7 @@ pub struct Entry {
 }
 
 impl Entry {
-    /// The entry of what a user makes: it is his, and his primary group's, or group 0's where he has none.
+    /// The entry of what a user makes: it is theirs, and their primary group's, or group 0's where they have none.
     pub fn made_by(user: &User, mode: Mode) -> Entry
         ensures { result ≡ entry_made_by user.now mode }
     {
@@ -98,7 +98,7 @@ impl User {
         User::with_groups(uid, &[])
     }
 
-    /// A user who is in these groups, of which the first is his primary one; `None` for uid 0 or over 32 gids.
+    /// A user who is in these groups, of which the first is their primary one; `None` for uid 0 or over 32 gids.
     pub fn with_groups(uid: u32, gids: &[u32]) -> Option<User>
         ensures { result ≡ user_of uid gids.now }
     {
@@ -146,7 +146,7 @@ impl User {
         entry.uid == self.uid
     }
 
-    /// Whether the user writes an entry: the first of owner, group and others that he belongs to decides.
+    /// Whether the user writes an entry: the first of owner, group and others that they belong to decides.
     #[tactic(auto, unfolding(crate::specs::Users::writes))]
     pub fn may_write(&self, entry: &Entry) -> bool
         ensures { result ≡ writes self.now entry.now }

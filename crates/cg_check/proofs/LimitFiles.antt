@@ -173,7 +173,7 @@ module _ (st : State) (user : Identity) (subtree : Names) where
             (all-opens entries step (wider-all user st new first wider (opening-of_one st user subtree guarded))),
       )
 
-  -- a limit file that he reaches is written in the opened tree
+  -- a limit file that the user reaches is written in the opened tree
   file-open : (file : LimitFile) (entry : Entry) → entry_at st subtree (File file) ≡ Some entry → reaches user entry ≡ true
       → (now : Entry) × (entry_at (opened_state st user subtree) subtree (File file) ≡ Some now) × (writes user now ≡ true)
   file-open file entry is reached =

@@ -1,4 +1,4 @@
--- What a user may do he may still do where he writes more.
+-- What a user may do they may still do where they write more.
 use Rattle.std.proofs.Common.{◌≡◌, ℕ, zero, suc, ◌-◌, Bool, true, false, cond, not, ◌&&◌, ◌||◌, List, [], ◌∷◌, ◌++◌, length, take, refl, sym, ap, ◌∙◌, Option, Some, None, is_some, option_map, option_and_then, true≢false}
 use Rattle.std.specs.List.{list_any, flat_map}
 use Rattle.std.specs.FinMap as map

@@ -1,4 +1,4 @@
--- A user's opening leaves everything but modes, and what he wrote he writes still.
+-- A user's opening leaves everything but modes, and what they wrote they still write.
 use Rattle.std.proofs.Common.{◌≡◌, ℕ, Bool, true, false, cond, ◌&&◌, List, [], ◌∷◌, ◌++◌, refl, sym, ap, ◌∙◌, subst, Option, Some, option_map}
 use Rattle.std.proofs.lemmas.Bool.{and_parts}
 use Rattle.std.specs.List.{AllByRecursion}
@@ -35,7 +35,7 @@ pub record Stays (user : Identity) (old : Entry) (found : Option Entry) : Type 0
   pub owned : owns user now ≡ owns user old
   pub written : writes user old ≡ true → writes user now ≡ true
 
--- A state that differs in modes alone, in which the user writes at least what he wrote.
+-- A state that differs in modes alone, in which the user writes at least what they wrote before.
 pub record IsWider (user : Identity) (st new : State) : Type 0 where
   pub live : new.live ≡ st.live
   pub used : new.used ≡ st.used

@@ -21,7 +21,7 @@ all_take_memory (Ok all.Contained) = false
 all_take_memory (Ok (all.Pair user subtree answer)) = true
 all_take_memory (Err fault) = false
 
--- A call answers what is stated, or want of memory where that takes memory.
+-- A call answers what is stated, or that it is out of memory where that takes memory.
 abbrev pub Gives : {A : Type 0} → (Result A CheckFault → Bool) → Result A CheckFault → Result A CheckFault → Type 0
 Gives takes stated (Ok found) = stated ≡ Ok found
 Gives takes stated (Err RootSubtree) = stated ≡ Err RootSubtree

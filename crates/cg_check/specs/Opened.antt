@@ -18,6 +18,6 @@ is_free st user (op ∷ []) = allowed st user op
 is_free st user (Mkdir path ∷ op ∷ ops) = allowed st user (Mkdir path) && passes_at st user (parent path)
 is_free st user (other ∷ op ∷ ops) = false
 
--- the chmod by which the user comes to write a guarded entry, where he owns it and doesn't write it
+-- the chmod by which the user comes to write a guarded entry, where they own it and don't write it
 abbrev pub opening_chmod : Identity → Names → GuardedEntry → List Op
 opening_chmod user subtree at = cond (owns user at.entry && not (writes user at.entry)) (Chmod (take at.len subtree) at.name (opened at.entry.mode) ∷ []) []

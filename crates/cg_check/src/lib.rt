@@ -31,7 +31,7 @@ use cg_tree::hierarchy::Hierarchy;
 use escape::first_escape;
 use std::alloc::Global;
 
-/// Whether a subtree is contained against a user: against whatever he does, operation after operation.
+/// Whether a subtree is contained against a user: against whatever they do, operation after operation.
 ///
 /// # Errors
 /// `RootSubtree` where the subtree is the root, `NoSuchSubtree` where it isn't there, and `NoMemory` where an allocation
@@ -102,7 +102,7 @@ pub fn check_all_by<H: Hierarchy + Drop>(
     })
 }
 
-/// The users from the first on for whom a guard of one of some subtrees fails: those before him are contained in all of
+/// The users from the first on for whom a guard of one of some subtrees fails: those before them are contained in all of
 /// them. Each subtree is asked once for all users who are left, and nothing is allocated. Where all hold and the guarded
 /// entries have one owner, or the identities are known, the users are gone over once.
 pub fn from_first_unguarded<'a, H: Hierarchy>(

@@ -1,4 +1,4 @@
-//! The chmods by which a user comes to write what he owns.
+//! The chmods by which a user comes to write what they own.
 ghost use Rattle.std.specs.Prelude.{◌≡◌, ◌≤◌, ◌++◌, false, IfOk, OnOk, length};
 ghost use Rattle.cg_cgroup.specs.Paths.{is_root};
 ghost use Rattle.cg_model.specs.Tries.{opening};

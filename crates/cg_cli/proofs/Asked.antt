@@ -102,7 +102,7 @@ module _ (tree : Reading) (uid : ℕ) (gids subtree : List ℕ) where
       (subst (λ p. SaysOn p (λ path. SaysOn (tree_read tree) (λ st. says st user path)) said) (sym of_path)
       (subst (λ (t : Reading). SaysOn (tree_read t) (λ st. says st user path) said) (sym of_text) is))
 
-  -- a fault of the subtree, or want of memory
+  -- a fault of the subtree, or out of memory
   pub fault_said : (says : State → Identity → Names → Report → Type 0) (user : Identity) (path : Names) (st : State)
       → user_read uid gids ≡ Ok user → path_read subtree ≡ Ok path → tree ≡ Ok st
       → (said : Report) × says st user path said × (takes_memory said.ending ≡ true) → (fault : CheckFault)

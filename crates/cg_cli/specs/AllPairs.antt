@@ -61,7 +61,7 @@ read_then (Err fault) next = Err fault
 abbrev pub pairs_found : State → List Identity → List Names → Result (List Listed) CliFault
 pairs_found st users subtrees = in_call (unless_fault (first (flat_map (subtree_faults st) subtrees)) (listed st users subtrees))
 
--- All users are looked at first, each with his uid before his gids; then all paths, the tree's text, and whether the
+-- All users are looked at first, each with their uid before their gids; then all paths, the tree's text, and whether the
 -- subtrees are ones that can be checked. Who and what is named again counts once.
 abbrev pub all_report : Reading → List (ℕ × List ℕ) → List (List ℕ) → Result (List Listed) CliFault
 all_report tree given texts =
@@ -70,7 +70,7 @@ all_report tree given texts =
     read_then (tree_read tree) (λ st. pairs_found st (once same_user users) (once same_path subtrees))))
 
 -- What a call that writes one pair after another answers, and has written by then. A status is that of all pairs, whose
--- text is written. A failed write leaves a part of the text, and want of memory some of the pairs. Any other fault is the
+-- text is written. A failed write leaves a part of the text, and out of memory some of the pairs. Any other fault is the
 -- report's, and leaves nothing written.
 abbrev pub ReportsPairs : Result (List Listed) CliFault → Option (List ℕ) → Option (List ℕ) → Result ℕ CliFault → Type 0
 ReportsPairs (Ok pairs) old new (Ok status) = (pairs_status pairs ≡ status) × Appends old new (listing_text pairs)

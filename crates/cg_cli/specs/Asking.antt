@@ -26,7 +26,7 @@ abbrev pub read_takes_memory : {A : Type 0} → Result A CliFault → Bool
 read_takes_memory (Ok x) = true
 read_takes_memory (Err fault) = takes_memory (Err fault)
 
--- A fault that is met in reading: the first, or want of memory, which isn't met in place of a fault of a number.
+-- A fault that is met in reading: the first, or out of memory, which isn't met in place of a fault of a number.
 abbrev pub IsMet : {A : Type 0} → Result A CliFault → CliFault → Type 0
 IsMet read Write = ⊥
 IsMet read NoMemory = read_takes_memory read ≡ true

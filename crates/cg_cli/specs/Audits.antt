@@ -45,7 +45,7 @@ abbrev pub pairs_report : State → List Identity → List Names → Report
 pairs_report st users subtrees =
     report_on (in_call (all_checked st users subtrees)) (audit_answer_report users subtrees)
 
--- All users are looked at first, each with his uid before his gids; then all paths, the tree's text, and whether the
+-- All users are looked at first, each with their uid before their gids; then all paths, the tree's text, and whether the
 -- subtrees are ones that can be checked.
 abbrev pub audit_report : Reading → List (ℕ × List ℕ) → List (List ℕ) → Report
 audit_report tree given texts =

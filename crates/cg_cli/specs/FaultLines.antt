@@ -52,7 +52,7 @@ tree_fault_line fault = plain_line ((tree_fault_parts fault).0 ++ place_text (tr
 abbrev pub numbered_line : ℕ → List ℕ → List ℕ
 numbered_line number word = codes "fault: line " ++ spaced (decimal number) word ++ codes "\n"
 
--- want of memory is the call's, and names no line
+-- out of memory is the call's, and names no line
 abbrev pub operation_fault_line : ℕ → LineFault → List ℕ
 operation_fault_line number lines.TooLong = numbered_line number (codes "too-long")
 operation_fault_line number lines.BadWord = numbered_line number (codes "bad-word")

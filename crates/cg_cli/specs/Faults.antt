@@ -1,4 +1,4 @@
--- A fault of a part, as a fault of a call: want of memory stays want of memory. Own.
+-- A fault of a part, as a fault of a call: out of memory stays out of memory. Own.
 use Rattle.std.specs.Prelude.{ℕ}
 use Rattle.cg_cgroup.specs.declared.path.PathFault.{PathFault}
 use Rattle.cg_cgroup.specs.declared.path.PathFault.TheVariants.{BadPath as NoPath, NoMemory as PathNoMemory}

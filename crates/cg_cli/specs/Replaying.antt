@@ -32,7 +32,7 @@ HasFront report ops old new = (front : List ℕ) × (rest : List ℕ) × (ops �
 
 -- What a replay answers, and has written by then, where something may be said behind all lines. What it came to, or a fault
 -- of the lines, is the report's, whose text is written: the lines of the operations before the fault. A failed write leaves
--- a part of the text, want of memory whole lines.
+-- a part of the text, out of memory whole lines.
 abbrev pub Replays : {A : Type 0} → (Said Course → Said A) → Reporting → List ℕ → Option (List ℕ) → Option (List ℕ) → Result A CliFault → Type 0
 Replays close lines ops old new (Err Write) = AppendsPart old new (close (lines ops)).text
 Replays close lines ops old new (Err NoMemory) = HasFront lines ops old new

@@ -5,7 +5,7 @@ use Rattle.streams.specs.Written.{AppendsPart}
 use Rattle.cg_cli.specs.declared.fault.CliFault.{CliFault}
 use Rattle.cg_cli.specs.declared.fault.CliFault.TheVariants.{Uid, Gids, Pid, Write, NoMemory}
 
--- What is said, and what it came to or the first fault. Want of memory and failed writes stand outside.
+-- What is said, and what it came to or the first fault. Out of memory and failed writes stand outside.
 pub record Said (A : Type 0) : Type 0 where
   pub text : List ℕ
   pub ending : Result A CliFault
@@ -31,7 +31,7 @@ takes_memory (Err Pid) = false
 takes_memory _ = true
 
 -- What a call that writes its report at its end answers, and has written by then. A status is the report's, whose text is
--- written. A failed write leaves a part of the text. Any other fault leaves nothing written; all but want of memory are the
+-- written. A failed write leaves a part of the text. Any other fault leaves nothing written; all but out of memory are the
 -- report's.
 abbrev pub Reports : Report → Option (List ℕ) → Option (List ℕ) → Result ℕ CliFault → Type 0
 Reports report old new (Ok status) = (report.ending ≡ Ok status) × Appends old new report.text

@@ -20,7 +20,7 @@ pub record IsNewText (st : State) (text : List ℕ) : Type 0 where
   pub spelled : IsSpelled st text
   pub state : length text ≤ longest_text → IsTextOf st text
 
--- The text of the state that came is the report. Want of memory may come before there is one.
+-- The text of the state that came is the report. The call may be out of memory before there is one.
 pub record Upgrades (old new : Option (List ℕ)) (result : Result ℕ CliFault) (tree : Reading) : Type 0 where
   pub text : List ℕ
   pub written : (st : State) → tree ≡ Ok st → result ≢ Err NoMemory → IsNewText st text

@@ -8,7 +8,7 @@ use cg_cgroup::process::Pid;
 use cg_cgroup::user::User;
 use std::alloc::Global;
 
-/// A user as a call is given him: a uid, and gids of which the first is the primary one.
+/// A user as a call is given one: a uid, and gids of which the first is the primary one.
 #[derive(Clone, Copy, Debug, PartialEq, Eq)]
 pub struct UserIds<'a> {
     pub uid: u32,

@@ -17,7 +17,7 @@ use std::io::ErrorKind;
 use streams::write::WriteFailed;
 use thiserror::Error;
 
-/// Why a call gives no status. Want of memory in whatever part is `NoMemory`, and stands in no other fault.
+/// Why a call gives no status. Out of memory, in whatever part, is `NoMemory`, and stands in no other fault.
 #[derive(Clone, Copy, Debug, PartialEq, Eq, Error)]
 pub enum CliFault {
     #[error("a user's uid is 0")]
@@ -178,7 +178,7 @@ fn subtree_words(fault: CheckFault) -> &'static str
     }
 }
 
-/// The line of a fault of the operation line of that number. Want of memory is the call's.
+/// The line of a fault of the operation line of that number. Out of memory is the call's.
 fn operation_fault_line(alloc: Global, number: u32, fault: LineFault) -> Result<String, AllocError>
     ensures { IfOk result (λ line. string_bytes line ≡ operation_fault_line number fault) }
 {

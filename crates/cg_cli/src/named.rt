@@ -46,7 +46,7 @@ pub fn read_named(
     })
 }
 
-/// The users, each where he is named first, or the first fault of one, which takes no memory to find.
+/// The users, each where they are named first, or the first fault of one, which takes no memory to find.
 pub(crate) fn users_once(alloc: Global, users: &[UserIds<'_>]) -> Result<Vec<User>, CliFault>
     ensures read { MatchResult result
         (λ read. IsReadOnce same_user (users_read (map (λ user. (user.uid, user.gids.now)) users.now)) read.items)

@@ -102,7 +102,7 @@ fn fault_said<F: Files>(
     match fault {
         CliFault::Uid => plainly(
             alloc,
-            "uid 0 is root's, whom no owner and no mode keeps: he isn't checked",
+            "uid 0 is root's, whom no owner and no mode keeps: root isn't checked",
         ),
         CliFault::Gids => plainly(
             alloc,

@@ -14,7 +14,7 @@ ghost use Rattle.cg_laws.specs.Guarding.{AreUntouched, IsKept};
 ghost use Rattle.cg_model.specs.Strangers.{OpensGuarded};
 
 /// A step that leaves a subtree there, with its limits, leaves each entry on which a guard of it stands as it was, unless
-/// it is a chmod of one that is carried out. Whoever makes it, and whether the guards hold against him or not.
+/// it is a chmod of one that is carried out. Whoever makes it, and whether the guards hold against them or not.
 pub fn anyones_step()
     ensures { (st : State) (user : Identity) (subtree : Names) (op : Op)
         → IsWellFormed st → IsSubtree st subtree

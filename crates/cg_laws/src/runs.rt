@@ -18,7 +18,7 @@ ghost use Rattle.cg_model.specs.declared.verdict.Verdict.TheVariants.{Broken};
 /// The verdict on a run is kept exactly where at the start and after each step the subtree is there, its limits are those
 /// of the start and both its counts are within them, and no step takes a process over its edge. `IsHeldThroughout` says it
 /// of the run's states one by one, with no loop over steps and no order of clauses. So a subtree is contained against a
-/// user exactly where this is so over every list of his operations.
+/// user exactly where this is so over every list of their operations.
 pub fn held_is_every_state_and_step()
     ensures held { (st : State) (deeds : List Deed) (subtree : Names)
         → IsHeld st deeds subtree ↔ IsHeldThroughout st deeds subtree }
@@ -26,8 +26,8 @@ pub fn held_is_every_state_and_step()
         → IsContained st user subtree ↔ ((ops : List Op) → IsHeldThroughout st (by_user user ops) subtree) }
 {}
 
-/// Where the guards of a subtree hold for a user, it is contained against him: whatever he does, in whatever order, no
-/// step of his breaks it.
+/// Where the guards of a subtree hold for a user, it is contained against them: whatever they do, in whatever order, no
+/// step of theirs breaks it.
 pub fn guarded_is_contained()
     ensures { (st : State) (user : Identity) (subtree : Names)
         → IsWellFormed st → IsSubtree st subtree → GuardsHold st user subtree → IsContained st user subtree }

@@ -16,7 +16,7 @@ use Rattle.cg_lines.specs.declared.lines.fault.LineFault.{LineFault}
 use Rattle.cg_lines.specs.declared.lines.fault.LineFault.TheVariants as faults
 use Rattle.cg_cgroup.specs.Options.{◌>>=◌}
 
--- What a reader returned is what reading gives, want of memory aside: nothing is read exactly of a bad word.
+-- What a reader returned is what reading gives, out of memory aside: nothing is read exactly of a bad word.
 abbrev pub Fails : {Y : Type 0} → LineFault → Option Y → Type 0
 Fails faults.BadWord read = read ≡ None
 Fails faults.NoMemory read = Unit {0}

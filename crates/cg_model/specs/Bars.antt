@@ -116,13 +116,13 @@ set_bars st user at file value =
 
 -- ---- fork and exit
 
--- Own: a user ends his own processes alone.
+-- Own: a user ends their own processes alone.
 abbrev pub exit_bars : State → Identity → ℕ → List Refusal
 exit_bars st user pid =
     absent (owner_at st pid) (NoSuchProcess pid)
     ++ present (owner_at st pid) (λ uid. unless (nat_eq uid user.uid) (NotYours pid))
 
--- Own: he forks his own processes alone, as he ends them, and a PID is never used twice.
+-- Own: a user forks their own processes alone, as they end them, and a PID is never used twice.
 abbrev pub fork_bars : State → Identity → ℕ → ℕ → List Refusal
 fork_bars st user parent child = exit_bars st user parent ++ unless (not (is_used st child)) (PidUsed child)
 

@@ -1,4 +1,4 @@
--- Whether a user breaks a subtree by a list of operations, and the first of the tries by which he does.
+-- Whether a user breaks a subtree by a list of operations, and the first of the tries by which they do.
 use Rattle.std.specs.Prelude.{Bool, true, false, not, List, find, Option}
 use Rattle.cg_cgroup.specs.Paths.{Names}
 use Rattle.cg_cgroup.specs.Identity.{Identity}

@@ -59,7 +59,7 @@ guarded_entries subtree = ancestors (length subtree) ++ limit_files (length subt
 abbrev pub guarded_entry : State → Names → Guarded → Option Entry
 guarded_entry st subtree guarded = entry_at st (take guarded.len subtree) guarded.name
 
--- Own: the user reaches the entry, which is to say that he writes or owns it.
+-- Own: the user reaches the entry, which is to say that they write or own it.
 abbrev pub entry_failures : State → Identity → Names → Guarded → List Failed
 entry_failures st user subtree guarded =
     present (guarded_entry st subtree guarded) (λ entry. unless (not (reaches user entry)) (record { guard = guarded.guard; len = guarded.len }))

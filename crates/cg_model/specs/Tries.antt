@@ -87,7 +87,7 @@ plain_tries st subtree =
     ++ (Rmdir subtree ∷ []) ∷ (move_tries st subtree
     ++ probe_tries st subtree (length subtree)))
 
--- the chmod by which a user comes to write a guarded entry that he owns
+-- the chmod by which a user comes to write a guarded entry that they own
 abbrev pub opening_of : State → Identity → Names → Guarded → List Op
 opening_of st user subtree guarded =
     present (guarded_entry st subtree guarded) (λ entry.

@@ -8,13 +8,13 @@ use cg_cgroup::user::Entry;
 /// What containment of a subtree against a user stands on, in the order in which it is asked.
 #[derive(Clone, Copy, Debug, PartialEq, Eq)]
 pub enum Guard {
-    /// He neither writes nor owns the `cgroup.procs` of a proper ancestor of the subtree, the nearest first.
+    /// The user neither writes nor owns the `cgroup.procs` of a proper ancestor of the subtree, the nearest first.
     CommonAncestor,
-    /// He neither writes nor owns a limit file that stands at the subtree.
+    /// The user neither writes nor owns a limit file that stands at the subtree.
     LimitFile(LimitFile),
-    /// He neither writes nor owns the `cgroup.subtree_control` of the subtree's parent.
+    /// The user neither writes nor owns the `cgroup.subtree_control` of the subtree's parent.
     ParentControl,
-    /// He neither writes nor owns the directory of the subtree's parent.
+    /// The user neither writes nor owns the directory of the subtree's parent.
     ParentDir,
     /// The subtree is within its own limits of descendants and depth.
     AlreadyOver,

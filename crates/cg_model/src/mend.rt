@@ -2,7 +2,7 @@
 use cg_cgroup::files::{EntryName, Limit, LimitFile};
 use cg_cgroup::user::Mode;
 
-/// By what a user reaches an entry: the first class that he belongs to.
+/// By what a user reaches an entry: the first class that they belong to.
 #[derive(Clone, Copy, Debug, PartialEq, Eq)]
 pub enum Class {
     Owner,

@@ -40,7 +40,7 @@ pub fn refusal<H: Hierarchy>(tree: &H, user: &User, op: &Op) -> Option<Refusal>
 }
 
 /// Carries out an operation of a user where nothing refuses it. Where something does, or where it answers `NoMemory`,
-/// nothing has changed. Want of memory comes after all refusals, and only a move, a mkdir and a fork can meet it.
+/// nothing has changed. Out of memory comes after all refusals, and only a move, a mkdir and a fork can meet it.
 pub fn apply<H: Hierarchy>(
     alloc: Global,
     tree: &mut H,

@@ -16,7 +16,7 @@ abbrev pub gids_text : List ℕ → List ℕ
 gids_text [] = []
 gids_text (gid ∷ gids) = codes ":" ++ decimal gid ++ flat_map next_gid gids
 
--- A user as he is named on a command line: the uid, and where he is in groups a colon and their gids.
+-- A user as named on a command line: the uid, and where they are in groups a colon and the groups' gids.
 abbrev pub user_text : Identity → List ℕ
 user_text user = decimal user.uid ++ gids_text user.gids
 

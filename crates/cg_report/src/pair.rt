@@ -38,7 +38,7 @@ fn user_line(alloc: Global, user: &User, subtree: &Path) -> Result<String, Alloc
     Ok(line)
 }
 
-/// A user's uid, and where he is in groups a colon and their gids.
+/// A user's uid, and where they are in groups a colon and the groups' gids.
 fn user_text(alloc: Global, user: &User) -> Result<String, AllocError>
     ensures { IfOk result (λ text. string_bytes text ≡ user_text user.now) }
 {

@@ -91,7 +91,7 @@ pub trait Hierarchy {
         ensures { state self.new ≡ with_value (state self.old) path.now file value };
 
     /// Sets what a cgroup enables for its children, and makes and removes their limit files.
-    /// A file that stays is kept as it is; a new one belongs to the user and his primary group, or group 0.
+    /// A file that stays is kept as it is; a new one belongs to the user and their primary group, or group 0.
     fn set_enabled(&mut self, path: &Path, enabled: ControllerSet, user: &User)
         requires there { has_row (state self.old) path.now ≡ true }
         requires keeps { MayEnable (state self.old) path.now enabled }

@@ -1,5 +1,5 @@
 -- How an answer is found: nobody has to believe it.
--- Whether a user breaks a subtree by a list of operations, and the first of the tries by which he does.
+-- Whether a user breaks a subtree by a list of operations, and the first of the tries by which they do.
 use Rattle.std.specs.Prelude.{◌≡◌, []}
 use Rattle.cg_cgroup.specs.Paths.{Names}
 use Rattle.cg_model.specs.States.{State}

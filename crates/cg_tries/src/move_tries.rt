@@ -14,7 +14,7 @@ use cg_ops::moves::{may_hold, passes, passes_at};
 use cg_tree::hierarchy::Hierarchy;
 use std::alloc::Global;
 
-/// Whether the user writes the `cgroup.procs` of a proper ancestor: no move goes over the edge where he writes none.
+/// Whether the user writes the `cgroup.procs` of a proper ancestor: no move goes over the edge where they write none.
 pub fn passes_above<H: Hierarchy>(asker: &Asker<H>) -> bool
     ensures none { result ≡ false
         → (len : ℕ) → len < length asker.now.subtree.now

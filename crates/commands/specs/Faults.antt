@@ -22,7 +22,7 @@ abbrev pub WritesFront : List ℕ → Option (List ℕ) → Option (List ℕ) �
 WritesFront text old new = Appends old new text ⊎ AppendsPart old new text
 
 -- Whether a fault's line was written. A failed write leaves a part of it. Where there was no memory for the line, that of
--- want of memory takes its place.
+-- out of memory takes its place.
 abbrev pub Prints : Fault → Option (List ℕ) → Option (List ℕ) → Bool → Type 0
 Prints fault old new true = Appends old new (printed_line fault)
 Prints Usage old new false = AppendsPart old new (printed_line Usage)

@@ -34,7 +34,7 @@ impl Fault {
         }
     }
 
-    /// Writes the fault's line, or that of want of memory where there is none for it, and says whether its own was written.
+    /// Writes the fault's line, or that of out of memory where there is none for it, and says whether its own was written.
     /// Where even that fails there is nobody left to tell.
     pub fn print<W: Write>(self, alloc: Global, out: &mut W) -> bool
         ensures { Prints self (W.contents out.old) (W.contents out.new) result }

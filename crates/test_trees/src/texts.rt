@@ -1,6 +1,6 @@
 //! Tree texts.
 
-/// Two subtrees delegated to user 1000, as in the document's example: `/c0` and `/c1`, each with limits that aren't his.
+/// Two subtrees delegated to user 1000, as in the document's example: `/c0` and `/c1`, each with limits that aren't theirs.
 pub const DELEGATION: &[u8] = b"
 format = 1
 controllers = [\"cpu\", \"memory\", \"pids\"]

@@ -39,7 +39,7 @@ impl<T: Drop> From<AllocFailed<T>> for Stopped {
     }
 }
 
-/// Each of these faults is want of memory, or of other words.
+/// Each of these faults is out of memory, or of other words.
 macro_rules! stopped_by {
     ($($fault:ident),*) => {
         $(

@@ -1,7 +1,7 @@
 //! The calls over bytes.
 use crate::begin::Stopped;
 use crate::reader::Bytewise;
-use crate::said::{Said, wants_memory};
+use crate::said::{Said, is_out_of_memory};
 use crate::trial::{Ended, Trial};
 use crate::words::Words;
 use cg_cli::advise::advise_bytes;
@@ -151,7 +151,7 @@ pub fn reported(tree: &[u8], trial: &mut Trial<'_>) -> Ended {
     let mut text = Vec::with_capacity(alloc, ROOM)?;
     trial.begin()?;
     let ended = call.make(alloc, tree, &mut text);
-    let wanted = wants_memory(&ended);
+    let wanted = is_out_of_memory(&ended);
     match ended {
         Ok(status) => {
             text.extend_from_slice(format!(in alloc; "status {status}\n")?.as_bytes())?;

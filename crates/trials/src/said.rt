@@ -7,7 +7,7 @@ use std::fmt::Debug;
 /// What a call said.
 #[derive(Drop)]
 pub struct Said {
-    /// It wanted memory first, and was made again.
+    /// It was out of memory first, and was made again.
     pub wanted: bool,
     /// What was lent to it was then as before.
     pub kept: bool,
@@ -15,8 +15,8 @@ pub struct Said {
     pub text: Vec<u8>,
 }
 
-/// Whether a call wanted memory.
-pub fn wants_memory<T>(answered: &Result<T, CliFault>) -> bool {
+/// Whether a call was out of memory.
+pub fn is_out_of_memory<T>(answered: &Result<T, CliFault>) -> bool {
     match answered {
         Ok(_) => false,
         Err(fault) => *fault == CliFault::NoMemory,

@@ -120,7 +120,7 @@ const ALL_OTHERS_WRITE: Change = (
     "enabled = [\"memory\"]\n[cgroup.files]\n\"cgroup.procs\" = { uid = 1000, gid = 50, mode = 0o466 }\n",
 );
 
-/// Changes of the delegation, the groups of user 1000, and what is said of him and `/c0`.
+/// Changes of the delegation, the groups of user 1000, and what is said of them and `/c0`.
 const OF_GROUPS: [(&[Change], &[u32], &str, u8); 6] = [
     (&[FORMAT_2, GROUP_WRITES], &[], "contained\n", 0),
     (

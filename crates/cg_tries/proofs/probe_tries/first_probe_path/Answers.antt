@@ -5,7 +5,7 @@ use Rattle.cg_tries.proofs.probe_tries.first_probe_path.Given as given
 use Rattle.cg_tries.proofs.probe_tries.first_probe_path.Goals as goal
 use Rattle.cg_tries.proofs.probe_tries.first_probe_path.Goals.{In_ok-path}
 
--- an ancestor that he writes, and that limits let in
+-- an ancestor that the user writes, and that limits let in
 written : (g : given.Over) (c : In_ok-path g)
     → probe_path (g.H.Hierarchy.state c.args.asker.now.tree.now) c.args.asker.now.user.now c.args.asker.now.subtree.now (c.loop-len.len - 1)
     ≡ free_path (g.H.Hierarchy.state c.args.asker.now.tree.now) (take (c.loop-len.len - 1) c.args.asker.now.subtree.now)

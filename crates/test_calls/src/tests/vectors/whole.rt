@@ -72,7 +72,7 @@ fn with_memory(cgroup: Cgroup, memory_max: Limit) -> Cgroup {
     Cgroup { files, ..cgroup }
 }
 
-/// The cgroup with what is handed to user 1000 where a subtree is delegated to him.
+/// The cgroup with what is handed to user 1000 where a subtree is delegated to them.
 fn delegated(cgroup: Cgroup) -> Cgroup {
     Cgroup {
         dir: directory(1000),
