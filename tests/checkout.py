@@ -7,7 +7,7 @@ import sys
 import tempfile
 
 TOP = os.path.dirname(os.path.dirname(os.path.abspath(__file__)))
-FILES = ("zirofen", "tools/build", "tools/program.py", "tools/building.py", "tools/released", "gate/from_nothing", "gate/kit.py",
+FILES = ("zirofen", "tools/build", "tools/program.py", "tools/released", "gate/from_nothing", "gate/kit.py",
          "gate/crates.py")
 KIT = "some-kit logic 1"
 
@@ -85,11 +85,11 @@ class Checkout:
                                 PATH=f"{self.played}/tools:{os.environ['PATH']}")
         self.release(PROGRAM.replace("NAME", "released"))
 
-    def release(self, program, **changes):
-        """Writes release/ with the sums of what is there, and then some lines of its manifest otherwise."""
+    def release(self, program):
+        """Writes release/ with the sums of what is there."""
         write(f"{self.top}/release/zirofen", program, executable=True)
         lines = {"version": "0.3.1", "kit": KIT, "sources": self.sum_of_sources(),
-                 "program": hashlib.sha256(program.encode()).hexdigest(), **changes}
+                 "program": hashlib.sha256(program.encode()).hexdigest()}
         write(f"{self.top}/release/MANIFEST", "".join(f"{key} {value}\n" for key, value in lines.items()))
 
     def sum_of_sources(self):
@@ -97,30 +97,6 @@ class Checkout:
         how = {"env": {**os.environ, "PYTHONPATH": f"{self.top}/tools"}, "stdout": subprocess.PIPE, "text": True, "check": True}
         return subprocess.run(words, **how).stdout.strip()
 
-    def looked(self):
-        """What a choice in it rests on."""
-        return self.call("-c", '. "$1"; look "$2"', "look", f"{self.top}/zirofen", self.top, program="bash").stdout.rstrip("\n")
-
     def call(self, *words, program=None, cwd=None, **environment):
         return subprocess.run([program or f"{self.top}/zirofen", *words], input="given\n", text=True,
                               capture_output=True, cwd=cwd or self.room, env={**self.environment, **environment})
-
-    def build(self, *words, **environment):
-        return self.call(*words, program=f"{self.top}/tools/build", **environment)
-
-    def builds(self):
-        """How often the toolchain was started."""
-        path = f"{self.played}/starts"
-        return len(read(path).splitlines()) if os.path.exists(path) else 0
-
-    def change(self, path, text, seconds=0):
-        """Writes a source, whose time is then this many seconds from now."""
-        write(f"{self.top}/{path}", text)
-        at = os.stat(f"{self.top}/{path}").st_mtime + seconds
-        os.utime(f"{self.top}/{path}", (at, at))
-
-    def listed(self):
-        """All that is in the checkout, with times and modes, but for the choice, which is kept once the sources are a second old."""
-        return sorted((path, os.lstat(path).st_mtime_ns, os.lstat(path).st_mode)
-                      for at, folders, files in os.walk(self.top)
-                      for path in (os.path.join(at, name) for name in folders + files if name != ".chosen"))

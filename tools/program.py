@@ -1,19 +1,22 @@
-"""Which program answers for this checkout, for ./zirofen, tools/build and whoever measures or tests it.
+"""Which program answers for this checkout, and how one is proved and built: for ./zirofen, tools/build and whoever measures it.
 
 A program stands in a folder with a MANIFEST: its version, the toolchain that proved and built it, the sum of the sources that
-decide its bytes, and the sum of its bytes. Run by ./zirofen it chooses one, and builds one where none is of these sources.
+decide its bytes, and the sum of its bytes. Run by ./zirofen this chooses one, and builds one where none is of these sources.
 """
-import contextlib, hashlib, os, shutil, signal, subprocess, sys, tempfile, time
+import contextlib, hashlib, os, re, resource, shutil, signal, subprocess, sys, tempfile, time
 
 sys.dont_write_bytecode = True
 TOP = os.path.dirname(os.path.dirname(os.path.realpath(__file__)))
-sys.path[:0] = [f"{TOP}/gate", f"{TOP}/tools"]
-import crates
+sys.path[:0] = [f"{TOP}/gate"]
+import crates, kit
 
-NO_ANSWER = 70
-KEYS = ("version", "kit", "sources", "program")
-# goes on in the wrapper
+TRIED = [it.split(" ")[0] for it in kit.TRIED]
+ENDING = [signal.SIGINT, signal.SIGTERM, signal.SIGHUP, signal.SIGQUIT, signal.SIGPIPE]
+# what a toolchain says of how far it is, and of what it waits for
+SHOWN = re.compile(r"so far:|rt: (waiting|chose --jobs)")
+# a function of the wrapper
 IN_WRAPPER = ["bash", "-p", "-c", '. "$1"; "${@:2}"', "zirofen", f"{TOP}/zirofen"]
+HEARD = {"stdin": subprocess.DEVNULL, "stdout": subprocess.PIPE, "errors": "replace"}
 
 
 def say(text):
@@ -26,19 +29,17 @@ def sum_of(path):
         return hashlib.sha256(it.read()).hexdigest()
 
 
-def stop(error):
-    raise error
-
-
 def sum_of_sources():
-    """Returns the sum of what decides the program's bytes: src/ of the crates that it stands on, and their lines of crates.txt."""
-    lines = {name: line.partition("#")[0].rstrip("\n") for line, name, _ in crates.rows(TOP) if name}
-    names = crates.in_order(crates.read(TOP), "zirofen")
-    folders = [f"{TOP}/crates/{it}/src" for it in names]
-    files = {os.path.relpath(f"{at}/{it}", f"{TOP}/crates")
-             for folder in folders for at, _, found in os.walk(folder, onerror=stop) for it in found}
-    sums = [f"{sum_of(f'{TOP}/crates/{it}')}  {it}" for it in sorted(files, key=os.fsencode)]
-    return hashlib.sha256("".join(f"{it}\n" for it in [*(lines[it] for it in names), *sums]).encode()).hexdigest()
+    """Returns the sum of what decides the program's bytes, src/ of the crates that it stands on and their lines of crates.txt,
+    or nothing where that can't be read."""
+    with contextlib.suppress(OSError, ValueError):
+        lines = {name: line.partition("#")[0].rstrip("\n") for line, name, _ in crates.rows(TOP) if name}
+        names = crates.in_order(crates.read(TOP), "zirofen")
+        files = {os.path.relpath(f"{at}/{it}", f"{TOP}/crates")
+                 for name in names for at, _, found in os.walk(f"{TOP}/crates/{name}/src") for it in found}
+        sums = [f"{sum_of(f'{TOP}/crates/{it}')}  {it}" for it in sorted(files, key=os.fsencode)]
+        return hashlib.sha256("".join(f"{it}\n" for it in [*(lines[it] for it in names), *sums]).encode()).hexdigest()
+    return ""
 
 
 class Program:
@@ -55,9 +56,6 @@ class Program:
     def says(self, key):
         return dict(line.partition(" ")[::2] for line in self.text().splitlines()).get(key, "").strip()
 
-    def is_of(self, sources):
-        return self.says("sources") == sources
-
     def unfit(self):
         """Returns what keeps it from answering here, or nothing."""
         if not os.path.isfile(self.path):
@@ -67,83 +65,151 @@ class Program:
         if not os.access(self.path, os.X_OK):
             return "it can't be executed: its run bit is lost, or the file system is mounted without execution"
         try:
-            how = {"stdin": subprocess.DEVNULL, "stdout": subprocess.PIPE, "stderr": subprocess.STDOUT, "errors": "replace"}
-            ran = subprocess.run([self.path, "--version"], **how)
+            ran = subprocess.run([self.path, "--version"], stderr=subprocess.STDOUT, **HEARD)
         except OSError as error:
             return f"it doesn't run here: {error.strerror}"
-        said = (ran.stdout.splitlines() or ["it wrote nothing"])[0]
-        if (ran.returncode, ran.stdout) != (0, f"zirofen {self.says('version')}\n"):
-            return f"it doesn't run here, and ended with status {ran.returncode}: {said}"
-        return ""
-
-    def write_manifest(self, *values):
-        with open(self.manifest, "w", encoding="utf-8") as out:
-            out.write(manifest_of(*values))
-
-
-def manifest_of(*values):
-    return "".join(f"{key} {value}\n" for key, value in zip(KEYS, values))
+        if (ran.returncode, ran.stdout) == (0, f"zirofen {self.says('version')}\n"):
+            return ""
+        return f"it doesn't run here, and ended with status {ran.returncode}: {(ran.stdout or 'it wrote nothing').splitlines()[0]}"
 
 
 BUILT, RELEASED = Program("crates/zirofen/out"), Program("release")
 
 
+def manifest_of(program, version, kit, sources):
+    return f"version {version}\nkit {kit}\nsources {sources}\nprogram {sum_of(program.path)}\n"
+
+
 def of_sources(sources=None):
     """Returns the program that is of the sources and answers here: the built one, else the released one, else none."""
     sources = sources or sum_of_sources()
-    return next((it for it in (BUILT, RELEASED) if it.is_of(sources) and not it.unfit()), None)
-
-
-def look():
-    return subprocess.run([*IN_WRAPPER, "look", TOP], stdout=subprocess.PIPE, text=True, errors="replace").stdout.rstrip("\n")
-
-
-def note(chosen, seen, began):
-    """Keeps what was chosen by what was seen, in a checkout of whoever runs this. What was changed within the second before that
-    could be changed again without a trace, and is looked at anew."""
-    newest = max((int(line.partition(".")[0]) for line in seen.splitlines()), default=began)
-    if os.stat(TOP).st_uid == os.geteuid() and os.access(TOP, os.W_OK) and newest < began - 1 and look() == seen:
-        with contextlib.suppress(OSError):
-            with tempfile.NamedTemporaryFile("w", prefix=".chosen.", dir=TOP, delete=False) as out:
-                out.write(f"{chosen.folder}\nzirofen {chosen.says('version')}\n{seen}")
-            os.replace(out.name, f"{TOP}/.chosen")
+    return next((it for it in (BUILT, RELEASED) if sources and it.says("sources") == sources and not it.unfit()), None)
 
 
 def choose():
-    """Returns the program that ./zirofen runs, or says why there is none."""
-    began, seen = int(time.time()), look()
-    try:
-        sources = sum_of_sources()
-    except (OSError, ValueError):
-        sources = "that can't be read"
+    """Returns the program that ./zirofen runs, or says why there is none. It is noted by what was seen before it was chosen, in a
+    checkout of whoever runs this. What was changed within the second before could be changed again without a trace."""
+    began, seen = int(time.time()), subprocess.run([*IN_WRAPPER, "look", TOP], **HEARD).stdout.rstrip("\n")
+    sources = sum_of_sources()
     chosen = of_sources(sources)
     if chosen:
-        note(chosen, seen, began)
-        return chosen
-    if RELEASED.is_of(sources):
+        newest = max(map(int, re.findall(r"^(\d+)\.\d+ \d+ ", seen, re.M)), default=began)
+        if os.stat(TOP).st_uid == os.geteuid() and newest < began - 1:
+            with contextlib.suppress(OSError):
+                with tempfile.NamedTemporaryFile("w", prefix=".chosen.", dir=TOP, delete=False) as out:
+                    out.write(f"{chosen.folder}\nzirofen {chosen.says('version')}\n{seen}")
+                os.replace(out.name, f"{TOP}/.chosen")
+    elif sources and RELEASED.says("sources") == sources:
         say(f"the released program of these sources can't answer: {RELEASED.unfit()}. tools/build makes one here, with the toolchain")
-        return None
-    say("a source of this checkout isn't the released program's, whose MANIFEST has another sum")
-    import building
-    if not building.build():
-        return None
-    if BUILT.unfit():
-        say(f"what was built can't answer: {BUILT.unfit()}")
-        return None
-    return BUILT
+    else:
+        say("a source of this checkout isn't the released program's, whose MANIFEST has another sum")
+        chosen = BUILT if build() else None
+    return chosen
 
 
-def main():
-    # as they were: Python takes two for itself
-    for number in (signal.SIGINT, signal.SIGPIPE):
-        if number != signal.SIGINT or signal.getsignal(number) is signal.default_int_handler:
-            signal.signal(number, signal.SIG_DFL)
-    chosen = choose()
-    if not chosen:
-        sys.exit(NO_ANSWER)
-    os.execv(shutil.which("bash"), [*IN_WRAPPER, "run", chosen.path, *sys.argv[1:]])
+def toolchain():
+    with contextlib.suppress(OSError):
+        return subprocess.run(["rt", "version"], **HEARD).stdout.strip()
+    return ""
+
+
+def hinders():
+    """Returns why a build can't begin, or nothing, and says which toolchain it is where that isn't the released program's."""
+    wanted = RELEASED.says("kit")
+    if not shutil.which("rt"):
+        return f"not built: there is no rt on the PATH. To prove and build takes the toolchain {wanted or ' or '.join(TRIED)}"
+    if not os.access(f"{TOP}/crates/zirofen", os.W_OK):
+        return f"not built: {TOP}/crates/zirofen can't be written. Build where it can, or copy an executable that is built"
+    if not sum_of_sources():
+        return "not built: the sources can't be read"
+    if wanted not in ("", toolchain()):
+        say(f"this toolchain is {toolchain()}, and the released program is of {wanted}; {' and '.join(TRIED)} were tried")
+    return ""
+
+
+def interrupt(number, _):
+    for it in ENDING:
+        signal.signal(it, signal.SIG_IGN)
+    raise KeyboardInterrupt(number)
+
+
+def run_toolchain(room):
+    """Proves and builds, and passes on how far that is; returns what hindered it, or nothing. The toolchain's own run takes what
+    earlier checks kept; it runs the program on --help, so its status tells whether that was built."""
+    words, at = [f"{TOP}/gate/from_nothing", "zirofen"], TOP
+    if subprocess.run([words[0], "--is-best", words[1]], cwd=TOP, stderr=subprocess.DEVNULL, **HEARD).returncode:
+        words, at = ["rt", "run", "--", "--help"], f"{TOP}/crates/zirofen"
+    # in a session of its own, so that all of it can be ended and stopped
+    ran = subprocess.Popen(words, cwd=at, env={**os.environ, "TMPDIR": room}, start_new_session=True, stderr=subprocess.STDOUT, **HEARD)
+
+    def pass_on(*numbers):
+        with contextlib.suppress(ProcessLookupError):
+            for number in numbers:
+                os.killpg(ran.pid, number)
+
+    def stop(*_):
+        pass_on(signal.SIGSTOP)
+        os.kill(os.getpid(), signal.SIGSTOP)
+        pass_on(signal.SIGCONT)
+
+    signal.signal(signal.SIGTSTP, stop)
+    said = []
+    try:
+        for line in ran.stdout:
+            said.append(line)
+            if SHOWN.match(line):
+                print(line, end="", file=sys.stderr, flush=True)
+        if ran.wait() == 0:
+            return ""
+        print("".join(said), end="", file=sys.stderr, flush=True)
+        return f"not built. It needs the toolchain {RELEASED.says('kit')}, and this is {toolchain()}"
+    finally:
+        signal.signal(signal.SIGTSTP, signal.SIG_DFL)
+        pass_on(signal.SIGTERM, signal.SIGCONT)
+        ran.wait()
+
+
+def keep_built(sources):
+    """Writes the manifest of what was built from the sources with that sum; returns why it can't answer for them, or nothing."""
+    if sum_of_sources() != sources:
+        return "not built: a source was changed meanwhile. Build again"
+    with contextlib.suppress(OSError):
+        version = subprocess.run([BUILT.path, "--version"], **HEARD).stdout.rpartition(" ")[2].strip()
+        with open(BUILT.manifest, "w", encoding="utf-8") as out:
+            out.write(manifest_of(BUILT, version, toolchain(), sources))
+    return BUILT.unfit() and f"what was built can't answer: {BUILT.unfit()}"
+
+
+def build():
+    """Proves and builds the program, and returns whether that is done. A signal ends it, and then the caller by that signal. What is
+    left of a build that failed has no manifest with its sum, and is no program."""
+    why, sources = hinders(), sum_of_sources()
+    if not why:
+        say("proving and building; from nothing this took 23 minutes on 4 cores, and 3 GB of memory")
+        before = {it: signal.signal(it, interrupt) for it in ENDING}
+        try:
+            with tempfile.TemporaryDirectory(ignore_cleanup_errors=True) as room:
+                # the gate runs programs as nobody, who has to reach them
+                os.chmod(room, 0o711)
+                why = run_toolchain(room) or keep_built(sources)
+        except KeyboardInterrupt as it:
+            say("interrupted, and not built")
+            resource.setrlimit(resource.RLIMIT_CORE, (0, 0))
+            signal.signal(it.args[0], signal.SIG_DFL)
+            os.kill(os.getpid(), it.args[0])
+        for number, was in before.items():
+            signal.signal(number, was)
+    if why:
+        say(why)
+    return not why
 
 
 if __name__ == "__main__":
-    sys.modules["program"] = sys.modules["__main__"]
-    main()
+    # as they were: Python takes two for itself
+    signal.signal(signal.SIGPIPE, signal.SIG_DFL)
+    if signal.getsignal(signal.SIGINT) is signal.default_int_handler:
+        signal.signal(signal.SIGINT, signal.SIG_DFL)
+    program = choose()
+    if not program:
+        sys.exit(70)
+    os.execv(shutil.which("bash"), [*IN_WRAPPER, "run", program.path, *sys.argv[1:]])
