@@ -217,16 +217,21 @@ def epolls(place, ready, options):
     signal.pause()
 
 
-def many_at_0666(place, ready, options):
-    """Many cgroups of one's own, each with all its files open to everybody."""
+def many_with(place, ready, options, mode_of):
+    """Many cgroups of one's own, with a mode for each file by its place in a cgroup, and by that cgroup's."""
     enable_all(place, place.of(HOSTILE))
     made(place, options.cgroups)
     for number in range(options.cgroups):
         folder = f"{place.of(HOSTILE)}/c{number}"
-        for file in os.listdir(folder):
-            os.chmod(f"{folder}/{file}", 0o666)
+        for at, file in enumerate(sorted(os.listdir(folder))):
+            os.chmod(f"{folder}/{file}", mode_of(number, at))
     ready()
     signal.pause()
+
+
+def many_at_0666(place, ready, options):
+    """Many cgroups, each with all its files open to everybody."""
+    many_with(place, ready, options, lambda number, at: 0o666)
 
 
 def a_chain_at_0666(place, ready, options):
@@ -244,14 +249,7 @@ def a_chain_at_0666(place, ready, options):
 
 def modes(place, ready, options):
     """Many cgroups, each open in another way, so that none are alike."""
-    enable_all(place, place.of(HOSTILE))
-    made(place, options.cgroups)
-    for number in range(options.cgroups):
-        folder = f"{place.of(HOSTILE)}/c{number}"
-        for at, file in enumerate(sorted(os.listdir(folder))):
-            os.chmod(f"{folder}/{file}", (number * 7 + at) % 512 | 0o602)
-    ready()
-    signal.pause()
+    many_with(place, ready, options, lambda number, at: (number * 7 + at) % 512 | 0o602)
 
 
 def marks(place, ready, options):

@@ -20,14 +20,15 @@ from zirofen_host.options import PlanOptions
 from zirofen_host.show import plan_lines
 
 DELEGATION = f"{TOP}/examples/delegation.toml"
-TREE = """format = 2
+ROOT = """format = 2
 controllers = ["cpu", "memory", "pids"]
 
 [[cgroup]]
 path = "/"
 enabled = ["memory", "pids"]
 
-[[cgroup]]
+"""
+TREE = ROOT + """[[cgroup]]
 path = "/a"
 enabled = ["memory"]
 [cgroup.files]

@@ -8,7 +8,7 @@ from dataclasses import replace
 
 from check_test import REAL_PROGRAM
 from made_up import COMMAND, TOP, path_of
-from plan_test import snapshot_of
+from plan_test import ROOT, snapshot_of
 from zirofen_host.collect import changes
 from zirofen_host.collect.model import Account, AccountLists, Carried, Entry, Group, Source
 from zirofen_host.collect.unit_files import FOLDERS, UnitName, read_units, specifiers
@@ -17,14 +17,7 @@ from zirofen_host.fault import Fault
 from zirofen_host.judge import units
 
 ACCOUNTS = AccountLists((Account("root", 0, 0), Account("app", 900, 901), Account("taken", 61184, 61184)), (Group(77, (), "ops"),))
-TREE = """format = 2
-controllers = ["cpu", "memory", "pids"]
-
-[[cgroup]]
-path = "/"
-enabled = ["memory", "pids"]
-
-[[cgroup]]
+TREE = ROOT + """[[cgroup]]
 path = "/system.slice"
 enabled = ["memory", "pids"]
 
