@@ -97,7 +97,7 @@ def choose():
         if os.stat(TOP).st_uid == os.geteuid() and newest < began - 1:
             with contextlib.suppress(OSError):
                 with tempfile.NamedTemporaryFile("w", prefix=".chosen.", dir=TOP, delete=False) as out:
-                    out.write(f"{chosen.folder}\nzirofen {chosen.says('version')}\n{seen}")
+                    out.write(f"{chosen.folder}\n{seen}")
                 os.replace(out.name, f"{TOP}/.chosen")
     elif sources and RELEASED.says("sources") == sources:
         say(f"the released program of these sources can't answer: {RELEASED.unfit()}. tools/build makes one here, with the toolchain")
