@@ -1,1 +1,3 @@
 pub mod LevelBars
+mod FirstOfMapped
+mod ChangesLeft

@@ -43,14 +43,11 @@ fn changes_refusal<H: Hierarchy>(
     requires { row_at (H.state tree.now) at.now ≡ Some cgroup.now }
     ensures { result ≡ first (changes_bars (H.state tree.now) at.now changes.now cgroup.now) }
 {
-    if let Some(refusal) = change_refusal(tree, at, cgroup, Controller::Cpu, changes) {
-        return Some(refusal);
-    }
-    if let Some(refusal) = change_refusal(tree, at, cgroup, Controller::Memory, changes) {
-        return Some(refusal);
-    }
-    if let Some(refusal) = change_refusal(tree, at, cgroup, Controller::Pids, changes) {
-        return Some(refusal);
+    for controller in &Controller::ALL {
+        let refusal = change_refusal(tree, at, cgroup, *controller, changes);
+        if refusal.is_some() {
+            return refusal;
+        }
     }
     if !may_enable_new(tree, at, cgroup, changes) {
         return Some(Refusal::InternalProcess { len: at.depth() });

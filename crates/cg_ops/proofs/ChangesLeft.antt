@@ -1,0 +1,24 @@
+-- The refusals of the changes of controllers, one controller after another.
+use Rattle.std.proofs.Common.{ℕ, List, Option, length}
+use Rattle.cg_cgroup.specs.Paths.{Names}
+use Rattle.cg_cgroup.specs.Kinds.{all_controllers}
+use Rattle.cg_cgroup.specs.declared.cgroup.Cgroup.{Cgroup}
+use Rattle.cg_cgroup.specs.declared.files.Controller.{Controller}
+use Rattle.cg_model.specs.States.{State}
+use Rattle.cg_model.specs.Changes.{effective}
+use Rattle.cg_model.specs.Clauses.{unless}
+use Rattle.cg_model.specs.Bars.{change_bars, may_enable_new}
+use Rattle.cg_model.specs.declared.changes.Change.{Change}
+use Rattle.cg_model.specs.declared.outcome.Refusal.{Refusal}
+use Rattle.cg_model.specs.declared.outcome.Refusal.TheVariants.{InternalProcess}
+use Rattle.cg_ops.proofs.FirstOfMapped.{from_place}
+
+module _ (st : State) (at : Names) (changes : List Change) (row : Cgroup) where
+  abbrev pub barred_by : Controller → List Refusal
+  barred_by controller = change_bars st at row controller (effective changes controller)
+
+  abbrev pub internal : List Refusal
+  internal = unless (may_enable_new st at row changes) (InternalProcess (length at))
+
+  abbrev pub refusal_from : ℕ → Option Refusal
+  refusal_from place = from_place barred_by internal all_controllers place
