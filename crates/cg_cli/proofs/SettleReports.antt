@@ -78,8 +78,10 @@ module _ (st : State) (user : Identity) (subtree : Names) where
   goes_further formed sub Contained found is = is
   goes_further formed sub (Escapes ops) found is = is
   goes_further formed sub (Unsettled failed) Contained is = contained-row st user subtree formed sub is
-  goes_further formed sub (Unsettled failed) (Escapes ops) is =
-      λ held. let same : Broken (length ops) is.1.broken.0 ≡ Kept = sym is.1.broken.1 ∙ held in let never : ⊥ = cc in absurd never
+  goes_further formed sub (Unsettled failed) (Escapes ops) is = (
+    is.1.lines,
+    λ held. let same : Broken (length ops) is.1.broken.0 ≡ Kept = sym is.1.broken.1 ∙ held in let never : ⊥ = cc in absurd never,
+  )
   goes_further formed sub (Unsettled failed) (Unsettled other) is = ap Unsettled is.1
 
   unfaulted : (fault : Option CheckFault) (stated given : Answer) → in_call (unless_fault fault stated) ≡ Ok given → fault ≡ None

@@ -8,6 +8,7 @@ use Rattle.cg_model.specs.Checks.{checked}
 use Rattle.cg_model.specs.declared.answer.Answer.{Answer}
 use Rattle.cg_model.specs.declared.answer.Answer.TheVariants.{Contained, Escapes, Unsettled}
 use Rattle.cg_format.specs.Readings.{Reading}
+use Rattle.cg_lines.specs.OperationLines.{HaveLines}
 use Rattle.cg_cli.specs.Arguments.{user_read, path_read}
 use Rattle.cg_cli.specs.May.{tree_read}
 use Rattle.cg_cli.specs.Containment.{in_call, answer_report}
@@ -36,8 +37,9 @@ FurtherSays follows st user subtree =
     SaysOn (in_call (checked st user subtree))
     (λ given said. (found : Answer) × follows st user subtree given found × (said ≡ answer_report subtree found))
 
--- What check answers; but where that is unsettled, contained where the subtree is, or a list that breaks it.
+-- What check answers; but where that is unsettled, contained where the subtree is, or a list that breaks it, whose lines can
+-- be replayed.
 abbrev pub IsFurther : State → Identity → Names → Answer → Answer → Type 0
 IsFurther st user subtree (Unsettled failed) Contained = IsContained st user subtree
-IsFurther st user subtree (Unsettled failed) (Escapes ops) = ¬ (IsHeld st (by_user user ops) subtree)
+IsFurther st user subtree (Unsettled failed) (Escapes ops) = HaveLines ops × ¬ (IsHeld st (by_user user ops) subtree)
 IsFurther st user subtree given found = found ≡ given

@@ -40,11 +40,11 @@ use Rattle.cg_model.specs.Answers.{answer}
 use Rattle.cg_model.specs.declared.answer.Answer.TheVariants.{Escapes}
 use Rattle.cg_model.proofs.Lists.{all-append, all-flat_map, all-present, all-each, find-all}
 use Rattle.cg_check.proofs.AnswerLaws.{found-escape}
-use Rattle.cg_lines.specs.OperationLines.{IsInRange, IsLimitInRange}
+use Rattle.cg_lines.specs.OperationLines.{IsInRange, IsLimitInRange, HasLine, HaveLines}
 use Rattle.cg_lines.specs.LineLengths.{HasFewChanges}
 use Rattle.cg_lines.proofs.LineLengths.{line_length}
 use Rattle.cg_report.proofs.Shown.{all_flat}
-use Rattle.cg_escapes.specs.EscapeLines.{IsNamed, HasLine, HaveLines}
+use Rattle.cg_escapes.specs.EscapeLines.{IsNamed}
 
 -- ---- lists
 

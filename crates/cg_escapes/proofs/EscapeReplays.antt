@@ -29,13 +29,12 @@ use Rattle.cg_model.specs.Checks.{subtree_faults, unless_fault, checked}
 use Rattle.cg_model.specs.declared.answer.Answer.{Answer}
 use Rattle.cg_model.specs.declared.answer.Answer.TheVariants.{Contained, Escapes, Unsettled}
 use Rattle.cg_check.proofs.AnswerLaws.{escape-broken}
-use Rattle.cg_lines.specs.OperationLines.{spelling}
+use Rattle.cg_lines.specs.OperationLines.{spelling, HasLine, HaveLines}
 use Rattle.cg_lines.specs.Outcomes.{path_of, refusal_text, outcome_text}
 use Rattle.cg_lines.proofs.LineLaws.{line_again}
 use Rattle.cg_lines.proofs.LineLengths.{one_line}
 use Rattle.cg_report.specs.AnswerLines.{op_lines}
 use Rattle.cg_report.specs.VerdictLines.{verdict_text}
-use Rattle.cg_escapes.specs.EscapeLines.{HasLine, HaveLines}
 use Rattle.cg_escapes.proofs.EscapeLines.{escape_lines}
 use Rattle.cg_format.specs.Readings.{Reading, IsReading}
 use Rattle.cg_format.specs.TextOf.{IsTextOf}

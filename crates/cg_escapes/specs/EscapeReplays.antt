@@ -9,9 +9,9 @@ use Rattle.cg_model.specs.declared.verdict.Clause.{Clause}
 use Rattle.cg_model.specs.declared.verdict.Verdict.TheVariants.{Broken}
 use Rattle.cg_model.specs.Answers.{answer}
 use Rattle.cg_model.specs.declared.answer.Answer.TheVariants.{Escapes}
+use Rattle.cg_lines.specs.OperationLines.{HaveLines}
 use Rattle.cg_report.specs.AnswerLines.{op_lines}
 use Rattle.cg_report.specs.VerdictLines.{verdict_text}
-use Rattle.cg_escapes.specs.EscapeLines.{HaveLines}
 use Rattle.cg_format.specs.Readings.{Reading}
 use Rattle.cg_cli.specs.Reports.{Report}
 use Rattle.cg_cli.specs.Containment.{check_report}

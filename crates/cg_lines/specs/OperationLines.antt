@@ -1,6 +1,6 @@
 -- Operation lines: the words of each operation, with one space between them. Own.
-use Rattle.std.specs.Prelude.{◌≡◌, ℕ, ◌+◌, ◌/◌, ◌%◌, ◌^◌, ◌<◌, true, cond, List, [], ◌∷◌, map, codes}
-use Rattle.std.specs.List.{join_with_byte}
+use Rattle.std.specs.Prelude.{◌≡◌, ℕ, ◌+◌, ◌/◌, ◌%◌, ◌^◌, ◌<◌, ◌≤◌, true, cond, List, [], ◌∷◌, length, map, codes}
+use Rattle.std.specs.List.{AllByRecursion, join_with_byte}
 use Rattle.std.specs.Fmt.{decimal}
 use Rattle.cg_cgroup.specs.Paths.{path_text, IsPath}
 use Rattle.cg_cgroup.specs.Numbers.{is_pid, is_mode}
@@ -52,3 +52,11 @@ IsInRange (Set at file value) = IsPath at × IsLimitInRange value
 IsInRange (Fork parent child) = (is_pid parent ≡ true) × (is_pid child ≡ true)
 IsInRange (Exit pid) = is_pid pid ≡ true
 IsInRange (Chmod at entry mode) = IsPath at × (is_mode mode ≡ true)
+
+-- The operation can be held, and its line isn't too long to be read again.
+abbrev pub HasLine : Op → Type 0
+HasLine op = IsInRange op × (length (spelling op) ≤ 8192)
+
+-- Each operation has a line, and there are fewer than a replay takes.
+abbrev pub HaveLines : List Op → Type 0
+HaveLines ops = AllByRecursion HasLine ops × (length ops < 65536)

@@ -3,9 +3,11 @@ mod fault;
 pub mod laws;
 mod operations;
 mod read;
+mod short;
 mod words;
 mod write;
 
 pub use fault::LineFault;
 pub use read::{LONGEST_LINE, read_op};
+pub use short::has_short_line;
 pub use write::op_text;

@@ -14,7 +14,7 @@ use Rattle.cg_model.specs.declared.operation.Op.{Op}
 use Rattle.cg_model.specs.declared.outcome.Refusal.{Refusal}
 use Rattle.cg_model.specs.declared.verdict.Clause.{Clause}
 use Rattle.cg_model.specs.declared.verdict.Verdict.TheVariants.{Broken}
-use Rattle.cg_lines.specs.LineLengths.{HasFewChanges}
+use Rattle.cg_lines.specs.OperationLines.{HasLine}
 use Rattle.cg_runs.specs.Replays.{IsRunOf}
 use Rattle.cg_runs.proofs.ReplayLaws.{run-stepped}
 use Rattle.cg_plans.specs.Breaking.{AreAllowed, Breaks}
@@ -35,12 +35,12 @@ allowed-more : (st : State) (user : Identity) (ops : List Op) (op : Op) → AreA
 allowed-more st user [] op all free = (free, tt)
 allowed-more st user (first ∷ ops) op all free = (all.0, allowed-more (after st user first) user ops op all.1 free)
 
-lines-more : (ops : List Op) (op : Op) → AllByRecursion HasFewChanges ops → HasFewChanges op → AllByRecursion HasFewChanges (ops ++ op ∷ [])
+lines-more : (ops : List Op) (op : Op) → AllByRecursion HasLine ops → HasLine op → AllByRecursion HasLine (ops ++ op ∷ [])
 lines-more [] op all has = (has, tt)
 lines-more (first ∷ ops) op all has = (all.0, lines-more ops op all.1 has)
 
 pub follows-more : (start : State) (user : Identity) (subtree : Names) (run : Progress) (ops : List Op) (op : Op)
-    → Follows start user subtree run ops → first (bars run.state user op) ≡ None → HasFewChanges op
+    → Follows start user subtree run ops → first (bars run.state user op) ≡ None → HasLine op
     → Follows start user subtree (stepped run user op) (ops ++ op ∷ [])
 follows-more start user subtree run ops op at free has = record {
   of = at.of;
@@ -62,6 +62,5 @@ pub follows-breaks : (start : State) (user : Identity) (subtree : Names) (run : 
 follows-breaks start user subtree run ops clause at broken few = record {
   allowed = at.allowed;
   broken = (clause, ap (verdict start (by_user user ops)) (sym at.of) ∙ sym at.follows.verdict ∙ broken);
-  few = few;
-  lines = at.lines;
+  lines = (at.lines, few);
 }

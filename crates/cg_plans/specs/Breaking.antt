@@ -1,7 +1,6 @@
 -- What laws beside the theorems speak of: nobody has to believe it.
 -- What is known of a list that was replayed.
-use Rattle.std.specs.Prelude.{◌≡◌, ◌<◌, List, [], ◌∷◌, length}
-use Rattle.std.specs.List.{AllByRecursion}
+use Rattle.std.specs.Prelude.{◌≡◌, List, [], ◌∷◌, length}
 use Rattle.cg_cgroup.specs.Paths.{Names}
 use Rattle.cg_cgroup.specs.Identity.{Identity}
 use Rattle.cg_model.specs.States.{State}
@@ -12,7 +11,7 @@ use Rattle.cg_model.specs.Held.{by_user}
 use Rattle.cg_model.specs.declared.operation.Op.{Op}
 use Rattle.cg_model.specs.declared.verdict.Clause.{Clause}
 use Rattle.cg_model.specs.declared.verdict.Verdict.TheVariants.{Broken}
-use Rattle.cg_lines.specs.LineLengths.{HasFewChanges}
+use Rattle.cg_lines.specs.OperationLines.{HaveLines}
 
 -- Nothing bars any of the operations, one after another.
 abbrev pub AreAllowed : State → Identity → List Op → Type 0
@@ -23,5 +22,4 @@ AreAllowed st user (op ∷ ops) = (bars st user op ≡ []) × AreAllowed (after 
 pub record Breaks (st : State) (user : Identity) (subtree : Names) (ops : List Op) : Type 0 where
   pub allowed : AreAllowed st user ops
   pub broken : (clause : Clause) × (verdict st (by_user user ops) subtree ≡ Broken (length ops) clause)
-  pub few : length ops < 65536
-  pub lines : AllByRecursion HasFewChanges ops
+  pub lines : HaveLines ops

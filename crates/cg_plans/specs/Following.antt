@@ -8,7 +8,7 @@ use Rattle.cg_model.specs.States.{State}
 use Rattle.cg_model.specs.Held.{by_user}
 use Rattle.cg_model.specs.Replays.{Progress}
 use Rattle.cg_model.specs.declared.operation.Op.{Op}
-use Rattle.cg_lines.specs.LineLengths.{HasFewChanges}
+use Rattle.cg_lines.specs.OperationLines.{HasLine}
 use Rattle.cg_runs.specs.Replays.{IsRunOf}
 use Rattle.cg_plans.specs.Breaking.{AreAllowed}
 
@@ -17,4 +17,4 @@ pub record Follows (start : State) (user : Identity) (subtree : Names) (run : Pr
   pub of : run.subtree ≡ subtree
   pub follows : IsRunOf run start (by_user user ops)
   pub allowed : AreAllowed start user ops
-  pub lines : AllByRecursion HasFewChanges ops
+  pub lines : AllByRecursion HasLine ops

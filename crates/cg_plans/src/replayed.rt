@@ -3,13 +3,13 @@ ghost use Rattle.std.specs.Prelude.{◌≡◌, ◌<◌, true, length, Ok, IfOk, 
 ghost use Rattle.cg_cgroup.specs.Paths.{Names};
 ghost use Rattle.cg_model.specs.States.{State};
 ghost use Rattle.cg_model.specs.declared.verdict.Clause.{Clause};
-ghost use Rattle.cg_lines.specs.LineLengths.{HasFewChanges};
 ghost use Rattle.cg_plans.specs.Breaking.{Breaks};
 ghost use Rattle.cg_plans.specs.Following.{Follows};
 
 use cg_cgroup::memory::NoMemory;
 use cg_cgroup::path::Path;
 use cg_cgroup::user::User;
+use cg_lines::lines::has_short_line;
 use cg_model::hierarchy::Hierarchy;
 use cg_model::operation::Op;
 use cg_model::operations::Operations;
@@ -55,7 +55,7 @@ fn follow<H: Hierarchy>(
     ensures { (start : State) (subtree : Names) → Follows start user.now subtree replay.old kept.old → result ≡ Ok true
         → Follows start user.now subtree replay.new kept.new }
 {
-    if !has_few_changes(&op) {
+    if !has_short_line(&op) {
         return Ok(false);
     }
     match replay.step(alloc, user, &op) {
@@ -65,16 +65,6 @@ fn follow<H: Hierarchy>(
     }
     kept.push(op)?;
     Ok(true)
-}
-
-/// Whether an operation has so few changes that its line can be read.
-fn has_few_changes(op: &Op) -> bool
-    ensures { result ≡ true → HasFewChanges op.now }
-{
-    match op {
-        Op::Control { changes, .. } => changes.as_slice().len() <= 511,
-        _ => true,
-    }
 }
 
 /// Whether the last of so many steps broke the subtree, and they are fewer than a replay may have.

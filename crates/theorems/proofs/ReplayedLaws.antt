@@ -21,7 +21,7 @@ use Rattle.cg_cli.specs.Courses.{Course, Unwatched, state_of, on_course, verdict
 use Rattle.cg_cli.specs.Replays.{is_newline, longest_line, outcome_of, operation_read, with_front, lines_said, closed, course_read, replay_report}
 use Rattle.cg_faults.specs.declared.fault.CliFault.TheVariants.{Line}
 use Rattle.cg_cli.proofs.ReplayReports.{report_of_line}
-use Rattle.cg_escapes.specs.EscapeLines.{HasLine, HaveLines}
+use Rattle.cg_lines.specs.OperationLines.{HasLine, HaveLines}
 use Rattle.cg_escapes.proofs.EscapeReplays.{on_all, said_of, said_before, all_said, watched}
 
 -- where operations lead from a tree is one

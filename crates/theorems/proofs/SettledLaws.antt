@@ -59,7 +59,7 @@ module _ (st : State) (user : Identity) (subtree : Names) where
   escapes_further (Escapes others) found ops known is same = known (sym is ∙ same)
   escapes_further (Unsettled failed) Contained ops known is same = let never : ⊥ = cc in absurd never
   escapes_further (Unsettled failed) (Escapes others) ops known is same =
-      let one : others ≡ ops = cc in subst (λ list. ¬ (IsHeld st (by_user user list) subtree)) one is
+      let one : others ≡ ops = cc in subst (λ list. ¬ (IsHeld st (by_user user list) subtree)) one is.1
   escapes_further (Unsettled failed) (Unsettled other) ops known is same = let never : ⊥ = cc in absurd never
 
   module _ (uid : ℕ) (gids word : List ℕ) (of_user : user_of uid gids ≡ Some user) (of_path : path_at word ≡ Some subtree)

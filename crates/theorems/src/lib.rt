@@ -57,7 +57,7 @@ ghost use Rattle.cg_cli.specs.Advising.{all_pairs, paired, advise_report, advise
 ghost use Rattle.cg_faults.specs.declared.fault.CliFault.{CliFault};
 ghost use Rattle.cg_faults.specs.declared.fault.CliFault.TheVariants.{Line};
 ghost use Rattle.cg_lines.specs.declared.lines.fault.LineFault.TheVariants.{BadWord};
-ghost use Rattle.cg_escapes.specs.EscapeLines.{HaveLines};
+ghost use Rattle.cg_lines.specs.OperationLines.{HaveLines};
 ghost use Rattle.cg_escapes.specs.EscapeReplays.{IsReplayed};
 ghost use Rattle.theorems.specs.Guarded.{NamesGuarded};
 ghost use Rattle.clap.specs.declared.error.Error.{Error};
