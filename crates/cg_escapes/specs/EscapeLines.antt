@@ -1,4 +1,5 @@
--- What the lines of an escape need to be read again. Own.
+-- What laws beside the theorems speak of: nobody has to believe it.
+-- What names a state needs so that the lines of its escapes can be read again. Own.
 use Rattle.std.specs.Prelude.{◌≡◌, ℕ, true, is_some}
 use Rattle.cg_cgroup.specs.Paths.{Names, IsPath}
 use Rattle.cg_cgroup.specs.Numbers.{is_pid}

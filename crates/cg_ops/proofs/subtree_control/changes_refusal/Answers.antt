@@ -1,9 +1,8 @@
-use Rattle.std.proofs.Common.{Some, length, refl, sym, ap, ◌∙◌}
+use Rattle.std.proofs.Common.{Some, true, false, refl, sym, ap, ◌∙◌}
 use Rattle.cg_cgroup.specs.Kinds.{all_controllers}
-use Rattle.cg_model.specs.Clauses.{first, unless}
 use Rattle.cg_model.specs.declared.outcome.Refusal.TheVariants.{InternalProcess}
-use Rattle.cg_ops.proofs.FirstOfMapped.{here_found, none_here, none_left}
-use Rattle.cg_ops.proofs.ChangesLeft.{barred_by, internal}
+use Rattle.cg_ops.proofs.FirstOfMapped.{here_found, none_here}
+use Rattle.cg_ops.proofs.ChangesLeft.{barred_by, internal, last_asked}
 use Rattle.cg_ops.proofs.subtree_control.changes_refusal.Goals as goal
 
 pub loop-controller-init : goal.loop-controller-init
@@ -31,17 +30,13 @@ pub returns-then-not-may_enable_new : goal.returns-then-not-may_enable_new
 returns-then-not-may_enable_new g c =
     let st = g.H.Hierarchy.state c.args.tree.now in
     ap (λ len. Some (InternalProcess len)) c.depth.ensures.depth
-    ∙ sym (ap (λ may. first (unless may (InternalProcess (length c.args.at.now)))) (sym c.may_enable_new.ensures ∙ c.if-not-may_enable_new.true))
-    ∙ sym (none_left (barred_by st c.args.at.now c.args.changes.now c.args.cgroup.now)
-    (internal st c.args.at.now c.args.changes.now c.args.cgroup.now) all_controllers c.loop-controller.controller-index
-    c.loop-controller-test.false)
+    ∙ last_asked st c.args.at.now c.args.changes.now c.args.cgroup.now c.loop-controller.controller-index false
+    c.loop-controller-test.false (sym c.if-not-may_enable_new.true ∙ c.may_enable_new.ensures)
     ∙ c.loop-controller.invariant
 
 pub returns : goal.returns
 returns g c =
     let st = g.H.Hierarchy.state c.args.tree.now in
-    sym (ap (λ may. first (unless may (InternalProcess (length c.args.at.now)))) (sym c.may_enable_new.ensures ∙ c.if-not-may_enable_new.false))
-    ∙ sym (none_left (barred_by st c.args.at.now c.args.changes.now c.args.cgroup.now)
-    (internal st c.args.at.now c.args.changes.now c.args.cgroup.now) all_controllers c.loop-controller.controller-index
-    c.loop-controller-test.false)
+    last_asked st c.args.at.now c.args.changes.now c.args.cgroup.now c.loop-controller.controller-index true
+    c.loop-controller-test.false (sym c.if-not-may_enable_new.false ∙ c.may_enable_new.ensures)
     ∙ c.loop-controller.invariant
