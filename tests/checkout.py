@@ -40,7 +40,7 @@ mktemp >"$PLAYED/temporary"
 mkdir -p out
 cp "$PLAYED/program" out/zirofen
 chmod +x out/zirofen
-if [ -e "$PLAYED/slow" ]; then sleep 60 & echo $! >"$PLAYED/child"; wait; fi
+if [ -e "$PLAYED/slow" ]; then sleep 600 & echo $! >"$PLAYED/child"; wait; fi
 if [ -e "$PLAYED/fails" ]; then echo 'error: no proof of it' >&2; exit 1; fi
 if [ -e "$PLAYED/changes" ]; then echo changed >../low/src/lib.rt; fi
 out/zirofen --help

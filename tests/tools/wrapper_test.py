@@ -95,8 +95,9 @@ ROWS = {
         ("printf 'release\\n%s' \"$(seen)\" >$kept; alone $z may", "released"),
         ("played 'exit 2'; sed -i s/0.3.1/0.3.1\\;exit\\ 1/ $r; printf 'release\\n%s' \"$(seen)\" >$kept; alone $z may", 70, SOURCE, NO_RT)),
     "a change is seen whatever its time and size, and a program that was replaced": (
-        ("sleep 2.1; $z may", "released"), ("sed s/ran/fun/ $r >../other; chmod +x ../other; mv ../other $r; $z may", 70, OTHER_BYTES),
-        ("touch -r crates/low/src/lib.rt ../at; low wol; touch -r ../at crates/low/src/lib.rt; alone $z may", 70, SOURCE, NO_RT)),
+        ("sleep 2.1; $z may", "released"),
+        ("touch -r crates/low/src/lib.rt ../at; low wol; touch -r ../at crates/low/src/lib.rt; alone $z may", 70, SOURCE, NO_RT),
+        ("low low; sleep 2.1; $z may", "released"), ("sed s/ran/fun/ $r >../other; chmod +x ../other; mv ../other $r; $z may", 70, OTHER_BYTES)),
     "each source counts, is built once, and again where what was built is unfit": (
         ("low x; touch -d '-1000 seconds' crates/low/src/lib.rt; $z may", "built", SOURCE, "23 minutes on 4 cores, and 3 GB", "waiting", "so far"),
         ("builds 1; alone $z may", "built"), ("echo >crates/middle/src/new.rt; $z may 2>/dev/null; builds 2", 0),
@@ -127,10 +128,10 @@ ROWS = {
           for status in (4, 127)),
         *((f"played 'kill -{it} $$'; $z may", 3, f"ended by the signal {it}, and this is no answer") for it in ("SEGV", "KILL", "ABRT"))),
     "past the bound of a file's size the program is told so": (
-        ("played 'echo it 2>/dev/null || { echo fault: write >&2; exit 3; }; exit 0'; (ulimit -f 0; exec $z may >../out)", 3, "fault: write"),),
+        ("played 'echo it 2>/dev/null || { echo fault: write >&2; exit 3; }; exit 0'; sleep 2.1; $z may >/dev/null; (ulimit -f 0; exec $z may >../out)", 3, "fault: write"),),
     "standard input is the program's": (("$z may <&- 2>&1 | grep -q 'Bad file descriptor'; exit ${PIPESTATUS[0]}", 2),),
     "a signal ends both, and a build, of which nothing is left": (
-        *((f"played 'echo $$ >$PLAYED/child; exec sleep 60'; sent {it}", 128 + it) for it in ENDING[:4]),
+        *((f"played 'echo $$ >$PLAYED/child; exec sleep 600'; sent {it}", 128 + it) for it in ENDING[:4]),
         *((f"echo >$PLAYED/slow; low x; sent {it}", 128 + it, SOURCE, "proving and building", "waiting", "so far",
            "interrupted, and not built") for it in ENDING),
         # nobody reads what is said any more
