@@ -43,9 +43,9 @@ stopped() {
     wait $!
 }
 """
-SOURCE, NO_RT, OTHER_BYTES, UNFIT, MEND = ("a source of this checkout isn't the released program's", "no rt on the PATH",
-                                           "its bytes aren't those of its MANIFEST", "it doesn't run here", "tools/build --release makes it anew")
-LINES, PASSED, FAILED = "other lines than the four", "1 passed, 0 failed", "0 passed, 1 failed"
+SOURCE, NO_RT, UNFIT = "a source of this checkout isn't the released program's", "no rt on the PATH", "it doesn't run here"
+OTHER_BYTES, LINES = "its bytes aren't those of its MANIFEST", "other lines than the four"
+MEND, PASSED, FAILED = "tools/build --release makes it anew", "1 passed, 0 failed", "0 passed, 1 failed"
 # by a name steps in one checkout: commands, and what these give: which program ran, or else the status, and what is said, line by line
 ROWS = {
     "without a toolchain, and nothing is written": (
@@ -87,7 +87,8 @@ ROWS = {
         ("$z --which >/dev/full", 3, "can't write which program it is"), ("tools/build 2>/dev/null; $(alone $z --which) may", "built"),
         ("low x; alone $z --which", 70, SOURCE, NO_RT)),
     "a choice is kept once all it rests on is a second old, and stands while that stays": (
-        ("at=$(date +%s); touch crates.txt; $z may; s=$?; [ ! -e $kept ] || [ $(date +%s) -gt $((at + 1)) ] || echo kept >&2; exit $s", "released"),
+        ("at=$(date +%s); touch crates.txt; $z may; s=$?; [ ! -e $kept ] || [ $(date +%s) -gt $((at + 1)) ] || echo kept >&2; exit $s",
+         "released"),
         ("sleep 2.1; $z may", "released"),
         ("ls -A | grep -c '^[.]c' | grep -qx 1 && head -1 $kept | grep -qx release && $z may", "released"),
         ("was=$(stat -c %y%i $kept); alone $z may; s=$?; [ \"$was\" = \"$(stat -c %y%i $kept)\" ] || echo anew >&2; exit $s", "released"),
@@ -97,9 +98,11 @@ ROWS = {
     "a change is seen whatever its time and size, and a program that was replaced": (
         ("sleep 2.1; $z may", "released"),
         ("touch -r crates/low/src/lib.rt ../at; low wol; touch -r ../at crates/low/src/lib.rt; alone $z may", 70, SOURCE, NO_RT),
-        ("low low; sleep 2.1; $z may", "released"), ("sed s/ran/fun/ $r >../other; chmod +x ../other; mv ../other $r; $z may", 70, OTHER_BYTES)),
+        ("low low; sleep 2.1; $z may", "released"),
+        ("sed s/ran/fun/ $r >../other; chmod +x ../other; mv ../other $r; $z may", 70, OTHER_BYTES)),
     "each source counts, is built once, and again where what was built is unfit": (
-        ("low x; touch -d '-1000 seconds' crates/low/src/lib.rt; $z may", "built", SOURCE, "23 minutes on 4 cores, and 3 GB", "waiting", "so far"),
+        ("low x; touch -d '-1000 seconds' crates/low/src/lib.rt; $z may",
+         "built", SOURCE, "23 minutes on 4 cores, and 3 GB", "waiting", "so far"),
         ("builds 1; alone $z may", "built"), ("echo >crates/middle/src/new.rt; $z may 2>/dev/null; builds 2", 0),
         ("sed -i s/zirofen:/'zirofen: beside'/ crates.txt; $z may 2>/dev/null; builds 3", 0),
         ("echo >crates/beside/src/lib.rt; $z may 2>/dev/null; builds 4", 0), ("rm crates/middle/src/new.rt; $z may 2>/dev/null; builds 5", 0),
@@ -120,7 +123,8 @@ ROWS = {
         ("rm $PLAYED/fails; echo >$PLAYED/changes; low x; tools/build", 1, "proving", "waiting", "so far", "a source was changed meanwhile"),
         ("low x; alone $z may", 70, SOURCE, NO_RT)),
     "a release is written": (
-        ("low x; tools/build --release 2>/dev/null; rm -r $out; ls -A release | tr '\\n' , | grep -qx MANIFEST,zirofen, && alone $z may", "built"),
+        ("low x; tools/build --release 2>/dev/null; rm -r $out; ls -A release | tr '\\n' , | grep -qx MANIFEST,zirofen, && alone $z may",
+         "built"),
         ("tools/build --other 2>/dev/null", 2)),
     "a status of its own is passed on, and all else is no answer": (
         *((f"played 'exit {status}'; $z may", status) for status in range(4)),
@@ -128,7 +132,8 @@ ROWS = {
           for status in (4, 127)),
         *((f"played 'kill -{it} $$'; $z may", 3, f"ended by the signal {it}, and this is no answer") for it in ("SEGV", "KILL", "ABRT"))),
     "past the bound of a file's size the program is told so": (
-        ("played 'echo it 2>/dev/null || { echo fault: write >&2; exit 3; }; exit 0'; sleep 2.1; $z may >/dev/null; (ulimit -f 0; exec $z may >../out)", 3, "fault: write"),),
+        ("played 'echo it 2>/dev/null || { echo fault: write >&2; exit 3; }; exit 0'; sleep 2.1; $z may >/dev/null", 0),
+        ("ulimit -f 0; $z may >../out", 3, "fault: write")),
     "standard input is the program's": (("$z may <&- 2>&1 | grep -q 'Bad file descriptor'; exit ${PIPESTATUS[0]}", 2),),
     "a signal ends both, and a build, of which nothing is left": (
         *((f"played 'echo $$ >$PLAYED/child; exec sleep 600'; sent {it}", 128 + it) for it in ENDING[:4]),
