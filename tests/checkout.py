@@ -40,7 +40,7 @@ mktemp >"$PLAYED/temporary"
 mkdir -p out
 cp "$PLAYED/program" out/zirofen
 chmod +x out/zirofen
-if [ -e "$PLAYED/slow" ]; then sleep 60 & echo $! >"$PLAYED/child"; wait; fi
+if [ -e "$PLAYED/slow" ]; then sleep 600 & echo $! >"$PLAYED/child"; wait; fi
 if [ -e "$PLAYED/fails" ]; then echo 'error: no proof of it' >&2; exit 1; fi
 if [ -e "$PLAYED/changes" ]; then echo changed >../low/src/lib.rt; fi
 out/zirofen --help
@@ -99,4 +99,4 @@ class Checkout:
 
     def call(self, *words, program=None, cwd=None, **environment):
         return subprocess.run([program or f"{self.top}/zirofen", *words], input="given\n", text=True,
-                              capture_output=True, cwd=cwd or self.room, env={**self.environment, **environment})
+                              capture_output=True, timeout=300, cwd=cwd or self.room, env={**self.environment, **environment})

@@ -10,6 +10,8 @@ TOP = os.path.dirname(os.path.dirname(os.path.realpath(__file__)))
 sys.path[:0] = [f"{TOP}/gate"]
 import crates, kit
 
+# where it is closed, what is said goes nowhere
+sys.stderr = sys.stderr or open(os.devnull, "w")
 TRIED = [it.split(" ")[0] for it in kit.TRIED]
 ENDING = [signal.SIGINT, signal.SIGTERM, signal.SIGHUP, signal.SIGQUIT, signal.SIGPIPE]
 # what a toolchain says of how far it is, and of what it waits for
@@ -142,15 +144,10 @@ def run_toolchain(room):
     # in a session of its own, so that all of it can be ended and stopped
     ran = subprocess.Popen(words, cwd=at, env={**os.environ, "TMPDIR": room}, start_new_session=True, stderr=subprocess.STDOUT, **HEARD)
 
-    def pass_on(*numbers):
-        with contextlib.suppress(ProcessLookupError):
-            for number in numbers:
-                os.killpg(ran.pid, number)
-
     def stop(*_):
-        pass_on(signal.SIGSTOP)
+        os.killpg(ran.pid, signal.SIGSTOP)
         os.kill(os.getpid(), signal.SIGSTOP)
-        pass_on(signal.SIGCONT)
+        os.killpg(ran.pid, signal.SIGCONT)
 
     signal.signal(signal.SIGTSTP, stop)
     said = []
@@ -165,7 +162,9 @@ def run_toolchain(room):
         return f"not built. It needs the toolchain {RELEASED.says('kit')}, and this is {toolchain()}"
     finally:
         signal.signal(signal.SIGTSTP, signal.SIG_DFL)
-        pass_on(signal.SIGTERM, signal.SIGCONT)
+        with contextlib.suppress(ProcessLookupError):
+            os.killpg(ran.pid, signal.SIGTERM)
+            os.killpg(ran.pid, signal.SIGCONT)
         ran.wait()
 
 

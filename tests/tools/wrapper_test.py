@@ -1,14 +1,11 @@
 """Tests of ./zirofen, tools/build and tools/released over a small checkout, and a toolchain that only plays its part."""
-import os
-import signal
-import subprocess
-import time
 import unittest
 
-from checkout import CRATES, KIT, PROGRAM, Checkout, read, write
+from checkout import CRATES, KIT, Checkout
 from kit import TRIED
 
-ENDING = (signal.SIGINT, signal.SIGTERM, signal.SIGHUP, signal.SIGQUIT, signal.SIGPIPE)
+# INT, TERM, HUP, QUIT, and to a build PIPE
+ENDING = (2, 15, 1, 3, 13)
 # what the rows below use: the wrapper, as $z, without a toolchain by `alone`; a source; a release; how often the toolchain was started
 SHELL = """z=$PWD/zirofen r=release/zirofen out=crates/zirofen/out kept=.chosen
 low() { printf %s "$1" >crates/low/src/lib.rt; }
@@ -17,12 +14,38 @@ of_sums() { sed -i "s/^program .*/program $(sha256sum <$r | cut -c1-64)/" releas
 played() { printf '%s\\n' '#!/bin/sh' 'case "$1" in --version) echo zirofen 0.3.1; exit;; esac' "$1" >$r; of_sums; }
 builds() { [ "$(wc -l <"$PLAYED/starts")" = "$1" ] || echo "not $1 builds" >&2; }
 seen() { bash -c '. "$1"; look "$2"' look "$z" "$PWD"; }
-nobody() { setpriv --reuid 65534 --regid 65534 --clear-groups "$@"; }
+nobody() { [ $UID = 0 ] || exit 77; setpriv --reuid 65534 --regid 65534 --clear-groups "$@"; }
+is() { grep -q "^State:.[$2]" "/proc/$1/status" 2>/dev/null; }
+# a call that waits for the program or the toolchain, each of which has told of a process of its own
+start() {
+    env --default-signal "$z" may <&0 &
+    until [ -s "$PLAYED/child" ]; do sleep 0.02; done
+    child=$(cat "$PLAYED/child")
+    rm "$PLAYED/child"
+}
+# what it ends with when it is sent a signal, with nothing left
+sent() {
+    start
+    kill -"$1" $!
+    wait $! 2>/dev/null
+    s=$?
+    while [ -d "/proc/$child" ] && ! is "$child" Z; do sleep 0.02; done
+    ls -A "$TMPDIR" >&2
+    return $s
+}
+stopped() {
+    start
+    kill -TSTP $!
+    until is $! T && is "$child" T; do sleep 0.02; done
+    kill -CONT $!
+    until is "$child" S; do sleep 0.02; done
+    kill "$child"
+    wait $!
+}
 """
-SOURCE, NO_RT, OTHER_BYTES, UNFIT, MEND = ("a source of this checkout isn't the released program's", "no rt on the PATH",
-                                           "its bytes aren't those of its MANIFEST", "it doesn't run here", "tools/build --release makes it anew")
-LINES, PASSED, FAILED = "other lines than the four", "1 passed, 0 failed", "0 passed, 1 failed"
-OF_ROOT = ("for another user, of whose checkout nothing is kept, and what they keep isn't read", "where nothing can be executed")
+SOURCE, NO_RT, UNFIT = "a source of this checkout isn't the released program's", "no rt on the PATH", "it doesn't run here"
+OTHER_BYTES, LINES = "its bytes aren't those of its MANIFEST", "other lines than the four"
+MEND, PASSED, FAILED = "tools/build --release makes it anew", "1 passed, 0 failed", "0 passed, 1 failed"
 # by a name steps in one checkout: commands, and what these give: which program ran, or else the status, and what is said, line by line
 ROWS = {
     "without a toolchain, and nothing is written": (
@@ -64,7 +87,8 @@ ROWS = {
         ("$z --which >/dev/full", 3, "can't write which program it is"), ("tools/build 2>/dev/null; $(alone $z --which) may", "built"),
         ("low x; alone $z --which", 70, SOURCE, NO_RT)),
     "a choice is kept once all it rests on is a second old, and stands while that stays": (
-        ("at=$(date +%s); touch crates.txt; $z may; s=$?; [ ! -e $kept ] || [ $(date +%s) -gt $((at + 1)) ] || echo kept >&2; exit $s", "released"),
+        ("at=$(date +%s); touch crates.txt; $z may; s=$?; [ ! -e $kept ] || [ $(date +%s) -gt $((at + 1)) ] || echo kept >&2; exit $s",
+         "released"),
         ("sleep 2.1; $z may", "released"),
         ("ls -A | grep -c '^[.]c' | grep -qx 1 && head -1 $kept | grep -qx release && $z may", "released"),
         ("was=$(stat -c %y%i $kept); alone $z may; s=$?; [ \"$was\" = \"$(stat -c %y%i $kept)\" ] || echo anew >&2; exit $s", "released"),
@@ -72,10 +96,13 @@ ROWS = {
         ("printf 'release\\n%s' \"$(seen)\" >$kept; alone $z may", "released"),
         ("played 'exit 2'; sed -i s/0.3.1/0.3.1\\;exit\\ 1/ $r; printf 'release\\n%s' \"$(seen)\" >$kept; alone $z may", 70, SOURCE, NO_RT)),
     "a change is seen whatever its time and size, and a program that was replaced": (
-        ("sleep 2.1; $z may", "released"), ("sed s/ran/fun/ $r >../other; chmod +x ../other; mv ../other $r; $z may", 70, OTHER_BYTES),
-        ("touch -r crates/low/src/lib.rt ../at; low wol; touch -r ../at crates/low/src/lib.rt; alone $z may", 70, SOURCE, NO_RT)),
+        ("sleep 2.1; $z may", "released"),
+        ("touch -r crates/low/src/lib.rt ../at; low wol; touch -r ../at crates/low/src/lib.rt; alone $z may", 70, SOURCE, NO_RT),
+        ("low low; sleep 2.1; $z may", "released"),
+        ("sed s/ran/fun/ $r >../other; chmod +x ../other; mv ../other $r; $z may", 70, OTHER_BYTES)),
     "each source counts, is built once, and again where what was built is unfit": (
-        ("low x; touch -d '-1000 seconds' crates/low/src/lib.rt; $z may", "built", SOURCE, "23 minutes on 4 cores, and 3 GB", "waiting", "so far"),
+        ("low x; touch -d '-1000 seconds' crates/low/src/lib.rt; $z may",
+         "built", SOURCE, "23 minutes on 4 cores, and 3 GB", "waiting", "so far"),
         ("builds 1; alone $z may", "built"), ("echo >crates/middle/src/new.rt; $z may 2>/dev/null; builds 2", 0),
         ("sed -i s/zirofen:/'zirofen: beside'/ crates.txt; $z may 2>/dev/null; builds 3", 0),
         ("echo >crates/beside/src/lib.rt; $z may 2>/dev/null; builds 4", 0), ("rm crates/middle/src/new.rt; $z may 2>/dev/null; builds 5", 0),
@@ -96,7 +123,8 @@ ROWS = {
         ("rm $PLAYED/fails; echo >$PLAYED/changes; low x; tools/build", 1, "proving", "waiting", "so far", "a source was changed meanwhile"),
         ("low x; alone $z may", 70, SOURCE, NO_RT)),
     "a release is written": (
-        ("low x; tools/build --release 2>/dev/null; rm -r $out; ls -A release | tr '\\n' , | grep -qx MANIFEST,zirofen, && alone $z may", "built"),
+        ("low x; tools/build --release 2>/dev/null; rm -r $out; ls -A release | tr '\\n' , | grep -qx MANIFEST,zirofen, && alone $z may",
+         "built"),
         ("tools/build --other 2>/dev/null", 2)),
     "a status of its own is passed on, and all else is no answer": (
         *((f"played 'exit {status}'; $z may", status) for status in range(4)),
@@ -104,8 +132,17 @@ ROWS = {
           for status in (4, 127)),
         *((f"played 'kill -{it} $$'; $z may", 3, f"ended by the signal {it}, and this is no answer") for it in ("SEGV", "KILL", "ABRT"))),
     "past the bound of a file's size the program is told so": (
-        ("played 'echo it 2>/dev/null || { echo fault: write >&2; exit 3; }; exit 0'; (ulimit -f 0; exec $z may >../out)", 3, "fault: write"),),
+        ("played 'echo it 2>/dev/null || { echo fault: write >&2; exit 3; }; exit 0'; sleep 2.1; $z may >/dev/null", 0),
+        ("ulimit -f 0; $z may >../out", 3, "fault: write")),
     "standard input is the program's": (("$z may <&- 2>&1 | grep -q 'Bad file descriptor'; exit ${PIPESTATUS[0]}", 2),),
+    "a signal ends both, and a build, of which nothing is left": (
+        *((f"played 'echo $$ >$PLAYED/child; exec sleep 600'; sent {it}", 128 + it) for it in ENDING[:4]),
+        *((f"echo >$PLAYED/slow; low x; sent {it}", 128 + it, SOURCE, "proving and building", "waiting", "so far",
+           "interrupted, and not built") for it in ENDING),
+        # nobody reads what is said any more
+        ("low x; sent TERM 2> >(head -4 >/dev/null)", 143)),
+    "a build that is stopped goes on": (
+        ("echo >$PLAYED/slow; low x; stopped", "built", SOURCE, "proving and building", "waiting", "so far"),),
     "a release is of these sources": (
         ("tools/released >&2", 0, PASSED), ("tools/released --as $r >&2", 0, PASSED),
         *((f"tools/released --as {it} >&2", 1, f"isn't what these sources give. {MEND}", FAILED) for it in ("/none", "$z")),
@@ -120,92 +157,26 @@ ROWS = {
 }
 
 
-class RowsTest(unittest.TestCase):
+class WrapperTest(unittest.TestCase):
     def take(self, steps):
         checkout = Checkout(self, "top")
         for commands, expected, *told in steps:
             ended = checkout.call("-c", SHELL + commands, program="bash", cwd=checkout.top)
             if ended.returncode == 77:
-                self.skipTest("nothing can be mounted")
-            out = ""
-            if isinstance(expected, str):
-                name, _, words = expected.partition(" ")
-                out, expected = f"{name} ran {words or 'may'}\ngiven\n", 2
-            if expected > 2 or out:
+                self.skipTest("takes root, and a mount")
+            name, _, words = expected.partition(" ") if isinstance(expected, str) else ("", "", "")
+            out, status = (f"{name} ran {words or 'may'}\ngiven\n", 2) if name else ("", expected)
+            if name or status > 2:
                 self.assertEqual(ended.stdout, out, (commands, ended.stderr))
             lines = ended.stderr.splitlines()
-            self.assertEqual((ended.returncode, len(lines)), (expected, len(told)), (commands, ended.stderr))
+            self.assertEqual((ended.returncode, len(lines)), (status, len(told)), (commands, ended.stderr))
             for line, it in zip(lines, told):
                 self.assertIn(it, line, commands)
 
     def test_rows(self):
         for name, steps in ROWS.items():
-            if os.geteuid() == 0 or name not in OF_ROOT:
-                with self.subTest(name):
-                    self.take(steps)
-
-
-def state(pid):
-    """A process's state, as a letter: Z where it has ended and nobody waited for it, nothing where it is gone."""
-    try:
-        return read(f"/proc/{pid}/stat").rpartition(")")[2].split()[0]
-    except OSError:
-        return ""
-
-
-class SignalsTest(unittest.TestCase):
-    """The wrapper is sent signals while it waits for the program, or for the toolchain, which has started a child."""
-
-    def setUp(self):
-        self.checkout = Checkout(self)
-        self.child = f"{self.checkout.played}/child"
-
-    def wait_for(self, holds):
-        until = time.monotonic() + 60
-        while not holds():
-            self.assertLess(time.monotonic(), until, "waited in vain")
-            time.sleep(0.02)
-
-    def start(self, builds):
-        if builds:
-            write(f"{self.checkout.top}/crates/low/src/lib.rt", "changed")
-            write(f"{self.checkout.played}/slow", "")
-        # a shell starts what it runs in the background with some signals ignored, and a terminal's programs take all
-        words = ["env", "--default-signal", f"{self.checkout.top}/zirofen", "may"]
-        how = {"stdin": subprocess.DEVNULL, "stdout": subprocess.PIPE, "stderr": subprocess.PIPE, "text": True}
-        started = subprocess.Popen(words, env=self.checkout.environment, **how)
-        self.wait_for(lambda: os.path.exists(self.child) and read(self.child).endswith("\n"))
-        sleeper = int(read(self.child))
-        os.remove(self.child)
-        return started, sleeper
-
-    def test_a_signal_ends_both_and_nothing_is_left(self):
-        self.checkout.release(PROGRAM.replace("exit 2", f"echo $$ >'{self.child}'; exec sleep 60"))
-        for builds, number, is_read in (*((False, it, True) for it in ENDING[:4]), *((True, it, True) for it in ENDING),
-                                        (True, signal.SIGTERM, False)):
-            with self.subTest(number, builds=builds, is_read=is_read):
-                started, sleeper = self.start(builds)
-                if not is_read:
-                    started.stderr.close()
-                started.send_signal(number)
-                said = started.stdout.read()
-                told = started.stderr.read() if is_read else "interrupted, and not built\n"
-                self.assertEqual((started.wait(60), "built" in said), (-number, False), told)
-                self.assertEqual(told.endswith("interrupted, and not built\n"), builds, told)
-                self.wait_for(lambda: state(sleeper) in ("", "Z"))
-                self.assertEqual(os.listdir(self.checkout.temporary), [])
-                started.stdout.close()
-                started.stderr.close()
-
-    def test_a_build_that_is_stopped_goes_on(self):
-        started, sleeper = self.start(True)
-        started.send_signal(signal.SIGTSTP)
-        self.wait_for(lambda: state(started.pid) == "T" and state(sleeper) == "T")
-        started.send_signal(signal.SIGCONT)
-        self.wait_for(lambda: state(sleeper) == "S")
-        os.kill(sleeper, signal.SIGTERM)
-        said, told = started.communicate(timeout=60)
-        self.assertEqual((said, started.returncode), ("built ran may\n", 2), told)
+            with self.subTest(name):
+                self.take(steps)
 
 
 if __name__ == "__main__":
