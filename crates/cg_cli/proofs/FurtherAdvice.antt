@@ -1,7 +1,7 @@
 -- Where the second row of guards is asked first, the advice says no less than it may.
-use Rattle.std.proofs.Common.{◌≡◌, ◌≢◌, ℕ, ◌+◌, ◌<◌, ◌≤◌, Bool, true, false, ◌&&◌, cond, List, [], ◌∷◌, length, get_or, take, take_all, take-suc, add-one, Option, Some, None, Result, Ok, Err, refl, sym, ap, ◌∙◌, subst, inl, inr, arith}
+use Rattle.std.proofs.Common.{◌≡◌, ℕ, zero, suc, ◌+◌, ◌<◌, ◌≤◌, Bool, true, false, ◌&&◌, cond, List, [], ◌∷◌, ◌++◌, length, get_or, take, take_all, take-suc, add-one, Option, Some, None, Result, Ok, Err, refl, sym, ap, ◌∙◌, subst, inl, inr, arith}
 use Rattle.std.specs.Prelude.{◌⊎◌}
-use Rattle.std.specs.List.{All, AllByRecursion, list_all, flat_map}
+use Rattle.std.specs.List.{All, list_all, flat_map}
 use Rattle.std.proofs.lemmas.List.Elements.{All-from_recursion}
 use Rattle.cg_cgroup.specs.Paths.{Names, same_path}
 use Rattle.cg_cgroup.specs.Identity.{Identity}
@@ -43,7 +43,8 @@ use Rattle.cg_faults.specs.declared.fault.CliFault.{CliFault}
 all_more : {A : Type 0} (test : A → Bool) (xs : List A) (i : ℕ) (x : A) → i < length xs → x ≡ get_or xs i x
     → list_all test (take i xs) ≡ true → test x ≡ true → list_all test (take (i + 1) xs) ≡ true
 all_more {A} test xs i x within is so_far here =
-    ap (list_all test) (rw add-one (take-suc xs i x within)) ∙ behind (take i xs) so_far
+    let more : take (i + 1) xs ≡ take i xs ++ get_or xs i x ∷ [] = rw add-one (take-suc xs i x within) in
+    ap (list_all test) more ∙ behind (take i xs) so_far
   where
     behind : (ys : List A) → list_all test ys ≡ true → list_all test (ys ++ get_or xs i x ∷ []) ≡ true
     behind [] all = ap (λ b. b && true) (ap test (sym is) ∙ here)
@@ -61,7 +62,7 @@ module _ (st : State) (users : List Identity) (subtrees : List Names) where
       all_more (second_row st users) subtrees i subtree within is so_far (sym row ∙ true_is)
 
   pub held_all : (i : ℕ) → length subtrees ≤ i → are_held st users (take i subtrees) ≡ true → true ≡ are_held st users subtrees
-  held_all i low all = sym (subst (λ l. are_held st users l ≡ true) (take_all i subtrees low) all)
+  held_all i low all = sym (subst (λ l. are_held st users l ≡ true) (take_all i subtrees (omega (arith, low))) all)
 
   pub held_fails : (i : ℕ) (subtree : Names) (holds : Bool) → i < length subtrees → subtree ≡ get_or subtrees i subtree
       → holds ≡ second_row st users subtree → holds ≡ false → false ≡ are_held st users subtrees
@@ -152,7 +153,8 @@ module _ (tree : Reading) (given : List (ℕ × List ℕ)) (texts : List (List �
     by_row : (holds : Bool) → are_held st (once same_user users) (once same_path subtrees) ≡ holds
         → first (flat_map (subtree_faults st) (once same_path subtrees)) ≡ None
         → Reports (lines_report (cond holds None lines)) old new result → May (lines_report lines)
-    by_row true holds none said = inr (said, held_as_named st users subtrees (formed st of_tree) none holds tree given texts of_users of_paths of_tree)
+    by_row true holds none said =
+        inr (said, held_as_named st users subtrees (formed st of_tree) none holds tree given texts of_users of_paths of_tree)
     by_row false fails none said = inl said
 
     by_fault : (fault : Option CheckFault) → first (flat_map (subtree_faults st) (once same_path subtrees)) ≡ fault
@@ -185,4 +187,4 @@ further_on bytes given texts old new result said =
     (said.0, said.1, advises_further said.0 given texts old new result formed said.2)
   where
     formed : (st : State) → said.0 ≡ Ok st → IsWellFormed st
-    formed st is = (subst (IsReading bytes) is said.1).says.formed
+    formed st is = let of_text : IsTextOf st bytes = subst (IsReading bytes) is said.1 in of_text.says.formed
