@@ -150,6 +150,9 @@ module _ (tree : Reading) (given : List (ℕ × List ℕ)) (texts : List (List �
     abbrev lines : Option (List ℕ)
     lines = advice_lines st (all_pairs (once same_user users) (once same_path subtrees))
 
+    abbrev settled : Option (List ℕ)
+    settled = settled_lines st (once same_user users) (once same_path subtrees)
+
     by_row : (holds : Bool) → are_held st (once same_user users) (once same_path subtrees) ≡ holds
         → first (flat_map (subtree_faults st) (once same_path subtrees)) ≡ None
         → Reports (lines_report (cond holds None lines)) old new result → May (lines_report lines)
@@ -158,8 +161,7 @@ module _ (tree : Reading) (given : List (ℕ × List ℕ)) (texts : List (List �
     by_row false fails none said = inl said
 
     by_fault : (fault : Option CheckFault) → first (flat_map (subtree_faults st) (once same_path subtrees)) ≡ fault
-        → Reports (report_on (in_call (unless_fault fault (settled_lines st (once same_user users) (once same_path subtrees)))) lines_report)
-        old new result
+        → Reports (report_on (in_call (unless_fault fault settled)) lines_report) old new result
         → May (report_on (in_call (unless_fault fault lines)) lines_report)
     by_fault (Some fault) is said = inl said
     by_fault None is said = by_row (are_held st (once same_user users) (once same_path subtrees)) refl is said
