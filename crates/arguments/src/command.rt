@@ -236,7 +236,9 @@ fn advise_command<'a>(alloc: Global) -> Result<Command<'a>, AllocError>
             Arg::new(alloc, "settle")
                 .long("settle")
                 .action(ArgAction::SetTrue)
-                .help("Looks further before it says that anything is to be changed, as settle does"),
+                .help(
+                    "Looks further before it says that anything is to be changed, as settle does",
+                ),
         )
 }
 
