@@ -52,7 +52,7 @@ advise_named = command_with (codes "advise")
     ∷ repeated (word_option (codes "subtree")) ∷ [])
 
 abbrev pub advise_command : Shape
-advise_command = record advise_named { rules = advise_named.rules ++ word_option (codes "pairs") ∷ [] }
+advise_command = record advise_named { rules = advise_named.rules ++ word_option (codes "pairs") ∷ flag (codes "settle") ∷ [] }
 
 abbrev pub replay_command : Shape
 replay_command = command_with (codes "replay") (of_user ++ needed (word_option (codes "ops")) ∷ word_option (codes "subtree") ∷ [])

@@ -96,6 +96,8 @@ them in has a line `fails` with the guard, where it stands, its owner, its mode 
 them made every subtree is contained against every user; ask again after changes that were asked apart.
 With --pairs each subtree is asked about the users alone who are named with it: a line `pair UID PATH` or `pair UID:GID,GID.. PATH`
 of each pair, among others that are passed over, and none of --uid, --gid and --subtree beside it.
+With --settle, which isn't for pairs, it says `contained` too where the second row of guards holds of each subtree against all
+users together: then a guard fails, and nothing has to be changed; see settle --help.
 Don't follow it where a user is meant to have what is named, since it was handed to them: then the question was the wrong one.
 An owner that a service manager sets comes back with the unit: change the unit.
 A user is UID or UID:GID,GID.. in decimal digits, with up to 32 gids, of which the first is the primary one; of one user alone
@@ -226,12 +228,21 @@ fn audit_command<'a>(alloc: Global) -> Result<Command<'a>, AllocError>
 fn advise_command<'a>(alloc: Global) -> Result<Command<'a>, AllocError>
     ensures { IfOk result (IsCommand advise_command) }
 {
-    advise_named(alloc)?.arg(word_argument(alloc, "pairs", "FILE").help(
-        "Pairs in place of --uid and --subtree, one a line, as audit --all prints them; - is standard input, and then the tree's text is a file",
-    ))
+    advise_named(alloc)?
+        .arg(word_argument(alloc, "pairs", "FILE").help(
+            "Pairs in place of --uid and --subtree, one a line, as audit --all prints them; - is standard input, and then the tree's text is a file",
+        ))?
+        .arg(
+            Arg::new(alloc, "settle")
+                .long("settle")
+                .action(ArgAction::SetTrue)
+                .help(
+                    "Looks further before it says that anything is to be changed, as settle does",
+                ),
+        )
 }
 
-/// The command `advise`, but for the text of pairs.
+/// The command `advise`, but for the text of pairs and how far it looks.
 fn advise_named<'a>(alloc: Global) -> Result<Command<'a>, AllocError>
     ensures { IfOk result (IsCommand advise_named) }
 {

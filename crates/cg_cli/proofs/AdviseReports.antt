@@ -185,7 +185,7 @@ module _ (st : State) (subtrees : List Names) where
 
 -- ---- over bytes
 
-of_lines : (found : Option (List ℕ)) → takes_memory (lines_report found).ending ≡ true
+pub of_lines : (found : Option (List ℕ)) → takes_memory (lines_report found).ending ≡ true
 of_lines None = refl
 of_lines (Some lines) = refl
 

@@ -116,7 +116,7 @@ module _ {A : Type 0} (same : A → A → Bool) (means : (x y : A) → same x y 
   among_once : (xs : List A) (y : A) → Contains xs y → Contains (once same xs) y
   among_once xs y at = among_at xs y at.0 at.1 at.2
 
-  all_once : (P : A → Type 0) (xs : List A) → All P (once same xs) → All P xs
+  pub all_once : (P : A → Type 0) (xs : List A) → All P (once same xs) → All P xs
   all_once P xs all k d within =
       All-contains P (once same xs) (get_or xs k d) all (among_once xs (get_or xs k d) (Contains-get_or xs k d within))
 
@@ -218,7 +218,7 @@ module _ (users : List Identity) (subtrees : List Names) where
       ∙ ap (λ (found : Result AllAnswer CheckFault).
       (report_on (in_call found) (audit_answer_report (once same_user users) (once same_path subtrees))).ending) is)
 
-  by_once : (deeds : List Deed) → AreBy users deeds → AreBy (once same_user users) deeds
+  pub by_once : (deeds : List Deed) → AreBy users deeds → AreBy (once same_user users) deeds
   by_once deeds by =
       all-each (λ deed. Contains users deed.0) (λ deed. Contains (once same_user users) deed.0)
       (λ deed at. among_once same_user same_user-is users deed.0 at) deeds by

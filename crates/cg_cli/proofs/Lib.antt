@@ -8,6 +8,7 @@ pub mod CheckReports
 mod SettleReports
 pub mod AdviseReports
 pub mod AdvisedTrees
+pub mod FurtherAdvice
 pub mod NamedPairs
 mod EachRead
 pub mod AuditStatus

@@ -16,4 +16,6 @@ pub mod Once
 pub mod AllPairs
 pub mod Asking
 pub mod Advising
+pub mod SettledAdvice
+pub mod FurtherAdvice
 pub mod Pairs

@@ -103,7 +103,7 @@ pub(crate) fn said_of(
 }
 
 /// The advice for every user with every subtree. Where no guard fails that is asked once of each subtree, for all users.
-fn advice<H: Hierarchy>(
+pub(crate) fn advice<H: Hierarchy>(
     alloc: Global,
     tree: &H,
     users: &[User],

@@ -3,6 +3,7 @@
 
 pub mod advise;
 pub mod advise_pairs;
+pub mod advise_settle;
 pub mod answers;
 pub mod arguments;
 pub mod audit;

@@ -2,6 +2,7 @@
 use crate::tests::readers::Pieces;
 use cg_cli::advise::advise_bytes;
 use cg_cli::advise_pairs::{PairIds, advise_pairs_bytes};
+use cg_cli::advise_settle::advise_settled_bytes;
 use cg_cli::arguments::UserIds;
 use cg_cli::audit::audit_bytes;
 use cg_cli::audit_all::audit_all_bytes;
@@ -23,6 +24,7 @@ pub enum Call<'a> {
     AuditAll(&'a [UserIds<'a>], &'a [&'a str]),
     Advise(&'a [UserIds<'a>], &'a [&'a str]),
     AdvisePairs(&'a [PairIds<'a>]),
+    AdviseSettled(&'a [UserIds<'a>], &'a [&'a str]),
     Upgrade,
     Replay(UserIds<'a>, Option<&'a str>, &'a [u8]),
     ReplayFrom(UserIds<'a>, Option<&'a str>, &'a [u8]),
@@ -37,6 +39,9 @@ impl Call<'_> {
             Call::AuditAll(users, subtrees) => audit_all_bytes(alloc, tree, users, subtrees, out),
             Call::Advise(users, subtrees) => advise_bytes(alloc, tree, users, subtrees, out),
             Call::AdvisePairs(pairs) => advise_pairs_bytes(alloc, tree, pairs, out),
+            Call::AdviseSettled(users, subtrees) => {
+                advise_settled_bytes(alloc, tree, users, subtrees, out)
+            }
             Call::Upgrade => upgrade_bytes(alloc, tree, out),
             Call::Replay(user, subtree, ops) => replay_bytes(alloc, tree, user, subtree, ops, out),
             Call::ReplayFrom(user, subtree, ops) => {
