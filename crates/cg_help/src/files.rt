@@ -1,9 +1,9 @@
 //! Files, looked at once more. What is no regular file isn't opened again: a pipe would wait for whoever writes it.
-use crate::shown::quoted;
 use cg_cgroup::memory::NoMemory;
 use std::alloc::Global;
 use streams::files::{FileKind, Files};
 use streams::read::read_input;
+use text_places::shown::quoted;
 
 /// What a regular file has; nothing where it can't be read, or is another kind of file.
 pub(crate) fn read_again<F: Files>(alloc: Global, files: &F, name: &str) -> Option<Vec<u8>> {

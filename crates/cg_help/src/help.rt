@@ -7,7 +7,6 @@ use crate::files::{read_again, why_unread};
 use crate::given::{other_of, paths_of, tree_of};
 use crate::lines::line_said;
 use crate::paths::{why_missing, why_no_path};
-use crate::shown::{indented, quoted};
 use crate::trees::{missing_said, tree_said};
 use arguments::request::Request;
 use arguments::usage::usage_text;
@@ -16,6 +15,7 @@ use cg_faults::fault::CliFault;
 use cg_model::fault::CheckFault;
 use std::alloc::{AllocError, Global};
 use streams::files::Files;
+use text_places::shown::{indented, quoted};
 
 /// What was seen of the words, of standard input and of the operations.
 #[derive(Clone, Copy)]

@@ -1,10 +1,10 @@
 //! The line of operations or pairs at which it ended.
 use crate::input::kind_said;
-use crate::near::none_said;
-use crate::shown::quoted;
+use crate::names::none_said;
 use arguments::request::Request;
 use cg_cgroup::files::{Controller, EntryName, LimitFile};
 use std::alloc::{AllocError, Global};
+use text_places::shown::quoted;
 
 const OPERATIONS: [&str; 8] = [
     "move", "control", "mkdir", "rmdir", "set", "fork", "exit", "chmod",

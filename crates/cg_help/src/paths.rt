@@ -1,7 +1,7 @@
 //! Why a text is no path.
-use crate::shown::quoted;
 use cg_cgroup::files::LimitFile;
 use std::alloc::{AllocError, Global};
+use text_places::shown::quoted;
 
 /// The greatest number of bytes of a path, and of a name.
 const LONGEST_PATH: usize = 4095;

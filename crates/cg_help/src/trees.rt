@@ -7,7 +7,6 @@ mod table;
 
 use crate::input::{is_blank, kind_said};
 use crate::paths::why_no_path;
-use crate::position::Position;
 use cg_text::tree::{Place, TreeFault};
 use entries::{entry_said, value_said};
 use rows::{
@@ -18,6 +17,7 @@ use std::alloc::{AllocError, Global};
 use streams::kept::MOST_BYTES;
 use syntax::syntax_said;
 use table::{RowAt, Said, label, paths_of_rows, row, text_at};
+use text_places::position::Position;
 use toml::Table;
 
 /// What is wrong with the text of a tree, which has this fault.

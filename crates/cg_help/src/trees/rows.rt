@@ -1,11 +1,11 @@
 //! Rows that don't go together.
-use crate::near::nearest_of;
 use crate::paths::why_missing;
-use crate::shown::quoted;
 use crate::trees::table::{RowAt, Said, nearest_path, row_of, shown_value, text_at, texts_at};
 use cg_cgroup::files::{Controller, LimitFile};
 use cg_text::tree::Place;
 use std::alloc::{AllocError, Global};
+use text_places::near::nearest_of;
+use text_places::shown::quoted;
 use toml::{Table, Value};
 
 /// Which text of `controllers` or `enabled` is no controller.

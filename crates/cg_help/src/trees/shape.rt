@@ -1,10 +1,11 @@
 //! A key that is missing, unknown or of the wrong type.
-use crate::near::{Nearest, listed};
-use crate::shown::quoted;
+use crate::names::listed;
 use crate::trees::table::{RowAt, Said, shown_value};
 use cg_cgroup::files::{EntryName, LimitFile};
 use cg_text::tree::Place;
 use std::alloc::{AllocError, Global};
+use text_places::near::nearest_of;
+use text_places::shown::quoted;
 use toml::{Table, Value};
 
 /// What a key holds.
@@ -261,7 +262,7 @@ fn unknown_said(
         );
     }
     let Some(near) = meant(alloc, key, keys)? else {
-        let names = names_of(alloc, keys)?;
+        let names = listed(alloc, names_of(alloc, keys)?.as_slice())?;
         return format!(in alloc;
             "there is no key {shown}: left out, what it says counts in no answer; there are{names}"
         );
@@ -301,11 +302,11 @@ fn begins_with(name: &str, first: &str, second: &str) -> bool {
 
 /// The key that was meant: the nearest, where a letter or two make it.
 fn meant(alloc: Global, key: &str, keys: &[Key]) -> Result<Option<Key>, AllocError> {
-    let mut nearest = Nearest::to(key);
-    for known in keys {
-        nearest.look(alloc, known.name)?;
+    let names = names_of(alloc, keys)?;
+    match nearest_of(alloc, key, names.as_slice())? {
+        Some(name) => Ok(named(keys, name)),
+        None => Ok(None),
     }
-    Ok(named(keys, nearest.found.unwrap_or("")))
 }
 
 /// The key of a name.
@@ -318,13 +319,12 @@ fn named(keys: &[Key], name: &str) -> Option<Key> {
     None
 }
 
-/// The names of keys, each behind a space.
-fn names_of(alloc: Global, keys: &[Key]) -> Result<String, AllocError> {
+fn names_of(alloc: Global, keys: &[Key]) -> Result<Vec<&'static str>, AllocError> {
     let mut names = Vec::new(alloc);
     for key in keys {
         names.push(key.name)?;
     }
-    listed(alloc, names.as_slice())
+    Ok(names)
 }
 
 fn unknown_key<'a>(table: &'a Table, keys: &[Key]) -> Option<(&'a str, &'a Value)> {

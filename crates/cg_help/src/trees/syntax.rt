@@ -1,6 +1,6 @@
 //! What isn't TOML.
-use crate::position::Position;
 use std::alloc::{AllocError, Global};
+use text_places::position::Position;
 use toml::de::Error;
 
 /// How many digits of an octal number are shown at most.
@@ -18,7 +18,7 @@ pub(super) fn syntax_said(
     let position = Position::at(bytes, span.start);
     let (named, drawn) = (position.named(alloc)?, position.drawn(alloc)?);
     let message = error.message();
-    match cure(alloc, position.behind())? {
+    match cure(alloc, position.behind)? {
         Some(cure) => format!(in alloc; "{named}: {message}\n{drawn}\n{cure}"),
         None => format!(in alloc; "{named}: {message}\n{drawn}"),
     }

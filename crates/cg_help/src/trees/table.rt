@@ -1,10 +1,10 @@
 //! Rows of a tree text, and how they are named.
-use crate::near::Nearest;
-use crate::scan::{Step, place_of};
-use crate::shown::quoted;
 use cg_text::tree::Place;
 use std::alloc::{AllocError, Global};
 use std::collections::BTreeSet;
+use text_places::near::nearest_of;
+use text_places::scan::{Step, place_of};
+use text_places::shown::quoted;
 use toml::{Table, Value};
 
 /// The rows at a key of the top table.
@@ -149,15 +149,15 @@ pub(super) fn row_of<'a>(top: &'a Table, path: &str) -> Option<&'a Table> {
 pub(super) fn nearest_path<'a>(
     alloc: Global,
     top: &'a Table,
-    path: &'a str,
+    path: &str,
 ) -> Result<Option<&'a str>, AllocError> {
-    let mut nearest = Nearest::to(path);
+    let mut paths = Vec::new(alloc);
     for value in rows(top, "cgroup") {
         if let Some(there) = value.as_table().and_then(path_of) {
-            nearest.look(alloc, there)?;
+            paths.push(there)?;
         }
     }
-    Ok(nearest.found)
+    nearest_of(alloc, path, paths.as_slice())
 }
 
 /// The paths that rows have.

@@ -1,11 +1,14 @@
 //! Where in a TOML text a key stands: the text is walked over once more, without a word on what the keys mean.
+ghost use Rattle.std.specs.Prelude.{◌≡◌, true, IfOk, IfSome};
+ghost use Rattle.text_places.specs.Places.{behind_brackets, begins_with_key, IsPlaceOf};
+
 use std::alloc::{AllocError, Global};
-use toml_parser::text::{first, skip, skip_blank, skip_ws};
+use toml_parser::text::{byte_at, first, skip, skip_blank, skip_ws};
 use toml_parser::{ErrorKind, Key, ParseError, dotted_key, quoted, starts_string, unquoted};
 
 /// A step from a table or an array to what stands in it.
 #[derive(Clone, Copy, Debug)]
-pub(crate) enum Step<'k> {
+pub enum Step<'k> {
     Key(&'k str),
     /// From 0 on.
     Element(usize),
@@ -37,11 +40,66 @@ struct Walk<'t, 'k> {
 }
 
 /// Where the key, or the element, stands that the steps lead to, in bytes from the text's beginning; nothing where that is no one place.
-pub(crate) fn place_of(
+pub fn place_of(alloc: Global, text: &str, steps: &[Step<'_>]) -> Result<Option<usize>, AllocError>
+    ensures { IfOk result (λ found. IfSome found (IsPlaceOf text.now steps.now)) }
+{
+    let Some(offset) = led_to(alloc, text, steps)? else {
+        return Ok(None);
+    };
+    if is_place(alloc, text, steps, offset)? {
+        Ok(Some(offset))
+    } else {
+        Ok(None)
+    }
+}
+
+/// Whether what the last step names stands at a place.
+fn is_place(
     alloc: Global,
     text: &str,
     steps: &[Step<'_>],
-) -> Result<Option<usize>, AllocError> {
+    offset: usize,
+) -> Result<bool, AllocError>
+    ensures { IfOk result (λ stands. stands ≡ true → IsPlaceOf text.now steps.now offset) }
+{
+    if !text.is_char_boundary(offset) {
+        return Ok(false);
+    }
+    match steps.last() {
+        Some(Step::Key(name)) => {
+            begins_with_key(alloc, behind_brackets(text.split_at(offset).1), *name)
+        }
+        Some(Step::Element(_)) => Ok(true),
+        None => Ok(false),
+    }
+}
+
+/// Whether a key stands at a text's front whose last part has this name.
+fn begins_with_key(alloc: Global, text: &str, name: &str) -> Result<bool, AllocError>
+    ensures { IfOk result (λ stands. stands ≡ begins_with_key text.now name.now) }
+{
+    match dotted_key(alloc, text) {
+        Ok((key, _)) => Ok(key.last.as_str() == name),
+        Err(ParseError::OutOfMemory) => Err(AllocError),
+        Err(ParseError::At(..)) => Ok(false),
+    }
+}
+
+/// Behind the bracket, or the two, that begin a table's header.
+fn behind_brackets(text: &str) -> &str
+    ensures { result.now ≡ behind_brackets text.now }
+{
+    if first(text) != b'[' {
+        text
+    } else if byte_at(text, 1) == b'[' {
+        skip_ws(skip(text, 2))
+    } else {
+        skip_ws(skip(text, 1))
+    }
+}
+
+/// Where the walk finds what the steps lead to, if at one place.
+fn led_to(alloc: Global, text: &str, steps: &[Step<'_>]) -> Result<Option<usize>, AllocError> {
     let mut walk = Walk {
         text,
         rest: text.strip_prefix('\u{feff}').unwrap_or(text),

@@ -1,0 +1,4 @@
+pub mod Nearest
+pub mod Shown
+pub mod Positions
+pub mod Places
