@@ -1,0 +1,4 @@
+mod Telling
+mod Holding
+mod Within
+mod Meeting
