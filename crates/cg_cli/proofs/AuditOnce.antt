@@ -13,7 +13,7 @@ use Rattle.cg_cgroup.proofs.PathOrder.{same_path-is}
 use Rattle.cg_model.specs.States.{State}
 use Rattle.cg_model.specs.Clauses.{first, present}
 use Rattle.cg_model.specs.Steps.{after, after_all, Deed}
-use Rattle.cg_steps.proofs.ClauseLaws.{first_some}
+use Rattle.cg_model.proofs.ClauseLaws.{first_some}
 use Rattle.cg_model.specs.Held.{IsHeld, AreBy}
 use Rattle.cg_model.specs.Strangers.{OnlyTheseOpen, IsOfStranger}
 use Rattle.cg_model.specs.Verdicts.{verdict}
@@ -29,7 +29,7 @@ use Rattle.cg_model.specs.Several.{AreContained}
 use Rattle.cg_model.specs.declared.answer.AllAnswer.{AllAnswer}
 use Rattle.cg_model.specs.declared.answer.AllAnswer.TheVariants.{Contained, Pair}
 use Rattle.cg_check.proofs.ListedPairs.{pairs-listed}
-use Rattle.cg_steps.proofs.Lists.{all-each}
+use Rattle.cg_model.proofs.Lists.{all-each}
 use Rattle.cg_report.specs.AnswerLines.{answer_text}
 use Rattle.cg_report.specs.AuditLines.{subtree_at, pair_line, IsPairShown}
 use Rattle.cg_report.proofs.ShownPairs.{audits_are_shown}
@@ -38,7 +38,7 @@ use Rattle.cg_cli.specs.Containment.{in_call, answer_status}
 use Rattle.cg_model.specs.Once.{once}
 use Rattle.cg_cli.specs.Once.{same_user}
 use Rattle.cg_cli.specs.Reports.{Report, report_on}
-use Rattle.cg_cli.specs.declared.fault.CliFault.{CliFault}
+use Rattle.cg_faults.specs.declared.fault.CliFault.{CliFault}
 use Rattle.cg_cli.proofs.AuditStatus.{IsNamed, named, status_is_contained}
 
 -- ---- the first of several lists

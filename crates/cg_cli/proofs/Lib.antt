@@ -23,3 +23,8 @@ pub mod ReadingOf
 mod ReportLaws
 mod CourseReads
 mod WrittenRead
+pub mod Settled
+pub mod FoundPlaces
+pub mod Knowing
+pub mod Auditing
+pub mod ListedRows

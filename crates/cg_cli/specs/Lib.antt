@@ -1,5 +1,7 @@
-pub mod Faults
-pub mod FaultLines
+pub mod Settled
+pub mod Audited
+pub mod FoundPlaces
+pub mod ListedRows
 pub mod Arguments
 pub mod Reports
 pub mod May

@@ -3,11 +3,11 @@
 
 pub mod advise;
 pub mod advise_pairs;
+pub mod answers;
 pub mod arguments;
 pub mod audit;
 pub mod audit_all;
 pub mod check;
-pub mod fault;
 pub mod laws;
 pub mod may;
 mod named;

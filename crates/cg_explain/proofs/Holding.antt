@@ -12,7 +12,7 @@ use Rattle.cg_model.specs.Clauses.{present, unless}
 use Rattle.cg_model.specs.Limits.{fits_descendants, fits_depth}
 use Rattle.cg_model.specs.Guards.{Guarded, guarded_entries, guarded_entry, entry_failures, over_failures, found, GuardsHold}
 use Rattle.cg_model.specs.declared.guard.Failed.{Failed}
-use Rattle.cg_steps.proofs.ClauseLaws.{no_parts, no_unless}
+use Rattle.cg_model.proofs.ClauseLaws.{no_parts, no_unless}
 use Rattle.cg_model.specs.declared.mend.Class.{Class}
 use Rattle.cg_model.specs.declared.mend.Class.TheVariants.{Owner}
 use Rattle.cg_explain.specs.declared.first.Told.{Told}

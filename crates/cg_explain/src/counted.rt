@@ -7,7 +7,7 @@ ghost use Rattle.cg_explain.specs.Counted.{counts_of};
 
 use cg_cgroup::files::Limit;
 use cg_cgroup::path::Path;
-use cg_tree::hierarchy::Hierarchy;
+use cg_model::hierarchy::Hierarchy;
 
 /// How many there are of what a limit counts.
 #[derive(Clone, Copy, Debug, PartialEq, Eq)]

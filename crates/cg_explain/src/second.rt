@@ -20,7 +20,7 @@ use cg_second::closed::{crowded_end, grows_none, is_exposed, is_passed, takes_no
 use cg_second::control::{stays, stays_off, stays_on};
 use cg_second::reach::{is_anchored, is_reached, spares_files};
 use cg_second::survey::Survey;
-use cg_tree::hierarchy::Hierarchy;
+use cg_model::hierarchy::Hierarchy;
 use std::alloc::Global;
 
 /// Why a cgroup stays.

@@ -15,8 +15,8 @@ use Rattle.streams.specs.Written.{AppendsPart}
 use Rattle.cg_cli.specs.Replays.{closed}
 use Rattle.cg_cli.specs.Replaying.{Reporting, Replays, ReplaysFrom}
 use Rattle.cg_cli.specs.Reports.{Report, Reports}
-use Rattle.cg_cli.specs.declared.fault.CliFault.{CliFault}
-use Rattle.cg_cli.specs.declared.fault.CliFault.TheVariants.{Read, Write, NoMemory}
+use Rattle.cg_faults.specs.declared.fault.CliFault.{CliFault}
+use Rattle.cg_faults.specs.declared.fault.CliFault.TheVariants.{Read, Write, NoMemory}
 use Rattle.commands.specs.Requests.{Files, IsUnread, AuditSays, OnTree, pairs_said, OnPairs, replay_said, ReplaysOver, CarriesOut}
 
 pub Appends-Keeps : (old mid new : Option (List ℕ)) (bs : List ℕ) → Appends old mid bs → Keeps mid new → Appends old new bs

@@ -22,8 +22,8 @@ use Rattle.cg_cli.specs.Upgrades.{Upgrades}
 use Rattle.cg_cli.specs.Replays.{closed, lines_report}
 use Rattle.cg_cli.specs.Replaying.{Reporting, ReplaysFrom}
 use Rattle.cg_cli.specs.Reports.{Report, Reports, report_on}
-use Rattle.cg_cli.specs.declared.fault.CliFault.{CliFault}
-use Rattle.cg_cli.specs.declared.fault.CliFault.TheVariants.{Read, NoMemory}
+use Rattle.cg_faults.specs.declared.fault.CliFault.{CliFault}
+use Rattle.cg_faults.specs.declared.fault.CliFault.TheVariants.{Read, NoMemory}
 use Rattle.commands.specs.PairLines.{pairs_read}
 
 -- ---- what there is to read

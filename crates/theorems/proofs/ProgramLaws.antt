@@ -24,7 +24,7 @@ use Rattle.cg_cli.specs.Replays.{closed, replay_report}
 use Rattle.cg_cli.specs.Replaying.{Reporting, Replays}
 use Rattle.cg_cli.specs.Reports.{Reports}
 use Rattle.cg_cli.specs.Upgrades.{Upgrades, IsNewText, upgrade_report}
-use Rattle.cg_cli.specs.declared.fault.CliFault.{CliFault}
+use Rattle.cg_faults.specs.declared.fault.CliFault.{CliFault}
 use Rattle.clap.specs.declared.error.Error.{Error}
 use Rattle.arguments.specs.Words.{Makes}
 use Rattle.arguments.specs.Given.{ids_of, tree_file, other_file}

@@ -10,11 +10,11 @@ use cg_cli::arguments::UserIds;
 use cg_cli::audit::audit_bytes;
 use cg_cli::audit_all::audit_all_bytes;
 use cg_cli::check::check_bytes;
-use cg_cli::fault::{CliFault, fault_text};
 use cg_cli::may::may_bytes;
 use cg_cli::replay::{replay_bytes, replay_from};
 use cg_cli::settle::settle_bytes;
 use cg_cli::upgrade::upgrade_bytes;
+use cg_faults::fault::{CliFault, fault_text};
 use std::alloc::Global;
 
 /// Room for every report, made before the call: a writer that wants memory is another trial.
