@@ -2,3 +2,4 @@ mod Telling
 mod Holding
 mod Within
 mod Meeting
+mod Placing

@@ -1,16 +1,16 @@
 //! What the second row of guards asks of a subtree, and by what it is so.
-ghost use Rattle.std.specs.Prelude.{◌≡◌, ◌<◌, ◌++◌, ◌||◌, not, suc, length, slice_index_or, [], IfOk, OnOk};
+ghost use Rattle.std.specs.Prelude.{◌≡◌, ◌<◌, ◌++◌, false, length, map, slice_index_or, [], IfOk, OnOk};
 ghost use Rattle.std.specs.List.{flat_map};
 ghost use Rattle.cg_cgroup.specs.Paths.{is_root};
-ghost use Rattle.cg_cgroup.specs.declared.files.EntryName.TheVariants.{Dir};
+ghost use Rattle.cg_cgroup.specs.Files.{all_controllers};
 ghost use Rattle.cg_model.specs.WellFormed.{IsWellFormed};
 ghost use Rattle.cg_model.specs.Guards.{IsSubtree};
 ghost use Rattle.cg_settle.specs.Greatest.{greatest};
 ghost use Rattle.cg_settle.specs.Judged.{takes_none};
 ghost use Rattle.cg_settle.specs.Lasting.{is_reached};
 ghost use Rattle.cg_second.specs.Counts.{IsSurvey};
-ghost use Rattle.cg_second.specs.Exposed.{is_passed_to, is_deep_to};
-ghost use Rattle.cg_explain.specs.SecondRow.{is_met, why_stays, why_control, why_takes, why_grows, place_asked, place_with, second_row_asked};
+ghost use Rattle.cg_second.specs.Exposed.{is_passed_to};
+ghost use Rattle.cg_explain.specs.SecondRow.{is_met, why_stays, why_control, why_takes, why_grows, grows_none_where, place_with, place_told, place_asked, control_asked, second_row_asked};
 
 use cg_cgroup::files::{Controller, EntryName};
 use cg_cgroup::memory::NoMemory;
@@ -58,7 +58,7 @@ pub enum Growing {
 }
 
 /// A cgroup to which a move over the edge of the subtree may lead.
-#[derive(Debug, Drop, PartialEq, Eq)]
+#[derive(Debug, Drop)]
 pub struct Place {
     pub path: Path,
     pub takes_none: Option<Taking>,
@@ -66,7 +66,7 @@ pub struct Place {
 }
 
 /// What is asked. Where nothing is told by what it is so, it isn't.
-#[derive(Debug, Drop, PartialEq, Eq)]
+#[derive(Debug, Drop)]
 pub enum Asked {
     /// That the subtree stays.
     Stays(Option<Staying>),
@@ -105,15 +105,44 @@ pub fn second_row<H: Hierarchy>(
     ensures { IfOk result (λ row. row.items ≡ second_row_asked (H.state tree.now) users.now subtree.now) }
 {
     let survey = Survey::of(alloc, tree, users)?;
+    all_asked(alloc, &survey, subtree)
+}
+
+/// All that is asked, of a survey.
+fn all_asked<H: Hierarchy>(
+    alloc: Global,
+    survey: &Survey<H>,
+    subtree: &Path,
+) -> Result<Vec<Asked>, NoMemory>
+    requires survey { IsSurvey (H.state survey.now.tree.now) survey.now.users.now survey.now.paths.items survey.now.ends.items survey.now.kept.items survey.now.fixed.items }
+    requires not_root { is_root subtree.now ≡ false }
+    ensures { IfOk result (λ row. row.items ≡ second_row_asked (H.state survey.now.tree.now) survey.now.users.now subtree.now) }
+{
     let mut row = Vec::new(alloc);
-    row.push(Asked::Stays(why_stays(&survey, subtree)))?;
+    row.push(Asked::Stays(why_stays(survey, subtree)))?;
+    push_controls(&mut row, survey, subtree)?;
+    let spared = spares_files(survey.tree, survey.users, subtree);
+    row.push(Asked::Files(spared))?;
+    push_places(alloc, &mut row, survey, subtree)?;
+    Ok(row)
+}
+
+/// Adds each controller.
+fn push_controls<H: Hierarchy>(
+    row: &mut Vec<Asked>,
+    survey: &Survey<H>,
+    subtree: &Path,
+) -> Result<(), NoMemory>
+    requires survey { IsSurvey (H.state survey.now.tree.now) survey.now.users.now survey.now.paths.items survey.now.ends.items survey.now.kept.items survey.now.fixed.items }
+    requires not_root { is_root subtree.now ≡ false }
+    ensures { OnOk result (row.new.items ≡ row.old.items
+        ++ map (control_asked (H.state survey.now.tree.now) survey.now.users.now subtree.now) all_controllers) }
+{
     for controller in Controller::ALL {
-        let how = why_control(&survey, subtree, controller);
+        let how = why_control(survey, subtree, controller);
         row.push(Asked::Control(controller, how))?;
     }
-    row.push(Asked::Files(spares_files(tree, users, subtree)))?;
-    push_places(alloc, &mut row, &survey, subtree)?;
-    Ok(row)
+    Ok(())
 }
 
 /// Why the subtree stays, if it does.
@@ -166,11 +195,34 @@ fn push_places<H: Hierarchy>(
     let mut crowded_until = 0;
     for at in 0..survey.paths.len() {
         crowded_until = crowded_until.max(crowded_end(survey, at));
-        if is_exposed(survey, subtree, is_passed, &survey.paths[at]) {
-            let place = place_at(alloc, survey, at, at < crowded_until)?;
-            row.push(Asked::Shut(place))?;
-        }
+        let is_crowded = at < crowded_until;
+        push_place(alloc, row, survey, subtree, is_passed, at, is_crowded)?;
     }
+    Ok(())
+}
+
+/// Adds the cgroup at a place of the survey, where a move over the edge of the subtree may lead there.
+fn push_place<H: Hierarchy>(
+    alloc: Global,
+    row: &mut Vec<Asked>,
+    survey: &Survey<H>,
+    subtree: &Path,
+    is_passed: bool,
+    at: usize,
+    is_crowded: bool,
+) -> Result<(), NoMemory>
+    requires survey { IsSurvey (H.state survey.now.tree.now) survey.now.users.now survey.now.paths.items survey.now.ends.items survey.now.kept.items survey.now.fixed.items }
+    requires within { at < length survey.now.paths.items }
+    requires passed { is_passed ≡ is_passed_to (H.state survey.now.tree.now) survey.now.users.now subtree.now (length subtree.now) }
+    ensures { OnOk result (row.new.items ≡ row.old.items ++ place_told (H.state survey.now.tree.now) survey.now.users.now subtree.now
+        (slice_index_or survey.now.paths.items at [])
+        (grows_none_where (H.state survey.now.tree.now) survey.now.users.now (slice_index_or survey.now.paths.items at []) is_crowded)) }
+{
+    if !is_exposed(survey, subtree, is_passed, &survey.paths[at]) {
+        return Ok(());
+    }
+    let place = place_at(alloc, survey, at, is_crowded)?;
+    row.push(Asked::Shut(place))?;
     Ok(())
 }
 
@@ -185,14 +237,16 @@ fn place_at<H: Hierarchy>(
     requires within { at < length survey.now.paths.items }
     ensures { IfOk result (λ place. place ≡ place_with (H.state survey.now.tree.now) survey.now.users.now
         (slice_index_or survey.now.paths.items at [])
-        (not (is_reached (H.state survey.now.tree.now) survey.now.users.now (slice_index_or survey.now.paths.items at []) Dir)
-        || (is_crowded || is_deep_to (H.state survey.now.tree.now) survey.now.users.now (slice_index_or survey.now.paths.items at [])
-        (suc (length (slice_index_or survey.now.paths.items at [])))))) }
+        (grows_none_where (H.state survey.now.tree.now) survey.now.users.now (slice_index_or survey.now.paths.items at []) is_crowded)) }
 {
+    let path = &survey.paths[at];
+    let takes_none = why_takes(survey, at);
+    let grows_none = why_grows(survey, path, is_crowded);
+    let path = path.try_clone(alloc)?;
     Ok(Place {
-        path: survey.paths[at].try_clone(alloc)?,
-        takes_none: why_takes(survey, at),
-        grows_none: why_grows(survey, &survey.paths[at], is_crowded),
+        path,
+        takes_none,
+        grows_none,
     })
 }
 
@@ -217,8 +271,7 @@ fn why_takes<H: Hierarchy>(survey: &Survey<H>, at: usize) -> Option<Taking>
 /// Why nobody makes a cgroup in one, if so.
 fn why_grows<H: Hierarchy>(survey: &Survey<H>, path: &Path, is_crowded: bool) -> Option<Growing>
     ensures { result ≡ why_grows (H.state survey.now.tree.now) survey.now.users.now path.now
-        (not (is_reached (H.state survey.now.tree.now) survey.now.users.now path.now Dir)
-        || (is_crowded || is_deep_to (H.state survey.now.tree.now) survey.now.users.now path.now (suc (length path.now)))) }
+        (grows_none_where (H.state survey.now.tree.now) survey.now.users.now path.now is_crowded) }
 {
     if !grows_none(survey, path, is_crowded) {
         return None;
