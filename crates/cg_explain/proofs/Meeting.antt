@@ -15,10 +15,16 @@ use Rattle.cg_second.specs.Anchors.{is_anchored}
 use Rattle.cg_second.specs.Exposed.{is_off_to, is_exposed, is_shut_or_apart}
 use Rattle.cg_second.proofs.Staying.{off-above}
 use Rattle.cg_second.proofs.Edges.{closed-is}
+use Rattle.cg_cgroup.specs.declared.files.EntryName.TheVariants.{Dir, Procs}
+use Rattle.cg_settle.specs.Lasting.{is_reached}
+use Rattle.cg_explain.specs.declared.second.Staying.TheVariants.{Spared as SparedStaying, Upheld}
+use Rattle.cg_explain.specs.declared.second.Switch.TheVariants.{On, Off}
+use Rattle.cg_explain.specs.declared.second.Taking.TheVariants.{Spared as SparedTaking, Enabling}
+use Rattle.cg_explain.specs.declared.second.Growing.TheVariants.{Spared as SparedGrowing, Full}
 use Rattle.cg_explain.specs.declared.second.Place.{Place}
 use Rattle.cg_explain.specs.declared.second.Asked.{Asked}
 use Rattle.cg_explain.specs.declared.second.Asked.TheVariants.{Shut}
-use Rattle.cg_explain.specs.SecondRow.{why_stays, why_control, why_takes, why_grows, place_with, place_asked, spares_files, second_row_asked, is_met}
+use Rattle.cg_explain.specs.SecondRow.{why_stays, why_control, place_with, place_asked, spares_files, second_row_asked, is_met}
 
 some-is : {A : Type 0} (b : Bool) (x : A) → is_some (cond b (Some x) None) ≡ b
 some-is true x = refl
@@ -50,56 +56,58 @@ module _ (st : State) (users : List Identity) (subtree : Names) where
       → list_all is_met (flat_map (place_asked st users subtree) paths) ≡ list_all (is_shut_or_apart st users subtree) paths
   places-are [] = refl
   places-are (path ∷ paths) =
-      let takes = takes_none st users (greatest st users) path in
-      let grows = grows_none st users (greatest st users) path in
+      let takes : Bool = takes_none st users (greatest st users) path in
+      let grows : Bool = grows_none st users (greatest st users) path in
       one-place (is_exposed st users subtree path) (place_with st users path grows) takes grows
       (flat_map (place_asked st users subtree) paths) (list_all (is_shut_or_apart st users subtree) paths)
-      (some-is takes _) (some-is grows _) (places-are paths)
+      (some-is takes (cond (is_reached st users path Procs) Enabling SparedTaking))
+      (some-is grows (cond (is_reached st users path Dir) Full SparedGrowing)) (places-are paths)
 
   closed-where-met : list_all is_met (flat_map (place_asked st users subtree) (paths_of st))
       ≡ is_closed_to st users (greatest st users) subtree (length subtree)
   closed-where-met = places-are (paths_of st) ∙ closed-is st users subtree
 
-  module _ (formed : IsWellFormed st) (not_root : is_root subtree ≡ false) where
-    abbrev holds_at : Controller → Bool
-    holds_at controller =
-        (greatest st users).on (parent subtree) controller || (greatest st users).off (parent subtree) controller
+  stay-is : is_some (why_stays st users subtree) ≡ (greatest st users).stays subtree
+  stay-is = some-is ((greatest st users).stays subtree) (cond (is_anchored st users subtree) SparedStaying Upheld)
 
+  abbrev holds_at : Controller → Bool
+  holds_at controller =
+      (greatest st users).on (parent subtree) controller || (greatest st users).off (parent subtree) controller
+
+  abbrev fits : Bool
+  fits = fits_descendants st subtree && fits_depth st subtree
+
+  -- what is asked behind that it stays, and what the row tests then
+  abbrev asked_behind : Bool
+  asked_behind =
+      is_some (why_control st users subtree Cpu)
+      && (is_some (why_control st users subtree Memory)
+      && (is_some (why_control st users subtree Pids)
+      && (spares_files st users subtree && list_all is_met (flat_map (place_asked st users subtree) (paths_of st)))))
+
+  abbrev tested_behind : Bool
+  tested_behind =
+      (holds_at Cpu && (holds_at Memory && (holds_at Pids && true)))
+      && (spares_files st users subtree && (is_closed_to st users (greatest st users) subtree (length subtree) && fits))
+
+  module _ (formed : IsWellFormed st) (not_root : is_root subtree ≡ false) where
     control-is : (greatest st users).stays subtree ≡ true → (controller : Controller)
         → is_some (why_control st users subtree controller) ≡ holds_at controller
     control-is stays controller =
-        either-is ((greatest st users).on (parent subtree) controller) (is_off_to st users subtree controller (length subtree)) _ _
+        either-is ((greatest st users).on (parent subtree) controller) (is_off_to st users subtree controller (length subtree)) On Off
         ∙ ap (λ b. (greatest st users).on (parent subtree) controller || b)
         (sym (off-above st users formed subtree controller stays not_root))
+
+    by_stay : ((greatest st users).stays subtree ≡ true) ⊎ ((greatest st users).stays subtree ≡ false)
+        → ((is_some (why_stays st users subtree) && asked_behind) && fits) ≡ ((greatest st users).stays subtree && tested_behind)
+    by_stay (inl stays) =
+        (λ i. (stay-is i && (control-is stays Cpu i && (control-is stays Memory i && (control-is stays Pids i
+        && (spares_files st users subtree && closed-where-met i))))) && fits)
+        ∙ regroup ((greatest st users).stays subtree) (holds_at Cpu) (holds_at Memory) (holds_at Pids) (spares_files st users subtree)
+        (is_closed_to st users (greatest st users) subtree (length subtree)) fits
+    by_stay (inr gone) =
+        ap (λ b. (b && asked_behind) && fits) (stay-is ∙ gone) ∙ sym (ap (λ b. b && tested_behind) gone)
 
     pub met-is : (list_all is_met (second_row_asked st users subtree) && (fits_descendants st subtree && fits_depth st subtree))
         ≡ second_row st users subtree
     met-is = by_stay (cases_Bool ((greatest st users).stays subtree))
-      where
-        abbrev behind : Bool
-        behind =
-            is_some (why_control st users subtree Cpu)
-            && (is_some (why_control st users subtree Memory)
-            && (is_some (why_control st users subtree Pids)
-            && (spares_files st users subtree && list_all is_met (flat_map (place_asked st users subtree) (paths_of st)))))
-
-        abbrev fits : Bool
-        fits = fits_descendants st subtree && fits_depth st subtree
-
-        abbrev asked_then : Bool
-        asked_then =
-            (holds_at Cpu && (holds_at Memory && (holds_at Pids && true)))
-            && (spares_files st users subtree && (is_closed_to st users (greatest st users) subtree (length subtree) && fits))
-
-        stay-is : is_some (why_stays st users subtree) ≡ (greatest st users).stays subtree
-        stay-is = some-is ((greatest st users).stays subtree) _
-
-        by_stay : ((greatest st users).stays subtree ≡ true) ⊎ ((greatest st users).stays subtree ≡ false)
-            → ((is_some (why_stays st users subtree) && behind) && fits) ≡ ((greatest st users).stays subtree && asked_then)
-        by_stay (inl stays) =
-            (λ i. (stay-is i && (control-is stays Cpu i && (control-is stays Memory i && (control-is stays Pids i
-            && (spares_files st users subtree && closed-where-met i))))) && fits)
-            ∙ regroup ((greatest st users).stays subtree) (holds_at Cpu) (holds_at Memory) (holds_at Pids) (spares_files st users subtree)
-            (is_closed_to st users (greatest st users) subtree (length subtree)) fits
-        by_stay (inr gone) =
-            ap (λ b. (b && behind) && fits) (stay-is ∙ gone) ∙ sym (ap (λ b. b && asked_then) gone)

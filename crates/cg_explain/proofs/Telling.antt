@@ -14,7 +14,7 @@ use Rattle.cg_explain.specs.declared.first.Told.{Told}
 use Rattle.cg_explain.specs.FirstRow.{told, first_row}
 
 module _ (st : State) (user : Identity) (subtree : Names) where
-  abbrev line_of : Guarded → List Told
+  abbrev pub line_of : Guarded → List Told
   line_of guarded = present (standing st subtree guarded) (told user)
 
   -- those from a place on

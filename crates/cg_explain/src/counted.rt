@@ -38,7 +38,7 @@ pub struct Counts {
 }
 
 /// What those of a subtree count, where it is there.
-pub fn counts<H: Hierarchy>(tree: &H, subtree: &Path) -> Option<Counts>
+pub fn counts_below<H: Hierarchy>(tree: &H, subtree: &Path) -> Option<Counts>
     ensures { result ≡ option_map (counts_of (H.state tree.now) subtree.now) (row_at (H.state tree.now) subtree.now) }
 {
     let len = subtree.depth();
