@@ -1,5 +1,5 @@
 -- The guards hold where the user reaches no entry that is told, and the other way round.
-use Rattle.std.proofs.Common.{◌≡◌, Bool, true, false, not, ◌||◌, ◌&&◌, cond, List, [], ◌∷◌, ◌++◌, Option, Some, None, refl, sym, ap, ◌∙◌}
+use Rattle.std.proofs.Common.{◌≡◌, Bool, true, false, not, ◌||◌, ◌&&◌, cond, List, [], ◌∷◌, ◌++◌, length, Option, Some, None, refl, sym, ap, ◌∙◌}
 use Rattle.std.specs.List.{All, AllByRecursion, flat_map}
 use Rattle.std.specs.Option.{option_map}
 use Rattle.std.proofs.lemmas.List.Elements.{All-from_recursion, recursion_from_All}
@@ -12,6 +12,7 @@ use Rattle.cg_model.specs.Clauses.{present, unless}
 use Rattle.cg_model.specs.Limits.{fits_descendants, fits_depth}
 use Rattle.cg_model.specs.Guards.{Guarded, guarded_entries, guarded_entry, entry_failures, over_failures, found, GuardsHold}
 use Rattle.cg_model.specs.declared.guard.Failed.{Failed}
+use Rattle.cg_model.specs.declared.guard.Guard.TheVariants.{AlreadyOver}
 use Rattle.cg_model.proofs.ClauseLaws.{no_parts, no_unless}
 use Rattle.cg_model.specs.declared.mend.Class.{Class}
 use Rattle.cg_model.specs.declared.mend.Class.TheVariants.{Owner}
@@ -29,7 +30,8 @@ no_class true false class h = cc
 no_class false true class h = cc
 no_class false false class h = refl
 
-not_reached : (owned written : Bool) (class : Class) → ◌≡◌ {A = Option Class} (cond owned (Some Owner) (cond written (Some class) None)) None
+not_reached : (owned written : Bool) (class : Class)
+    → ◌≡◌ {A = Option Class} (cond owned (Some Owner) (cond written (Some class) None)) None
     → not (written || owned) ≡ true
 not_reached true written class h = cc
 not_reached false true class h = cc
@@ -85,14 +87,17 @@ module _ (st : State) (user : Identity) (subtree : Names) where
   abbrev fits : Bool
   fits = fits_descendants st subtree && fits_depth st subtree
 
+  abbrev over : Failed
+  over = record { guard = AlreadyOver; len = length subtree }
+
   pub where_held : GuardsHold st user subtree → All IsSpared (first_row st user subtree) × (fits ≡ true)
   where_held hold =
       let parts = no_parts (flat_map (entry_failures st user subtree) (guarded_entries subtree)) (over_failures st subtree) hold in (
         All-from_recursion IsSpared (first_row st user subtree) (all_told (guarded_entries subtree) parts.0),
-        no_unless fits _ parts.1,
+        no_unless fits over parts.1,
       )
 
   pub held_where : All IsSpared (first_row st user subtree) × (fits ≡ true) → GuardsHold st user subtree
   held_where all =
       (λ i. all_fail (guarded_entries subtree) (recursion_from_All IsSpared (first_row st user subtree) all.0) i
-      ++ unless_none fits _ all.1 i)
+      ++ unless_none fits over all.1 i)

@@ -14,9 +14,9 @@ counts_of st path row = record {
   depth = record { count = depth_below st path; limit = row.max_depth.value };
 }
 
-abbrev pub is_within : Counted → Bool
-is_within counted = is_within_limit counted.count counted.limit
+abbrev pub is_in_limit : Counted → Bool
+is_in_limit counted = is_within_limit counted.count counted.limit
 
 -- both are within their limits
 abbrev pub are_within : Counts → Bool
-are_within counts = is_within counts.descendants && is_within counts.depth
+are_within counts = is_in_limit counts.descendants && is_in_limit counts.depth

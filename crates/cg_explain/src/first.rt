@@ -8,8 +8,8 @@ use cg_cgroup::path::Path;
 use cg_cgroup::user::{Entry, User};
 use cg_guards::table::{guarded_count, guarded_entry};
 use cg_model::guard::GuardedEntry;
-use cg_model::mend::Class;
 use cg_model::hierarchy::Hierarchy;
+use cg_model::mend::Class;
 use std::alloc::Global;
 
 /// An entry on which a guard stands. The guard holds where the user reaches it by no class.

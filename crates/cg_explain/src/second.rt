@@ -16,11 +16,11 @@ use cg_cgroup::files::{Controller, EntryName};
 use cg_cgroup::memory::NoMemory;
 use cg_cgroup::path::Path;
 use cg_cgroup::user::User;
+use cg_model::hierarchy::Hierarchy;
 use cg_second::closed::{crowded_end, grows_none, is_exposed, is_passed, takes_none};
 use cg_second::control::{stays, stays_off, stays_on};
 use cg_second::reach::{is_anchored, is_reached, spares_files};
 use cg_second::survey::Survey;
-use cg_model::hierarchy::Hierarchy;
 use std::alloc::Global;
 
 /// Why a cgroup stays.

@@ -71,18 +71,22 @@ const OWNED: &str = "{ uid = 1000, mode = 0o444 }";
 fn first_holds(alloc: Global, tree: &Rows, user: &User, subtree: &Path) -> Result<bool, Fail> {
     let within = counts_below(tree, subtree).ok_or("counts")?;
     let row = first_row(alloc, tree, user, subtree)?;
-    Ok(row.iter().all(|told| told.by.is_none())
-        && within.descendants.is_within()
-        && within.depth.is_within())
+    Ok(
+        row.iter().all(|told| told.by.is_none())
+            && within.descendants.is_within()
+            && within.depth.is_within(),
+    )
 }
 
 /// Whether all is so that the second row asks.
 fn second_holds(alloc: Global, tree: &Rows, user: &User, subtree: &Path) -> Result<bool, Fail> {
     let within = counts_below(tree, subtree).ok_or("counts")?;
     let row = second_row(alloc, tree, std::slice::from_ref(user), subtree)?;
-    Ok(row.iter().all(|asked| asked.is_met())
-        && within.descendants.is_within()
-        && within.depth.is_within())
+    Ok(
+        row.iter().all(|asked| asked.is_met())
+            && within.descendants.is_within()
+            && within.depth.is_within(),
+    )
 }
 
 /// What is told of an entry of the first row: the cgroup, the entry and the class.
@@ -94,7 +98,11 @@ fn word_of_entry(alloc: Global, subtree: &Path, told: &Told) -> Result<String, A
         Some(Class::Group) => "group",
         Some(Class::Others) => "others",
     };
-    format!(in alloc; "{} {place} {} {by}\n", told.at.guard.name(), told.at.name.name())
+    format!(in alloc;
+        "{} {place} {} {by}\n",
+        told.at.guard.name(),
+        told.at.name.name()
+    )
 }
 
 /// What is asked by the second row, and by what it is so.
@@ -165,8 +173,20 @@ fn a_delegation_is_told(rt: HostRuntime) -> Result<(), Fail> {
          parent-dir / dir held\n"
     );
     let counted = counts_below(&tree, &subtree).ok_or("counts")?;
-    assert_eq!(rt; counted.descendants, Counted { count: 2, limit: Limit::At(4) });
-    assert_eq!(rt; counted.depth, Counted { count: 1, limit: Limit::At(2) });
+    assert_eq!(rt;
+        counted.descendants,
+        Counted {
+            count: 2,
+            limit: Limit::At(4)
+        }
+    );
+    assert_eq!(rt;
+        counted.depth,
+        Counted {
+            count: 1,
+            limit: Limit::At(2)
+        }
+    );
     assert_eq!(rt;
         second_words(rt.alloc(), &tree, "/c0")?.as_str(),
         "stays spared\ncpu off\nmemory on\npids off\nfiles spared\n"
@@ -208,7 +228,12 @@ fn places_are_told_where_a_move_may_lead(rt: HostRuntime) -> Result<(), Fail> {
 
 #[test]
 fn what_keeps_a_place_shut_is_told(rt: HostRuntime) -> Result<(), Fail> {
-    let entries = [(0, "cgroup.procs"), (4, "cgroup.procs"), (2, "dir"), (3, "dir")];
+    let entries = [
+        (0, "cgroup.procs"),
+        (4, "cgroup.procs"),
+        (2, "dir"),
+        (3, "dir"),
+    ];
     let tree = tree_of(rt.alloc(), &entries, OWNED, 0)?;
     assert_eq!(rt;
         second_words(rt.alloc(), &tree, "/a")?.as_str(),

@@ -17,8 +17,8 @@ loop-place-preserved-in_default g c =
 pub loop-place-preserved : goal.loop-place-preserved
 loop-place-preserved g c =
     let told_by : Option Class → Told = λ by. record { at = c.in-Some.at; by = by } in
-    row_grows (g.H.Hierarchy.state c.args.tree.now) c.args.user.now c.args.subtree.now c.loop-place.place c.in-Some.at c.loop-place.row.items
-    c.push.new.self.items c.in-Some.ensures.entry
+    row_grows (g.H.Hierarchy.state c.args.tree.now) c.args.user.now c.args.subtree.now c.loop-place.place c.in-Some.at
+    c.loop-place.row.items c.push.new.self.items c.in-Some.ensures.entry
     (c.in_ok-push.ensures.items ∙ ap (λ by. c.loop-place.row.items ++ told_by by ∷ []) c.class_of-by.ensures)
     ∙ c.loop-place.invariant
 
