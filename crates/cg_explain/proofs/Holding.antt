@@ -1,11 +1,11 @@
 -- The guards hold where the user reaches no entry that is told, and the other way round.
-use Rattle.std.proofs.Common.{◌≡◌, Bool, true, false, not, ◌||◌, ◌&&◌, cond, List, [], ◌∷◌, ◌++◌, length, Option, Some, None, refl, sym, ap, ◌∙◌}
+use Rattle.std.proofs.Common.{◌≡◌, Bool, true, false, not, ◌||◌, ◌&&◌, cond, List, [], ◌∷◌, ◌++◌, length, Option, Some, None, refl, ap}
 use Rattle.std.specs.List.{All, AllByRecursion, flat_map}
 use Rattle.std.specs.Option.{option_map}
 use Rattle.std.proofs.lemmas.List.Elements.{All-from_recursion, recursion_from_All}
 use Rattle.cg_cgroup.specs.Paths.{Names}
 use Rattle.cg_cgroup.specs.Identity.{Identity}
-use Rattle.cg_cgroup.specs.Users.{in_group, owns, writes, reaches}
+use Rattle.cg_cgroup.specs.Users.{owns, writes, reaches}
 use Rattle.cg_cgroup.specs.declared.user.Entry.{Entry}
 use Rattle.cg_model.specs.States.{State}
 use Rattle.cg_model.specs.Clauses.{present, unless}
@@ -17,7 +17,7 @@ use Rattle.cg_model.proofs.ClauseLaws.{no_parts, no_unless}
 use Rattle.cg_model.specs.declared.mend.Class.{Class}
 use Rattle.cg_model.specs.declared.mend.Class.TheVariants.{Owner}
 use Rattle.cg_explain.specs.declared.first.Told.{Told}
-use Rattle.cg_explain.specs.FirstRow.{class_of, told, first_row}
+use Rattle.cg_explain.specs.FirstRow.{told, first_row}
 use Rattle.cg_explain.proofs.Telling.{line_of}
 
 abbrev pub IsSpared : Told → Type 0

@@ -1,5 +1,5 @@
 -- A cgroup that is there is within its own limits where what they count is.
-use Rattle.std.proofs.Common.{◌≡◌, ℕ, true, ◌&&◌, Option, Some, None, length, take, take_all, ap, ◌∙◌, arith}
+use Rattle.std.proofs.Common.{◌≡◌, ℕ, true, ◌&&◌, Some, None, length, take, take_all, ap, ◌∙◌, arith}
 use Rattle.std.specs.Option.{option_map}
 use Rattle.cg_cgroup.specs.Paths.{Names}
 use Rattle.cg_cgroup.specs.declared.cgroup.Cgroup.{Cgroup}

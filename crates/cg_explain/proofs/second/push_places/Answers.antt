@@ -1,4 +1,4 @@
-use Rattle.std.proofs.Common.{ap, sym, ◌∙◌, ◌≡◌, ◌<◌, ◌≤◌, ◌++◌, [], get_or, length, max, take_all, append-nil, arith}
+use Rattle.std.proofs.Common.{ap, ◌∙◌, ◌<◌, ◌≤◌, ◌++◌, [], get_or, length, max, take_all, arith}
 use Rattle.std.specs.List.{flat_map}
 use Rattle.cg_second.proofs.Closing.{max-is, grows-is, crowded-next}
 use Rattle.cg_explain.specs.SecondRow.{place_told, place_asked}
