@@ -106,10 +106,9 @@ module _ (st : State) (users : List Identity) (paths : List Names) (ends kept fi
       ∙ (λ j. crowded k (omega (arith, later)) few j || (is_crowded st users here && lower j))
       ∙ sym (list_any_more (λ q. is_crowded st users q && below q (get_or paths k [])) paths i [] within)
 
-  pub shut-is : (takes_none st users (greatest st users) here
-      && (not (is_reached st users here Dir) || (nat_lt i next || is_deep_to st users here (suc (length here)))))
-      ≡ (takes_none st users (greatest st users) here && grows_none st users (greatest st users) here)
-  shut-is = ap (λ b. takes_none st users (greatest st users) here && (not (is_reached st users here Dir) || b))
+  pub grows-is : (not (is_reached st users here Dir) || (nat_lt i next || is_deep_to st users here (suc (length here))))
+      ≡ grows_none st users (greatest st users) here
+  grows-is = ap (λ b. not (is_reached st users here Dir) || b)
       (ap (λ b. b || is_deep_to st users here (suc (length here))) crowded-here ∙ full)
     where
       there : (ps : List Names) → paths_of st ≡ ps
@@ -127,6 +126,11 @@ module _ (st : State) (users : List Identity) (paths : List Names) (ends kept fi
           || is_deep_to st users here (suc (length here)))
           ≡ is_full_to st users (greatest st users) here (length here)
       full = there paths (sym survey.all)
+
+  pub shut-is : (takes_none st users (greatest st users) here
+      && (not (is_reached st users here Dir) || (nat_lt i next || is_deep_to st users here (suc (length here)))))
+      ≡ (takes_none st users (greatest st users) here && grows_none st users (greatest st users) here)
+  shut-is = ap (λ b. takes_none st users (greatest st users) here && b) grows-is
 
 -- ---- one more, and the first that isn't
 

@@ -35,7 +35,7 @@ pub fn is_closed<H: Hierarchy>(survey: &Survey<H>, subtree: &Path) -> bool
 }
 
 /// Whether a move may pass one of the cgroups above the subtree.
-fn is_passed<H: Hierarchy>(survey: &Survey<H>, subtree: &Path) -> bool
+pub fn is_passed<H: Hierarchy>(survey: &Survey<H>, subtree: &Path) -> bool
     ensures { result ≡ is_passed_to (H.state survey.now.tree.now) survey.now.users.now subtree.now (length subtree.now) }
 {
     for len in (0..subtree.depth()).rev() {
@@ -48,7 +48,7 @@ fn is_passed<H: Hierarchy>(survey: &Survey<H>, subtree: &Path) -> bool
 
 /// Whether a move over the edge of the subtree may lead to or from a cgroup.
 #[tactic(auto, using(cg_model::proofs::Prefixes::length_common))]
-fn is_exposed<H: Hierarchy>(
+pub fn is_exposed<H: Hierarchy>(
     survey: &Survey<H>,
     subtree: &Path,
     is_passed: bool,
@@ -70,7 +70,7 @@ fn is_exposed<H: Hierarchy>(
 }
 
 /// The place behind all that lies below the cgroup at a place where it has as many below it as it may have; 0 where not.
-fn crowded_end<H: Hierarchy>(survey: &Survey<H>, at: usize) -> usize
+pub fn crowded_end<H: Hierarchy>(survey: &Survey<H>, at: usize) -> usize
     requires survey { IsSurvey (H.state survey.now.tree.now) survey.now.users.now survey.now.paths.items survey.now.ends.items survey.now.kept.items survey.now.fixed.items }
     requires within { at < length survey.now.paths.items }
     ensures { result ≡ cond (is_crowded (H.state survey.now.tree.now) survey.now.users.now (slice_index_or survey.now.paths.items at [])) (slice_index survey.now.ends.items at) 0 }
@@ -124,7 +124,7 @@ fn is_shut<H: Hierarchy>(survey: &Survey<H>, at: usize, is_crowded: bool) -> boo
 }
 
 /// Whether nobody moves a process to the cgroup at a place.
-fn takes_none<H: Hierarchy>(survey: &Survey<H>, at: usize) -> bool
+pub fn takes_none<H: Hierarchy>(survey: &Survey<H>, at: usize) -> bool
     requires survey { IsSurvey (H.state survey.now.tree.now) survey.now.users.now survey.now.paths.items survey.now.ends.items survey.now.kept.items survey.now.fixed.items }
     requires within { at < length survey.now.paths.items }
     ensures { result ≡ takes_none (H.state survey.now.tree.now) survey.now.users.now
@@ -148,7 +148,7 @@ fn takes_none<H: Hierarchy>(survey: &Survey<H>, at: usize) -> bool
 }
 
 /// Whether nobody makes a cgroup in one.
-fn grows_none<H: Hierarchy>(survey: &Survey<H>, path: &Path, is_crowded: bool) -> bool
+pub fn grows_none<H: Hierarchy>(survey: &Survey<H>, path: &Path, is_crowded: bool) -> bool
     ensures { result ≡ (not (is_reached (H.state survey.now.tree.now) survey.now.users.now path.now Dir)
         || (is_crowded || is_deep_to (H.state survey.now.tree.now) survey.now.users.now path.now (suc (length path.now)))) }
 {

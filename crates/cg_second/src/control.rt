@@ -56,7 +56,7 @@ fn is_held<H: Hierarchy>(survey: &Survey<H>, subtree: &Path, controller: Control
 }
 
 /// Whether a controller stays on at the cgroup of the first `len` names of a path.
-fn stays_on<H: Hierarchy>(
+pub fn stays_on<H: Hierarchy>(
     survey: &Survey<H>,
     path: &Path,
     len: usize,
@@ -85,7 +85,7 @@ fn is_fixed_at<H: Hierarchy>(survey: &Survey<H>, at: usize, controller: Controll
 }
 
 /// Whether a controller stays off at the parent of a cgroup, where all above that stay.
-fn stays_off<H: Hierarchy>(survey: &Survey<H>, subtree: &Path, controller: Controller) -> bool
+pub fn stays_off<H: Hierarchy>(survey: &Survey<H>, subtree: &Path, controller: Controller) -> bool
     ensures { result ≡ is_off_to (H.state survey.now.tree.now) survey.now.users.now subtree.now controller (length subtree.now) }
 {
     for len in (0..subtree.depth()).rev() {

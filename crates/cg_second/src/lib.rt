@@ -2,9 +2,9 @@
 //! stands together, right after it, so that counts of all before a place answer what is asked of it.
 #![tactic(auto)]
 
-mod closed;
-mod control;
+pub mod closed;
+pub mod control;
 mod counts;
-mod reach;
+pub mod reach;
 pub mod row;
-mod survey;
+pub mod survey;

@@ -1,5 +1,6 @@
 //! The tests, by what they are of.
 mod cgroups;
+mod explained;
 mod files;
 mod guards;
 mod indexed;

@@ -1,0 +1,5 @@
+mod Telling
+mod Holding
+mod Within
+mod Meeting
+mod Placing

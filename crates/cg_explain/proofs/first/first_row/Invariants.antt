@@ -1,0 +1,9 @@
+use Rattle.std.proofs.Common.{◌≡◌, ◌++◌}
+use Rattle.cg_explain.specs.FirstRow.{first_row}
+use Rattle.cg_explain.proofs.Telling.{row_from}
+use Rattle.cg_explain.proofs.first.first_row.Given as goal
+
+-- with the entries that are still to come, all
+abbrev pub invariant-loop-place : goal.invariant-loop-place
+invariant-loop-place g l =
+    l.row.items ++ row_from (g.H.Hierarchy.state l.tree) l.user l.subtree l.place ≡ first_row (g.H.Hierarchy.state l.tree) l.user l.subtree

@@ -1,0 +1,26 @@
+-- How an answer is found: nobody has to believe it.
+-- What is told of the guards of a subtree against a user: each entry on which one stands, and by what class the user reaches it.
+use Rattle.std.specs.Prelude.{cond, List, [], ◌∷◌, Option, Some, None}
+use Rattle.std.specs.List.{flat_map}
+use Rattle.cg_cgroup.specs.Paths.{Names}
+use Rattle.cg_cgroup.specs.Identity.{Identity}
+use Rattle.cg_cgroup.specs.Users.{in_group, owns, writes}
+use Rattle.cg_cgroup.specs.declared.user.Entry.{Entry}
+use Rattle.cg_model.specs.States.{State}
+use Rattle.cg_model.specs.Clauses.{present}
+use Rattle.cg_model.specs.Guards.{guarded_entries, standing}
+use Rattle.cg_model.specs.declared.guard.GuardedEntry.{GuardedEntry}
+use Rattle.cg_model.specs.declared.mend.Class.{Class}
+use Rattle.cg_model.specs.declared.mend.Class.TheVariants.{Owner, Group, Others}
+use Rattle.cg_explain.specs.declared.first.Told.{Told}
+
+-- The owner reaches an entry, and whoever writes it: by a group, or as all others do.
+abbrev pub class_of : Identity → Entry → Option Class
+class_of user entry = cond (owns user entry) (Some Owner) (cond (writes user entry) (Some (cond (in_group user entry.gid) Group Others)) None)
+
+abbrev pub told : Identity → GuardedEntry → List Told
+told user at = record { at = at; by = class_of user at.entry } ∷ []
+
+-- in the order of the guards, each entry that is there
+abbrev pub first_row : State → Identity → Names → List Told
+first_row st user subtree = flat_map (λ guarded. present (standing st subtree guarded) (told user)) (guarded_entries subtree)

@@ -1,0 +1,3 @@
+pub mod FirstRow
+pub mod Counted
+pub mod SecondRow
