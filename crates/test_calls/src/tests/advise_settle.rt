@@ -49,7 +49,12 @@ fn one_subtree_that_is_open_is_enough(rt: HostRuntime) -> Result<(), Fail> {
     let third = user(1002, &[]);
     let tree = delegation_with(rt.alloc(), &[THIRD_USER, SECOND_USER])?;
     for (users, subtrees, report, status) in [
-        ([third].as_slice(), ["/c1", "/c0"].as_slice(), "contained\n", 0),
+        (
+            [third].as_slice(),
+            ["/c1", "/c0"].as_slice(),
+            "contained\n",
+            0,
+        ),
         (&[third, USER], &["/c1", "/c0"], OPEN, 1),
         (&[third, USER], &[], "contained\n", 0),
     ] {
@@ -67,7 +72,11 @@ fn faults_are_those_of_advise(rt: HostRuntime) -> Result<(), Fail> {
     for (users, subtrees, fault) in [
         ([third, root].as_slice(), ["a"].as_slice(), CliFault::Uid),
         (&[third], &["/c0", "a"], CliFault::BadPath),
-        (&[third], &["/c0", "/"], CliFault::Subtree(CheckFault::RootSubtree)),
+        (
+            &[third],
+            &["/c0", "/"],
+            CliFault::Subtree(CheckFault::RootSubtree),
+        ),
         (&[], &["/no"], CliFault::Subtree(CheckFault::NoSuchSubtree)),
     ] {
         let call = Call::AdviseSettled(users, subtrees);
