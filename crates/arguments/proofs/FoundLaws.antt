@@ -77,6 +77,7 @@ module _ (f g : Found) (same : rows_of f ≡ rows_of g) where
     users = sym users_same ∙ h.users;
     subtrees = sym (words_same (codes "subtree")) ∙ h.subtrees;
     all = ((λ said. h.all.0 (text_same (codes "all") ∙ said)), (λ said. h.all.1 (text_same (codes "all") ∙ said)));
+    settle = ((λ said. h.settle.0 (text_same (codes "settle") ∙ said)), (λ said. h.settle.1 (text_same (codes "settle") ∙ said)));
     some_user = λ none. h.some_user (words_same (codes "uid") ∙ none);
     some_subtree = λ none. h.some_subtree (words_same (codes "subtree") ∙ none);
   }
@@ -87,6 +88,7 @@ module _ (f g : Found) (same : rows_of f ≡ rows_of g) where
     some_user = λ none. h.some_user (words_same (codes "uid") ∙ none);
     some_subtree = λ none. h.some_subtree (words_same (codes "subtree") ∙ none);
     no_pairs = sym (first_same (codes "pairs")) ∙ h.no_pairs;
+    settle = ((λ said. h.settle.0 (text_same (codes "settle") ∙ said)), (λ said. h.settle.1 (text_same (codes "settle") ∙ said)));
   }
   holds_same (request.AdvisePairs advise) h = record {
     tree = h.tree ∙ file_same (codes "tree");
@@ -95,6 +97,7 @@ module _ (f g : Found) (same : rows_of f ≡ rows_of g) where
     no_user = sym (words_same (codes "uid")) ∙ h.no_user;
     no_group = sym (words_same (codes "gid")) ∙ h.no_group;
     no_subtree = sym (words_same (codes "subtree")) ∙ h.no_subtree;
+    no_settle = λ said. h.no_settle (first_same (codes "settle") ∙ said);
   }
   holds_same (request.Replay replay) h = record {
     tree = h.tree ∙ file_same (codes "tree");

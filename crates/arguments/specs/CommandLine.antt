@@ -43,7 +43,7 @@ subtree_command name = command_with name (of_user ++ needed (word_option (codes 
 abbrev pub audit_command : Shape
 audit_command = command_with (codes "audit")
     (word_option (codes "tree") ∷ repeated (needed (word_option (codes "uid"))) ∷ repeated (needed (word_option (codes "subtree")))
-    ∷ flag (codes "all") ∷ [])
+    ∷ flag (codes "all") ∷ flag (codes "settle") ∷ [])
 
 -- by users and subtrees, or by pairs of them
 abbrev pub advise_named : Shape
@@ -52,7 +52,7 @@ advise_named = command_with (codes "advise")
     ∷ repeated (word_option (codes "subtree")) ∷ [])
 
 abbrev pub advise_command : Shape
-advise_command = record advise_named { rules = advise_named.rules ++ word_option (codes "pairs") ∷ [] }
+advise_command = record advise_named { rules = advise_named.rules ++ word_option (codes "pairs") ∷ flag (codes "settle") ∷ [] }
 
 abbrev pub replay_command : Shape
 replay_command = command_with (codes "replay") (of_user ++ needed (word_option (codes "ops")) ∷ word_option (codes "subtree") ∷ [])

@@ -114,6 +114,7 @@ pub record IsAudit (found : Found) (audit : Audit) : Type 0 where
   pub users : users_given found ≡ Some (map ids_of audit.users.items)
   pub subtrees : words_at found (codes "subtree") ≡ map (λ subtree. subtree.now) audit.subtrees.items
   pub all : IsFlag (one_text found (codes "all")) audit.all
+  pub settle : IsFlag (one_text found (codes "settle")) audit.settle
   pub some_user : words_at found (codes "uid") ≢ []
   pub some_subtree : words_at found (codes "subtree") ≢ []
 
@@ -125,8 +126,9 @@ pub record IsAdvise (found : Found) (advise : Advise) : Type 0 where
   pub some_user : words_at found (codes "uid") ≢ []
   pub some_subtree : words_at found (codes "subtree") ≢ []
   pub no_pairs : first_value found (codes "pairs") ≡ None
+  pub settle : IsFlag (one_text found (codes "settle")) advise.settle
 
--- of the pairs that a text names, and of nobody else
+-- of the pairs that a text names, and of nobody else, and it isn't looked further
 pub record IsAdvisePairs (found : Found) (advise : AdvisePairs) : Type 0 where
   pub tree : tree_file advise.sources ≡ file_at found (codes "tree")
   pub pairs : other_file advise.sources ≡ file_at found (codes "pairs")
@@ -134,6 +136,7 @@ pub record IsAdvisePairs (found : Found) (advise : AdvisePairs) : Type 0 where
   pub no_user : words_at found (codes "uid") ≡ []
   pub no_group : words_at found (codes "gid") ≡ []
   pub no_subtree : words_at found (codes "subtree") ≡ []
+  pub no_settle : first_value found (codes "settle") ≢ Some (codes "true")
 
 pub record IsReplay (found : Found) (replay : Replay) : Type 0 where
   pub tree : tree_file replay.sources ≡ file_at found (codes "tree")

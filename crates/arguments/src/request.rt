@@ -156,6 +156,8 @@ pub struct Audit<'a> {
     pub subtrees: Vec<&'a str>,
     /// Whether every pair that isn't contained is asked for, and not the first alone.
     pub all: bool,
+    /// Whether it is looked further where `check` says `unsettled`.
+    pub settle: bool,
 }
 
 impl<'a> Audit<'a> {
@@ -171,6 +173,7 @@ impl<'a> Audit<'a> {
             users: users_of(alloc, given(matches, "uid")?)?,
             subtrees: given(matches, "subtree")?.to_vec(alloc)?,
             all: matches.get_flag("all"),
+            settle: matches.get_flag("settle"),
         })
     }
 }
@@ -181,6 +184,8 @@ pub struct Advise<'a> {
     pub tree: Option<&'a str>,
     pub users: Vec<NamedUser>,
     pub subtrees: Vec<&'a str>,
+    /// Whether it is looked further where a guard fails.
+    pub settle: bool,
 }
 
 impl<'a> Advise<'a> {
@@ -197,6 +202,7 @@ impl<'a> Advise<'a> {
             tree: file_of(matches, "tree"),
             users: users_beside(alloc, words, numbers(alloc, matches, "gid")?)?,
             subtrees: given(matches, "subtree")?.to_vec(alloc)?,
+            settle: matches.get_flag("settle"),
         })
     }
 }
@@ -209,7 +215,7 @@ pub struct AdvisePairs<'a> {
 }
 
 impl<'a> AdvisePairs<'a> {
-    /// What was given to the command, where a text of pairs is named: beside it no user and no subtree.
+    /// What was given to the command, where a text of pairs is named: beside it no user and no subtree, and no further look.
     fn from_matches(matches: &ArgMatches<'a>) -> Result<AdvisePairs<'a>, ArgumentsFault>
         requires { first_value (found_of matches.now) (codes "pairs") ≢ None }
         ensures { MatchResult result
@@ -217,6 +223,9 @@ impl<'a> AdvisePairs<'a> {
             (λ fault. (asked : AdvisePairs) → IsAdvisePairs (found_of matches.now) asked → ⊥) }
     {
         if is_given(matches, "uid") || is_given(matches, "gid") || is_given(matches, "subtree") {
+            return Err(ArgumentsFault::Usage);
+        }
+        if is_said(matches, "settle", "true") {
             return Err(ArgumentsFault::Usage);
         }
         Ok(AdvisePairs {
@@ -402,6 +411,17 @@ fn given<'m, 'a>(matches: &'m ArgMatches<'a>, name: &str) -> Result<&'m [&'a str
     match matches.get_strs(name) {
         Some(words) if !words.is_empty() => Ok(words),
         _ => Err(ArgumentsFault::Usage),
+    }
+}
+
+/// Whether an option was given a word first.
+fn is_said(matches: &ArgMatches<'_>, name: &str, word: &str) -> bool
+    ensures { MatchBool result (first_value (found_of matches.now) name.now ≡ Some word.now)
+        (first_value (found_of matches.now) name.now ≢ Some word.now) }
+{
+    match matches.get_str(name) {
+        None => false,
+        Some(said) => said == word,
     }
 }
 

@@ -16,6 +16,7 @@ mod NamedReads
 mod AuditReports
 mod Once
 mod AllPairs
+mod SettledPairs
 mod Closings
 mod ReplayCalls
 mod UpgradeReports

@@ -15,3 +15,5 @@ pub mod AllPairs
 pub mod Asking
 pub mod Advising
 pub mod Pairs
+pub mod SettledPairs
+pub mod SettledRows

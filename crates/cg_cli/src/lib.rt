@@ -6,6 +6,7 @@ pub mod advise_pairs;
 pub mod arguments;
 pub mod audit;
 pub mod audit_all;
+pub mod audit_settle;
 pub mod check;
 pub mod fault;
 pub mod laws;

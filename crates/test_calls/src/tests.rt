@@ -3,6 +3,7 @@ mod advise;
 mod answers_written;
 mod audit;
 mod audit_all;
+mod audit_settle;
 mod calls;
 mod changed;
 mod check;

@@ -8,4 +8,5 @@ use Rattle.arguments.proofs.command.advise_command.Goals as goal
 pub returns : goal.returns
 returns c =
     let pairs : IsOption (word_option (codes "pairs")) c.help.result = record { rule_is = search rules; local = search rules } in
-    IfOk-weaker c.arg.result _ _ (λ new added. option_added _ _ _ _ _ c.in_ok-advise_named.ensures pairs added) c.arg.ensures
+    let of_pairs = option_added _ _ _ _ _ c.in_ok-advise_named.ensures pairs c.in_ok-arg.ensures in
+    IfOk-weaker c.arg-2.result _ _ (λ new added. option_added _ _ _ _ _ of_pairs c.settle_argument.ensures added) c.arg-2.ensures
