@@ -133,6 +133,19 @@ def advices(_):
     yield fault("subtree root", "advise", *asked("1000", "/"))
     yield fault("subtree missing", "advise", *asked("1000", "/zz"))
     yield fault("usage", "advise", "--uid", "1000")
+    # with --settle nothing is to be changed either where the second row holds for all users together
+    owned = tree("parent-procs-owned")
+    fails = ["fails common-ancestor /p cgroup.procs 1000:0 644 owner", "chown /p cgroup.procs 0:0"]
+    yield Case(["advise", *owned, *asked("1000", "/p/s")], 1, fails)
+    yield Case(["advise", "--settle", *owned, *asked("1000", "/p/s")], 0, ["contained"])
+    yield Case(["advise", "--settle", *asked("1000", "/c0")], 0, ["contained"])
+    yield Case(["advise", "--settle", *tree("parent-procs-no-process"), *asked("1000", "/p/s")], 1, fails)
+    yield Case(["advise", "--settle", *tree("delegation-ancestor-group"), "--gid", "50", *asked("1000", "/c0")], 1,
+               ["fails common-ancestor / cgroup.procs 0:50 664 group", "chmod / cgroup.procs 644"])
+    yield fault("uid", "advise", "--settle", *asked("0", "zz"))
+    yield fault("path", "advise", "--settle", *asked("1000", "c0"))
+    yield fault("subtree missing", "advise", "--settle", *asked("1000", "/zz"))
+    yield fault("usage", "advise", "--settle", "--settle", *asked("1000", "/c0"))
 
 
 def replays(program):

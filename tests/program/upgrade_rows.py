@@ -141,6 +141,7 @@ def asked_of_all(tree):
     subtrees = [word for path in paths or ["/"] for word in ("--subtree", path)]
     pairs = itertools.product(listed[1::2], subtrees[1::2])
     yield Asked(["advise", *listed, *subtrees], "")
+    yield Asked(["advise", "--settle", *listed, *subtrees], "")
     yield Asked(["advise", "--pairs", OPS], "".join(f"pair {user} {path}\n" for user, path in pairs))
     yield Asked(["audit", *listed, *subtrees], "")
     yield Asked(["audit", "--all", *listed, *subtrees], "")

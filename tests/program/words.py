@@ -105,10 +105,12 @@ def rows():
     pairs = ["advise", "--pairs", os.devnull]
     yield pairs, False
     yield ["advise", "--tree", DELEGATION, "--pairs", "-"], False
+    yield ["advise", "--settle", "--uid", "1000", "--uid", "1001", "--subtree", "/c0"], False
+    yield ["advise", "--settle=true", "--uid", "1000", "--subtree", "/c0"], True
     yield from ((words, True) for words in (
         ["advise"], ["advise", "--uid", "1000"], ["advise", "--subtree", "/c0"], ["advise", "--gid", "5", "--subtree", "/c0"],
         ["advise", "--pairs", "-"], ["advise", "--tree", "-", "--pairs", "-"], [*pairs, "--uid", "1000"], [*pairs, "--gid", "5"],
-        [*pairs, "--subtree", "/c0"], [*pairs, *pairs[1:]], [*pairs, "--uid", "1000", "--subtree", "/c0"], ["audit", *pairs[1:]]))
+        [*pairs, "--subtree", "/c0"], [*pairs, "--settle"], [*pairs, *pairs[1:]], [*pairs, "--uid", "1000", "--subtree", "/c0"], ["audit", *pairs[1:]]))
     for word in NOT_LISTED:
         yield ["audit", "--uid", word, "--subtree", "/c0"], True
         yield ["advise", "--uid", word, "--subtree", "/c0"], True

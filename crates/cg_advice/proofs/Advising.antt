@@ -19,14 +19,14 @@ use Rattle.cg_cgroup.proofs.PathOrder.{same_path_refl}
 use Rattle.cg_cgroup.proofs.CgroupLaws.{same_entry-refl}
 use Rattle.cg_model.specs.States.{State, row_at, entry_at, value_at, paths_of, count_below, depth_below}
 use Rattle.cg_model.specs.WellFormed.{IsWellFormed, enabled_at}
-use Rattle.cg_steps.proofs.StateCounts.{paths_of-with_mode, paths_of-with_value, count_below-same_paths, depth_below-same_paths}
-use Rattle.cg_steps.proofs.StateEntries.{enabled_at-with_mode, enabled_at-with_value}
-use Rattle.cg_steps.proofs.FormedLaws.{formed-with_mode, formed-with_value}
-use Rattle.cg_steps.proofs.Lists.{all-append, all-each, all-both}
-use Rattle.cg_steps.proofs.OnceLaws.{all-once}
+use Rattle.cg_model.proofs.StateCounts.{paths_of-with_mode, paths_of-with_value, count_below-same_paths, depth_below-same_paths}
+use Rattle.cg_model.proofs.StateEntries.{enabled_at-with_mode, enabled_at-with_value}
+use Rattle.cg_model.proofs.FormedLaws.{formed-with_mode, formed-with_value}
+use Rattle.cg_model.proofs.Lists.{all-append, all-each, all-both}
+use Rattle.cg_model.proofs.OnceLaws.{all-once}
 use Rattle.cg_model.specs.Clauses.{unless, present}
-use Rattle.cg_steps.proofs.ClauseLaws.{no_parts, no_unless, none_each, each_none}
-use Rattle.cg_steps.proofs.LimitLaws.{fits_in, descendants-limit, depth-limit}
+use Rattle.cg_model.proofs.ClauseLaws.{no_parts, no_unless, none_each, each_none}
+use Rattle.cg_model.proofs.LimitLaws.{fits_in, descendants-limit, depth-limit}
 use Rattle.cg_model.specs.Limits.{is_within_limit, fits_descendants, fits_depth}
 use Rattle.cg_model.specs.Guards.{Guarded, guarded_entries, guarded_entry, entry_failures, over_failures, GuardsHold, found, standing}
 use Rattle.cg_model.specs.declared.guard.Failed.{Failed}

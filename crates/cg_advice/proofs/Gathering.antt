@@ -24,8 +24,8 @@ use Rattle.cg_model.specs.Once.{once}
 use Rattle.cg_model.specs.Mended.{is_by}
 use Rattle.cg_model.specs.declared.mend.Class.TheVariants.{Owner, Group, Others}
 use Rattle.cg_model.specs.Mends.{Pair as Named, Entrant as Entering, entrants, is_at, same_place, users_at, met, subtrees_of}
-use Rattle.cg_steps.proofs.OnceLaws.{once_more, all-once}
-use Rattle.cg_steps.proofs.Lists.{all-each}
+use Rattle.cg_model.proofs.OnceLaws.{once_more, all-once}
+use Rattle.cg_model.proofs.Lists.{all-each}
 use Rattle.cg_advice.specs.AdviceLines.{entry_lines, over_lines, pairs_lines}
 use Rattle.cg_advice.specs.Ways.{no_ways, ways_with, ways_among, ways_at, AreGathered, Key, key_cmp, is_keyed, lines_by, gathered_lines}
 use Rattle.cg_advice.specs.declared.ways.Ways.{Ways}

@@ -16,10 +16,10 @@ use Rattle.cg_cgroup.proofs.CgroupLaws.{file_of-with_file, rest-with_file}
 use Rattle.cg_cgroup.proofs.PathOrder.{path_cmp_total}
 use Rattle.cg_model.specs.States.{State, row_at, entry_at, value_at, paths_of}
 use Rattle.cg_model.specs.WellFormed.{IsFormedRow, IsWellFormed, enabled_at}
-use Rattle.cg_steps.proofs.MapLaws.{keys-change_value}
-use Rattle.cg_steps.proofs.StateLaws.{row_at-change_at}
-use Rattle.cg_steps.proofs.StateEntries.{read_same, read_changed, enabled_of, enabled_same}
-use Rattle.cg_steps.proofs.FormedLaws.{formed-change_at}
+use Rattle.cg_model.proofs.MapLaws.{keys-change_value}
+use Rattle.cg_model.proofs.StateLaws.{row_at-change_at}
+use Rattle.cg_model.proofs.StateEntries.{read_same, read_changed, enabled_of, enabled_same}
+use Rattle.cg_model.proofs.FormedLaws.{formed-change_at}
 use Rattle.cg_model.specs.Mends.{owned_by, with_file_owned_by, with_owner_in, with_owner}
 
 -- ---- of a row

@@ -17,9 +17,9 @@ use Rattle.cg_cgroup.specs.declared.files.EntryName.{EntryName}
 use Rattle.cg_cgroup.proofs.PathOrder.{same_path-is}
 use Rattle.cg_cgroup.proofs.CgroupLaws.{same_entry-true}
 use Rattle.cg_model.specs.States.{State, entry_at, value_at, count_below, depth_below}
-use Rattle.cg_steps.proofs.StateEntries.{entry_at-with_mode, entry_at-with_value, value_at-with_mode, value_at-with_value}
-use Rattle.cg_steps.proofs.Lists.{all-flat_map, all-each}
-use Rattle.cg_steps.proofs.OnceLaws.{any-once, all-once, filter-none}
+use Rattle.cg_model.proofs.StateEntries.{entry_at-with_mode, entry_at-with_value, value_at-with_mode, value_at-with_value}
+use Rattle.cg_model.proofs.Lists.{all-flat_map, all-each}
+use Rattle.cg_model.proofs.OnceLaws.{any-once, all-once, filter-none}
 use Rattle.cg_model.specs.Clauses.{unless, present}
 use Rattle.cg_model.specs.Limits.{fits_descendants, fits_depth}
 use Rattle.cg_model.specs.Guards.{Guarded, guarded_entry, guarded_entries, found}

@@ -25,7 +25,7 @@ use Rattle.cg_model.specs.Mended.{is_by}
 use Rattle.cg_model.specs.declared.mend.Class.TheVariants.{Owner, Group, Others}
 use Rattle.cg_model.specs.Mends.{Pair as Named, Entrant as Entering, if_reached, reached_of, entrant, entrants_of, entrants, same_place}
 use Rattle.cg_guards.proofs.TableWalk.{walk_turn, drop_all}
-use Rattle.cg_steps.proofs.OnceLaws.{once_more}
+use Rattle.cg_model.proofs.OnceLaws.{once_more}
 use Rattle.cg_advice.specs.Ways.{Key, is_keyed, ways_at, ways_among, ways_with, tells, lines_by, gathered_lines}
 use Rattle.cg_advice.specs.AdviceLines.{over_lines, pairs_lines}
 use Rattle.cg_advice.specs.declared.ways.Ways.{Ways}

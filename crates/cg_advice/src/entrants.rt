@@ -9,7 +9,7 @@ use crate::pair::{Entrant, Pair};
 use crate::stand::enter_all;
 use crate::table::{Places, Table, place_of};
 use cg_cgroup::memory::NoMemory;
-use cg_tree::hierarchy::Hierarchy;
+use cg_model::hierarchy::Hierarchy;
 use std::alloc::Global;
 use std::collections::BTreeMap;
 

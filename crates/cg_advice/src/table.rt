@@ -12,7 +12,7 @@ use crate::ways::Ways;
 use cg_cgroup::memory::NoMemory;
 use cg_cgroup::path::Path;
 use cg_guards::table::{guarded_count, guarded_entry};
-use cg_tree::hierarchy::Hierarchy;
+use cg_model::hierarchy::Hierarchy;
 use std::alloc::Global;
 use std::collections::BTreeMap;
 

@@ -27,9 +27,9 @@ use cg_cgroup::path::Path;
 use cg_guards::failed::{failed_guard, fits_depth, fits_descendants, is_over};
 use cg_lines::lines::op_text;
 use cg_model::guard::{Guard, GuardedEntry};
+use cg_model::hierarchy::Hierarchy;
 use cg_model::mend::{Class, Mend};
 use cg_model::operation::Op;
-use cg_tree::hierarchy::Hierarchy;
 use std::alloc::{AllocError, Global};
 use std::collections::BTreeSet;
 

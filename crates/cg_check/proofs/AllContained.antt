@@ -8,7 +8,7 @@ use Rattle.cg_model.specs.States.{State}
 use Rattle.cg_model.specs.WellFormed.{IsWellFormed, has_row}
 use Rattle.cg_model.specs.Clauses.{unless, first}
 use Rattle.cg_model.specs.Steps.{after_all}
-use Rattle.cg_steps.proofs.ClauseLaws.{none_of_first, no_parts}
+use Rattle.cg_model.proofs.ClauseLaws.{none_of_first, no_parts}
 use Rattle.cg_model.specs.Guards.{GuardsHold, IsSubtree}
 use Rattle.cg_model.specs.Strangers.{GuardsHoldForAll}
 use Rattle.cg_model.specs.declared.fault.CheckFault.{CheckFault}

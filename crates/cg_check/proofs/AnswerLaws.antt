@@ -4,7 +4,7 @@ use Rattle.std.specs.List.{Contains}
 use Rattle.cg_cgroup.specs.Paths.{Names}
 use Rattle.cg_cgroup.specs.Identity.{Identity}
 use Rattle.cg_model.specs.States.{State}
-use Rattle.cg_steps.proofs.ClauseLaws.{no_parts, no_unless}
+use Rattle.cg_model.proofs.ClauseLaws.{no_parts, no_unless}
 use Rattle.cg_model.specs.declared.operation.Op.{Op}
 use Rattle.cg_model.specs.Limits.{fits_descendants, fits_depth}
 use Rattle.cg_model.specs.Guards.{failures}
@@ -14,7 +14,7 @@ use Rattle.cg_model.specs.Tries.{tries}
 use Rattle.cg_model.specs.Escapes.{is_kept, breaks, first_escape}
 use Rattle.cg_model.specs.Answers.{answer_from, answer}
 use Rattle.cg_model.specs.declared.answer.Answer.TheVariants.{Escapes}
-use Rattle.cg_steps.proofs.Lists.{find-passes}
+use Rattle.cg_model.proofs.Lists.{find-passes}
 use Rattle.cg_check.proofs.Escaping.{escape-over}
 
 pub found-escape : (failed : List Failed) (found : Option (List Op)) (ops : List Op) → answer_from failed found ≡ Escapes ops

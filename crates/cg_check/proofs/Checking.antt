@@ -6,7 +6,7 @@ use Rattle.cg_model.specs.States.{State}
 use Rattle.cg_model.specs.WellFormed.{has_row}
 use Rattle.cg_model.specs.Clauses.{first}
 use Rattle.cg_model.specs.declared.operation.Op.{Op}
-use Rattle.cg_steps.proofs.ClauseLaws.{no_parts, no_unless, none_of_first}
+use Rattle.cg_model.proofs.ClauseLaws.{no_parts, no_unless, none_of_first}
 use Rattle.cg_model.specs.Guards.{failures, GuardsHold, IsSubtree}
 use Rattle.cg_model.specs.declared.guard.Failed.{Failed}
 use Rattle.cg_model.specs.declared.fault.CheckFault.{CheckFault}

@@ -22,10 +22,10 @@ use Rattle.cg_model.specs.declared.operation.Op.TheVariants.{Chmod}
 use Rattle.cg_model.specs.Guards.{Guarded, guarded_entries, guarded_entry, found, standing, IsSubtree}
 use Rattle.cg_model.specs.declared.guard.GuardedEntry.{GuardedEntry}
 use Rattle.cg_guards.proofs.TableWalk.{of_guarded, walk_turn, drop_all}
-use Rattle.cg_steps.proofs.Edges.{none-crosses-same}
+use Rattle.cg_model.proofs.Edges.{none-crosses-same}
 use Rattle.cg_model.specs.Held.{by_user}
 use Rattle.cg_model.specs.Verdicts.{broken}
-use Rattle.cg_steps.proofs.BrokenLaws.{whole-broken, broken-whole}
+use Rattle.cg_model.proofs.BrokenLaws.{whole-broken, broken-whole}
 use Rattle.cg_model.specs.Tries.{opening_of, opening, with_opening, plain_tries}
 use Rattle.cg_model.specs.Escapes.{breaks, first_escape}
 use Rattle.cg_tries.specs.Escapes.{IsUnbroken}

@@ -8,7 +8,7 @@ use Rattle.cg_cgroup.specs.Paths.{Names}
 use Rattle.cg_cgroup.specs.Identity.{Identity}
 use Rattle.cg_model.specs.States.{State}
 use Rattle.cg_model.specs.Clauses.{first}
-use Rattle.cg_steps.proofs.ClauseLaws.{first_none, first_some}
+use Rattle.cg_model.proofs.ClauseLaws.{first_none, first_some}
 use Rattle.cg_model.specs.Guards.{failures, is_guarded}
 use Rattle.cg_cgroup.specs.declared.user.Entry.{Entry}
 use Rattle.cg_guards.specs.GuardedUsers.{AreSpared}

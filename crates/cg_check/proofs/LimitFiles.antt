@@ -22,7 +22,7 @@ use Rattle.cg_cgroup.proofs.Options.{mapped_from, same_some}
 use Rattle.cg_cgroup.proofs.PathOrder.{same_path_refl}
 use Rattle.cg_cgroup.proofs.CgroupLaws.{same_entry-refl}
 use Rattle.cg_model.specs.States.{State, row_at, file_at, entry_at}
-use Rattle.cg_steps.proofs.StateEntries.{entry_at-with_mode, entry_at-file, value_at-file}
+use Rattle.cg_model.proofs.StateEntries.{entry_at-with_mode, entry_at-file, value_at-file}
 use Rattle.cg_model.specs.Clauses.{unless, absent, present}
 use Rattle.cg_model.specs.Bars.{bars, missing_bars}
 use Rattle.cg_model.specs.Steps.{after, after_all}
@@ -30,8 +30,8 @@ use Rattle.cg_model.specs.declared.operation.Op.{Op}
 use Rattle.cg_model.specs.declared.operation.Op.TheVariants.{Set, Chmod}
 use Rattle.cg_model.specs.declared.outcome.Refusal.{Refusal}
 use Rattle.cg_model.specs.declared.outcome.Refusal.TheVariants.{NoSuchCgroup, NoSuchFile, NoAccess, BadValue, NotOwner}
-use Rattle.cg_steps.proofs.ClauseLaws.{no_parts, no_unless, no_present}
-use Rattle.cg_steps.proofs.StepFormed.{after-allowed}
+use Rattle.cg_model.proofs.ClauseLaws.{no_parts, no_unless, no_present}
+use Rattle.cg_model.proofs.StepFormed.{after-allowed}
 use Rattle.cg_model.specs.Limits.{limits, fits_descendants, fits_depth}
 use Rattle.cg_model.specs.Guards.{Guarded, ancestor, ancestors, limit_file, limit_files, parent_control, parent_dir, guarded_entries, guarded_entry, entry_failures, over_failures, failures}
 use Rattle.cg_model.specs.declared.guard.Guard.TheVariants.{AlreadyOver, LimitFile as LimitFileGuard}
@@ -42,7 +42,7 @@ use Rattle.cg_model.specs.Tries.{other_value, set_tries, control_tries, plain_tr
 use Rattle.cg_model.specs.Escapes.{breaks, first_escape}
 use Rattle.cg_tries.proofs.Seen.{is_empty, empty_is, keeps, breaks-run}
 use Rattle.cg_tries.proofs.Single.{set_try}
-use Rattle.cg_steps.proofs.Lists.{all-append, all-flat_map, all-present, all-each}
+use Rattle.cg_model.proofs.Lists.{all-append, all-flat_map, all-present, all-each}
 use Rattle.cg_model.specs.Answers.{answer_from, answer}
 use Rattle.cg_check.specs.Answers.{MayBeUnsettled}
 use Rattle.cg_model.specs.declared.answer.Answer.TheVariants.{Escapes, Unsettled}

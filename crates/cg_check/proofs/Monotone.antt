@@ -19,10 +19,10 @@ use Rattle.cg_cgroup.specs.declared.cgroup.Cgroup.{Cgroup}
 use Rattle.cg_cgroup.proofs.Options.{some_value, same_some, is_some-mapped}
 use Rattle.cg_model.specs.States.{State, row_at, place_at, file_at, has_child, has_live, child_enables, count_below}
 use Rattle.cg_model.specs.WellFormed.{has_row, enabled_at, available_at}
-use Rattle.cg_steps.proofs.StateTests.{child_enables-row, row-child_enables}
-use Rattle.cg_steps.proofs.StateEntries.{entry_at-file, value_at-file}
-use Rattle.cg_steps.proofs.StateCounts.{count_below-same_paths, has_child-same_paths}
-use Rattle.cg_steps.proofs.FormedParts.{enabled_at-row}
+use Rattle.cg_model.proofs.StateTests.{child_enables-row, row-child_enables}
+use Rattle.cg_model.proofs.StateEntries.{entry_at-file, value_at-file}
+use Rattle.cg_model.proofs.StateCounts.{count_below-same_paths, has_child-same_paths}
+use Rattle.cg_model.proofs.FormedParts.{enabled_at-row}
 use Rattle.cg_model.specs.Clauses.{unless, absent, present}
 use Rattle.cg_model.specs.Changes.{effective, enabled_after}
 use Rattle.cg_model.specs.Bars.{bars, passes, change_bars, changes_bars, row_above, writes_above, level_bars, limit_bars}
@@ -31,7 +31,7 @@ use Rattle.cg_model.specs.declared.changes.Change.{Change}
 use Rattle.cg_model.specs.declared.operation.Op.TheVariants.{Move, Control, Mkdir, Rmdir, Set}
 use Rattle.cg_model.specs.declared.outcome.Refusal.{Refusal}
 use Rattle.cg_model.specs.declared.outcome.Refusal.TheVariants.{NoSuchCgroup, NoAccess, NoSuchProcess, InternalProcess, NotAvailable, ChildUses, Exists, DescendantLimit, DepthLimit, HasChildren, HasProcesses, NoSuchFile, BadValue}
-use Rattle.cg_steps.proofs.ClauseLaws.{no_parts, no_unless, no_absent, no_present}
+use Rattle.cg_model.proofs.ClauseLaws.{no_parts, no_unless, no_absent, no_present}
 use Rattle.cg_ops.specs.Moves.{passes_at}
 use Rattle.cg_check.proofs.Wider.{IsWider}
 

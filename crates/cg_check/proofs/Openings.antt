@@ -19,7 +19,7 @@ use Rattle.cg_model.specs.Bars.{bars}
 use Rattle.cg_model.specs.Steps.{after_all, HasMode, HaveModes}
 use Rattle.cg_model.specs.declared.operation.Op.{Op}
 use Rattle.cg_model.specs.declared.operation.Op.TheVariants.{Chmod, Move, Mkdir, Rmdir, Control, Set}
-use Rattle.cg_steps.proofs.StepFormed.{formed-after_all}
+use Rattle.cg_model.proofs.StepFormed.{formed-after_all}
 use Rattle.cg_model.specs.Guards.{Guarded, guarded_entries, guarded_entry, IsSubtree}
 use Rattle.cg_model.specs.Held.{by_user}
 use Rattle.cg_model.specs.Tries.{other_value, set_tries, control_tries, move_tries, probe, numbers_from, probe_tries_at, probe_tries, plain_tries, opening_of, opening, with_opening}
@@ -30,7 +30,7 @@ use Rattle.cg_tries.proofs.Controls.{changes_enabled}
 use Rattle.cg_tries.proofs.Seen.{unbroken-alike}
 use Rattle.cg_tries.proofs.Single.{nothing_bars}
 use Rattle.cg_check.specs.Opened.{is_free}
-use Rattle.cg_steps.proofs.Lists.{all-flat_map, all-present, all-both, all-each, find-same, find-all, find-passes}
+use Rattle.cg_model.proofs.Lists.{all-flat_map, all-present, all-both, all-each, find-same, find-all, find-passes}
 use Rattle.cg_check.proofs.Wider.{IsWider, wider-itself, wider-all, IsOpening, alike-wider, breaks-opening}
 use Rattle.cg_check.proofs.Tried.{with_true, has_effect, IsTried, IsExact, exact-plain_tries}
 use Rattle.cg_check.proofs.Monotone.{passes_at-stays, move-stays, mkdir-stays, rmdir-stays, set-stays, control-stays}

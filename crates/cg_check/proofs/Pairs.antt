@@ -4,7 +4,7 @@ use Rattle.std.specs.List.{flat_map}
 use Rattle.cg_cgroup.specs.Paths.{Names}
 use Rattle.cg_model.specs.States.{State}
 use Rattle.cg_model.specs.Clauses.{first}
-use Rattle.cg_steps.proofs.ClauseLaws.{first_none, first_some, none_of_first, no_parts}
+use Rattle.cg_model.proofs.ClauseLaws.{first_none, first_some, none_of_first, no_parts}
 use Rattle.cg_model.specs.Guards.{IsSubtree}
 use Rattle.cg_model.specs.Checks.{subtree_faults}
 use Rattle.cg_check.specs.Checks.{takes_memory}

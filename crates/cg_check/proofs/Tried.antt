@@ -21,7 +21,7 @@ use Rattle.cg_tries.proofs.Seen.{is_empty, breaks-run}
 use Rattle.cg_tries.proofs.Single.{set_try, rmdir_try, move_try}
 use Rattle.cg_tries.proofs.Controls.{changes_enabled, control_try, all-control_tries}
 use Rattle.cg_check.specs.Opened.{is_free}
-use Rattle.cg_steps.proofs.Lists.{all-append, all-flat_map, all-present, all-map_filter, find-passes}
+use Rattle.cg_model.proofs.Lists.{all-append, all-flat_map, all-present, all-map_filter, find-passes}
 use Rattle.cg_tries.proofs.Probes.{probe_try}
 
 -- a change of controllers that were changed already is no change

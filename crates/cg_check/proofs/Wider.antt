@@ -15,15 +15,15 @@ use Rattle.cg_cgroup.proofs.PathOrder.{same_path-is}
 use Rattle.cg_cgroup.proofs.CgroupLaws.{same_entry-true}
 use Rattle.cg_model.specs.States.{State, entry_at, value_at, paths_of}
 use Rattle.cg_model.specs.WellFormed.{has_row, enabled_at}
-use Rattle.cg_steps.proofs.StateEntries.{entry_at-with_mode}
-use Rattle.cg_steps.proofs.StateCounts.{paths_of-with_mode, count_below-same_paths, depth_below-same_paths}
+use Rattle.cg_model.proofs.StateEntries.{entry_at-with_mode}
+use Rattle.cg_model.proofs.StateCounts.{paths_of-with_mode, count_below-same_paths, depth_below-same_paths}
 use Rattle.cg_model.specs.Bars.{bars}
 use Rattle.cg_model.specs.Steps.{after, after_all}
 use Rattle.cg_model.specs.declared.operation.Op.{Op}
 use Rattle.cg_model.specs.declared.operation.Op.TheVariants.{Chmod}
-use Rattle.cg_steps.proofs.ClauseLaws.{no_parts, no_unless, no_present}
-use Rattle.cg_steps.proofs.StepFormed.{after-by}
-use Rattle.cg_steps.proofs.StepEffects.{has_row-after, value_at-after, enabled_at-after}
+use Rattle.cg_model.proofs.ClauseLaws.{no_parts, no_unless, no_present}
+use Rattle.cg_model.proofs.StepFormed.{after-by}
+use Rattle.cg_model.proofs.StepEffects.{has_row-after, value_at-after, enabled_at-after}
 use Rattle.cg_model.specs.Held.{by_user}
 use Rattle.cg_model.specs.Escapes.{breaks}
 use Rattle.cg_tries.proofs.Seen.{IsAlike, breaks-alike_first}

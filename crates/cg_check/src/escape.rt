@@ -16,10 +16,10 @@ use cg_cgroup::memory::NoMemory;
 use cg_cgroup::path::Path;
 use cg_cgroup::user::User;
 use cg_guards::failed::is_over;
+use cg_model::hierarchy::Hierarchy;
 use cg_model::operation::Op;
 use cg_model::operations::Operations;
 use cg_ops::{apply, refusal};
-use cg_tree::hierarchy::Hierarchy;
 use cg_tries::plain::first_plain_try;
 use std::alloc::Global;
 

@@ -27,7 +27,7 @@ use cg_guards::users::guarded_users;
 use cg_model::answer::{AllAnswer, Answer};
 use cg_model::fault::CheckFault;
 use cg_model::guard::Failed;
-use cg_tree::hierarchy::Hierarchy;
+use cg_model::hierarchy::Hierarchy;
 use escape::first_escape;
 use std::alloc::Global;
 

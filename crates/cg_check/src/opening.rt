@@ -9,9 +9,9 @@ use cg_cgroup::path::Path;
 use cg_cgroup::user::{Mode, User};
 use cg_guards::table::{guarded_count, guarded_entry};
 use cg_model::guard::GuardedEntry;
+use cg_model::hierarchy::Hierarchy;
 use cg_model::operation::Op;
 use cg_model::operations::Operations;
-use cg_tree::hierarchy::Hierarchy;
 use std::alloc::Global;
 
 /// The chmods of all guarded entries that the user owns and doesn't write, in the order of the guards.

@@ -18,8 +18,8 @@ use Rattle.cg_model.specs.Several.{AreContained}
 use Rattle.cg_model.specs.Mends.{Pair}
 use Rattle.cg_model.specs.declared.fault.CheckFault.{CheckFault}
 use Rattle.cg_model.specs.declared.guard.Failed.{Failed}
-use Rattle.cg_steps.proofs.ClauseLaws.{none_of_first}
-use Rattle.cg_steps.proofs.Lists.{all-append, all-each}
+use Rattle.cg_model.proofs.ClauseLaws.{none_of_first}
+use Rattle.cg_model.proofs.Lists.{all-append, all-each}
 use Rattle.cg_check.specs.Listed.{is_guarded_of_all}
 use Rattle.cg_check.proofs.Checking.{no_fault}
 use Rattle.cg_check.proofs.Pairs.{none-element, not-none}
@@ -36,7 +36,7 @@ use Rattle.cg_cli.specs.Containment.{in_call}
 use Rattle.cg_cli.specs.May.{tree_read}
 use Rattle.cg_cli.specs.Once.{same_user}
 use Rattle.cg_cli.specs.Reports.{Report, Reports, fault_report, report_on, takes_memory}
-use Rattle.cg_cli.specs.declared.fault.CliFault.{CliFault}
+use Rattle.cg_faults.specs.declared.fault.CliFault.{CliFault}
 use Rattle.cg_cli.proofs.NamedReads.{regrouped}
 use Rattle.cg_cli.proofs.ReportLaws.{handed_on, call_takes, report_takes, met_reports}
 
@@ -185,7 +185,7 @@ module _ (st : State) (subtrees : List Names) where
 
 -- ---- over bytes
 
-of_lines : (found : Option (List ℕ)) → takes_memory (lines_report found).ending ≡ true
+pub of_lines : (found : Option (List ℕ)) → takes_memory (lines_report found).ending ≡ true
 of_lines None = refl
 of_lines (Some lines) = refl
 

@@ -9,12 +9,12 @@ use Rattle.cg_format.specs.Readings.{Reading, IsReading}
 use Rattle.cg_cli.specs.Arguments.{user_read, path_read}
 use Rattle.cg_cli.specs.Containment.{asked_report}
 use Rattle.cg_cli.specs.May.{tree_read}
-use Rattle.cg_cli.specs.Faults.{lifted_check}
+use Rattle.cg_faults.specs.Faults.{lifted_check}
 use Rattle.cg_cli.specs.Reports.{Said, Report, Reports, fault_report, report_on, takes_memory}
 use Rattle.cg_cli.specs.Settling.{SaysOn, AskedSays, AskedReports}
 use Rattle.cg_model.specs.declared.fault.CheckFault.{CheckFault}
 use Rattle.cg_model.specs.declared.fault.CheckFault.TheVariants.{RootSubtree, NoSuchSubtree, NoMemory}
-use Rattle.cg_cli.specs.declared.fault.CliFault.{CliFault}
+use Rattle.cg_faults.specs.declared.fault.CliFault.{CliFault}
 use Rattle.cg_cli.proofs.ReportLaws.{handed_on, same_Ok}
 
 said_on : {A B : Type 0} (read : Result A CliFault) (says : A → Said B → Type 0) (report : A → Said B) → ((x : A) → says x (report x))

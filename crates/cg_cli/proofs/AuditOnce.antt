@@ -13,7 +13,7 @@ use Rattle.cg_cgroup.proofs.PathOrder.{same_path-is}
 use Rattle.cg_model.specs.States.{State}
 use Rattle.cg_model.specs.Clauses.{first, present}
 use Rattle.cg_model.specs.Steps.{after, after_all, Deed}
-use Rattle.cg_steps.proofs.ClauseLaws.{first_some}
+use Rattle.cg_model.proofs.ClauseLaws.{first_some}
 use Rattle.cg_model.specs.Held.{IsHeld, AreBy}
 use Rattle.cg_model.specs.Strangers.{OnlyTheseOpen, IsOfStranger}
 use Rattle.cg_model.specs.Verdicts.{verdict}
@@ -29,7 +29,7 @@ use Rattle.cg_model.specs.Several.{AreContained}
 use Rattle.cg_model.specs.declared.answer.AllAnswer.{AllAnswer}
 use Rattle.cg_model.specs.declared.answer.AllAnswer.TheVariants.{Contained, Pair}
 use Rattle.cg_check.proofs.ListedPairs.{pairs-listed}
-use Rattle.cg_steps.proofs.Lists.{all-each}
+use Rattle.cg_model.proofs.Lists.{all-each}
 use Rattle.cg_report.specs.AnswerLines.{answer_text}
 use Rattle.cg_report.specs.AuditLines.{subtree_at, pair_line, IsPairShown}
 use Rattle.cg_report.proofs.ShownPairs.{audits_are_shown}
@@ -38,7 +38,7 @@ use Rattle.cg_cli.specs.Containment.{in_call, answer_status}
 use Rattle.cg_model.specs.Once.{once}
 use Rattle.cg_cli.specs.Once.{same_user}
 use Rattle.cg_cli.specs.Reports.{Report, report_on}
-use Rattle.cg_cli.specs.declared.fault.CliFault.{CliFault}
+use Rattle.cg_faults.specs.declared.fault.CliFault.{CliFault}
 use Rattle.cg_cli.proofs.AuditStatus.{IsNamed, named, status_is_contained}
 
 -- ---- the first of several lists
@@ -116,7 +116,7 @@ module _ {A : Type 0} (same : A → A → Bool) (means : (x y : A) → same x y 
   among_once : (xs : List A) (y : A) → Contains xs y → Contains (once same xs) y
   among_once xs y at = among_at xs y at.0 at.1 at.2
 
-  all_once : (P : A → Type 0) (xs : List A) → All P (once same xs) → All P xs
+  pub all_once : (P : A → Type 0) (xs : List A) → All P (once same xs) → All P xs
   all_once P xs all k d within =
       All-contains P (once same xs) (get_or xs k d) all (among_once xs (get_or xs k d) (Contains-get_or xs k d within))
 
@@ -218,7 +218,7 @@ module _ (users : List Identity) (subtrees : List Names) where
       ∙ ap (λ (found : Result AllAnswer CheckFault).
       (report_on (in_call found) (audit_answer_report (once same_user users) (once same_path subtrees))).ending) is)
 
-  by_once : (deeds : List Deed) → AreBy users deeds → AreBy (once same_user users) deeds
+  pub by_once : (deeds : List Deed) → AreBy users deeds → AreBy (once same_user users) deeds
   by_once deeds by =
       all-each (λ deed. Contains users deed.0) (λ deed. Contains (once same_user users) deed.0)
       (λ deed at. among_once same_user same_user-is users deed.0 at) deeds by

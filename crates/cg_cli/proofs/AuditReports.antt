@@ -13,7 +13,7 @@ use Rattle.cg_cli.specs.May.{tree_read}
 use Rattle.cg_model.specs.Once.{once}
 use Rattle.cg_cli.specs.Once.{same_user}
 use Rattle.cg_cli.specs.Reports.{Reports, fault_report, report_on, takes_memory}
-use Rattle.cg_cli.specs.declared.fault.CliFault.{CliFault}
+use Rattle.cg_faults.specs.declared.fault.CliFault.{CliFault}
 use Rattle.cg_cli.proofs.AuditOnce.{said_once, contained_once, some_once, same_user-is}
 use Rattle.cg_cli.proofs.NamedReads.{regrouped}
 use Rattle.cg_cli.proofs.ReportLaws.{handed_on, same_Ok, call_takes, report_takes, met_reports}

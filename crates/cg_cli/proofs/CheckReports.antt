@@ -12,11 +12,11 @@ use Rattle.cg_format.specs.declared.fault.TreeFault.TheVariants.{NoMemory as Tre
 use Rattle.cg_cli.specs.Arguments.{or_fault, user_read, path_read}
 use Rattle.cg_cli.specs.Asking.{read_takes_memory, IsMet}
 use Rattle.cg_cli.specs.Containment.{in_call, answer_report, subtree_report, asked_report, check_report}
-use Rattle.cg_cli.specs.Faults.{lifted}
+use Rattle.cg_faults.specs.Faults.{lifted}
 use Rattle.cg_cli.specs.May.{tree_read}
 use Rattle.cg_cli.specs.Reports.{Report, Reports, report_on, takes_memory}
-use Rattle.cg_cli.specs.declared.fault.CliFault.{CliFault}
-use Rattle.cg_cli.specs.declared.fault.CliFault.TheVariants.{Uid, Gids, BadPath, Write, NoMemory}
+use Rattle.cg_faults.specs.declared.fault.CliFault.{CliFault}
+use Rattle.cg_faults.specs.declared.fault.CliFault.TheVariants.{Uid, Gids, BadPath, Write, NoMemory}
 use Rattle.cg_cli.proofs.ReportLaws.{handed_on, same_Ok, call_takes, report_takes, tree_takes, tree_met, met_reports}
 
 same_user : (root : Bool) (found : Option Identity) (user who : Identity) → cond root (Err Uid) (or_fault found Gids) ≡ Ok user

@@ -8,8 +8,8 @@ use Rattle.cg_cgroup.specs.Identity.{Identity}
 use Rattle.cg_cli.specs.Courses.{Course, Unwatched, Watched, HasMade, closing}
 use Rattle.cg_cli.specs.Replays.{with_front, closed}
 use Rattle.cg_cli.specs.Replaying.{Reporting, Standing, from_start, whole, IsWaiting, Replays, ReplaysFrom}
-use Rattle.cg_cli.specs.declared.fault.CliFault.{CliFault}
-use Rattle.cg_cli.specs.declared.fault.CliFault.TheVariants.{Write, Read, NoMemory}
+use Rattle.cg_faults.specs.declared.fault.CliFault.{CliFault}
+use Rattle.cg_faults.specs.declared.fault.CliFault.TheVariants.{Write, Read, NoMemory}
 use Rattle.cg_cli.proofs.ReplayRuns.{part_of_front}
 use Rattle.cg_cli.proofs.ReplayEnds.{part_behind}
 use Rattle.cg_cli.proofs.ReplayReads.{from_replays}

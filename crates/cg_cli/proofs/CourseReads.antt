@@ -13,11 +13,11 @@ use Rattle.cg_format.specs.declared.fault.TreeFault.{TreeFault}
 use Rattle.cg_format.specs.declared.fault.TreeFault.TheVariants.{NoMemory as TreeNoMemory}
 use Rattle.cg_cli.specs.Arguments.{path_read}
 use Rattle.cg_cli.specs.Courses.{Course, Watched, course_from}
-use Rattle.cg_cli.specs.Faults.{lifted, lifted_check}
+use Rattle.cg_faults.specs.Faults.{lifted, lifted_check}
 use Rattle.cg_cli.specs.May.{tree_read}
 use Rattle.cg_cli.specs.Replays.{course_read}
-use Rattle.cg_cli.specs.declared.fault.CliFault.{CliFault}
-use Rattle.cg_cli.specs.declared.fault.CliFault.TheVariants.{NoMemory, Subtree}
+use Rattle.cg_faults.specs.declared.fault.CliFault.{CliFault}
+use Rattle.cg_faults.specs.declared.fault.CliFault.TheVariants.{NoMemory, Subtree}
 
 abbrev read_by : Result Names CliFault → Reading → Result Course CliFault
 read_by named tree =

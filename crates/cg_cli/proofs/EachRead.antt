@@ -2,7 +2,7 @@
 use Rattle.std.proofs.Common.{◌≡◌, ℕ, ◌+◌, ◌<◌, List, [], ◌∷◌, ◌++◌, map, take, drop, length, get_or, Result, Ok, Err, refl, ap, sym, ◌∙◌, add-one, take-append-drop}
 use Rattle.std.proofs.Math.Seq.{take-suc, drop-cons}
 use Rattle.cg_cli.specs.Audits.{read_before, each_read}
-use Rattle.cg_cli.specs.declared.fault.CliFault.{CliFault}
+use Rattle.cg_faults.specs.declared.fault.CliFault.{CliFault}
 
 abbrev both : {A : Type 0} → Result (List A) CliFault → Result (List A) CliFault → Result (List A) CliFault
 both (Ok xs) (Ok ys) = Ok (xs ++ ys)

@@ -8,6 +8,7 @@ pub mod CheckReports
 mod SettleReports
 pub mod AdviseReports
 pub mod AdvisedTrees
+pub mod FurtherAdvice
 pub mod NamedPairs
 mod EachRead
 pub mod AuditStatus
@@ -24,3 +25,8 @@ pub mod ReadingOf
 mod ReportLaws
 mod CourseReads
 mod WrittenRead
+pub mod Settled
+pub mod FoundPlaces
+pub mod Knowing
+pub mod Auditing
+pub mod ListedRows

@@ -11,11 +11,11 @@ use Rattle.cg_format.specs.declared.fault.TreeFault.TheVariants.{NoMemory as Tre
 use Rattle.cg_cli.specs.Arguments.{or_fault, user_read, path_read}
 use Rattle.cg_cli.specs.Asking.{read_in_turn, named_read, read_takes_memory, IsMet, IsKeptOnce}
 use Rattle.cg_cli.specs.Audits.{read_before, each_read, users_read, paths_read}
-use Rattle.cg_cli.specs.Faults.{lifted}
+use Rattle.cg_faults.specs.Faults.{lifted}
 use Rattle.cg_cli.specs.May.{tree_read}
 use Rattle.cg_cli.specs.Reports.{takes_memory}
-use Rattle.cg_cli.specs.declared.fault.CliFault.{CliFault}
-use Rattle.cg_cli.specs.declared.fault.CliFault.TheVariants.{Uid, Gids, BadPath, Write, NoMemory}
+use Rattle.cg_faults.specs.declared.fault.CliFault.{CliFault}
+use Rattle.cg_faults.specs.declared.fault.CliFault.TheVariants.{Uid, Gids, BadPath, Write, NoMemory}
 use Rattle.cg_cli.proofs.ReportLaws.{tree_takes, tree_met}
 
 -- ---- the faults of words

@@ -12,10 +12,10 @@ use Rattle.cg_cgroup.specs.Users.{is_user}
 use Rattle.cg_cgroup.specs.Paths.{Names, path_cmp, same_path}
 use Rattle.cg_cli.specs.Arguments.{or_fault, user_read}
 use Rattle.cg_model.specs.Once.{once}
-use Rattle.cg_steps.proofs.OnceLaws.{once_more}
+use Rattle.cg_model.proofs.OnceLaws.{once_more}
 use Rattle.cg_cli.specs.Once.{same_user}
-use Rattle.cg_cli.specs.declared.fault.CliFault.{CliFault}
-use Rattle.cg_cli.specs.declared.fault.CliFault.TheVariants.{Uid, Gids}
+use Rattle.cg_faults.specs.declared.fault.CliFault.{CliFault}
+use Rattle.cg_faults.specs.declared.fault.CliFault.TheVariants.{Uid, Gids}
 
 -- what was read of a list so far: all of it, those who count, and of which keys one was read
 pub record ReadOnce {A K : Type 0} (same : A → A → Bool) (meets : A → K → Bool) (given : Result (List A) CliFault) (read : List A)

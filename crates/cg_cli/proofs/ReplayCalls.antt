@@ -11,14 +11,14 @@ use Rattle.cg_model.specs.States.{State, row_at}
 use Rattle.cg_format.specs.Readings.{Reading}
 use Rattle.cg_format.specs.declared.fault.TreeFault.{TreeFault}
 use Rattle.cg_format.specs.declared.fault.TreeFault.TheVariants.{NoMemory as TreeNoMemory}
-use Rattle.cg_cli.specs.Faults.{lifted}
+use Rattle.cg_faults.specs.Faults.{lifted}
 use Rattle.cg_cli.specs.Arguments.{or_fault, user_read}
 use Rattle.cg_cli.specs.Reports.{Report, fault_report, report_on}
 use Rattle.cg_cli.specs.Courses.{Course, Watched, course_from}
 use Rattle.cg_cli.specs.Replays.{closed, course_read, lines_said, lines_report, replayed}
 use Rattle.cg_cli.specs.Replaying.{Reporting, AreOf, HasFront, Replays, ReplaysFrom}
-use Rattle.cg_cli.specs.declared.fault.CliFault.{CliFault}
-use Rattle.cg_cli.specs.declared.fault.CliFault.TheVariants.{Uid, Gids, Read, Write, NoMemory, BadPath}
+use Rattle.cg_faults.specs.declared.fault.CliFault.{CliFault}
+use Rattle.cg_faults.specs.declared.fault.CliFault.TheVariants.{Uid, Gids, Read, Write, NoMemory, BadPath}
 use Rattle.cg_cli.proofs.ReportLaws.{handed_on}
 use Rattle.cg_cli.proofs.ReplayReads.{from_replays}
 
@@ -50,7 +50,7 @@ lifted_before fault = refl
 row_before : (st : State) (subtree : Names) (found : Option Cgroup)
     → FaultIsBefore (elim found [
       | None ↦
-          Err (Rattle.cg_cli.specs.declared.fault.CliFault.TheVariants.Subtree
+          Err (Rattle.cg_faults.specs.declared.fault.CliFault.TheVariants.Subtree
           Rattle.cg_model.specs.declared.fault.CheckFault.TheVariants.NoSuchSubtree)
       | Some row ↦
           Ok (Watched (record {
@@ -65,7 +65,7 @@ row_before st subtree None = refl
 row_before st subtree (Some row) = tt
 
 root_before : (st : State) (subtree : Names) (root : Bool) (other : Result Course CliFault) → FaultIsBefore other
-    → FaultIsBefore (cond root (Err (Rattle.cg_cli.specs.declared.fault.CliFault.TheVariants.Subtree
+    → FaultIsBefore (cond root (Err (Rattle.cg_faults.specs.declared.fault.CliFault.TheVariants.Subtree
     Rattle.cg_model.specs.declared.fault.CheckFault.TheVariants.RootSubtree)) other)
 root_before st subtree true other before = refl
 root_before st subtree false other before = before

@@ -13,8 +13,8 @@ use Rattle.streams.specs.Written.{AppendsPart}
 use Rattle.cg_cli.specs.Reports.{Said}
 use Rattle.cg_cli.specs.Replays.{end_read, end_said, with_front, lines_said}
 use Rattle.cg_cli.specs.Replaying.{Reporting, whole, Replays, Standing, coming, ending, IsWaiting, Leads, Fed}
-use Rattle.cg_cli.specs.declared.fault.CliFault.{CliFault}
-use Rattle.cg_cli.specs.declared.fault.CliFault.TheVariants.{Line, Write, Read, NoMemory}
+use Rattle.cg_faults.specs.declared.fault.CliFault.{CliFault}
+use Rattle.cg_faults.specs.declared.fault.CliFault.TheVariants.{Line, Write, Read, NoMemory}
 use Rattle.cg_cli.proofs.ReplayReports.{report_of_end}
 use Rattle.cg_cli.proofs.ReportLaws.{handed_on}
 

@@ -5,7 +5,7 @@ use Rattle.cg_cgroup.specs.Identity.{Identity}
 use Rattle.cg_model.specs.States.{State}
 use Rattle.cg_model.specs.Clauses.{first}
 use Rattle.cg_model.specs.Bars.{bars}
-use Rattle.cg_steps.specs.Outcomes.{RefusedBy}
+use Rattle.cg_model.specs.Outcomes.{RefusedBy}
 use Rattle.cg_model.specs.declared.operation.Op.{Op}
 use Rattle.cg_model.specs.declared.outcome.Outcome.{Outcome}
 use Rattle.cg_model.specs.declared.outcome.Outcome.TheVariants.{Done, Refused}
@@ -14,7 +14,7 @@ use Rattle.cg_lines.specs.LineReading.{operation_at}
 use Rattle.cg_lines.specs.declared.lines.fault.LineFault.TheVariants.{TooLong, BadWord}
 use Rattle.cg_lines.proofs.LineLaws.{line_again, nothing_read}
 use Rattle.cg_cli.specs.Replays.{outcome_by, outcome_of, operation_read}
-use Rattle.cg_cli.specs.declared.fault.CliFault.TheVariants.{Line}
+use Rattle.cg_faults.specs.declared.fault.CliFault.TheVariants.{Line}
 
 -- ---- what is read
 

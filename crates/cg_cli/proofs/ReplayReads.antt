@@ -14,8 +14,8 @@ use Rattle.cg_cli.specs.Courses.{Course, came_to}
 use Rattle.cg_cli.specs.Replays.{end_read}
 use Rattle.cg_cli.specs.Replaying.{Reporting, whole, AreOf, Replays, ReplaysFrom, Standing, coming, ending, goes_on, IsWaiting, Leads}
 use Rattle.cg_cli.specs.Replaying.{Fed, ReadOn}
-use Rattle.cg_cli.specs.declared.fault.CliFault.{CliFault}
-use Rattle.cg_cli.specs.declared.fault.CliFault.TheVariants.{Read, NoMemory}
+use Rattle.cg_faults.specs.declared.fault.CliFault.{CliFault}
+use Rattle.cg_faults.specs.declared.fault.CliFault.TheVariants.{Read, NoMemory}
 use Rattle.cg_cli.proofs.ReplayEnds.{leads_nowhere, leads_on, given_said, replays_end, replays_fault}
 use Rattle.cg_cli.proofs.ReportLaws.{handed_on}
 

@@ -10,7 +10,7 @@ use Rattle.cg_lines.specs.Outcomes.{outcome_text}
 use Rattle.cg_lines.specs.declared.lines.fault.LineFault.TheVariants.{TooLong}
 use Rattle.cg_cli.specs.Reports.{fault_report, report_on}
 use Rattle.cg_cli.specs.Replays.{is_newline, outcome_of, operation_read, end_read, end_said, with_front, replayed, lines_said}
-use Rattle.cg_cli.specs.declared.fault.CliFault.TheVariants.{Line, TooManySteps}
+use Rattle.cg_faults.specs.declared.fault.CliFault.TheVariants.{Line, TooManySteps}
 
 -- the pieces are one and maybe more
 record Pieces (bytes : List ℕ) : Type 0 where

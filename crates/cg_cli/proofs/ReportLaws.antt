@@ -9,11 +9,11 @@ use Rattle.cg_format.specs.declared.fault.TreeFault.{TreeFault}
 use Rattle.cg_format.specs.declared.fault.TreeFault.TheVariants.{NoMemory as TreeNoMemory}
 use Rattle.cg_cli.specs.Asking.{read_takes_memory, IsMet}
 use Rattle.cg_cli.specs.Containment.{in_call}
-use Rattle.cg_cli.specs.Faults.{lifted, lifted_check}
+use Rattle.cg_faults.specs.Faults.{lifted, lifted_check}
 use Rattle.cg_cli.specs.May.{tree_read}
 use Rattle.cg_cli.specs.Reports.{Report, Reports, fault_report, report_on, takes_memory}
-use Rattle.cg_cli.specs.declared.fault.CliFault.{CliFault}
-use Rattle.cg_cli.specs.declared.fault.CliFault.TheVariants.{Write, NoMemory}
+use Rattle.cg_faults.specs.declared.fault.CliFault.{CliFault}
+use Rattle.cg_faults.specs.declared.fault.CliFault.TheVariants.{Write, NoMemory}
 
 -- what is known of a fault is known of the call that hands it on
 pub handed_on : {T : Type 0} (Q : Result T CliFault → Type 0) (fault : CliFault) (result : Result T CliFault)

@@ -15,15 +15,15 @@ use Rattle.cg_model.specs.declared.fault.CheckFault.TheVariants.{RootSubtree, No
 use Rattle.cg_model.specs.declared.verdict.Verdict.TheVariants.{Kept, Broken}
 use Rattle.cg_check.proofs.Checking.{no_fault}
 use Rattle.cg_settle.specs.Judged.{second_row}
-use Rattle.cg_answers.specs.Settled.{IsSettledSo, IsSettledFrom, IsSettled, IsSettledFault}
-use Rattle.cg_answers.proofs.Settling.{contained-row}
+use Rattle.cg_cli.specs.Settled.{IsSettledSo, IsSettledFrom, IsSettled, IsSettledFault}
+use Rattle.cg_cli.proofs.Settled.{contained-row}
 use Rattle.cg_report.specs.AnswerLines.{IsShown}
 use Rattle.cg_report.proofs.Shown.{answer_is_shown}
 use Rattle.cg_cli.specs.Containment.{in_call, answer_report, subtree_report}
-use Rattle.cg_cli.specs.Faults.{lifted_check}
+use Rattle.cg_faults.specs.Faults.{lifted_check}
 use Rattle.cg_cli.specs.Reports.{Said, Report, fault_report, takes_memory}
 use Rattle.cg_cli.specs.Settling.{SaysOn, FurtherSays, IsFurther}
-use Rattle.cg_cli.specs.declared.fault.CliFault.{CliFault}
+use Rattle.cg_faults.specs.declared.fault.CliFault.{CliFault}
 use Rattle.cg_cli.proofs.Asked.{kept_on, more_on}
 
 module _ (st : State) (user : Identity) (subtree : Names) where

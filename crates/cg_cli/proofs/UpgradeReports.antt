@@ -5,12 +5,12 @@ use Rattle.cg_format.specs.Readings.{Reading}
 use Rattle.cg_format.specs.declared.fault.TreeFault.{TreeFault}
 use Rattle.cg_format.specs.declared.fault.TreeFault.TheVariants.{NoMemory as TreeNoMemory}
 use Rattle.cg_print.specs.Carried.{IsCarried}
-use Rattle.cg_cli.specs.Faults.{lifted}
+use Rattle.cg_faults.specs.Faults.{lifted}
 use Rattle.cg_cli.specs.May.{tree_read}
 use Rattle.cg_cli.specs.Reports.{Reports}
 use Rattle.cg_cli.specs.Upgrades.{upgrade_report, IsNewText, Upgrades}
-use Rattle.cg_cli.specs.declared.fault.CliFault.{CliFault}
-use Rattle.cg_cli.specs.declared.fault.CliFault.TheVariants.{NoMemory}
+use Rattle.cg_faults.specs.declared.fault.CliFault.{CliFault}
+use Rattle.cg_faults.specs.declared.fault.CliFault.TheVariants.{NoMemory}
 use Rattle.cg_cli.proofs.ReportLaws.{handed_on, tree_met, met_reports}
 
 pub written_anew : (read : Reading) (text : List ℕ) (st : State) → read ≡ Ok st → IsCarried st → (IsCarried st → IsNewText st text)

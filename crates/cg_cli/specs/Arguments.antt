@@ -4,8 +4,8 @@ use Rattle.cg_cgroup.specs.Identity.{Identity}
 use Rattle.cg_cgroup.specs.Users.{user_of}
 use Rattle.cg_cgroup.specs.Numbers.{pid_of}
 use Rattle.cg_cgroup.specs.Paths.{Names, path_at}
-use Rattle.cg_cli.specs.declared.fault.CliFault.{CliFault}
-use Rattle.cg_cli.specs.declared.fault.CliFault.TheVariants.{Uid, Gids, Pid, BadPath}
+use Rattle.cg_faults.specs.declared.fault.CliFault.{CliFault}
+use Rattle.cg_faults.specs.declared.fault.CliFault.TheVariants.{Uid, Gids, Pid, BadPath}
 
 -- what is there, or the fault that it isn't
 abbrev pub or_fault : {A : Type 0} → Option A → CliFault → Result A CliFault

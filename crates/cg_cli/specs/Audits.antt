@@ -12,7 +12,7 @@ use Rattle.cg_cli.specs.Arguments.{user_read, path_read}
 use Rattle.cg_cli.specs.Containment.{in_call, answer_status}
 use Rattle.cg_cli.specs.May.{tree_read}
 use Rattle.cg_cli.specs.Reports.{Report, report_on}
-use Rattle.cg_cli.specs.declared.fault.CliFault.{CliFault}
+use Rattle.cg_faults.specs.declared.fault.CliFault.{CliFault}
 
 abbrev pub read_before : {A : Type 0} → Result A CliFault → Result (List A) CliFault → Result (List A) CliFault
 read_before (Ok x) (Ok others) = Ok (x ∷ others)

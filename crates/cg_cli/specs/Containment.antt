@@ -12,11 +12,11 @@ use Rattle.cg_format.specs.TextOf.{IsTextOf}
 use Rattle.cg_model.specs.declared.answer.Answer.{Answer}
 use Rattle.cg_model.specs.declared.answer.Answer.TheVariants.{Contained, Escapes, Unsettled}
 use Rattle.cg_report.specs.AnswerLines.{answer_text}
-use Rattle.cg_cli.specs.Faults.{lifted_check}
+use Rattle.cg_faults.specs.Faults.{lifted_check}
 use Rattle.cg_cli.specs.Arguments.{user_read, path_read}
 use Rattle.cg_cli.specs.Reports.{Report, report_on}
 use Rattle.cg_cli.specs.May.{tree_read}
-use Rattle.cg_cli.specs.declared.fault.CliFault.{CliFault}
+use Rattle.cg_faults.specs.declared.fault.CliFault.{CliFault}
 
 -- what a check answers, with its fault as that of a call
 abbrev pub in_call : {A : Type 0} → Result A CheckFault → Result A CliFault

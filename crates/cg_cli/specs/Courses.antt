@@ -12,8 +12,8 @@ use Rattle.cg_model.specs.declared.verdict.Verdict.TheVariants.{Kept, Broken}
 use Rattle.cg_model.specs.declared.fault.CheckFault.TheVariants.{RootSubtree, NoSuchSubtree}
 use Rattle.cg_report.specs.VerdictLines.{verdict_text}
 use Rattle.cg_cli.specs.Reports.{Report}
-use Rattle.cg_cli.specs.declared.fault.CliFault.{CliFault}
-use Rattle.cg_cli.specs.declared.fault.CliFault.TheVariants.{Subtree}
+use Rattle.cg_faults.specs.declared.fault.CliFault.{CliFault}
+use Rattle.cg_faults.specs.declared.fault.CliFault.TheVariants.{Subtree}
 
 pub data Course : Type 0 where
   Unwatched : (st : State) → Course

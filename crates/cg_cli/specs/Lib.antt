@@ -1,5 +1,7 @@
-pub mod Faults
-pub mod FaultLines
+pub mod Settled
+pub mod Audited
+pub mod FoundPlaces
+pub mod ListedRows
 pub mod Arguments
 pub mod Reports
 pub mod May
@@ -14,6 +16,8 @@ pub mod Once
 pub mod AllPairs
 pub mod Asking
 pub mod Advising
+pub mod SettledAdvice
+pub mod FurtherAdvice
 pub mod Pairs
 pub mod SettledPairs
 pub mod SettledRows

@@ -11,10 +11,10 @@ use Rattle.cg_model.specs.declared.outcome.Refusal.{Refusal}
 use Rattle.cg_model.specs.declared.outcome.Outcome.TheVariants.{Refused}
 use Rattle.cg_lines.specs.Outcomes.{outcome_text}
 use Rattle.cg_format.specs.Readings.{Reading}
-use Rattle.cg_cli.specs.Faults.{lifted}
+use Rattle.cg_faults.specs.Faults.{lifted}
 use Rattle.cg_cli.specs.Arguments.{user_read, pid_read, path_read}
 use Rattle.cg_cli.specs.Reports.{Report, report_on}
-use Rattle.cg_cli.specs.declared.fault.CliFault.{CliFault}
+use Rattle.cg_faults.specs.declared.fault.CliFault.{CliFault}
 
 -- what is written of an operation that may be barred, and the status: 0 where nothing bars it, else 1
 abbrev pub permission : Op → Option Refusal → List ℕ × ℕ

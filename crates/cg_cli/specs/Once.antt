@@ -3,7 +3,7 @@ use Rattle.std.specs.Prelude.{◌≡◌, Bool, ◌&&◌, nat_eq, List, Result, O
 use Rattle.std.specs.Cmp.Lexicographic.{pointwise}
 use Rattle.cg_cgroup.specs.Identity.{Identity}
 use Rattle.cg_model.specs.Once.{once}
-use Rattle.cg_cli.specs.declared.fault.CliFault.{CliFault}
+use Rattle.cg_faults.specs.declared.fault.CliFault.{CliFault}
 
 -- the same uid, and the same gids in the same order
 abbrev pub same_user : Identity → Identity → Bool

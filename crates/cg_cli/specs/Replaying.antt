@@ -12,9 +12,9 @@ use Rattle.streams.specs.Written.{AppendsPart}
 use Rattle.cg_cli.specs.Reports.{Said, fault_report}
 use Rattle.cg_cli.specs.Courses.{Course, HasMade, state_of, on_course}
 use Rattle.cg_cli.specs.Replays.{most_operations, longest_line, is_newline, outcome_of, end_read, with_front, lines_said}
-use Rattle.cg_cli.specs.declared.fault.CliFault.{CliFault}
+use Rattle.cg_faults.specs.declared.fault.CliFault.{CliFault}
 use Rattle.cg_cli.specs.declared.replay.run.Run.{Run}
-use Rattle.cg_cli.specs.declared.fault.CliFault.TheVariants.{Line, Read, Write, NoMemory}
+use Rattle.cg_faults.specs.declared.fault.CliFault.TheVariants.{Line, Read, Write, NoMemory}
 
 -- ---- at the end
 

@@ -12,7 +12,7 @@ use Rattle.cg_cli.specs.Arguments.{user_read, path_read}
 use Rattle.cg_cli.specs.May.{tree_read}
 use Rattle.cg_cli.specs.Containment.{in_call, answer_report}
 use Rattle.cg_cli.specs.Reports.{Said, Report, Reports, fault_report}
-use Rattle.cg_cli.specs.declared.fault.CliFault.{CliFault}
+use Rattle.cg_faults.specs.declared.fault.CliFault.{CliFault}
 
 -- a report that may be made on what was read, or the fault that it met
 abbrev pub SaysOn : {A B : Type 0} → Result A CliFault → (A → Said B → Type 0) → Said B → Type 0

@@ -7,8 +7,8 @@ use Rattle.cg_format.specs.TreeTexts.{longest_text, document_of}
 use Rattle.cg_print.specs.Documents.{tree_document, IsSpelled}
 use Rattle.cg_cli.specs.May.{tree_read}
 use Rattle.cg_cli.specs.Reports.{Report, Reports, report_on}
-use Rattle.cg_cli.specs.declared.fault.CliFault.{CliFault}
-use Rattle.cg_cli.specs.declared.fault.CliFault.TheVariants.{NoMemory}
+use Rattle.cg_faults.specs.declared.fault.CliFault.{CliFault}
+use Rattle.cg_faults.specs.declared.fault.CliFault.TheVariants.{NoMemory}
 
 -- the text that is written, or the fault of the tree's text
 abbrev pub upgrade_report : Reading → List ℕ → Report

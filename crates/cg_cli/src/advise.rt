@@ -17,7 +17,6 @@ ghost use Rattle.cg_cli.specs.Audits.{users_read, paths_read};
 ghost use Rattle.cg_cli.specs.Reports.{Reports};
 
 use crate::arguments::UserIds;
-use crate::fault::CliFault;
 use crate::named::read_named;
 use crate::report::write_said;
 use cg_advice::pair::Pair;
@@ -26,9 +25,10 @@ use cg_cgroup::memory::NoMemory;
 use cg_cgroup::path::Path;
 use cg_cgroup::user::User;
 use cg_check::{first_fault, from_first_unguarded};
+use cg_faults::fault::CliFault;
 use cg_guards::identities::Identities;
 use cg_model::fault::CheckFault;
-use cg_tree::hierarchy::Hierarchy;
+use cg_model::hierarchy::Hierarchy;
 use std::alloc::Global;
 use std::io::Write;
 
@@ -103,7 +103,7 @@ pub(crate) fn said_of(
 }
 
 /// The advice for every user with every subtree. Where no guard fails that is asked once of each subtree, for all users.
-fn advice<H: Hierarchy>(
+pub(crate) fn advice<H: Hierarchy>(
     alloc: Global,
     tree: &H,
     users: &[User],

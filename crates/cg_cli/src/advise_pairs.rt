@@ -16,11 +16,10 @@ ghost use Rattle.cg_cli.specs.Asking.{named_read, IsMet};
 ghost use Rattle.cg_cli.specs.Audits.{users_read, paths_read};
 ghost use Rattle.cg_cli.specs.Pairs.{pair_given};
 ghost use Rattle.cg_cli.specs.Reports.{Reports};
-ghost use Rattle.cg_cli.specs.declared.fault.CliFault.{CliFault};
+ghost use Rattle.cg_faults.specs.declared.fault.CliFault.{CliFault};
 
 use crate::advise::said_of;
 use crate::arguments::{UserIds, read_path, read_user};
-use crate::fault::CliFault;
 use crate::reading::read_tree;
 use crate::report::write_said;
 use cg_advice::pair::Pair;
@@ -29,9 +28,10 @@ use cg_cgroup::memory::NoMemory;
 use cg_cgroup::path::Path;
 use cg_cgroup::user::User;
 use cg_check::first_fault;
+use cg_faults::fault::CliFault;
 use cg_model::fault::CheckFault;
+use cg_model::hierarchy::Hierarchy;
 use cg_rows::rows::Rows;
-use cg_tree::hierarchy::Hierarchy;
 use std::alloc::Global;
 use std::io::Write;
 

@@ -2,10 +2,10 @@
 ghost use Rattle.std.specs.Prelude.{◌≡◌, ◌≢◌, Ok, Err, MatchResult};
 ghost use Rattle.cg_cli.specs.Arguments.{user_read, pid_read, path_read};
 
-use crate::fault::CliFault;
 use cg_cgroup::path::Path;
 use cg_cgroup::process::Pid;
 use cg_cgroup::user::User;
+use cg_faults::fault::CliFault;
 use std::alloc::Global;
 
 /// A user as a call is given him: a uid, and gids of which the first is the primary one.

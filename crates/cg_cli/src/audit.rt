@@ -12,18 +12,18 @@ ghost use Rattle.cg_cli.specs.Reports.{Reports};
 
 use crate::arguments::UserIds;
 use crate::check::status;
-use crate::fault::CliFault;
 use crate::named::read_named;
 use crate::report::write_said;
 use cg_cgroup::memory::NoMemory;
 use cg_cgroup::path::Path;
 use cg_cgroup::user::User;
 use cg_check::check_all_by;
+use cg_faults::fault::CliFault;
 use cg_guards::identities::Identities;
 use cg_model::answer::AllAnswer;
 use cg_model::fault::CheckFault;
+use cg_model::hierarchy::Hierarchy;
 use cg_report::audit::audit_text;
-use cg_tree::hierarchy::Hierarchy;
 use std::alloc::Global;
 use std::io::Write;
 

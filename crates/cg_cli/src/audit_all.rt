@@ -17,15 +17,15 @@ ghost use Rattle.cg_cli.specs.AllPairs.{worse, WritesPairs, pairs_found, all_rep
 
 use crate::arguments::UserIds;
 use crate::check::status;
-use crate::fault::CliFault;
 use crate::named::read_named;
 use cg_cgroup::path::Path;
 use cg_cgroup::user::User;
 use cg_check::{check, first_fault, from_first_unguarded};
+use cg_faults::fault::CliFault;
 use cg_guards::identities::Identities;
 use cg_model::answer::Answer;
+use cg_model::hierarchy::Hierarchy;
 use cg_report::pair::pair_text;
-use cg_tree::hierarchy::Hierarchy;
 use std::alloc::Global;
 use std::io::Write;
 use streams::write::write_whole;

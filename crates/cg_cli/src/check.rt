@@ -5,16 +5,16 @@ ghost use Rattle.cg_cli.specs.Containment.{answer_status, check_report, subtree_
 ghost use Rattle.cg_cli.specs.Reports.{Reports};
 
 use crate::arguments::UserIds;
-use crate::fault::CliFault;
 use crate::question::{Question, ask};
 use cg_cgroup::memory::NoMemory;
 use cg_cgroup::path::Path;
 use cg_cgroup::user::User;
 use cg_check::check;
+use cg_faults::fault::CliFault;
 use cg_model::answer::Answer;
 use cg_model::fault::CheckFault;
+use cg_model::hierarchy::Hierarchy;
 use cg_report::answer::answer_text;
-use cg_tree::hierarchy::Hierarchy;
 use std::alloc::Global;
 use std::io::Write;
 

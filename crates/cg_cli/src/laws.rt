@@ -16,11 +16,11 @@ ghost use Rattle.cg_format.specs.declared.fault.TreeFault.TheVariants.{NoMemory 
 ghost use Rattle.cg_print.specs.Carried.{IsCarried, IsTooLong};
 
 use cg_cgroup::memory::NoMemory;
+use cg_model::hierarchy::Hierarchy;
 use cg_print::tree::tree_text;
 use cg_rows::rows::Rows;
 use cg_text::tree::laws::texts_are_of_states;
 use cg_text::tree::{TreeFault, read_tree};
-use cg_tree::hierarchy::Hierarchy;
 use std::alloc::Global;
 
 /// With the changes of the advice for pairs made subtrees are contained against users, all of them together, where each of

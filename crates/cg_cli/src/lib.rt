@@ -3,12 +3,13 @@
 
 pub mod advise;
 pub mod advise_pairs;
+pub mod advise_settle;
+pub mod answers;
 pub mod arguments;
 pub mod audit;
 pub mod audit_all;
 pub mod audit_settle;
 pub mod check;
-pub mod fault;
 pub mod laws;
 pub mod may;
 mod named;

@@ -7,16 +7,16 @@ ghost use Rattle.cg_cli.specs.May.{permission, may_report};
 ghost use Rattle.cg_cli.specs.Reports.{Reports};
 
 use crate::arguments::{UserIds, read_path, read_pid, read_user};
-use crate::fault::CliFault;
 use crate::reading::read_tree;
 use crate::report::write_said;
 use cg_cgroup::memory::NoMemory;
 use cg_cgroup::user::User;
+use cg_faults::fault::CliFault;
 use cg_lines::outcome::outcome_text;
+use cg_model::hierarchy::Hierarchy;
 use cg_model::operation::Op;
 use cg_model::outcome::Outcome;
 use cg_ops::refusal;
-use cg_tree::hierarchy::Hierarchy;
 use std::alloc::Global;
 use std::io::Write;
 

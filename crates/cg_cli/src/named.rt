@@ -5,13 +5,13 @@ ghost use Rattle.cg_format.specs.Readings.{Reading, IsReading};
 ghost use Rattle.cg_cli.specs.Asking.{named_read, IsMet, IsKeptOnce};
 ghost use Rattle.cg_cli.specs.Audits.{users_read, paths_read};
 ghost use Rattle.cg_cli.specs.Once.{same_user, IsReadOnce};
-ghost use Rattle.cg_cli.specs.declared.fault.CliFault.{CliFault};
+ghost use Rattle.cg_faults.specs.declared.fault.CliFault.{CliFault};
 
 use crate::arguments::{UserIds, read_path, read_user};
-use crate::fault::CliFault;
 use crate::reading::read_tree;
 use cg_cgroup::path::Path;
 use cg_cgroup::user::User;
+use cg_faults::fault::CliFault;
 use cg_rows::rows::Rows;
 use std::alloc::Global;
 use std::collections::BTreeSet;

@@ -6,18 +6,18 @@ ghost use Rattle.cg_model.specs.States.{State};
 ghost use Rattle.cg_model.specs.Held.{IsContained};
 ghost use Rattle.cg_format.specs.Readings.{OnText};
 ghost use Rattle.cg_cli.specs.Containment.{MeansContained};
-ghost use Rattle.cg_cli.specs.Faults.{lifted_check};
+ghost use Rattle.cg_faults.specs.Faults.{lifted_check};
 ghost use Rattle.cg_cli.specs.Reports.{Report, fault_report, takes_memory};
 ghost use Rattle.cg_cli.specs.Settling.{AskedReports};
 
 use crate::arguments::{UserIds, read_path, read_user};
-use crate::fault::CliFault;
 use crate::reading::read_tree;
 use crate::report::write_said;
 use cg_cgroup::path::Path;
 use cg_cgroup::user::User;
+use cg_faults::fault::CliFault;
 use cg_model::fault::CheckFault;
-use cg_tree::hierarchy::Hierarchy;
+use cg_model::hierarchy::Hierarchy;
 use std::alloc::Global;
 use std::io::Write;
 

@@ -8,9 +8,9 @@ ghost use Rattle.cg_cli.specs.Replays.{closed, course_read, lines_report};
 ghost use Rattle.cg_cli.specs.Replaying.{standing_of, from_start, coming, whole, IsWaiting, Replays};
 
 use crate::arguments::{UserIds, read_path, read_user};
-use crate::fault::CliFault;
 use crate::reading::read_tree;
 use cg_cgroup::user::User;
+use cg_faults::fault::CliFault;
 use cg_indexed::indexed::Indexed;
 use cg_runs::replay::Replay;
 use course::{MaybeWatched, OnCourse, write_closing};

@@ -2,7 +2,7 @@
 ghost use Rattle.std.specs.Prelude.{Ok};
 ghost use Rattle.cg_cli.specs.Reports.{Reports};
 
-use crate::fault::CliFault;
+use cg_faults::fault::CliFault;
 use std::io::Write;
 use streams::write::write_whole;
 

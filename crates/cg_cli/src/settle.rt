@@ -1,20 +1,20 @@
 //! What is known of a subtree against a user, where check tells less.
-ghost use Rattle.cg_answers.specs.Settled.{IsSettledFrom};
+ghost use Rattle.cg_cli.specs.Settled.{IsSettledFrom};
 ghost use Rattle.cg_format.specs.Readings.{OnText};
 ghost use Rattle.cg_cli.specs.Containment.{MeansContained};
 ghost use Rattle.cg_cli.specs.Settling.{AskedReports, FurtherSays, IsFurther};
 
+use crate::answers::settle::settle;
 use crate::arguments::UserIds;
 use crate::check::status;
-use crate::fault::CliFault;
 use crate::question::{Question, ask};
-use cg_answers::settle::settle;
 use cg_cgroup::memory::NoMemory;
 use cg_cgroup::path::Path;
 use cg_cgroup::user::User;
+use cg_faults::fault::CliFault;
 use cg_model::fault::CheckFault;
+use cg_model::hierarchy::Hierarchy;
 use cg_report::answer::answer_text;
-use cg_tree::hierarchy::Hierarchy;
 use std::alloc::Global;
 use std::io::Write;
 

@@ -2,9 +2,9 @@
 ghost use Rattle.cg_format.specs.Readings.{OnText};
 ghost use Rattle.cg_cli.specs.Upgrades.{Upgrades};
 
-use crate::fault::CliFault;
 use crate::reading::read_tree;
 use crate::report::write_said;
+use cg_faults::fault::CliFault;
 use cg_print::tree::tree_text;
 use std::alloc::Global;
 use std::io::Write;

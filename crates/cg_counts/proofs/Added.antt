@@ -18,7 +18,7 @@ use Rattle.cg_cgroup.proofs.PathOrder.{path_cmp_total, same_path-is, same_path-n
 use Rattle.cg_cgroup.proofs.PathParents.{length-parent, parent-is_child}
 use Rattle.cg_cgroup.proofs.PathLaws.{inside_decides, inside-length}
 use Rattle.cg_cgroup.proofs.Options.{same_some, some_value}
-use Rattle.cg_steps.proofs.MapLaws.{any_entry, list_any-map}
+use Rattle.cg_model.proofs.MapLaws.{any_entry, list_any-map}
 use Rattle.cg_places.specs.Links.{no_link, link_at, new_link, put_at, ArePlaced, tallied_link, tallied_up}
 use Rattle.cg_places.specs.Nodes.{Node, IsKin, new_node, no_cgroup, node_at, no_uses, uses_of, recounted}
 use Rattle.cg_places.specs.Values.{values_of}

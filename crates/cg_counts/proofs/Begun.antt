@@ -8,7 +8,7 @@ use Rattle.cg_cgroup.specs.declared.cgroup.Cgroup.{Cgroup}
 use Rattle.cg_cgroup.proofs.ControllerLaws.{mapped_at}
 use Rattle.cg_cgroup.proofs.PathOrder.{path_cmp_total, same_path-is}
 use Rattle.cg_cgroup.proofs.Options.{same_some}
-use Rattle.cg_steps.proofs.MapLaws.{any_entry, list_any-map}
+use Rattle.cg_model.proofs.MapLaws.{any_entry, list_any-map}
 use Rattle.std.specs.Prelude.{is_none}
 use Rattle.std.specs.List.{list_any}
 use Rattle.cg_places.specs.Links.{link_at, new_link}

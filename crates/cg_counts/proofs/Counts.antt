@@ -13,9 +13,9 @@ use Rattle.cg_cgroup.specs.declared.controllers.ControllerSet.{ControllerSet}
 use Rattle.cg_cgroup.proofs.ControllerLaws.{mapped_at, enables-set_by}
 use Rattle.cg_cgroup.proofs.PathOrder.{path_cmp_total, path_cmp-IsAntisymmetric, same_path-is, same_path_refl}
 use Rattle.cg_cgroup.proofs.PathParents.{is_child-parent, parent-is_child}
-use Rattle.cg_steps.proofs.MapLaws.{any_entry}
-use Rattle.cg_steps.proofs.MapFolds.{gathered, gathered-insert, gathered-remove, insert-remove, get-remove-same}
-use Rattle.cg_steps.proofs.StateCounts.{gathered-map, one_more, one_more-Commutes}
+use Rattle.cg_model.proofs.MapLaws.{any_entry}
+use Rattle.cg_model.proofs.MapFolds.{gathered, gathered-insert, gathered-remove, insert-remove, get-remove-same}
+use Rattle.cg_model.proofs.StateCounts.{gathered-map, one_more, one_more-Commutes}
 use Rattle.cg_places.proofs.Counted.{gathered-count, count-none}
 use Rattle.cg_places.specs.Nodes.{Node, more_if, less_if, uses_of, uses_then, uses_after}
 use Rattle.cg_places.specs.Values.{values_of}

@@ -24,8 +24,8 @@ use Rattle.cg_cgroup.proofs.CgroupLaws.{same_cgroup}
 use Rattle.cg_cgroup.proofs.Options.{same_some}
 use Rattle.std.specs.Cmp.Derive.{both_true}
 use Rattle.std.proofs.lemmas.Bool.{lt-ltb}
-use Rattle.cg_steps.proofs.MapLaws.{entry_any, list_any-map}
-use Rattle.cg_steps.proofs.FormedEnabled.{is_child-itself}
+use Rattle.cg_model.proofs.MapLaws.{entry_any, list_any-map}
+use Rattle.cg_model.proofs.FormedEnabled.{is_child-itself}
 use Rattle.cg_places.specs.Links.{link_at}
 use Rattle.cg_places.specs.Nodes.{Node, node_at, uses_of, recounted, enabling_node, enabled_at, differs, differing, with_files_from, refitted_node, links_to, Refits}
 use Rattle.cg_places.specs.Values.{values_of}

@@ -7,7 +7,7 @@ use Rattle.std.specs.FinMap as map
 use Rattle.std.specs.FinMap.{FinMap}
 use Rattle.cg_cgroup.specs.Paths.{Names, path_cmp, parent}
 use Rattle.cg_model.specs.States.{State}
-use Rattle.cg_tree.specs.Limits.{is_full, NoneIsFull, IsNearestFull}
+use Rattle.cg_model.specs.NearestFull.{is_full, NoneIsFull, IsNearestFull}
 use Rattle.cg_places.specs.Links.{link_at, ArePlaced, is_full_link, climbed}
 use Rattle.cg_places.specs.declared.links.Link.{Link}
 

@@ -12,10 +12,10 @@ use Rattle.cg_cgroup.specs.declared.files.LimitFile.{LimitFile}
 use Rattle.cg_cgroup.specs.declared.cgroup.Cgroup.{Cgroup}
 use Rattle.cg_model.specs.States.{row_at, paths_of, count_below, child_enables}
 use Rattle.cg_model.specs.WellFormed.{has_row}
-use Rattle.cg_tree.specs.Limits.{bars_child, is_full}
+use Rattle.cg_model.specs.NearestFull.{bars_child, is_full}
 use Rattle.cg_cgroup.proofs.Options.{is_some-mapped}
-use Rattle.cg_steps.proofs.MapLaws.{list_any-map}
-use Rattle.cg_steps.proofs.FormedParts.{enabled_at-row}
+use Rattle.cg_model.proofs.MapLaws.{list_any-map}
+use Rattle.cg_model.proofs.FormedParts.{enabled_at-row}
 use Rattle.cg_places.specs.Links.{link_at, is_full_link}
 use Rattle.cg_places.specs.Nodes.{Node, node_at}
 use Rattle.cg_places.specs.Values.{values_of, map_values}

@@ -12,7 +12,7 @@ use Rattle.cg_cgroup.specs.declared.controllers.ControllerSet.{ControllerSet}
 use Rattle.cg_cgroup.specs.declared.cgroup.Cgroup.{Cgroup}
 use Rattle.cg_cgroup.proofs.PathOrder.{same_path-is, same_path-not, same_path-other, path_cmp-IsAntisymmetric}
 use Rattle.cg_cgroup.proofs.PathParents.{length-parent, is_child-parent, parent-root}
-use Rattle.cg_steps.proofs.MapLaws.{entry_any, list_any-map}
+use Rattle.cg_model.proofs.MapLaws.{entry_any, list_any-map}
 use Rattle.cg_places.specs.Links.{no_link, link_at, to_nowhere, ArePlaced, tallied_link, tallied_up}
 use Rattle.cg_places.specs.Nodes.{Node, node_at, uses_of, recounted}
 use Rattle.cg_places.specs.Values.{values_of}

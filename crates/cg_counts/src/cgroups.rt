@@ -6,7 +6,7 @@ ghost use Rattle.cg_cgroup.specs.Paths.{parent, is_root};
 ghost use Rattle.cg_cgroup.specs.Files.{enables};
 ghost use Rattle.cg_model.specs.States.{row_at, count_below, has_child, child_enables, depth_below};
 ghost use Rattle.cg_model.specs.WellFormed.{has_row};
-ghost use Rattle.cg_tree.specs.Limits.{NoneIsFull, IsNearestFull};
+ghost use Rattle.cg_model.specs.NearestFull.{NoneIsFull, IsNearestFull};
 ghost use Rattle.cg_counts.specs.Kept.{AreFittedBelow, tree_of, new_held, with_row_of, enabling_held, change_held, change_each_held, tallied_held};
 
 use cg_cgroup::cgroup::Cgroup;

@@ -38,7 +38,7 @@ use Rattle.cg_tries.proofs.Controls.{all-control_tries}
 use Rattle.cg_tries.proofs.ProbeNames.{is_name-probe, length-probe}
 use Rattle.cg_model.specs.Answers.{answer}
 use Rattle.cg_model.specs.declared.answer.Answer.TheVariants.{Escapes}
-use Rattle.cg_steps.proofs.Lists.{all-append, all-flat_map, all-present, all-each, find-all}
+use Rattle.cg_model.proofs.Lists.{all-append, all-flat_map, all-present, all-each, find-all}
 use Rattle.cg_check.proofs.AnswerLaws.{found-escape}
 use Rattle.cg_lines.specs.OperationLines.{IsInRange, IsLimitInRange}
 use Rattle.cg_lines.specs.LineLengths.{HasFewChanges}

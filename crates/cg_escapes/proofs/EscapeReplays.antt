@@ -41,7 +41,7 @@ use Rattle.cg_format.specs.Readings.{Reading, IsReading}
 use Rattle.cg_format.specs.TextOf.{IsTextOf}
 use Rattle.cg_format.specs.declared.fault.TreeFault.{TreeFault}
 use Rattle.cg_format.proofs.OneState.{paths_are_paths, pids_are_pids}
-use Rattle.cg_cli.specs.Faults.{lifted}
+use Rattle.cg_faults.specs.Faults.{lifted}
 use Rattle.cg_cli.specs.Arguments.{user_read, path_read}
 use Rattle.cg_cli.specs.May.{tree_read}
 use Rattle.cg_cli.specs.Reports.{Said, Report, report_on}
@@ -49,8 +49,8 @@ use Rattle.cg_cli.specs.Containment.{in_call, answer_status, answer_report, subt
 use Rattle.cg_cli.specs.Courses.{Course, Unwatched, Watched, state_of, on_course, course_from, verdict_status}
 use Rattle.cg_cli.specs.Replays.{outcome_of, operation_read, with_front, lines_said, closed, course_read, replay_report}
 use Rattle.cg_escapes.specs.EscapeReplays.{AreLines, EndsBroken, IsReplayed}
-use Rattle.cg_cli.specs.declared.fault.CliFault.{CliFault}
-use Rattle.cg_cli.specs.declared.fault.CliFault.TheVariants.{Subtree}
+use Rattle.cg_faults.specs.declared.fault.CliFault.{CliFault}
+use Rattle.cg_faults.specs.declared.fault.CliFault.TheVariants.{Subtree}
 use Rattle.cg_cli.proofs.ReplayReports.{report_of_line, report_of_end}
 use Rattle.cg_cli.proofs.CheckReports.{report_is, of_bytes}
 

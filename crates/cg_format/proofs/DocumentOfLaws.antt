@@ -27,8 +27,8 @@ use Rattle.cg_cgroup.specs.declared.process.Process.{Process}
 use Rattle.cg_model.specs.Clauses.{first}
 use Rattle.cg_model.specs.States.{State, row_at, process_at}
 use Rattle.cg_model.specs.WellFormed.{has_row, enabled_at, enabled_above, available_at, may_hold, IsFormedRow, IsWellFormed}
-use Rattle.cg_steps.proofs.ClauseLaws.{none_of_first}
-use Rattle.cg_steps.proofs.FormedParts.{row-may_hold}
+use Rattle.cg_model.proofs.ClauseLaws.{none_of_first}
+use Rattle.cg_model.proofs.FormedParts.{row-may_hold}
 use Rattle.cg_format.specs.Said.{tables_at, integer_at, path_said, controllers_said, mode_missing, limit_of, accepted, id_read, mode_read, table_of, entry_said, value_said, is_named, has_path, pid_said}
 use Rattle.cg_format.specs.TextOf.{IsInForm, IsRowOf, IsProcessOf, has_pid, IsDocumentOf}
 use Rattle.cg_format.specs.TextFaults.{each_cgroup, each_process, row_faults, is_there, enabled_there, over, cgroup_faults, process_faults}

@@ -5,7 +5,7 @@ use Rattle.std.specs.List.{list_all}
 use Rattle.std.proofs.lemmas.Bool.{and_parts, leb-true}
 use Rattle.toml.specs.Data.{Data, Members}
 use Rattle.cg_model.specs.Clauses.{unless}
-use Rattle.cg_steps.proofs.ClauseLaws.{no_parts, no_unless}
+use Rattle.cg_model.proofs.ClauseLaws.{no_parts, no_unless}
 use Rattle.cg_format.specs.Form.{Key, most_rows, row_keys, live_keys, is_table}
 use Rattle.cg_format.specs.Said.{elements_at}
 use Rattle.cg_format.specs.TextOf.{IsInForm}

@@ -8,7 +8,7 @@ use Rattle.std.proofs.lemmas.List.Folds.{find-append}
 use Rattle.std.proofs.lemmas.List.Sums.{length-filter}
 use Rattle.cg_cgroup.proofs.Options.{some_value, none_value, same_some}
 use Rattle.cg_model.specs.Clauses.{absent}
-use Rattle.cg_steps.proofs.ClauseLaws.{no_parts, no_absent}
+use Rattle.cg_model.proofs.ClauseLaws.{no_parts, no_absent}
 use Rattle.cg_format.specs.TextFaults.{each}
 use Rattle.cg_format.specs.declared.fault.Place.{Place}
 use Rattle.cg_format.specs.declared.fault.TreeFault.{TreeFault}

@@ -20,7 +20,7 @@ use Rattle.cg_cgroup.proofs.PathOrder.{same_path_refl}
 use Rattle.cg_model.specs.Clauses.{unless, absent, present}
 use Rattle.cg_model.specs.States.{State, row_at, process_at}
 use Rattle.cg_model.specs.WellFormed.{has_row, enabled_at, enabled_above, IsWellFormed}
-use Rattle.cg_steps.proofs.FormedParts.{may_hold-row}
+use Rattle.cg_model.proofs.FormedParts.{may_hold-row}
 use Rattle.cg_format.specs.Form.{Key, most_rows, row_keys, live_keys, is_table}
 use Rattle.cg_format.specs.Said.{elements_at, tables_at, controllers_said, owner_said, limit_said, table_of, entry_said, value_said, is_named, has_path}
 use Rattle.cg_format.specs.TextOf.{IsInForm, IsRowOf, IsProcessOf, has_pid, IsDocumentOf, IsTextOf}

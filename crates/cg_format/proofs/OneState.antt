@@ -5,7 +5,7 @@ use Rattle.std.specs.List.{AllByRecursion}
 use Rattle.std.specs.Cmp.{nat_cmp_total}
 use Rattle.std.specs.FinMap.{nat_cmp-IsAntisymmetric, same_map}
 use Rattle.std.specs.FinSet.{same_set}
-use Rattle.cg_steps.proofs.Lists.{all-both, find-all, find-passes}
+use Rattle.cg_model.proofs.Lists.{all-both, find-all, find-passes}
 use Rattle.toml.specs.Data.{Members}
 use Rattle.cg_cgroup.specs.Paths.{Names, IsPath, same_path, is_root, parent, path_at}
 use Rattle.cg_cgroup.specs.Numbers.{is_pid}

@@ -29,7 +29,7 @@ use Rattle.cg_cgroup.specs.declared.cgroup.Cgroup.{Cgroup}
 use Rattle.cg_cgroup.specs.declared.process.Process.{Process}
 use Rattle.cg_model.specs.Clauses.{present, first}
 use Rattle.cg_model.specs.States.{State}
-use Rattle.cg_steps.proofs.ClauseLaws.{no_parts, no_unless}
+use Rattle.cg_model.proofs.ClauseLaws.{no_parts, no_unless}
 use Rattle.cg_format.specs.Said.{tables_at, path_said, format_said, entry_said, value_said, has_path, pid_said}
 use Rattle.cg_format.specs.TextOf.{has_pid, IsDocumentOf, IsTextOf}
 use Rattle.cg_format.specs.TextFaults.{form_faults, said_faults, row_faults, over, cgroup_faults, process_faults, document_faults, text_faults}

@@ -16,7 +16,7 @@ use Rattle.cg_cgroup.specs.declared.controllers.ControllerSet.{ControllerSet}
 use Rattle.cg_cgroup.specs.declared.files.EntryName.{EntryName}
 use Rattle.cg_cgroup.specs.declared.files.EntryName.TheVariants.{Dir, Procs, SubtreeControl, File}
 use Rattle.cg_cgroup.specs.declared.files.LimitFile.{LimitFile}
-use Rattle.cg_steps.proofs.ClauseLaws.{no_unless}
+use Rattle.cg_model.proofs.ClauseLaws.{no_unless}
 use Rattle.cg_format.specs.Said.{path_said, controllers_said, entry_said, value_said, is_named, has_path, pid_said, uid_said}
 use Rattle.cg_format.specs.TextOf.{has_pid}
 use Rattle.cg_format.specs.TextFaults.{row_faults, is_there, enabled_there, over, cgroup_faults, process_faults}

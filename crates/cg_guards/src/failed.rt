@@ -15,7 +15,7 @@ use cg_cgroup::files::Limit;
 use cg_cgroup::path::Path;
 use cg_cgroup::user::User;
 use cg_model::guard::{Failed, Guard};
-use cg_tree::hierarchy::Hierarchy;
+use cg_model::hierarchy::Hierarchy;
 
 /// The first guard that fails, and `None` exactly where they hold.
 pub fn failed_guard<H: Hierarchy>(tree: &H, user: &User, subtree: &Path) -> Option<Failed>

@@ -8,7 +8,7 @@ ghost use Rattle.cg_guards.specs.Standing.{spotted, parent_guards};
 use cg_cgroup::files::{EntryName, LimitFile};
 use cg_cgroup::path::Path;
 use cg_model::guard::{Guard, GuardedEntry};
-use cg_tree::hierarchy::Hierarchy;
+use cg_model::hierarchy::Hierarchy;
 
 /// A guard, and the entry on which it stands.
 #[derive(Clone, Copy)]

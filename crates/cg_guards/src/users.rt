@@ -11,7 +11,7 @@ use crate::identities::Identities;
 use crate::table::{guarded_count, guarded_entry};
 use cg_cgroup::path::Path;
 use cg_cgroup::user::{Entry, User};
-use cg_tree::hierarchy::Hierarchy;
+use cg_model::hierarchy::Hierarchy;
 
 /// The users before the first for whom a guard of the subtree fails. `asked` holds an entry that none of them reaches, the
 /// last that was asked, so that it isn't asked of them again with the next subtree. Where their `identities` are known, an

@@ -2,8 +2,8 @@
 -- What stands below the line of a fault: lines, each of which begins with two spaces. Own.
 use Rattle.std.specs.Prelude.{ℕ, ◌+◌, ◌/◌, ◌%◌, Bool, true, false, List, [], ◌∷◌, ◌++◌, cond, nat_eq, nat_lt, nat_le, ◌&&◌, ◌≡◌, ◌⊎◌}
 use Rattle.std.specs.List.{flat_map}
-use Rattle.cg_cli.specs.declared.fault.CliFault.{CliFault}
-use Rattle.cg_cli.specs.declared.fault.CliFault.TheVariants.{Write, NoMemory}
+use Rattle.cg_faults.specs.declared.fault.CliFault.{CliFault}
+use Rattle.cg_faults.specs.declared.fault.CliFault.TheVariants.{Write, NoMemory}
 
 abbrev pub digit : ℕ → ℕ
 digit number = cond (nat_lt number 10) (48 + number) (87 + number)

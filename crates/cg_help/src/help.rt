@@ -12,7 +12,7 @@ use crate::trees::{missing_said, tree_said};
 use arguments::request::Request;
 use arguments::usage::usage_text;
 use cg_cgroup::memory::NoMemory;
-use cg_cli::fault::CliFault;
+use cg_faults::fault::CliFault;
 use cg_model::fault::CheckFault;
 use std::alloc::{AllocError, Global};
 use streams::files::Files;

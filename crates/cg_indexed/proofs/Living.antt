@@ -2,7 +2,7 @@
 use Rattle.std.proofs.Common.{◌≡◌, ℕ, ◌+◌, ◌-◌, ◌<◌, ◌≤◌, min, Bool, true, false, cond, nat_lt, List, [], ◌∷◌, map as map_list, refl, sym, ap, ◌∙◌, true≢false, Some, None, Option, is_some, option_map, arith}
 use Rattle.std.specs.List.{list_any}
 use Rattle.std.specs.Option.{MatchOption}
-use Rattle.cg_tree.specs.Limits.{is_full, NoneIsFull, IsNearestFull}
+use Rattle.cg_model.specs.NearestFull.{is_full, NoneIsFull, IsNearestFull}
 use Rattle.std.proofs.lemmas.List.{length-map}
 use Rattle.std.proofs.lemmas.List.Sums.{count_by-le-length}
 use Rattle.std.specs.Ordering.{nat_cmp}
@@ -15,14 +15,14 @@ use Rattle.cg_model.specs.States.{State, has_child, has_live, is_used, paths_of,
 use Rattle.cg_model.specs.WellFormed.{IsWellFormed, has_row, may_hold}
 use Rattle.cg_cgroup.proofs.PathOrder.{path_cmp_total, path_cmp-IsAntisymmetric, same_path-ties, same_path-is}
 use Rattle.cg_cgroup.proofs.Options.{mapped_from, same_some}
-use Rattle.cg_steps.proofs.MapLaws.{any_entry, entry_any, list_any-map, get-change_value, get-changed}
-use Rattle.cg_steps.proofs.MapFolds.{gathered, gathered-insert, gathered-remove, insert-remove, get-remove-same}
-use Rattle.cg_steps.proofs.StateTests.{has_child-row, has_live-process}
-use Rattle.cg_steps.proofs.FormedParts.{may_hold-row}
-use Rattle.cg_steps.proofs.TreeLaws.{below-has_child}
+use Rattle.cg_model.proofs.MapLaws.{any_entry, entry_any, list_any-map, get-change_value, get-changed}
+use Rattle.cg_model.proofs.MapFolds.{gathered, gathered-insert, gathered-remove, insert-remove, get-remove-same}
+use Rattle.cg_model.proofs.StateTests.{has_child-row, has_live-process}
+use Rattle.cg_model.proofs.FormedParts.{may_hold-row}
+use Rattle.cg_model.proofs.TreeLaws.{below-has_child}
 use Rattle.cg_counts.specs.Kept.{Held, change_held, change_each_held, tallied_held}
 use Rattle.cg_indexed.specs.Indexed.{count_live}
-use Rattle.cg_steps.proofs.StateCounts.{one_more, one_more-Commutes}
+use Rattle.cg_model.proofs.StateCounts.{one_more, one_more-Commutes}
 use Rattle.cg_places.specs.declared.links.Tally.TheVariants.{More, Fewer}
 use Rattle.cg_places.proofs.Counted.{gathered-count, any-count, count-none}
 use Rattle.cg_counts.proofs.Enabled.{below-is_child}

@@ -15,9 +15,9 @@ use Rattle.cg_cgroup.proofs.PathOrder.{path_cmp-IsAntisymmetric, same_path-is}
 use Rattle.cg_cgroup.proofs.PathParents.{parent-is_child, is_root-is_child, parent-other}
 use Rattle.cg_cgroup.proofs.CgroupLaws.{with_files_of-same}
 use Rattle.cg_cgroup.proofs.Options.{some_value, same_some, is_some-mapped}
-use Rattle.cg_steps.proofs.MapLaws.{get-changed, change_value-there}
-use Rattle.cg_steps.proofs.StateLaws.{row_at-with_row-other, row_at-with_row-same}
-use Rattle.cg_steps.proofs.FormedParts.{enabled_at-row}
+use Rattle.cg_model.proofs.MapLaws.{get-changed, change_value-there}
+use Rattle.cg_model.proofs.StateLaws.{row_at-with_row-other, row_at-with_row-same}
+use Rattle.cg_model.proofs.FormedParts.{enabled_at-row}
 use Rattle.cg_rows.specs.Processes.{LiveAndUsed}
 use Rattle.cg_rows.specs.RowsForm.{state_of_tables}
 use Rattle.cg_counts.specs.Kept.{Held, AreFittedBelow, cgroups_of, change_held, change_each_held, with_row_of, enabling_held, new_held}

@@ -18,12 +18,12 @@ use Rattle.cg_cgroup.proofs.PathLaws.{inside-first}
 use Rattle.cg_cgroup.proofs.Options.{mapped_from, is_some-mapped}
 use Rattle.cg_model.specs.States.{State}
 use Rattle.cg_model.specs.WellFormed.{IsWellFormed, has_row}
-use Rattle.cg_steps.proofs.MapFolds.{gathered}
+use Rattle.cg_model.proofs.MapFolds.{gathered}
 use Rattle.cg_rows.proofs.Sorted.{holds_true}
 use Rattle.cg_places.specs.Values.{map_values}
 use Rattle.cg_counts.specs.Kept.{Held, new_held, tree_of, cgroups_of, change_held, tallied_held}
 use Rattle.cg_indexed.specs.Indexed.{count_live}
-use Rattle.cg_steps.proofs.StateCounts.{one_more}
+use Rattle.cg_model.proofs.StateCounts.{one_more}
 use Rattle.cg_places.specs.declared.links.Tally.TheVariants.{More}
 use Rattle.cg_places.proofs.Values.{get-mapped, same_maps, get-put}
 use Rattle.cg_indexed.proofs.Living.{AreCounted, at, gathered_live, few_live, none_live, get-change_held}

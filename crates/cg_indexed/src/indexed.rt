@@ -16,10 +16,10 @@ use cg_cgroup::path::Path;
 use cg_cgroup::process::{Pid, Process};
 use cg_cgroup::user::{Mode, User};
 use cg_counts::cgroups::Cgroups;
+use cg_model::hierarchy::Hierarchy;
 use cg_places::links::Tally;
 use cg_rows::processes::Processes;
 use cg_rows::rows::Rows;
-use cg_tree::hierarchy::Hierarchy;
 use std::alloc::Global;
 use std::marker::Model;
 

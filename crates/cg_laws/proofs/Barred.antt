@@ -19,13 +19,13 @@ use Rattle.cg_cgroup.proofs.PathOrder.{same_path-is}
 use Rattle.cg_cgroup.proofs.PathParents.{parent-is_child}
 use Rattle.cg_cgroup.proofs.CgroupLaws.{same_entry-true}
 use Rattle.cg_model.specs.States.{State, row_at, file_at, entry_at}
-use Rattle.cg_steps.proofs.StateEntries.{entry_at-file}
+use Rattle.cg_model.proofs.StateEntries.{entry_at-file}
 use Rattle.cg_model.specs.Clauses.{unless, absent}
 use Rattle.cg_model.specs.Bars.{control_bars, rmdir_bars, set_bars, chmod_bars, missing_bars}
 use Rattle.cg_model.specs.declared.changes.Change.{Change}
 use Rattle.cg_model.specs.declared.operation.Op.TheVariants.{Chmod}
 use Rattle.cg_model.specs.declared.outcome.Refusal.TheVariants.{NoSuchCgroup, NoSuchFile, NoAccess, NotOwner}
-use Rattle.cg_steps.proofs.ClauseLaws.{no_parts, no_unless, no_absent, no_present}
+use Rattle.cg_model.proofs.ClauseLaws.{no_parts, no_unless, no_absent, no_present}
 use Rattle.cg_model.specs.Guards.{limit_file, limit_files, parent_control, parent_dir, guarded_entries, guarded_entry, is_chmod_of, sets_guarded_mode, IsSubtree}
 use Rattle.cg_laws.specs.Guarding.{AreUnreached}
 use Rattle.cg_laws.specs.Sound.{IsSound}

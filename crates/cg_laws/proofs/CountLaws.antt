@@ -7,17 +7,17 @@ use Rattle.cg_model.specs.WellFormed.{has_row}
 use Rattle.cg_model.specs.Bars.{bars}
 use Rattle.cg_model.specs.Steps.{after, Deed}
 use Rattle.cg_model.specs.declared.operation.Op.{Op}
-use Rattle.cg_steps.proofs.StepFormed.{after-barred}
+use Rattle.cg_model.proofs.StepFormed.{after-barred}
 use Rattle.cg_model.specs.Limits.{limits, same_limits, fits_descendants, fits_depth}
 use Rattle.cg_model.specs.Edge.{crossing}
 use Rattle.cg_laws.proofs.Counts.{fits-after}
-use Rattle.cg_steps.proofs.Edges.{none-crosses-same}
+use Rattle.cg_model.proofs.Edges.{none-crosses-same}
 use Rattle.cg_model.specs.Verdicts.{broken, or_later, verdict_from, verdict}
 use Rattle.cg_model.specs.declared.verdict.Clause.{Clause}
 use Rattle.cg_model.specs.declared.verdict.Clause.TheVariants.{Descendants, Depth}
 use Rattle.cg_model.specs.declared.verdict.Verdict.TheVariants.{Broken}
-use Rattle.cg_steps.proofs.LimitLaws.{same_limits-is, same_limits-itself}
-use Rattle.cg_steps.proofs.BrokenLaws.{clauses_of, IsWhole, broken-whole}
+use Rattle.cg_model.proofs.LimitLaws.{same_limits-is, same_limits-itself}
+use Rattle.cg_model.proofs.BrokenLaws.{clauses_of, IsWhole, broken-whole}
 
 -- the clauses that ask counts
 abbrev is_count : Clause → Bool

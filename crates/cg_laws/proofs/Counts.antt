@@ -12,7 +12,7 @@ use Rattle.cg_cgroup.proofs.Options.{some_value}
 use Rattle.cg_cgroup.proofs.PathParents.{inside-is}
 use Rattle.cg_model.specs.States.{State, row_at, process_at, paths_of, count_below, depth_below, with_row, without_row}
 use Rattle.cg_model.specs.WellFormed.{has_row, enabled_at}
-use Rattle.cg_steps.proofs.StateCounts.{paths_of-with_value, paths_of-with_mode, paths_of-with_enabled, count_below-same_paths, depth_below-same_paths, count_below-with_row, depth_below-with_row, count_below-without_row, depth_below-without_row}
+use Rattle.cg_model.proofs.StateCounts.{paths_of-with_value, paths_of-with_mode, paths_of-with_enabled, count_below-same_paths, depth_below-same_paths, count_below-with_row, depth_below-with_row, count_below-without_row, depth_below-without_row}
 use Rattle.cg_model.specs.Changes.{enabled_after}
 use Rattle.cg_model.specs.Clauses.{unless}
 use Rattle.cg_model.specs.Bars.{bars, level_bars, limit_bars, row_above, mkdir_bars}
@@ -22,11 +22,11 @@ use Rattle.cg_model.specs.Steps.{after}
 use Rattle.cg_model.specs.declared.operation.Op.{Op}
 use Rattle.cg_model.specs.declared.operation.Op.TheVariants.{Move, Control, Mkdir, Rmdir, Set, Fork, Exit, Chmod}
 use Rattle.cg_model.specs.declared.outcome.Refusal.TheVariants.{DescendantLimit, DepthLimit}
-use Rattle.cg_steps.proofs.ClauseLaws.{no_parts, no_unless, no_present}
-use Rattle.cg_steps.proofs.LimitLaws.{fits_in, descendants-limit, depth-limit}
-use Rattle.cg_steps.proofs.Allowed.{allowed_mkdir, allowed_rmdir}
-use Rattle.cg_steps.proofs.StepFormed.{after-allowed}
-use Rattle.cg_steps.proofs.StepEffects.{fork-by}
+use Rattle.cg_model.proofs.ClauseLaws.{no_parts, no_unless, no_present}
+use Rattle.cg_model.proofs.LimitLaws.{fits_in, descendants-limit, depth-limit}
+use Rattle.cg_model.proofs.Allowed.{allowed_mkdir, allowed_rmdir}
+use Rattle.cg_model.proofs.StepFormed.{after-allowed}
+use Rattle.cg_model.proofs.StepEffects.{fork-by}
 
 -- ---- limits that may stand or not
 

@@ -11,25 +11,25 @@ use Rattle.cg_cgroup.proofs.Options.{some_value, none_value}
 use Rattle.cg_cgroup.proofs.PathParents.{inside-is, inside-take}
 use Rattle.cg_cgroup.proofs.PathLaws.{inside_trans, common-inside_second, common-take_first, common_comm}
 use Rattle.cg_model.specs.States.{State, row_at, process_at, place_at, is_used, placed_at, with_place, without_process}
-use Rattle.cg_steps.proofs.StateLaws.{process_at-with_place, process_at-without_process}
+use Rattle.cg_model.proofs.StateLaws.{process_at-with_place, process_at-without_process}
 use Rattle.cg_model.specs.Clauses.{unless}
 use Rattle.cg_model.specs.Bars.{bars, move_bars, passes}
 use Rattle.cg_model.specs.Steps.{after}
-use Rattle.cg_steps.specs.Effects.{alters_process}
+use Rattle.cg_model.specs.Effects.{alters_process}
 use Rattle.cg_model.specs.declared.operation.Op.{Op}
 use Rattle.cg_model.specs.declared.operation.Op.TheVariants.{Move, Control, Mkdir, Rmdir, Set, Fork, Exit, Chmod}
 use Rattle.cg_model.specs.declared.outcome.Refusal.TheVariants.{NoAccess}
-use Rattle.cg_steps.proofs.ClauseLaws.{no_parts, no_unless, no_present}
-use Rattle.cg_steps.proofs.Allowed.{allowed_fork}
-use Rattle.cg_steps.proofs.StepFormed.{after-allowed}
-use Rattle.cg_steps.proofs.StepEffects.{process_at-after}
+use Rattle.cg_model.proofs.ClauseLaws.{no_parts, no_unless, no_present}
+use Rattle.cg_model.proofs.Allowed.{allowed_fork}
+use Rattle.cg_model.proofs.StepFormed.{after-allowed}
+use Rattle.cg_model.proofs.StepEffects.{process_at-after}
 use Rattle.cg_model.specs.Edge.{is_crossed}
 use Rattle.cg_model.specs.Guards.{ancestor, ancestors, IsSubtree}
 use Rattle.cg_laws.specs.Guarding.{AreUnreached}
 use Rattle.cg_laws.specs.Sound.{IsSound}
 use Rattle.cg_laws.proofs.Sound.{take-there}
 use Rattle.cg_laws.proofs.GuardedEntries.{ancestors-has, never_written}
-use Rattle.cg_steps.proofs.Edges.{stays-there}
+use Rattle.cg_model.proofs.Edges.{stays-there}
 
 -- ---- paths
 

@@ -13,7 +13,7 @@ use Rattle.cg_cgroup.specs.declared.files.LimitFile.{LimitFile}
 use Rattle.cg_cgroup.proofs.AllFiles.{each_file}
 use Rattle.cg_model.specs.States.{State}
 use Rattle.cg_model.specs.Clauses.{unless, present}
-use Rattle.cg_steps.proofs.ClauseLaws.{no_parts, no_unless, no_present, none_each, each_none}
+use Rattle.cg_model.proofs.ClauseLaws.{no_parts, no_unless, no_present, none_each, each_none}
 use Rattle.cg_model.specs.Limits.{fits_descendants, fits_depth}
 use Rattle.cg_model.specs.Guards.{Guarded, ancestor, ancestors, limit_file, limit_files, parent_control, parent_dir, guarded_entries, guarded_entry, entry_failures, over_failures, GuardsHold}
 use Rattle.cg_laws.specs.Guarding.{AreUnreached, AreUntouched}

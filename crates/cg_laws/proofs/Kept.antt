@@ -10,11 +10,11 @@ use Rattle.cg_model.specs.WellFormed.{has_row}
 use Rattle.cg_model.specs.Bars.{bars}
 use Rattle.cg_model.specs.Clauses.{unless}
 use Rattle.cg_model.specs.Steps.{after}
-use Rattle.cg_steps.specs.Effects.{alters_row, alters_value}
+use Rattle.cg_model.specs.Effects.{alters_row, alters_value}
 use Rattle.cg_model.specs.declared.operation.Op.{Op}
 use Rattle.cg_model.specs.declared.operation.Op.TheVariants.{Move, Control, Mkdir, Rmdir, Set, Fork, Exit, Chmod}
-use Rattle.cg_steps.proofs.Allowed.{allowed_mkdir}
-use Rattle.cg_steps.proofs.StepEffects.{has_row-after, value_at-after}
+use Rattle.cg_model.proofs.Allowed.{allowed_mkdir}
+use Rattle.cg_model.proofs.StepEffects.{has_row-after, value_at-after}
 use Rattle.cg_model.specs.Limits.{limits, fits_descendants, fits_depth}
 use Rattle.cg_model.specs.Guards.{Guarded, is_chmod_of, sets_guarded_mode, guarded_entries, over_failures, GuardsHold, IsSubtree}
 use Rattle.cg_laws.specs.Guarding.{AreUntouched, IsKept}
@@ -24,7 +24,7 @@ use Rattle.cg_laws.specs.Sound.{IsSound}
 use Rattle.cg_laws.proofs.GuardedEntries.{Holding, holding, hold-untouched}
 use Rattle.cg_laws.proofs.Untouched.{after-cases, there-other, untouched-after, untouched-unopened}
 use Rattle.cg_laws.proofs.Barred.{control-other, rmdir-other, set-other, chmod-other}
-use Rattle.cg_steps.proofs.Edges.{none-crosses, none-crosses-same}
+use Rattle.cg_model.proofs.Edges.{none-crosses, none-crosses-same}
 use Rattle.cg_laws.proofs.Crossing.{crosses}
 use Rattle.cg_laws.proofs.Counts.{fits-after}
 

@@ -10,13 +10,13 @@ use Rattle.cg_model.specs.States.{State, place_at}
 use Rattle.cg_model.specs.WellFormed.{IsWellFormed, has_row}
 use Rattle.cg_model.specs.Bars.{bars}
 use Rattle.cg_model.specs.Steps.{after}
-use Rattle.cg_steps.specs.Effects.{alters_value}
+use Rattle.cg_model.specs.Effects.{alters_value}
 use Rattle.cg_model.specs.declared.changes.Change.{Change}
 use Rattle.cg_model.specs.declared.operation.Op.{Op}
 use Rattle.cg_model.specs.declared.operation.Op.TheVariants.{Move, Control, Mkdir, Rmdir, Set, Fork, Exit, Chmod}
-use Rattle.cg_steps.proofs.Allowed.{allowed_mkdir}
-use Rattle.cg_steps.proofs.StepFormed.{after-allowed}
-use Rattle.cg_steps.proofs.StepEffects.{has_row-after, value_at-after}
+use Rattle.cg_model.proofs.Allowed.{allowed_mkdir}
+use Rattle.cg_model.proofs.StepFormed.{after-allowed}
+use Rattle.cg_model.proofs.StepEffects.{has_row-after, value_at-after}
 use Rattle.cg_model.specs.Limits.{limits, fits_descendants, fits_depth}
 use Rattle.cg_model.specs.Edge.{is_crossed, crossing}
 use Rattle.cg_model.specs.Guards.{ancestors, limit_files, parent_control, parent_dir, guarded_entries, IsSubtree}
@@ -24,7 +24,7 @@ use Rattle.cg_laws.specs.Guarding.{AreUnreached, AreUntouched}
 use Rattle.cg_laws.proofs.Sound.{sound-formed}
 use Rattle.cg_laws.proofs.Untouched.{after-cases, there-other, untouched-after}
 use Rattle.cg_laws.proofs.Barred.{control-other, rmdir-other, set-other, chmod-other}
-use Rattle.cg_steps.proofs.Edges.{none-crosses, none-crosses-same}
+use Rattle.cg_model.proofs.Edges.{none-crosses, none-crosses-same}
 use Rattle.cg_laws.proofs.Crossing.{crosses, fork-crosses, exit-crosses}
 use Rattle.cg_laws.proofs.Counts.{fits-after}
 

@@ -10,17 +10,17 @@ use Rattle.cg_model.specs.Bars.{bars}
 use Rattle.cg_model.specs.Steps.{after, after_all, Deed}
 use Rattle.cg_model.specs.declared.operation.Op.{Op}
 use Rattle.cg_model.specs.declared.outcome.Refusal.{Refusal}
-use Rattle.cg_steps.proofs.ClauseLaws.{no_parts, no_unless}
-use Rattle.cg_steps.proofs.StepFormed.{after-barred}
+use Rattle.cg_model.proofs.ClauseLaws.{no_parts, no_unless}
+use Rattle.cg_model.proofs.StepFormed.{after-barred}
 use Rattle.cg_model.specs.Limits.{limits, fits_descendants, fits_depth}
 use Rattle.cg_model.specs.Guards.{GuardsHold, over_failures, IsSubtree}
 use Rattle.cg_laws.specs.Guarding.{AreUntouched}
 use Rattle.cg_laws.specs.Sound.{IsSound}
 use Rattle.cg_laws.proofs.Steps.{sound-formed, sound-after, kept-after, untouched-guarded, hold-untouched}
-use Rattle.cg_steps.proofs.Edges.{none-crosses-same}
+use Rattle.cg_model.proofs.Edges.{none-crosses-same}
 use Rattle.cg_model.specs.Held.{IsHeld, by_user, IsContained, AreBy}
 use Rattle.cg_model.specs.Strangers.{GuardsHoldForAll}
-use Rattle.cg_steps.proofs.BrokenLaws.{IsWhole, unless-so}
+use Rattle.cg_model.proofs.BrokenLaws.{IsWhole, unless-so}
 use Rattle.cg_laws.proofs.Ways.{way-after_all, held-on_way}
 
 -- a state on the way, at which the guards of a subtree hold for each of these users

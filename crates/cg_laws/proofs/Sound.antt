@@ -10,16 +10,16 @@ use Rattle.cg_cgroup.proofs.PathOrder.{same_path-is}
 use Rattle.cg_cgroup.proofs.PathParents.{is_child-parent, parent-root}
 use Rattle.cg_model.specs.States.{State, row_at, process_at, is_used, has_child, with_row, without_row, placed_at, with_place, with_process, without_process}
 use Rattle.cg_model.specs.WellFormed.{IsWellFormed, has_row}
-use Rattle.cg_steps.proofs.StateLaws.{row_at-with_row, row_at-without_row, row_at-without_row-other, process_at-with_place, process_at-with_process, process_at-without_process, is_used-with_process}
-use Rattle.cg_steps.proofs.StateTests.{row-has_child}
-use Rattle.cg_steps.proofs.TreeLaws.{take-there-by_parents}
+use Rattle.cg_model.proofs.StateLaws.{row_at-with_row, row_at-without_row, row_at-without_row-other, process_at-with_place, process_at-with_process, process_at-without_process, is_used-with_process}
+use Rattle.cg_model.proofs.StateTests.{row-has_child}
+use Rattle.cg_model.proofs.TreeLaws.{take-there-by_parents}
 use Rattle.cg_model.specs.Steps.{after}
-use Rattle.cg_steps.specs.Effects.{alters_row, alters_process}
+use Rattle.cg_model.specs.Effects.{alters_row, alters_process}
 use Rattle.cg_model.specs.declared.operation.Op.{Op}
 use Rattle.cg_model.specs.declared.operation.Op.TheVariants.{Move, Control, Mkdir, Rmdir, Set, Fork, Exit, Chmod}
-use Rattle.cg_steps.proofs.Allowed.{allowed_mkdir, allowed_rmdir}
-use Rattle.cg_steps.proofs.StepFormed.{after-by}
-use Rattle.cg_steps.proofs.StepEffects.{fork-by, has_row-after, process_at-after, used-after}
+use Rattle.cg_model.proofs.Allowed.{allowed_mkdir, allowed_rmdir}
+use Rattle.cg_model.proofs.StepFormed.{after-by}
+use Rattle.cg_model.proofs.StepEffects.{fork-by, has_row-after, process_at-after, used-after}
 use Rattle.cg_laws.specs.Sound.{IsSound}
 
 abbrev HasParents : State → Type 0

@@ -15,7 +15,7 @@ use Rattle.cg_laws.proofs.Steps.{untouched-unopened}
 use Rattle.cg_model.specs.Verdicts.{verdict}
 use Rattle.cg_model.specs.declared.verdict.Clause.{Clause}
 use Rattle.cg_model.specs.declared.verdict.Verdict.TheVariants.{Broken}
-use Rattle.cg_steps.proofs.BrokenLaws.{IsWhole}
+use Rattle.cg_model.proofs.BrokenLaws.{IsWhole}
 use Rattle.cg_laws.proofs.RunLaws.{IsGuarded, guarded-start, guarded-on, guarded-barred, guarded-own, step-own, whole-still, a_member}
 use Rattle.cg_laws.proofs.Ways.{OnlyThese, broken-on_way}
 

@@ -11,14 +11,14 @@ use Rattle.cg_model.specs.declared.operation.Op.{Op}
 use Rattle.cg_model.specs.Limits.{Limits, limits}
 use Rattle.cg_model.specs.Edge.{is_crossed, crossing}
 use Rattle.cg_laws.proofs.Counts.{descendants-most, most-descendants, depth-most, most-depth}
-use Rattle.cg_steps.proofs.Edges.{none-crosses, none-crosses-same, crosses-some}
+use Rattle.cg_model.proofs.Edges.{none-crosses, none-crosses-same, crosses-some}
 use Rattle.cg_model.specs.Verdicts.{broken, or_later, verdict_from}
 use Rattle.cg_model.specs.Held.{IsHeld, by_user, IsContained}
 use Rattle.cg_model.specs.Throughout.{state_after, IsAsSet, NoneCrosses, IsHeldThroughout}
 use Rattle.cg_model.specs.declared.verdict.Clause.{Clause}
 use Rattle.cg_model.specs.declared.verdict.Verdict.{Verdict}
 use Rattle.cg_model.specs.declared.verdict.Verdict.TheVariants.{Kept}
-use Rattle.cg_steps.proofs.BrokenLaws.{IsWhole, whole-broken, broken-whole}
+use Rattle.cg_model.proofs.BrokenLaws.{IsWhole, whole-broken, broken-whole}
 
 -- ---- the edge
 

@@ -15,17 +15,17 @@ use Rattle.cg_cgroup.proofs.Options.{some_value}
 use Rattle.cg_cgroup.proofs.PathOrder.{same_path-is}
 use Rattle.cg_model.specs.States.{State, row_at, file_at, entry_at, value_at, with_enabled}
 use Rattle.cg_model.specs.WellFormed.{has_row, enabled_at}
-use Rattle.cg_steps.proofs.StateLaws.{row_at-without_row-same}
-use Rattle.cg_steps.proofs.StateEntries.{entry_at-file, value_at-file, entry_at-with_enabled-dir, entry_at-with_enabled-procs, entry_at-with_enabled-subtree_control, file_at-with_enabled-other, file_at-with_enabled-child}
+use Rattle.cg_model.proofs.StateLaws.{row_at-without_row-same}
+use Rattle.cg_model.proofs.StateEntries.{entry_at-file, value_at-file, entry_at-with_enabled-dir, entry_at-with_enabled-procs, entry_at-with_enabled-subtree_control, file_at-with_enabled-other, file_at-with_enabled-child}
 use Rattle.cg_model.specs.Changes.{enabled_after}
 use Rattle.cg_model.specs.Bars.{bars}
 use Rattle.cg_model.specs.Steps.{after}
-use Rattle.cg_steps.specs.Effects.{alters_entry}
+use Rattle.cg_model.specs.Effects.{alters_entry}
 use Rattle.cg_model.specs.declared.operation.Op.{Op}
 use Rattle.cg_model.specs.declared.operation.Op.TheVariants.{Move, Control, Mkdir, Rmdir, Set, Fork, Exit, Chmod}
-use Rattle.cg_steps.proofs.Allowed.{allowed_mkdir}
-use Rattle.cg_steps.proofs.StepFormed.{after-by, after-allowed}
-use Rattle.cg_steps.proofs.StepEffects.{entry_at-after}
+use Rattle.cg_model.proofs.Allowed.{allowed_mkdir}
+use Rattle.cg_model.proofs.StepFormed.{after-by, after-allowed}
+use Rattle.cg_model.proofs.StepEffects.{entry_at-after}
 use Rattle.cg_model.specs.Limits.{limits}
 use Rattle.cg_model.specs.Guards.{Guarded, guarded_entries, guarded_entry, is_chmod_of, sets_guarded_mode, IsSubtree}
 use Rattle.cg_laws.specs.Guarding.{AreUntouched}

@@ -13,7 +13,7 @@ use Rattle.cg_model.specs.Held.{IsHeld, AreBy}
 use Rattle.cg_model.specs.Strangers.{IsOfStranger}
 use Rattle.cg_model.specs.declared.verdict.Clause.{Clause}
 use Rattle.cg_model.specs.declared.verdict.Verdict.TheVariants.{Kept, Broken}
-use Rattle.cg_steps.proofs.BrokenLaws.{IsWhole, whole-broken, broken-whole}
+use Rattle.cg_model.proofs.BrokenLaws.{IsWhole, whole-broken, broken-whole}
 
 -- whoever takes such a step, over a run, is one of these users
 abbrev pub OnlyThese : (State → Identity → Op → Type 0) → List Identity → State → List Deed → Type 0

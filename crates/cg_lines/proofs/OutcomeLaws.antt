@@ -23,8 +23,8 @@ use Rattle.cg_model.specs.declared.operation.Op.TheVariants.{Move, Control, Mkdi
 use Rattle.cg_model.specs.declared.outcome.Refusal.{Refusal}
 use Rattle.cg_model.specs.declared.outcome.Outcome.{Outcome}
 use Rattle.cg_model.specs.declared.outcome.Outcome.TheVariants.{Done, Refused}
-use Rattle.cg_steps.specs.Outcomes.{RefusedBy}
-use Rattle.cg_steps.proofs.Prefixes.{length_common}
+use Rattle.cg_model.specs.Outcomes.{RefusedBy}
+use Rattle.cg_model.proofs.Prefixes.{length_common}
 use Rattle.cg_lines.specs.Outcomes.{CanShow}
 
 -- the first of the clauses, where there is one, can be shown of the operation

@@ -25,3 +25,6 @@ pub mod Listed
 pub mod Mended
 pub mod Mends
 pub mod Advised
+pub mod NearestFull
+pub mod Effects
+pub mod Outcomes

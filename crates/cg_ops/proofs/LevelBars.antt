@@ -4,12 +4,12 @@ use Rattle.std.proofs.lemmas.Bool.{cases_eq}
 use Rattle.cg_cgroup.specs.Paths.{Names}
 use Rattle.cg_model.specs.States.{State, row_at, count_below}
 use Rattle.cg_model.specs.Limits.{is_under}
-use Rattle.cg_tree.specs.Limits.{bars_child, is_full, NoneIsFull, IsNearestFull}
+use Rattle.cg_model.specs.NearestFull.{bars_child, is_full, NoneIsFull, IsNearestFull}
 use Rattle.cg_model.specs.Clauses.{unless, present, first}
 use Rattle.cg_model.specs.Bars.{level_bars, limit_bars}
 use Rattle.cg_model.specs.declared.outcome.Refusal.{Refusal}
 use Rattle.cg_model.specs.declared.outcome.Refusal.TheVariants.{DescendantLimit, DepthLimit}
-use Rattle.cg_steps.proofs.ClauseLaws.{first_none, first_some}
+use Rattle.cg_model.proofs.ClauseLaws.{first_none, first_some}
 
 both_pass : {R : Type 0} (a b : Bool) (x y : R) → not (a && b) ≡ false → first (unless a x ++ unless b y) ≡ None
 both_pass true true x y h = refl

@@ -6,7 +6,7 @@ ghost use Rattle.cg_model.specs.Clauses.{first};
 ghost use Rattle.cg_model.specs.Bars.{bars};
 ghost use Rattle.cg_model.specs.Next.{next};
 ghost use Rattle.cg_ops.specs.Memory.{takes_memory};
-ghost use Rattle.cg_steps.specs.Outcomes.{IsRefused, RefusedBy};
+ghost use Rattle.cg_model.specs.Outcomes.{IsRefused, RefusedBy};
 
 mod limits;
 mod make_remove;
@@ -18,9 +18,9 @@ mod subtree_control;
 
 use cg_cgroup::memory::NoMemory;
 use cg_cgroup::user::User;
+use cg_model::hierarchy::Hierarchy;
 use cg_model::operation::Op;
 use cg_model::outcome::{Outcome, Refusal};
-use cg_tree::hierarchy::Hierarchy;
 use std::alloc::Global;
 
 /// The first refusal that an operation of a user meets, and `None` exactly where it meets none.

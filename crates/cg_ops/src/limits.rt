@@ -6,8 +6,8 @@ ghost use Rattle.cg_model.specs.Bars.{set_bars};
 use cg_cgroup::files::{EntryName, Limit, LimitFile};
 use cg_cgroup::path::Path;
 use cg_cgroup::user::User;
+use cg_model::hierarchy::Hierarchy;
 use cg_model::outcome::Refusal;
-use cg_tree::hierarchy::Hierarchy;
 
 /// The first refusal that a write of a value meets.
 pub fn refusal<H: Hierarchy>(

@@ -9,10 +9,10 @@ use cg_cgroup::files::EntryName;
 use cg_cgroup::memory::NoMemory;
 use cg_cgroup::path::Path;
 use cg_cgroup::user::User;
+use cg_model::hierarchy::Hierarchy;
+use cg_model::limits::is_under;
 use cg_model::operation::Op;
 use cg_model::outcome::Refusal;
-use cg_tree::hierarchy::Hierarchy;
-use cg_tree::limits::is_under;
 use std::alloc::Global;
 
 /// The first refusal that making a cgroup meets.

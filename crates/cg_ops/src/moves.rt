@@ -8,7 +8,7 @@ ghost use Rattle.cg_ops.specs.Moves.{passes_at};
 use cg_cgroup::cgroup::Cgroup;
 use cg_cgroup::path::Path;
 use cg_cgroup::user::User;
-use cg_tree::hierarchy::Hierarchy;
+use cg_model::hierarchy::Hierarchy;
 
 /// Whether the user writes the `cgroup.procs` of the cgroup of the first `len` names, where there is one.
 pub fn passes_at<H: Hierarchy>(tree: &H, user: &User, path: &Path, len: usize) -> bool
@@ -22,7 +22,7 @@ pub fn passes_at<H: Hierarchy>(tree: &H, user: &User, path: &Path, len: usize) -
 }
 
 /// Whether the user writes the `cgroup.procs` of the common ancestor of two cgroups.
-#[tactic(auto, using(cg_steps::proofs::Prefixes::take_common, cg_steps::proofs::Prefixes::length_common))]
+#[tactic(auto, using(cg_model::proofs::Prefixes::take_common, cg_model::proofs::Prefixes::length_common))]
 pub fn passes<H: Hierarchy>(tree: &H, user: &User, from: &Path, to: &Path) -> bool
     ensures { result ≡ passes (H.state tree.now) user.now from.now to.now }
 {
@@ -30,7 +30,7 @@ pub fn passes<H: Hierarchy>(tree: &H, user: &User, from: &Path, to: &Path) -> bo
 }
 
 /// Whether processes may be in a cgroup: it is the root, or enables nothing.
-#[tactic(auto, using(cg_steps::proofs::Prefixes::root_of_length, cg_steps::proofs::Prefixes::no_root_of_length))]
+#[tactic(auto, using(cg_model::proofs::Prefixes::root_of_length, cg_model::proofs::Prefixes::no_root_of_length))]
 pub fn may_hold(cgroup: &Cgroup, path: &Path) -> bool
     ensures { result ≡ (is_root path.now || enables_nothing cgroup.now.enabled) }
 {

@@ -7,8 +7,8 @@ ghost use Rattle.cg_model.specs.Next.{with_fork};
 use cg_cgroup::memory::NoMemory;
 use cg_cgroup::process::Pid;
 use cg_cgroup::user::User;
+use cg_model::hierarchy::Hierarchy;
 use cg_model::outcome::Refusal;
-use cg_tree::hierarchy::Hierarchy;
 use std::alloc::Global;
 
 /// The first refusal that a fork meets.

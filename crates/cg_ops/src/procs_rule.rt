@@ -8,8 +8,8 @@ use cg_cgroup::files::EntryName;
 use cg_cgroup::path::Path;
 use cg_cgroup::process::Pid;
 use cg_cgroup::user::User;
+use cg_model::hierarchy::Hierarchy;
 use cg_model::outcome::Refusal;
-use cg_tree::hierarchy::Hierarchy;
 
 /// The first refusal that a move meets.
 pub fn refusal<H: Hierarchy>(tree: &H, user: &User, pid: Pid, to: &Path) -> Option<Refusal>

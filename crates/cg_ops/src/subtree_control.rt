@@ -12,9 +12,9 @@ use cg_cgroup::files::{Controller, ControllerSet, EntryName};
 use cg_cgroup::path::Path;
 use cg_cgroup::user::User;
 use cg_model::changes::Changes;
+use cg_model::hierarchy::Hierarchy;
 use cg_model::operation::Op;
 use cg_model::outcome::Refusal;
-use cg_tree::hierarchy::Hierarchy;
 
 /// The first refusal that a write of changes meets.
 pub fn refusal<H: Hierarchy>(tree: &H, user: &User, at: &Path, changes: &Changes) -> Option<Refusal>

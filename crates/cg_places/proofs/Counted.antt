@@ -3,8 +3,8 @@ use Rattle.std.proofs.Common.{◌≡◌, ℕ, ◌+◌, Bool, true, false, cond, 
 use Rattle.std.specs.List.{list_any}
 use Rattle.std.proofs.lemmas.Bool.{lt-ltb}
 use Rattle.std.proofs.lemmas.List.Recursion.{is_count_by}
-use Rattle.cg_steps.proofs.MapFolds.{gathered}
-use Rattle.cg_steps.proofs.StateCounts.{one_more}
+use Rattle.cg_model.proofs.MapFolds.{gathered}
+use Rattle.cg_model.proofs.StateCounts.{one_more}
 
 module _ {A : Type 0} (p : A → Bool) where
   counted : List A → ℕ

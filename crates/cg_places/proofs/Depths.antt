@@ -17,10 +17,10 @@ use Rattle.cg_cgroup.specs.Paths.{Name, Names, path_cmp, same_name, inside, belo
 use Rattle.cg_cgroup.specs.PathText.{names_text}
 use Rattle.cg_cgroup.proofs.PathEnds.{is_name-bytes, path_names}
 use Rattle.cg_cgroup.proofs.PathOrder.{path_cmp_total}
-use Rattle.cg_steps.proofs.MapFolds.{gathered, Commutes, gathered-insert}
+use Rattle.cg_model.proofs.MapFolds.{gathered, Commutes, gathered-insert}
 use Rattle.cg_places.specs.TextKeys.{number_of, numbers_of, IsText, HasText, AreTexts}
 use Rattle.cg_places.specs.Levels.{levels_behind, levels_below, deepest}
-use Rattle.cg_steps.proofs.StateCounts.{one_more}
+use Rattle.cg_model.proofs.StateCounts.{one_more}
 use Rattle.cg_places.proofs.Counted.{gathered-count}
 use Rattle.cg_places.proofs.TextKeys.{number_at, find-texts}
 

@@ -6,7 +6,7 @@ use Rattle.std.specs.FinMap.{FinMap, find}
 use Rattle.std.specs.FinMap.Entries.{is_sorted, below_all}
 use Rattle.cg_cgroup.specs.Paths.{Names, path_cmp, same_path}
 use Rattle.cg_cgroup.proofs.PathOrder.{path_cmp_total, path_cmp-IsAntisymmetric, same_path-ties, same_path-is}
-use Rattle.cg_steps.proofs.MapLaws.{get-changed, change_entries, change_value, change_value-there}
+use Rattle.cg_model.proofs.MapLaws.{get-changed, change_entries, change_value, change_value-there}
 use Rattle.cg_places.specs.Nodes.{Node, node_at}
 use Rattle.cg_places.specs.Values.{map_values, values_of}
 

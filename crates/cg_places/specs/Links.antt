@@ -3,7 +3,7 @@
 use Rattle.std.specs.Prelude.{◌≡◌, ℕ, zero, suc, ◌+◌, ◌-◌, ◌<◌, min, Bool, not, ◌&&◌, cond, nat_lt, Option, List, [], ◌∷◌, ◌++◌, length, get_or, Some, None, slice_set}
 use Rattle.std.specs.FinMap as map
 use Rattle.cg_cgroup.specs.Paths.{Names, path_cmp, parent}
-use Rattle.cg_tree.specs.Limits.{bars_child}
+use Rattle.cg_model.specs.NearestFull.{bars_child}
 use Rattle.cg_cgroup.specs.declared.files.Limit.TheVariants.{Max}
 use Rattle.cg_cgroup.specs.declared.cgroup.Cgroup.{Cgroup}
 use Rattle.cg_places.specs.declared.links.Link.{Link}

@@ -5,7 +5,7 @@ ghost use Rattle.cg_places.specs.Links.{link_at, new_link, with_limits, to_nowhe
 
 use cg_cgroup::cgroup::Cgroup;
 use cg_cgroup::files::Limit;
-use cg_tree::limits::bars_child;
+use cg_model::limits::bars_child;
 
 /// Where the link of a place leads that is no cgroup's: there is no such place.
 const NOWHERE: usize = usize::MAX;

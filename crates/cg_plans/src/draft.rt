@@ -5,10 +5,10 @@ use crate::planner::Planner;
 use cg_cgroup::memory::NoMemory;
 use cg_cgroup::path::Path;
 use cg_cgroup::process::Pid;
+use cg_model::hierarchy::Hierarchy;
 use cg_model::operation::Op;
 use cg_model::outcome::{Outcome, Refusal};
 use cg_ops::apply;
-use cg_tree::hierarchy::Hierarchy;
 
 /// How many times a plan goes over all cgroups and processes.
 const MOST_SCANS: usize = 64;

@@ -9,9 +9,9 @@ use cg_cgroup::files::{EntryName, Limit};
 use cg_cgroup::memory::NoMemory;
 use cg_cgroup::path::Path;
 use cg_cgroup::process::Pid;
+use cg_model::hierarchy::Hierarchy;
 use cg_model::operation::Op;
 use cg_model::outcome::Refusal;
-use cg_tree::hierarchy::Hierarchy;
 
 /// What empties a cgroup that is to be removed: its processes and those below it go, and then the cgroups below it, the deepest
 /// first. Nothing where the subtree lies below it.
@@ -72,7 +72,7 @@ fn is_leaving<H: Hierarchy>(draft: &Draft<H>, leaving: &Leaving<'_>, pid: Pid) -
 }
 
 /// Whether a cgroup is there.
-#[tactic(auto, using(cg_steps::proofs::Prefixes::take_whole))]
+#[tactic(auto, using(cg_model::proofs::Prefixes::take_whole))]
 fn is_there<H: Hierarchy>(draft: &Draft<H>, path: &Path) -> bool
     ensures { result ≡ has_row (H.state draft.now.tree) path.now }
 {

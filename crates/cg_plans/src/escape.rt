@@ -9,9 +9,9 @@ use crate::replayed::replayed;
 use cg_cgroup::memory::NoMemory;
 use cg_cgroup::path::Path;
 use cg_cgroup::user::User;
+use cg_model::hierarchy::Hierarchy;
 use cg_model::operation::Op;
 use cg_model::operations::Operations;
-use cg_tree::hierarchy::Hierarchy;
 use std::alloc::Global;
 
 /// A list of operations of a user that breaks a subtree, where one is found: nothing bars any of them, and the last breaks it.
@@ -19,7 +19,7 @@ use std::alloc::Global;
 /// At most 52 operations are planned, each on a copy of the tree: the removal of the subtree, each controller off or on at its
 /// parent, and moves over its edge. A plan goes over all cgroups and processes at most 64 times and has at most 65536 steps; its
 /// list is replayed on one more copy. Not every subtree that the user can break is found to be.
-#[tactic(auto, using(cg_steps::proofs::Prefixes::no_root_of_length))]
+#[tactic(auto, using(cg_model::proofs::Prefixes::no_root_of_length))]
 pub fn find_escape<H: Hierarchy + Drop>(
     alloc: Global,
     tree: &H,

@@ -8,8 +8,8 @@ use cg_cgroup::files::{Controller, EntryName};
 use cg_cgroup::memory::NoMemory;
 use cg_cgroup::process::Pid;
 use cg_model::changes::{Change, Changes};
+use cg_model::hierarchy::Hierarchy;
 use cg_model::operation::Op;
-use cg_tree::hierarchy::Hierarchy;
 
 /// The operations that are planned, in turn: the removal of the subtree, each controller off or on at its parent, and moves over
 /// its edge.

@@ -3,7 +3,7 @@ use crate::planner::Planner;
 use cg_cgroup::files::EntryName;
 use cg_cgroup::memory::NoMemory;
 use cg_cgroup::path::Path;
-use cg_tree::hierarchy::Hierarchy;
+use cg_model::hierarchy::Hierarchy;
 
 /// A side of the edge of the subtree.
 #[derive(Clone, Copy, Debug, PartialEq, Eq)]

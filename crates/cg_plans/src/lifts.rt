@@ -9,9 +9,9 @@ use cg_cgroup::path::Path;
 use cg_cgroup::process::Pid;
 use cg_cgroup::user::Mode;
 use cg_model::changes::{Change, Changes};
+use cg_model::hierarchy::Hierarchy;
 use cg_model::operation::Op;
 use cg_model::outcome::Refusal;
-use cg_tree::hierarchy::Hierarchy;
 use std::alloc::Global;
 
 /// What lifts a refusal that a goal has met, in the order in which it is to be carried out; nothing where it can't be lifted.

@@ -6,8 +6,8 @@ use cg_cgroup::memory::NoMemory;
 use cg_cgroup::path::{Path, PathFault};
 use cg_cgroup::process::Pid;
 use cg_cgroup::user::User;
+use cg_model::hierarchy::Hierarchy;
 use cg_ops::moves::may_hold;
-use cg_tree::hierarchy::Hierarchy;
 use std::alloc::Global;
 
 /// A user, the subtree of a tree that they would break, and what was in the tree at the start.
@@ -56,7 +56,7 @@ impl<'a, H: Hierarchy> Planner<'a, H> {
     }
 
     /// Whether the user moves processes past the common ancestor of two cgroups.
-    #[tactic(auto, using(cg_steps::proofs::Prefixes::length_common))]
+    #[tactic(auto, using(cg_model::proofs::Prefixes::length_common))]
     pub fn passes(&self, tree: &H, from: &Path, to: &Path) -> bool {
         self.passes_at(tree, to, from.common_len(to))
     }

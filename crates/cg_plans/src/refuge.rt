@@ -5,7 +5,7 @@ use cg_cgroup::files::EntryName;
 use cg_cgroup::memory::NoMemory;
 use cg_cgroup::path::Path;
 use cg_cgroup::process::Pid;
-use cg_tree::hierarchy::Hierarchy;
+use cg_model::hierarchy::Hierarchy;
 
 /// From where processes have to go.
 #[derive(Clone, Copy)]

@@ -10,13 +10,13 @@ ghost use Rattle.cg_plans.specs.Following.{Follows};
 use cg_cgroup::memory::NoMemory;
 use cg_cgroup::path::Path;
 use cg_cgroup::user::User;
+use cg_model::hierarchy::Hierarchy;
 use cg_model::operation::Op;
 use cg_model::operations::Operations;
 use cg_model::outcome::Outcome;
 use cg_model::verdict::Verdict;
 use cg_runs::fault::StepFault;
 use cg_runs::replay::{MAX_STEPS, Replay};
-use cg_tree::hierarchy::Hierarchy;
 use std::alloc::Global;
 
 /// The list up to the operation that breaks the subtree of the tree as it is; none where nothing breaks it, or one is refused.

@@ -17,9 +17,9 @@ use Rattle.cg_cgroup.specs.declared.process.Process.{Process}
 use Rattle.cg_cgroup.proofs.PathOrder.{path_cmp_total, path_cmp-IsAntisymmetric, same_path-ties}
 use Rattle.cg_model.specs.States.{State, row_at, process_at}
 use Rattle.cg_model.specs.WellFormed.{enabled_above}
-use Rattle.cg_steps.proofs.FormedParts.{may_hold-row}
-use Rattle.cg_steps.proofs.Lists.{all-both, all-each}
-use Rattle.cg_steps.proofs.MapLaws.{first_of_both, second_of_both, is_less}
+use Rattle.cg_model.proofs.FormedParts.{may_hold-row}
+use Rattle.cg_model.proofs.Lists.{all-both, all-each}
+use Rattle.cg_model.proofs.MapLaws.{first_of_both, second_of_both, is_less}
 use Rattle.cg_format.specs.Form.{Key, is_table, row_keys, live_keys}
 use Rattle.cg_format.specs.Said.{tables_at, path_said, has_path, pid_said}
 use Rattle.cg_format.specs.TextOf.{IsInForm, IsRowOf, IsProcessOf, has_pid, IsDocumentOf, IsTextOf}

@@ -11,7 +11,7 @@ use Rattle.toml.specs.Data.{Data}
 use Rattle.toml.specs.View.{view}
 use Rattle.toml.specs.declared.value.Value.{Value}
 use Rattle.cg_cgroup.proofs.Options.{same_some}
-use Rattle.cg_steps.proofs.MapLaws.{first_of_both, second_of_both, is_less}
+use Rattle.cg_model.proofs.MapLaws.{first_of_both, second_of_both, is_less}
 
 module _ {K X : Type 0} (R : K → K → Ordering) (o : IsTotalOrder R) where
   -- a key that is below all is none of them

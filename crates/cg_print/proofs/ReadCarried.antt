@@ -9,7 +9,7 @@ use Rattle.std.specs.FinMap.{FinMap, IsAntisymmetric, get, entries, find, nat_cm
 use Rattle.toml.specs.Data.{Data, Members, as_table}
 use Rattle.cg_cgroup.proofs.PathOrder.{path_cmp_total, path_cmp-IsAntisymmetric}
 use Rattle.cg_model.specs.States.{State}
-use Rattle.cg_steps.proofs.Lists.{all-each}
+use Rattle.cg_model.proofs.Lists.{all-each}
 use Rattle.cg_format.specs.Said.{elements_at, tables_at, has_path}
 use Rattle.cg_format.specs.TextOf.{IsRowOf, IsProcessOf, has_pid, IsTextOf}
 use Rattle.cg_format.specs.declared.format.Format.{Format}

@@ -21,7 +21,7 @@ use cg_cgroup::files::{Limit, LimitFile};
 use cg_cgroup::memory::NoMemory;
 use cg_cgroup::path::Path;
 use cg_cgroup::user::Entry;
-use cg_tree::hierarchy::Hierarchy;
+use cg_model::hierarchy::Hierarchy;
 use std::alloc::Global;
 use toml::{Table, Value};
 

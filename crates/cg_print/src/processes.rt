@@ -13,7 +13,7 @@ use crate::keys::{id_value, path_value, put};
 use cg_cgroup::memory::NoMemory;
 use cg_cgroup::path::Path;
 use cg_cgroup::process::Pid;
-use cg_tree::hierarchy::Hierarchy;
+use cg_model::hierarchy::Hierarchy;
 use std::alloc::Global;
 use toml::{Table, Value};
 

@@ -10,7 +10,7 @@ use crate::cgroups::cgroups_array;
 use crate::keys::{names_array, put};
 use crate::processes::processes_array;
 use cg_cgroup::memory::NoMemory;
-use cg_tree::hierarchy::Hierarchy;
+use cg_model::hierarchy::Hierarchy;
 use std::alloc::Global;
 use toml::{Table, Value};
 

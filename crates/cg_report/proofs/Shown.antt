@@ -17,7 +17,7 @@ use Rattle.cg_model.specs.declared.answer.Answer.{Answer}
 use Rattle.cg_model.specs.Answers.{answer_from, answer}
 use Rattle.cg_model.specs.declared.fault.CheckFault.{CheckFault}
 use Rattle.cg_model.specs.Checks.{subtree_faults, unless_fault, checked}
-use Rattle.cg_steps.proofs.Lists.{all-append}
+use Rattle.cg_model.proofs.Lists.{all-append}
 use Rattle.cg_report.specs.AnswerLines.{IsShown}
 
 pub all_flat : {A B : Type 0} (P : B → Type 0) (Q : A → Type 0) (f : A → List B) → ((x : A) → Q x → AllByRecursion P (f x)) → (xs : List A)

@@ -14,7 +14,7 @@ use Rattle.cg_model.specs.declared.answer.Answer.{Answer}
 use Rattle.cg_model.specs.declared.answer.Answer.TheVariants as one
 use Rattle.cg_model.specs.declared.answer.AllAnswer.{AllAnswer}
 use Rattle.cg_model.specs.declared.answer.AllAnswer.TheVariants.{Contained}
-use Rattle.cg_steps.proofs.Lists.{all-append}
+use Rattle.cg_model.proofs.Lists.{all-append}
 use Rattle.cg_report.specs.AnswerLines.{IsShown}
 use Rattle.cg_report.specs.AuditLines.{subtree_at, IsPairShown}
 use Rattle.cg_report.proofs.Shown.{answer_is_shown}

@@ -15,7 +15,7 @@ use Rattle.std.specs.FinMap as map
 use Rattle.std.specs.FinMap.{is_sorted, nat_cmp-IsAntisymmetric, slice_cmp-IsAntisymmetric}
 use Rattle.cg_cgroup.specs.Paths.{Name, Names, path_cmp, same_name, inside, below, is_child}
 use Rattle.cg_rows.specs.Places.{IsPlace, IsGap}
-use Rattle.cg_steps.proofs.MapLaws.{list_any-map}
+use Rattle.cg_model.proofs.MapLaws.{list_any-map}
 use Rattle.cg_cgroup.proofs.PathOrder.{path_cmp_total, path_cmp-IsAntisymmetric}
 use Rattle.cg_rows.proofs.Sorted.{rises, shown_entries}
 

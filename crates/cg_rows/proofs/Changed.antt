@@ -14,7 +14,7 @@ use Rattle.cg_cgroup.specs.Paths.{Names, path_cmp}
 use Rattle.cg_model.specs.States.{change_each}
 use Rattle.cg_cgroup.specs.declared.cgroup.Cgroup.{Cgroup}
 use Rattle.cg_cgroup.proofs.PathOrder.{path_cmp_total}
-use Rattle.cg_steps.proofs.MapLaws.{entries-changed}
+use Rattle.cg_model.proofs.MapLaws.{entries-changed}
 use Rattle.cg_rows.proofs.Sorted.{shown_entries, holds_true}
 
 module _ {X : Type 0} (f : X → X) where

@@ -6,7 +6,7 @@ ghost use Rattle.std.specs.FinSet as set;
 ghost use Rattle.cg_model.specs.States.{State};
 ghost use Rattle.cg_rows.specs.RowsForm.{IsRoot, state_of_root, state_of_tables};
 ghost use Rattle.cg_model.specs.WellFormed.{IsWellFormed};
-ghost use Rattle.cg_tree.specs.Limits.{is_full};
+ghost use Rattle.cg_model.specs.NearestFull.{is_full};
 
 mod below;
 
@@ -18,8 +18,8 @@ use cg_cgroup::memory::NoMemory;
 use cg_cgroup::path::Path;
 use cg_cgroup::process::{Pid, Process};
 use cg_cgroup::user::{Mode, User};
-use cg_tree::hierarchy::Hierarchy;
-use cg_tree::limits::bars_child;
+use cg_model::hierarchy::Hierarchy;
+use cg_model::limits::bars_child;
 use std::alloc::Global;
 use std::marker::Model;
 

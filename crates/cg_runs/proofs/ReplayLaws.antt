@@ -15,12 +15,12 @@ use Rattle.cg_model.specs.declared.outcome.Outcome.TheVariants.{Done, Refused}
 use Rattle.cg_model.specs.Clauses.{first}
 use Rattle.cg_model.specs.Bars.{bars}
 use Rattle.cg_model.specs.Next.{next}
-use Rattle.cg_steps.specs.Outcomes.{RefusedBy, IsRefused}
-use Rattle.cg_steps.proofs.Prefixes.{take_whole, no_root_of_length}
-use Rattle.cg_steps.proofs.StepFormed.{after-allowed, after-barred}
+use Rattle.cg_model.specs.Outcomes.{RefusedBy, IsRefused}
+use Rattle.cg_model.proofs.Prefixes.{take_whole, no_root_of_length}
+use Rattle.cg_model.proofs.StepFormed.{after-allowed, after-barred}
 use Rattle.cg_model.specs.Limits.{Limits as LimitMap, limits, same_limits}
 use Rattle.cg_laws.proofs.Sound.{sound-formed, sound-after}
-use Rattle.cg_steps.proofs.Edges.{none-crosses-same}
+use Rattle.cg_model.proofs.Edges.{none-crosses-same}
 use Rattle.cg_model.specs.Verdicts.{broken, broken_since, or_later, verdict_from}
 use Rattle.cg_model.specs.Replays.{Progress, or_broken, stepped}
 use Rattle.cg_runs.specs.Replays.{IsRunOf}
@@ -28,8 +28,8 @@ use Rattle.cg_runs.specs.Shortcuts.{may_break, moves_over, broken_by, IsIntact, 
 use Rattle.cg_model.specs.declared.verdict.Clause.{Clause}
 use Rattle.cg_model.specs.declared.verdict.Verdict.{Verdict}
 use Rattle.cg_model.specs.declared.verdict.Verdict.TheVariants.{Kept, Broken}
-use Rattle.cg_steps.proofs.LimitLaws.{same_limits-is, same_limits-itself}
-use Rattle.cg_steps.proofs.BrokenLaws.{IsWhole, whole-broken, broken-whole}
+use Rattle.cg_model.proofs.LimitLaws.{same_limits-is, same_limits-itself}
+use Rattle.cg_model.proofs.BrokenLaws.{IsWhole, whole-broken, broken-whole}
 use Rattle.cg_runs.proofs.ShortcutLaws.{first-broken_by}
 
 -- ---- intact is whole where nothing moves

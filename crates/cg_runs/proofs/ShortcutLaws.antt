@@ -12,29 +12,29 @@ use Rattle.cg_cgroup.proofs.Options.{mapped_from}
 use Rattle.cg_cgroup.proofs.PathOrder.{same_path-is}
 use Rattle.cg_model.specs.States.{State, place_at, process_at, placed_at, pids_of, without_row}
 use Rattle.cg_model.specs.WellFormed.{has_row}
-use Rattle.cg_steps.proofs.MapLaws.{list_any-map, entry_any}
-use Rattle.cg_steps.proofs.StateLaws.{process_at-with_place-same, row_at-without_row-same}
+use Rattle.cg_model.proofs.MapLaws.{list_any-map, entry_any}
+use Rattle.cg_model.proofs.StateLaws.{process_at-with_place-same, row_at-without_row-same}
 use Rattle.cg_model.specs.Bars.{bars}
 use Rattle.cg_model.specs.Clauses.{unless, first}
-use Rattle.cg_steps.specs.Effects.{alters_row, alters_value, alters_process}
+use Rattle.cg_model.specs.Effects.{alters_row, alters_value, alters_process}
 use Rattle.cg_model.specs.Steps.{after}
 use Rattle.cg_model.specs.declared.operation.Op.{Op}
 use Rattle.cg_model.specs.declared.operation.Op.TheVariants.{Move, Control, Mkdir, Rmdir, Set, Fork, Exit, Chmod}
-use Rattle.cg_steps.proofs.ClauseLaws.{first_some}
-use Rattle.cg_steps.proofs.Allowed.{allowed_mkdir}
-use Rattle.cg_steps.proofs.StepFormed.{after-allowed}
-use Rattle.cg_steps.proofs.StepEffects.{has_row-after, value_at-after}
+use Rattle.cg_model.proofs.ClauseLaws.{first_some}
+use Rattle.cg_model.proofs.Allowed.{allowed_mkdir}
+use Rattle.cg_model.proofs.StepFormed.{after-allowed}
+use Rattle.cg_model.proofs.StepEffects.{has_row-after, value_at-after}
 use Rattle.cg_model.specs.Limits.{Limits as LimitMap, limits, same_limits, fits_descendants, fits_depth}
 use Rattle.cg_model.specs.Edge.{is_crossed, crossing}
 use Rattle.cg_laws.specs.Sound.{IsSound}
 use Rattle.cg_laws.proofs.Counts.{fits-after}
-use Rattle.cg_steps.proofs.Edges.{none-crosses}
+use Rattle.cg_model.proofs.Edges.{none-crosses}
 use Rattle.cg_laws.proofs.Crossing.{kept, fork-crosses, exit-crosses}
 use Rattle.cg_model.specs.Verdicts.{broken_since}
 use Rattle.cg_runs.specs.Shortcuts.{moves_over, broken_by, IsIntact}
 use Rattle.cg_model.specs.declared.verdict.Clause.TheVariants.{Gone, Crossed, Limits}
-use Rattle.cg_steps.proofs.LimitLaws.{same_limits-is}
-use Rattle.cg_steps.proofs.BrokenLaws.{clauses_of}
+use Rattle.cg_model.proofs.LimitLaws.{same_limits-is}
+use Rattle.cg_model.proofs.BrokenLaws.{clauses_of}
 
 -- ---- one of many processes
 

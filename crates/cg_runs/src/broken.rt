@@ -12,10 +12,10 @@ use cg_cgroup::cgroup::Cgroup;
 use cg_cgroup::files::LimitFile;
 use cg_cgroup::path::Path;
 use cg_guards::failed::{fits_depth, fits_descendants};
+use cg_model::hierarchy::Hierarchy;
 use cg_model::operation::Op;
 use cg_model::outcome::Outcome;
 use cg_model::verdict::{Clause, Verdict};
-use cg_tree::hierarchy::Hierarchy;
 
 /// What is broken of a subtree before any step: it may be over its own limits.
 pub fn broken_at_start<H: Hierarchy>(tree: &H, subtree: &Path, cgroup: &Cgroup) -> Option<Clause>

@@ -3,7 +3,7 @@ ghost use Rattle.std.specs.Prelude.{◌≡◌, ◌↔◌, true, [], IfOk, IfErr,
 ghost use Rattle.cg_model.specs.Clauses.{first};
 ghost use Rattle.cg_model.specs.Bars.{bars};
 ghost use Rattle.cg_ops.specs.Memory.{takes_memory};
-ghost use Rattle.cg_steps.specs.Outcomes.{RefusedBy};
+ghost use Rattle.cg_model.specs.Outcomes.{RefusedBy};
 ghost use Rattle.cg_model.specs.Guards.{IsSubtree};
 ghost use Rattle.cg_model.specs.Replays.{stepped};
 ghost use Rattle.cg_runs.specs.Replays.{IsRunOf};
@@ -15,11 +15,11 @@ use cg_cgroup::cgroup::Cgroup;
 use cg_cgroup::path::Path;
 use cg_cgroup::user::User;
 use cg_model::fault::CheckFault;
+use cg_model::hierarchy::Hierarchy;
 use cg_model::operation::Op;
 use cg_model::outcome::Outcome;
 use cg_model::verdict::Verdict;
 use cg_ops::apply;
-use cg_tree::hierarchy::Hierarchy;
 use std::alloc::Global;
 use std::marker::Model;
 

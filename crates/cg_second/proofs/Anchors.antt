@@ -11,8 +11,8 @@ use Rattle.cg_cgroup.proofs.PathLaws.{inside_trans}
 use Rattle.cg_cgroup.proofs.PathParents.{inside-take, inside-is}
 use Rattle.cg_model.specs.States.{State, row_at}
 use Rattle.cg_model.specs.WellFormed.{IsWellFormed, has_row, enabled_at, available_at}
-use Rattle.cg_steps.proofs.Prefixes.{no_root_of_length}
-use Rattle.cg_steps.proofs.FormedParts.{enabled_at-row}
+use Rattle.cg_model.proofs.Prefixes.{no_root_of_length}
+use Rattle.cg_model.proofs.FormedParts.{enabled_at-row}
 use Rattle.cg_laws.proofs.Sound.{sound-formed, take-there}
 use Rattle.cg_settle.specs.Lasting.{Lasting, IsLasting, IsNeverRemoved, IsNeverDisabled}
 use Rattle.cg_settle.specs.Greatest.{any_child, stays_within, on_within, levels_from, greatest}

@@ -16,8 +16,8 @@ use Rattle.cg_cgroup.proofs.PathLaws.{inside-first, inside_between}
 use Rattle.cg_cgroup.proofs.PathParents.{inside-is}
 use Rattle.cg_model.specs.States.{State, paths_of, count_below}
 use Rattle.cg_model.specs.WellFormed.{has_row}
-use Rattle.cg_steps.proofs.MapFolds.{gathered}
-use Rattle.cg_steps.proofs.StateCounts.{one_more}
+use Rattle.cg_model.proofs.MapFolds.{gathered}
+use Rattle.cg_model.proofs.StateCounts.{one_more}
 use Rattle.cg_settle.proofs.Greatest.{any-row}
 use Rattle.cg_second.specs.Anchors.{any_below}
 

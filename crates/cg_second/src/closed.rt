@@ -13,7 +13,7 @@ use crate::reach::{is_enabled, is_reached};
 use crate::survey::Survey;
 use cg_cgroup::files::{Controller, EntryName, Limit, LimitFile};
 use cg_cgroup::path::Path;
-use cg_tree::hierarchy::Hierarchy;
+use cg_model::hierarchy::Hierarchy;
 
 /// Whether wherever a move may lead to, over the edge of the subtree, nobody moves a process to, and nobody makes a cgroup.
 pub fn is_closed<H: Hierarchy>(survey: &Survey<H>, subtree: &Path) -> bool
@@ -47,7 +47,7 @@ fn is_passed<H: Hierarchy>(survey: &Survey<H>, subtree: &Path) -> bool
 }
 
 /// Whether a move over the edge of the subtree may lead to or from a cgroup.
-#[tactic(auto, using(cg_steps::proofs::Prefixes::length_common))]
+#[tactic(auto, using(cg_model::proofs::Prefixes::length_common))]
 fn is_exposed<H: Hierarchy>(
     survey: &Survey<H>,
     subtree: &Path,

@@ -14,7 +14,7 @@ use crate::reach::{is_enabled, is_reached};
 use crate::survey::Survey;
 use cg_cgroup::files::{Controller, EntryName};
 use cg_cgroup::path::Path;
-use cg_tree::hierarchy::Hierarchy;
+use cg_model::hierarchy::Hierarchy;
 
 /// Whether a cgroup stays.
 pub fn stays<H: Hierarchy>(survey: &Survey<H>, path: &Path) -> bool

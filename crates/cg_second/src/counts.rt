@@ -15,7 +15,7 @@ use cg_cgroup::files::{Controller, EntryName};
 use cg_cgroup::memory::NoMemory;
 use cg_cgroup::path::Path;
 use cg_cgroup::user::User;
-use cg_tree::hierarchy::Hierarchy;
+use cg_model::hierarchy::Hierarchy;
 use std::alloc::Global;
 
 /// How many passed before each place so far.

@@ -11,7 +11,7 @@ ghost use Rattle.cg_second.specs.Anchors.{is_anchored};
 use cg_cgroup::files::{Controller, EntryName, LimitFile};
 use cg_cgroup::path::Path;
 use cg_cgroup::user::{Entry, User};
-use cg_tree::hierarchy::Hierarchy;
+use cg_model::hierarchy::Hierarchy;
 
 /// Whether one of some users reaches an entry of the cgroup of the first `len` names of a path.
 pub fn is_reached<H: Hierarchy>(

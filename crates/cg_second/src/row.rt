@@ -12,7 +12,7 @@ use cg_cgroup::memory::NoMemory;
 use cg_cgroup::path::Path;
 use cg_cgroup::user::User;
 use cg_guards::failed::is_over;
-use cg_tree::hierarchy::Hierarchy;
+use cg_model::hierarchy::Hierarchy;
 use std::alloc::Global;
 
 /// Whether the second row of guards of a subtree holds against some users together: then it is contained against them, whatever

@@ -11,7 +11,7 @@ use crate::counts::{anchored_counts, ends_of, lasting_counts};
 use cg_cgroup::memory::NoMemory;
 use cg_cgroup::path::Path;
 use cg_cgroup::user::User;
-use cg_tree::hierarchy::Hierarchy;
+use cg_model::hierarchy::Hierarchy;
 use std::alloc::Global;
 
 /// The cgroups of a tree in the order of their paths, and what some users can't change of them.

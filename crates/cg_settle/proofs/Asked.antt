@@ -18,9 +18,9 @@ use Rattle.cg_model.specs.Clauses.{unless, absent}
 use Rattle.cg_model.specs.Bars.{move_bars, changes_bars, control_bars, writes_above, mkdir_bars, rmdir_bars, set_bars}
 use Rattle.cg_model.specs.declared.changes.Change.{Change}
 use Rattle.cg_model.specs.declared.outcome.Refusal.TheVariants.{NoSuchFile, NoAccess}
-use Rattle.cg_steps.proofs.Allowed.{allowed_mkdir, allowed_rmdir}
-use Rattle.cg_steps.proofs.ClauseLaws.{no_parts, no_unless, no_absent, no_present}
-use Rattle.cg_steps.proofs.StateEntries.{entry_at-file}
+use Rattle.cg_model.proofs.Allowed.{allowed_mkdir, allowed_rmdir}
+use Rattle.cg_model.proofs.ClauseLaws.{no_parts, no_unless, no_absent, no_present}
+use Rattle.cg_model.proofs.StateEntries.{entry_at-file}
 use Rattle.cg_laws.specs.Sound.{IsSound}
 use Rattle.cg_laws.proofs.Crossing.{move-passes}
 use Rattle.cg_settle.specs.Lasting.{is_reached}

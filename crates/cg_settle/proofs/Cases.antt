@@ -18,7 +18,7 @@ use Rattle.cg_model.specs.States.{State}
 use Rattle.cg_model.specs.WellFormed.{has_row, enabled_at}
 use Rattle.cg_model.specs.Guards.{Guarded, ancestor, ancestors, limit_file, limit_files, parent_control, parent_dir, IsSubtree}
 use Rattle.cg_model.specs.Strangers.{GuardsHoldForAll}
-use Rattle.cg_steps.proofs.TreeLaws.{inside-parts}
+use Rattle.cg_model.proofs.TreeLaws.{inside-parts}
 use Rattle.cg_laws.specs.Guarding.{AreUnreached}
 use Rattle.cg_laws.specs.Sound.{IsSound}
 use Rattle.cg_laws.proofs.GuardedEntries.{Holding, holding, ancestors-has, limit_files-has, contains-alone, not_reached}

@@ -15,10 +15,10 @@ use Rattle.cg_model.specs.Clauses.{unless}
 use Rattle.cg_model.specs.Bars.{mkdir_bars}
 use Rattle.cg_model.specs.Limits.{is_under}
 use Rattle.cg_model.specs.declared.outcome.Refusal.TheVariants.{DescendantLimit, DepthLimit}
-use Rattle.cg_steps.proofs.Allowed.{allowed_mkdir}
-use Rattle.cg_steps.proofs.ClauseLaws.{no_parts, no_unless, no_present}
-use Rattle.cg_steps.proofs.MapFolds.{gathered}
-use Rattle.cg_steps.proofs.StateCounts.{one_more}
+use Rattle.cg_model.proofs.Allowed.{allowed_mkdir}
+use Rattle.cg_model.proofs.ClauseLaws.{no_parts, no_unless, no_present}
+use Rattle.cg_model.proofs.MapFolds.{gathered}
+use Rattle.cg_model.proofs.StateCounts.{one_more}
 use Rattle.cg_laws.specs.Sound.{IsSound}
 use Rattle.cg_laws.proofs.Counts.{limits-asked}
 use Rattle.cg_laws.proofs.Sound.{take-there}

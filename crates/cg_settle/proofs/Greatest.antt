@@ -14,8 +14,8 @@ use Rattle.cg_cgroup.proofs.PathOrder.{path_cmp_total, path_cmp-IsAntisymmetric,
 use Rattle.cg_cgroup.proofs.PathParents.{is_root-is}
 use Rattle.cg_model.specs.States.{State, row_at, paths_of}
 use Rattle.cg_model.specs.WellFormed.{has_row, enabled_at}
-use Rattle.cg_steps.proofs.Prefixes.{root_of_length, no_root_of_length}
-use Rattle.cg_steps.proofs.MapLaws.{list_any-map, any_entry, entry_any}
+use Rattle.cg_model.proofs.Prefixes.{root_of_length, no_root_of_length}
+use Rattle.cg_model.proofs.MapLaws.{list_any-map, any_entry, entry_any}
 use Rattle.cg_settle.specs.Lasting.{is_reached, Lasting, IsLasting, IsNeverRemoved, IsNeverDisabled, IsNeverAvailable, lasting_below}
 use Rattle.cg_settle.specs.SecondRow.{IsHeldFast, SecondRowHolds}
 use Rattle.cg_settle.proofs.Full.{count_by-more}

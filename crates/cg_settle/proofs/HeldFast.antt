@@ -25,12 +25,12 @@ use Rattle.cg_model.specs.Guards.{IsSubtree}
 use Rattle.cg_model.specs.declared.changes.Change.{Change}
 use Rattle.cg_model.specs.declared.operation.Op.{Op}
 use Rattle.cg_model.specs.declared.operation.Op.TheVariants.{Move, Control, Mkdir, Rmdir, Set}
-use Rattle.cg_steps.proofs.Allowed.{allowed_mkdir, there_control}
-use Rattle.cg_steps.proofs.FormedEnabled.{enabled_at-with_enabled-same}
-use Rattle.cg_steps.proofs.FormedParts.{enabled_at-row}
-use Rattle.cg_steps.proofs.StateEntries.{entry_at-file, value_at-file, file_at-with_enabled-other, file_at-with_enabled-same}
-use Rattle.cg_steps.proofs.StepEffects.{has_row-after, value_at-after}
-use Rattle.cg_steps.proofs.StepFormed.{after-allowed}
+use Rattle.cg_model.proofs.Allowed.{allowed_mkdir, there_control}
+use Rattle.cg_model.proofs.FormedEnabled.{enabled_at-with_enabled-same}
+use Rattle.cg_model.proofs.FormedParts.{enabled_at-row}
+use Rattle.cg_model.proofs.StateEntries.{entry_at-file, value_at-file, file_at-with_enabled-other, file_at-with_enabled-same}
+use Rattle.cg_model.proofs.StepEffects.{has_row-after, value_at-after}
+use Rattle.cg_model.proofs.StepFormed.{after-allowed}
 use Rattle.cg_laws.specs.Sound.{IsSound}
 use Rattle.cg_laws.proofs.Counts.{fits-after}
 use Rattle.cg_laws.proofs.Crossing.{StaysOnSide, common-above}

@@ -19,15 +19,15 @@ use Rattle.cg_model.specs.Steps.{after}
 use Rattle.cg_model.specs.declared.changes.Change.{Change}
 use Rattle.cg_model.specs.declared.operation.Op.{Op}
 use Rattle.cg_model.specs.declared.operation.Op.TheVariants.{Control, Mkdir, Rmdir}
-use Rattle.cg_steps.specs.Effects.{alters_row, alters_enabled}
-use Rattle.cg_steps.proofs.Allowed.{allowed_mkdir, allowed_rmdir}
-use Rattle.cg_steps.proofs.AllowedControl.{enables-enabled_after, each_change}
-use Rattle.cg_steps.proofs.ClauseLaws.{no_unless}
-use Rattle.cg_steps.proofs.FormedEnabled.{enabled_at-with_enabled-same}
-use Rattle.cg_steps.proofs.FormedParts.{enabled_at-row}
-use Rattle.cg_steps.proofs.StateTests.{row-has_child, row-child_enables}
-use Rattle.cg_steps.proofs.StepEffects.{has_row-after, enabled_at-after, controllers-after}
-use Rattle.cg_steps.proofs.StepFormed.{after-allowed}
+use Rattle.cg_model.specs.Effects.{alters_row, alters_enabled}
+use Rattle.cg_model.proofs.Allowed.{allowed_mkdir, allowed_rmdir}
+use Rattle.cg_model.proofs.AllowedControl.{enables-enabled_after, each_change}
+use Rattle.cg_model.proofs.ClauseLaws.{no_unless}
+use Rattle.cg_model.proofs.FormedEnabled.{enabled_at-with_enabled-same}
+use Rattle.cg_model.proofs.FormedParts.{enabled_at-row}
+use Rattle.cg_model.proofs.StateTests.{row-has_child, row-child_enables}
+use Rattle.cg_model.proofs.StepEffects.{has_row-after, enabled_at-after, controllers-after}
+use Rattle.cg_model.proofs.StepFormed.{after-allowed}
 use Rattle.cg_laws.specs.Sound.{IsSound}
 use Rattle.cg_laws.proofs.Untouched.{there-other}
 use Rattle.cg_settle.specs.Lasting.{is_reached, Lasting, IsLasting, IsNeverRemoved, IsNeverDisabled, IsNeverAvailable, IsNeverEnabled}

@@ -14,8 +14,8 @@ use Rattle.cg_model.specs.Next.{next}
 use Rattle.cg_model.specs.Steps.{after}
 use Rattle.cg_model.specs.declared.operation.Op.{Op}
 use Rattle.cg_model.specs.declared.operation.Op.TheVariants.{Move, Fork, Exit}
-use Rattle.cg_steps.proofs.StepEffects.{fork-by}
-use Rattle.cg_steps.proofs.StepFormed.{after-by}
+use Rattle.cg_model.proofs.StepEffects.{fork-by}
+use Rattle.cg_model.proofs.StepFormed.{after-by}
 use Rattle.cg_laws.proofs.Sound.{sound-after}
 use Rattle.cg_settle.specs.Lasting.{Lasting}
 use Rattle.cg_settle.specs.SecondRow.{IsHeldFast, SecondRowHolds, is_of_processes}

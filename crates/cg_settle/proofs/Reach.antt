@@ -18,12 +18,12 @@ use Rattle.cg_model.specs.Bars.{bars}
 use Rattle.cg_model.specs.Steps.{after}
 use Rattle.cg_model.specs.declared.operation.Op.{Op}
 use Rattle.cg_model.specs.declared.operation.Op.TheVariants.{Move, Control, Mkdir, Rmdir, Set, Fork, Exit, Chmod}
-use Rattle.cg_steps.specs.Effects.{alters_entry, is_brought}
-use Rattle.cg_steps.proofs.Allowed.{allowed_mkdir}
-use Rattle.cg_steps.proofs.StateEntries.{entry_at-without_row}
-use Rattle.cg_steps.proofs.StateLaws.{row_at-without_row-same}
-use Rattle.cg_steps.proofs.StepEffects.{entry_at-after}
-use Rattle.cg_steps.proofs.StepFormed.{after-allowed}
+use Rattle.cg_model.specs.Effects.{alters_entry, is_brought}
+use Rattle.cg_model.proofs.Allowed.{allowed_mkdir}
+use Rattle.cg_model.proofs.StateEntries.{entry_at-without_row}
+use Rattle.cg_model.proofs.StateLaws.{row_at-without_row-same}
+use Rattle.cg_model.proofs.StepEffects.{entry_at-after}
+use Rattle.cg_model.proofs.StepFormed.{after-allowed}
 use Rattle.cg_laws.proofs.Barred.{chmod-owned}
 use Rattle.cg_laws.proofs.Untouched.{there-other}
 use Rattle.cg_settle.specs.Lasting.{is_reached}

@@ -20,11 +20,11 @@ use Rattle.cg_model.specs.Next.{next}
 use Rattle.cg_model.specs.Steps.{after}
 use Rattle.cg_model.specs.declared.operation.Op.{Op}
 use Rattle.cg_model.specs.declared.operation.Op.TheVariants.{Move, Control, Mkdir, Rmdir, Set, Fork, Exit, Chmod}
-use Rattle.cg_steps.specs.Effects.{alters_value}
-use Rattle.cg_steps.proofs.Allowed.{allowed_mkdir, allowed_rmdir}
-use Rattle.cg_steps.proofs.StateCounts.{one_more, paths_of-with_value, paths_of-with_mode, paths_of-with_enabled, counted-with_row, counted-without_row}
-use Rattle.cg_steps.proofs.StepEffects.{fork-by, value_at-after}
-use Rattle.cg_steps.proofs.StepFormed.{after-allowed}
+use Rattle.cg_model.specs.Effects.{alters_value}
+use Rattle.cg_model.proofs.Allowed.{allowed_mkdir, allowed_rmdir}
+use Rattle.cg_model.proofs.StateCounts.{one_more, paths_of-with_value, paths_of-with_mode, paths_of-with_enabled, counted-with_row, counted-without_row}
+use Rattle.cg_model.proofs.StepEffects.{fork-by, value_at-after}
+use Rattle.cg_model.proofs.StepFormed.{after-allowed}
 use Rattle.cg_laws.specs.Sound.{IsSound}
 use Rattle.cg_laws.proofs.Sound.{sound-after, take-there}
 use Rattle.cg_laws.proofs.Untouched.{there-other}

@@ -19,9 +19,9 @@ use Rattle.cg_model.specs.Held.{IsHeld, by_user, IsContained, AreBy}
 use Rattle.cg_model.specs.Strangers.{IsOfStranger}
 use Rattle.cg_model.specs.declared.verdict.Clause.{Clause}
 use Rattle.cg_model.specs.declared.verdict.Verdict.TheVariants.{Broken}
-use Rattle.cg_steps.proofs.BrokenLaws.{IsWhole}
-use Rattle.cg_steps.proofs.Edges.{none-crosses, none-crosses-same}
-use Rattle.cg_steps.proofs.StepFormed.{after-barred}
+use Rattle.cg_model.proofs.BrokenLaws.{IsWhole}
+use Rattle.cg_model.proofs.Edges.{none-crosses, none-crosses-same}
+use Rattle.cg_model.proofs.StepFormed.{after-barred}
 use Rattle.cg_laws.proofs.Crossing.{crosses-by}
 use Rattle.cg_laws.proofs.RunLaws.{all-own}
 use Rattle.cg_laws.proofs.Ways.{OnlyThese, way-after_all, held-on_way, broken-on_way}

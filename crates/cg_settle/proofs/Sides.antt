@@ -6,7 +6,7 @@ use Rattle.cg_cgroup.specs.Paths.{Names, Name, same_name, same_path, parent, ins
 use Rattle.cg_cgroup.proofs.PathLaws.{inside_trans, common-inside_first, common-inside_second, common-longest, common-only}
 use Rattle.cg_cgroup.proofs.PathOrder.{same_path-is, same_path_refl}
 use Rattle.cg_cgroup.proofs.PathParents.{inside-is, inside-take}
-use Rattle.cg_steps.proofs.TreeLaws.{inside-parts}
+use Rattle.cg_model.proofs.TreeLaws.{inside-parts}
 
 same_name-is : (name other : Name) → same_name name other ≡ true → name ≡ other
 same_name-is name other = (bytes_decides name other).0

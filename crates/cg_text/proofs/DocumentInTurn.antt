@@ -9,7 +9,7 @@ use Rattle.toml.specs.declared.value.Value.{Value}
 use Rattle.cg_cgroup.specs.declared.controllers.ControllerSet.{ControllerSet}
 use Rattle.cg_model.specs.Clauses.{unless, absent, present, first}
 use Rattle.cg_model.specs.States.{State}
-use Rattle.cg_steps.proofs.ClauseLaws.{first_none, first_some}
+use Rattle.cg_model.proofs.ClauseLaws.{first_none, first_some}
 use Rattle.cg_text.specs.Faults.{or_fault}
 use Rattle.cg_format.specs.Form.{Key, is_table}
 use Rattle.cg_format.specs.Said.{tables_at, controllers_said, format_said}

@@ -13,7 +13,7 @@ use Rattle.toml.specs.Data.{Data, Members, no_members, as_table}
 use Rattle.toml.specs.View.{view}
 use Rattle.toml.specs.declared.value.Value.{Value}
 use Rattle.cg_model.specs.Clauses.{first, unless}
-use Rattle.cg_steps.proofs.ClauseLaws.{first_none, first_some}
+use Rattle.cg_model.proofs.ClauseLaws.{first_none, first_some}
 use Rattle.cg_format.specs.declared.fault.Place.{Place}
 use Rattle.cg_format.specs.declared.fault.TreeFault.{TreeFault}
 use Rattle.cg_format.specs.declared.fault.TreeFault.TheVariants.{Shape}

@@ -8,7 +8,7 @@ use Rattle.toml.specs.Data.{Data, Members, table}
 use Rattle.toml.specs.View.{view}
 use Rattle.toml.specs.declared.value.Value.{Value}
 use Rattle.cg_model.specs.Clauses.{unless, absent, present, first}
-use Rattle.cg_steps.proofs.ClauseLaws.{none_of_first}
+use Rattle.cg_model.proofs.ClauseLaws.{none_of_first}
 use Rattle.cg_format.specs.Form.{most_rows, is_table, document_keys, row_keys, live_keys}
 use Rattle.cg_format.specs.Said.{elements_at, format_said}
 use Rattle.cg_format.specs.TextOf.{IsInForm}

@@ -18,7 +18,7 @@ use Rattle.cg_cgroup.proofs.PathOrder.{path_cmp_total, same_path-ties, same_path
 use Rattle.cg_cgroup.proofs.PathParents.{inside-take, is_root-is, parent-other}
 use Rattle.cg_cgroup.proofs.PathLaws.{inside-first}
 use Rattle.cg_model.specs.Clauses.{unless, present, first}
-use Rattle.cg_steps.proofs.ClauseLaws.{first_none, first_some}
+use Rattle.cg_model.proofs.ClauseLaws.{first_none, first_some}
 use Rattle.cg_format.specs.Said.{controllers_said, has_path, is_named}
 use Rattle.cg_format.specs.TextFaults.{each, is_there, over, cgroup_faults}
 use Rattle.cg_text.specs.Rows.{IsReadAs, AreReadAs}

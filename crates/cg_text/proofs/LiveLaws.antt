@@ -28,7 +28,7 @@ use Rattle.cg_cgroup.specs.declared.process.Process.{Process}
 use Rattle.cg_rows.specs.Processes.{LiveAndUsed}
 use Rattle.cg_rows.proofs.StdMaps.{get-shown}
 use Rattle.cg_model.specs.Clauses.{unless, absent, present, first}
-use Rattle.cg_steps.proofs.ClauseLaws.{none_of_first}
+use Rattle.cg_model.proofs.ClauseLaws.{none_of_first}
 use Rattle.cg_format.specs.Said.{path_said, has_path, pid_said}
 use Rattle.cg_format.specs.TextOf.{has_pid}
 use Rattle.cg_format.specs.TextFaults.{each_process, enabled_there, process_faults}

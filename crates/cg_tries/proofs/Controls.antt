@@ -14,14 +14,14 @@ use Rattle.cg_cgroup.proofs.Options.{some_value, is_some-mapped}
 use Rattle.cg_cgroup.proofs.ControllerLaws.{same_set, same_controller-true}
 use Rattle.cg_model.specs.States.{State, row_at, file_at}
 use Rattle.cg_model.specs.WellFormed.{IsWellFormed, has_row, enabled_at}
-use Rattle.cg_steps.proofs.StateCounts.{paths_of-with_enabled, count_below-same_paths, depth_below-same_paths}
-use Rattle.cg_steps.proofs.StateEntries.{value_at-file, file_at-with_enabled-same}
-use Rattle.cg_steps.proofs.FormedEnabled.{has_row-with_enabled, enabled_at-with_enabled-same}
+use Rattle.cg_model.proofs.StateCounts.{paths_of-with_enabled, count_below-same_paths, depth_below-same_paths}
+use Rattle.cg_model.proofs.StateEntries.{value_at-file, file_at-with_enabled-same}
+use Rattle.cg_model.proofs.FormedEnabled.{has_row-with_enabled, enabled_at-with_enabled-same}
 use Rattle.cg_model.specs.Bars.{bars}
 use Rattle.cg_model.specs.Changes.{enabled_after}
 use Rattle.cg_model.specs.Next.{next}
-use Rattle.cg_steps.proofs.StepFormed.{formed-next}
-use Rattle.cg_steps.proofs.AllowedControl.{enables-enabled_after}
+use Rattle.cg_model.proofs.StepFormed.{formed-next}
+use Rattle.cg_model.proofs.AllowedControl.{enables-enabled_after}
 use Rattle.cg_model.specs.declared.operation.Op.{Op}
 use Rattle.cg_model.specs.declared.operation.Op.TheVariants.{Control}
 use Rattle.cg_model.specs.Guards.{IsSubtree}

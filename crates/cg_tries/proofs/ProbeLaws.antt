@@ -13,7 +13,7 @@ use Rattle.cg_cgroup.specs.declared.files.EntryName.TheVariants.{Dir}
 use Rattle.cg_cgroup.proofs.Options.{none_value, some_value, same_some}
 use Rattle.cg_model.specs.States.{State, row_at, place_at, paths_of, pids_of, count_below}
 use Rattle.cg_model.specs.WellFormed.{IsWellFormed, has_row}
-use Rattle.cg_steps.proofs.TreeLaws.{take-there}
+use Rattle.cg_model.proofs.TreeLaws.{take-there}
 use Rattle.cg_model.specs.Clauses.{unless, absent, present, first}
 use Rattle.cg_model.specs.Limits.{is_under}
 use Rattle.cg_model.specs.Bars.{level_bars, limit_bars, row_above, writes_above}
@@ -21,7 +21,7 @@ use Rattle.cg_model.specs.declared.operation.Op.{Op}
 use Rattle.cg_model.specs.declared.operation.Op.TheVariants.{Move, Mkdir}
 use Rattle.cg_model.specs.declared.outcome.Refusal.{Refusal}
 use Rattle.cg_model.specs.declared.outcome.Refusal.TheVariants.{Exists, NoSuchCgroup, NoAccess, DescendantLimit, DepthLimit}
-use Rattle.cg_steps.proofs.Prefixes.{no_root_of_length}
+use Rattle.cg_model.proofs.Prefixes.{no_root_of_length}
 use Rattle.cg_model.specs.Tries.{probe, free_probe, numbers_from, is_inside, probe_tries_at, probe_tries}
 use Rattle.cg_model.specs.Escapes.{breaks}
 use Rattle.cg_tries.specs.Escapes.{IsUnbroken}

@@ -18,10 +18,10 @@ use Rattle.cg_cgroup.proofs.PathParents.{inside-is}
 use Rattle.cg_cgroup.proofs.UserLaws.{writes-made_by}
 use Rattle.cg_model.specs.States.{State, row_at, place_at, with_row, count_below, depth_below}
 use Rattle.cg_model.specs.WellFormed.{IsWellFormed, has_row, enabled_at}
-use Rattle.cg_steps.proofs.StateLaws.{row_at-with_row}
-use Rattle.cg_steps.proofs.StateCounts.{count_below-with_row, depth_below-with_row}
-use Rattle.cg_steps.proofs.StateEntries.{value_at-with_row}
-use Rattle.cg_steps.proofs.TreeLaws.{take-there}
+use Rattle.cg_model.proofs.StateLaws.{row_at-with_row}
+use Rattle.cg_model.proofs.StateCounts.{count_below-with_row, depth_below-with_row}
+use Rattle.cg_model.proofs.StateEntries.{value_at-with_row}
+use Rattle.cg_model.proofs.TreeLaws.{take-there}
 use Rattle.cg_model.specs.Clauses.{first}
 use Rattle.cg_model.specs.Bars.{bars}
 use Rattle.cg_model.specs.Steps.{after}

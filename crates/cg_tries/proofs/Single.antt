@@ -13,23 +13,23 @@ use Rattle.cg_cgroup.proofs.PathOrder.{same_path_refl}
 use Rattle.cg_cgroup.proofs.CgroupLaws.{same_file-refl}
 use Rattle.cg_model.specs.States.{State, row_at, process_at, place_at, with_value, with_place, placed_at, without_row}
 use Rattle.cg_model.specs.WellFormed.{has_row}
-use Rattle.cg_steps.proofs.StateLaws.{row_at-without_row, process_at-with_place-same}
-use Rattle.cg_steps.proofs.StateEntries.{value_at-with_value}
+use Rattle.cg_model.proofs.StateLaws.{row_at-without_row, process_at-with_place-same}
+use Rattle.cg_model.proofs.StateEntries.{value_at-with_value}
 use Rattle.cg_model.specs.Clauses.{first}
 use Rattle.cg_model.specs.Steps.{after}
-use Rattle.cg_steps.proofs.ClauseLaws.{no_parts, no_unless}
+use Rattle.cg_model.proofs.ClauseLaws.{no_parts, no_unless}
 use Rattle.cg_model.specs.Bars.{bars}
 use Rattle.cg_model.specs.Next.{next}
 use Rattle.cg_model.specs.declared.operation.Op.{Op}
 use Rattle.cg_model.specs.declared.operation.Op.TheVariants.{Move, Rmdir, Set}
 use Rattle.cg_model.specs.Limits.{limits, same_limits}
 use Rattle.cg_model.specs.Edge.{is_crossed}
-use Rattle.cg_steps.proofs.Edges.{crosses-some}
+use Rattle.cg_model.proofs.Edges.{crosses-some}
 use Rattle.cg_model.specs.Verdicts.{broken}
 use Rattle.cg_model.specs.declared.verdict.Clause.{Clause}
 use Rattle.cg_model.specs.declared.verdict.Clause.TheVariants.{Gone, Limits}
-use Rattle.cg_steps.proofs.LimitLaws.{same_limits-is}
-use Rattle.cg_steps.proofs.BrokenLaws.{broken-whole}
+use Rattle.cg_model.proofs.LimitLaws.{same_limits-is}
+use Rattle.cg_model.proofs.BrokenLaws.{broken-whole}
 use Rattle.cg_model.specs.Tries.{other_value}
 use Rattle.cg_model.specs.Escapes.{breaks}
 use Rattle.cg_tries.specs.Escapes.{IsUnbroken}

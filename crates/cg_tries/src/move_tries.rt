@@ -8,10 +8,10 @@ use crate::asker::Asker;
 use cg_cgroup::memory::NoMemory;
 use cg_cgroup::path::Path;
 use cg_cgroup::process::Pid;
+use cg_model::hierarchy::Hierarchy;
 use cg_model::operation::Op;
 use cg_model::operations::Operations;
 use cg_ops::moves::{may_hold, passes, passes_at};
-use cg_tree::hierarchy::Hierarchy;
 use std::alloc::Global;
 
 /// Whether the user writes the `cgroup.procs` of a proper ancestor: no move goes over the edge where he writes none.
@@ -32,7 +32,7 @@ pub fn passes_above<H: Hierarchy>(asker: &Asker<H>) -> bool
 }
 
 /// Whether a process may come to a cgroup, once it may pass.
-#[tactic(auto, using(cg_steps::proofs::Prefixes::take_whole))]
+#[tactic(auto, using(cg_model::proofs::Prefixes::take_whole))]
 fn receives<H: Hierarchy>(asker: &Asker<H>, path: &Path) -> bool
     ensures { result ≡ receives (H.state asker.now.tree.now) asker.now.user.now path.now }
 {

@@ -13,8 +13,8 @@ use crate::write_tries::first_write;
 use cg_cgroup::memory::NoMemory;
 use cg_cgroup::path::Path;
 use cg_cgroup::user::User;
+use cg_model::hierarchy::Hierarchy;
 use cg_model::operations::Operations;
-use cg_tree::hierarchy::Hierarchy;
 use std::alloc::Global;
 
 /// The first move over the edge, or new cgroup above with a move there, that breaks the subtree.

@@ -11,10 +11,10 @@ use cg_cgroup::files::Limit;
 use cg_cgroup::memory::NoMemory;
 use cg_cgroup::path::{Path, PathFault};
 use cg_cgroup::process::Pid;
+use cg_model::hierarchy::Hierarchy;
+use cg_model::limits::is_under;
 use cg_model::operation::Op;
 use cg_model::operations::Operations;
-use cg_tree::hierarchy::Hierarchy;
-use cg_tree::limits::is_under;
 use std::alloc::Global;
 
 /// The first of these processes that is inside the subtree.
@@ -94,7 +94,7 @@ fn probe(alloc: Global, subtree: &Path, len: usize, number: usize) -> Result<Opt
 }
 
 /// Whether there is a cgroup of a path.
-#[tactic(auto, using(cg_steps::proofs::Prefixes::take_whole))]
+#[tactic(auto, using(cg_model::proofs::Prefixes::take_whole))]
 fn is_there<H: Hierarchy>(tree: &H, path: &Path) -> bool
     ensures { result ≡ has_row (H.state tree.now) path.now }
 {

@@ -12,10 +12,10 @@ use cg_cgroup::cgroup::Cgroup;
 use cg_cgroup::files::{Controller, Limit, LimitFile};
 use cg_cgroup::memory::NoMemory;
 use cg_model::changes::{Change, Changes};
+use cg_model::hierarchy::Hierarchy;
 use cg_model::operation::Op;
 use cg_model::operations::Operations;
 use cg_ops::refusal;
-use cg_tree::hierarchy::Hierarchy;
 
 /// An operation alone, where nothing refuses it.
 fn if_allowed<H: Hierarchy>(asker: &Asker<H>, op: Op) -> Result<Option<Operations>, NoMemory>
@@ -73,7 +73,7 @@ fn first_set<H: Hierarchy>(
 }
 
 /// Whether the subtree's parent enables a controller.
-#[tactic(auto, using(cg_steps::proofs::Prefixes::take_parent))]
+#[tactic(auto, using(cg_model::proofs::Prefixes::take_parent))]
 fn is_enabled_above<H: Hierarchy>(asker: &Asker<H>, controller: Controller) -> bool
     requires { is_root asker.now.subtree.now ≡ false }
     ensures { result ≡ enables (enabled_at (H.state asker.now.tree.now) (parent asker.now.subtree.now)) controller }
@@ -85,7 +85,7 @@ fn is_enabled_above<H: Hierarchy>(asker: &Asker<H>, controller: Controller) -> b
 }
 
 /// The change of a controller that has an effect at the subtree's parent, where the user may make it.
-#[tactic(auto, using(cg_steps::proofs::Prefixes::take_parent))]
+#[tactic(auto, using(cg_model::proofs::Prefixes::take_parent))]
 fn control_of<H: Hierarchy>(
     asker: &Asker<H>,
     controller: Controller,

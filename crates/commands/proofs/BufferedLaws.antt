@@ -3,21 +3,24 @@ use Rattle.std.proofs.Common.{◌∙◌, ℕ, Bool, true, false, List, map, inl,
 use Rattle.std.specs.Prelude.{Option, Some, None, Result, Ok, Err, MatchBool}
 use Rattle.std.specs.Io.KnownBytes.{Appends, Keeps}
 use Rattle.arguments.specs.declared.request.Audit.{Audit}
+use Rattle.arguments.specs.declared.request.Advise.{Advise}
 use Rattle.arguments.specs.declared.request.Request.{Request}
 use Rattle.arguments.specs.declared.request.Request.TheVariants as request
 use Rattle.arguments.specs.Given.{ids_of}
 use Rattle.cg_model.specs.Listed.{Listed}
 use Rattle.cg_format.specs.Readings.{Reading}
 use Rattle.cg_cli.specs.AllPairs.{all_report, ReportsPairs}
+use Rattle.cg_cli.specs.Advising.{advise_report}
 use Rattle.cg_cli.specs.Audits.{audit_report}
+use Rattle.cg_cli.specs.FurtherAdvice.{AdvisesFurther}
 use Rattle.cg_cli.specs.Upgrades.{Upgrades}
 use Rattle.streams.specs.Written.{AppendsPart}
 use Rattle.cg_cli.specs.Replays.{closed}
 use Rattle.cg_cli.specs.Replaying.{Reporting, Replays, ReplaysFrom}
 use Rattle.cg_cli.specs.Reports.{Report, Reports}
-use Rattle.cg_cli.specs.declared.fault.CliFault.{CliFault}
-use Rattle.cg_cli.specs.declared.fault.CliFault.TheVariants.{Read, Write, NoMemory}
-use Rattle.commands.specs.Requests.{Files, IsUnread, AuditSays, OnTree, pairs_said, OnPairs, replay_said, ReplaysOver, CarriesOut}
+use Rattle.cg_faults.specs.declared.fault.CliFault.{CliFault}
+use Rattle.cg_faults.specs.declared.fault.CliFault.TheVariants.{Read, Write, NoMemory}
+use Rattle.commands.specs.Requests.{Files, IsUnread, AdviseSays, AuditSays, OnTree, pairs_said, OnPairs, replay_said, ReplaysOver, CarriesOut}
 
 pub Appends-Keeps : (old mid new : Option (List ℕ)) (bs : List ℕ) → Appends old mid bs → Keeps mid new → Appends old new bs
 Appends-Keeps None mid new bs a k = tt
@@ -89,6 +92,26 @@ AuditSays-Keeps audit old mid new result tree said k =
     AuditSays-by audit.all (all_report tree (map ids_of audit.users.items) (map (λ subtree. subtree.now) audit.subtrees.items))
     (audit_report tree (map ids_of audit.users.items) (map (λ subtree. subtree.now) audit.subtrees.items)) old mid new result said k
 
+AdvisesFurther-Keeps : (tree : Reading) (users : List (ℕ × List ℕ)) (subtrees : List (List ℕ)) (old mid new : Option (List ℕ))
+    (result : Result ℕ CliFault)
+    → AdvisesFurther tree users subtrees old mid result → Keeps mid new → AdvisesFurther tree users subtrees old new result
+AdvisesFurther-Keeps tree users subtrees old mid new result (inl said) k = inl (Reports-Keeps _ old mid new result said k)
+AdvisesFurther-Keeps tree users subtrees old mid new result (inr held) k = inr (Reports-Keeps _ old mid new result held.0 k, held.1)
+
+AdviseSays-by : (settle : Bool) (tree : Reading) (users : List (ℕ × List ℕ)) (subtrees : List (List ℕ)) (old mid new : Option (List ℕ))
+    (result : Result ℕ CliFault)
+    → MatchBool settle (AdvisesFurther tree users subtrees old mid result) (Reports (advise_report tree users subtrees) old mid result)
+    → Keeps mid new
+    → MatchBool settle (AdvisesFurther tree users subtrees old new result) (Reports (advise_report tree users subtrees) old new result)
+AdviseSays-by true tree users subtrees old mid new result said k = AdvisesFurther-Keeps tree users subtrees old mid new result said k
+AdviseSays-by false tree users subtrees old mid new result said k = Reports-Keeps _ old mid new result said k
+
+AdviseSays-Keeps : (advise : Advise) (old mid new : Option (List ℕ)) (result : Result ℕ CliFault) (tree : Reading)
+    → AdviseSays advise old mid result tree → Keeps mid new → AdviseSays advise old new result tree
+AdviseSays-Keeps advise old mid new result tree said k =
+    AdviseSays-by advise.settle tree (map ids_of advise.users.items) (map (λ subtree. subtree.now) advise.subtrees.items) old mid new result
+    said k
+
 Upgrades-Keeps : (tree : Reading) (old mid new : Option (List ℕ)) (result : Result ℕ CliFault) → Upgrades old mid result tree
     → Keeps mid new → Upgrades old new result tree
 Upgrades-Keeps tree old mid new result h k =
@@ -123,7 +146,7 @@ CarriesOut-Keeps (request.Settle check) files given old mid new result h k =
 CarriesOut-Keeps (request.Audit audit) files given old mid new result h k =
     OnTree-Keeps _ _ _ old mid new result (λ tree said. AuditSays-Keeps audit old mid new result tree said k) h k
 CarriesOut-Keeps (request.Advise advise) files given old mid new result h k =
-    OnTree-Keeps _ _ _ old mid new result (λ tree said. Reports-Keeps _ old mid new result said k) h k
+    OnTree-Keeps _ _ _ old mid new result (λ tree said. AdviseSays-Keeps advise old mid new result tree said k) h k
 CarriesOut-Keeps (request.AdvisePairs advise) files given old mid new result h k = OnPairs-Keeps _ _ old mid new result h k
 CarriesOut-Keeps (request.Replay replay) files given old mid new result h k =
     OnTree-Keeps _ _ _ old mid new result (λ tree said. ReplaysOver-Keeps _ (replay_said replay tree) old mid new result said k) h k

@@ -2,10 +2,10 @@
 use Rattle.std.proofs.Common.{inl, inr, ℕ, List, false}
 use Rattle.std.specs.Prelude.{Option, Result, Ok, Err, OnOk, OnErr}
 use Rattle.std.specs.Io.KnownBytes.{Appends}
-use Rattle.cg_cli.specs.FaultLines.{fault_line}
+use Rattle.cg_faults.specs.FaultLines.{fault_line}
 use Rattle.streams.specs.Written.{AppendsPart}
-use Rattle.cg_cli.specs.declared.fault.CliFault.{CliFault}
-use Rattle.cg_cli.specs.declared.fault.CliFault.TheVariants.{NoMemory}
+use Rattle.cg_faults.specs.declared.fault.CliFault.{CliFault}
+use Rattle.cg_faults.specs.declared.fault.CliFault.TheVariants.{NoMemory}
 use Rattle.commands.specs.declared.fault.Fault.TheVariants.{Cli}
 use Rattle.commands.specs.Faults.{WritesFront, Prints}
 

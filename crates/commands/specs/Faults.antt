@@ -3,9 +3,9 @@ use Rattle.std.specs.Prelude.{ℕ, Bool, true, false, List, codes, Option, ◌�
 use Rattle.std.specs.Io.KnownBytes.{Appends}
 use Rattle.arguments.specs.declared.fault.ArgumentsFault.{ArgumentsFault}
 use Rattle.arguments.specs.declared.fault.ArgumentsFault.TheVariants as arguments
-use Rattle.cg_cli.specs.FaultLines.{plain_line, fault_line}
+use Rattle.cg_faults.specs.FaultLines.{plain_line, fault_line}
 use Rattle.streams.specs.Written.{AppendsPart}
-use Rattle.cg_cli.specs.declared.fault.CliFault.TheVariants.{NoMemory}
+use Rattle.cg_faults.specs.declared.fault.CliFault.TheVariants.{NoMemory}
 use Rattle.commands.specs.declared.fault.Fault.{Fault}
 use Rattle.commands.specs.declared.fault.Fault.TheVariants.{Usage, Cli}
 

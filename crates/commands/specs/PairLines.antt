@@ -10,8 +10,8 @@ use Rattle.cg_lines.specs.declared.lines.fault.LineFault.TheVariants.{TooLong, B
 use Rattle.arguments.specs.UserWords.{pair_at}
 use Rattle.cg_cli.specs.AllPairs.{read_then}
 use Rattle.cg_cli.specs.Replays.{is_newline}
-use Rattle.cg_cli.specs.declared.fault.CliFault.{CliFault}
-use Rattle.cg_cli.specs.declared.fault.CliFault.TheVariants.{Line}
+use Rattle.cg_faults.specs.declared.fault.CliFault.{CliFault}
+use Rattle.cg_faults.specs.declared.fault.CliFault.TheVariants.{Line}
 
 -- a uid and gids, and the path of a subtree
 abbrev pub GivenPair : Type 0

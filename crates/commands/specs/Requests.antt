@@ -18,12 +18,13 @@ use Rattle.cg_cli.specs.Settling.{AskedReports, FurtherSays, IsFurther}
 use Rattle.cg_cli.specs.Audits.{audit_report}
 use Rattle.cg_cli.specs.AllPairs.{all_report, ReportsPairs}
 use Rattle.cg_cli.specs.Advising.{advise_report, advise_pairs_report}
+use Rattle.cg_cli.specs.FurtherAdvice.{AdvisesFurther}
 use Rattle.cg_cli.specs.Upgrades.{Upgrades}
 use Rattle.cg_cli.specs.Replays.{closed, lines_report}
 use Rattle.cg_cli.specs.Replaying.{Reporting, ReplaysFrom}
 use Rattle.cg_cli.specs.Reports.{Report, Reports, report_on}
-use Rattle.cg_cli.specs.declared.fault.CliFault.{CliFault}
-use Rattle.cg_cli.specs.declared.fault.CliFault.TheVariants.{Read, NoMemory}
+use Rattle.cg_faults.specs.declared.fault.CliFault.{CliFault}
+use Rattle.cg_faults.specs.declared.fault.CliFault.TheVariants.{Read, NoMemory}
 use Rattle.commands.specs.PairLines.{pairs_read}
 
 -- ---- what there is to read
@@ -65,8 +66,12 @@ abbrev pub SettlesAs : Check → Option (List ℕ) → Option (List ℕ) → Res
 SettlesAs check old new result tree =
     AskedReports (FurtherSays IsFurther) tree check.user.uid check.user.gids.items check.subtree.now old new result
 
-abbrev pub advise_said : Advise → Reading → Report
-advise_said advise tree = advise_report tree (map ids_of advise.users.items) (map (λ subtree. subtree.now) advise.subtrees.items)
+-- what guards tell to change, or what is told where more is known
+abbrev pub AdviseSays : Advise → Option (List ℕ) → Option (List ℕ) → Result ℕ CliFault → Reading → Type 0
+AdviseSays advise old new result tree =
+    let users = map ids_of advise.users.items in
+    let subtrees = map (λ subtree. subtree.now) advise.subtrees.items in
+    MatchBool advise.settle (AdvisesFurther tree users subtrees old new result) (Reports (advise_report tree users subtrees) old new result)
 
 -- the first fault of the lines of a text, or the report on the pairs that they name
 abbrev pub pairs_said : List ℕ → Reading → Report
@@ -129,7 +134,7 @@ CarriesOut (request.Settle check) files given old new result =
 CarriesOut (request.Audit audit) files given old new result =
     OnTree (source files (name_of audit.tree) given) (AuditSays audit old new result) old new result
 CarriesOut (request.Advise advise) files given old new result =
-    ReportsOnTree (source files (name_of advise.tree) given) (advise_said advise) old new result
+    OnTree (source files (name_of advise.tree) given) (AdviseSays advise old new result) old new result
 CarriesOut (request.AdvisePairs advise) files given old new result =
     OnPairs (source files (tree_file advise.sources) given) (source files (other_file advise.sources) given) old new result
 CarriesOut (request.Upgrade upgrade) files given old new result =

@@ -4,10 +4,12 @@ ghost use Rattle.cg_format.specs.Readings.{OnText};
 ghost use Rattle.cg_cli.specs.Pairs.{pair_given};
 ghost use Rattle.cg_cli.specs.AllPairs.{all_report, ReportsPairs};
 ghost use Rattle.cg_cli.specs.Audits.{audit_report};
+ghost use Rattle.cg_cli.specs.Advising.{advise_report};
+ghost use Rattle.cg_cli.specs.FurtherAdvice.{AdvisesFurther};
 ghost use Rattle.cg_cli.specs.Reports.{Reports};
 ghost use Rattle.cg_cli.specs.Upgrades.{Upgrades};
 ghost use Rattle.arguments.specs.Given.{ids_of, ids_of_pair, tree_file, other_file};
-ghost use Rattle.commands.specs.Requests.{source, name_of, IsTree, may_said, check_said, advise_said, AuditSays, OnTree, ReportsOnTree, SettlesOnTree, ArePairs, ReportsOnPairs, OnPairs, replay_said, ReplaysOver, ReplaysOnTree, CarriesOut};
+ghost use Rattle.commands.specs.Requests.{source, name_of, IsTree, may_said, check_said, AdviseSays, AuditSays, OnTree, ReportsOnTree, SettlesOnTree, ArePairs, ReportsOnPairs, OnPairs, replay_said, ReplaysOver, ReplaysOnTree, CarriesOut};
 
 use crate::pairs::{line_at, read_pairs};
 use arguments::named_pair::NamedPair;
@@ -17,15 +19,16 @@ use arguments::request::{
 };
 use cg_cli::advise::advise_bytes;
 use cg_cli::advise_pairs::{PairIds, advise_pairs_bytes};
+use cg_cli::advise_settle::advise_settled_bytes;
 use cg_cli::arguments::UserIds;
 use cg_cli::audit::audit_bytes;
 use cg_cli::audit_all::audit_all_bytes;
 use cg_cli::check::check_bytes;
-use cg_cli::fault::CliFault;
 use cg_cli::may::may_bytes;
 use cg_cli::replay::replay_from;
 use cg_cli::settle::settle_bytes;
 use cg_cli::upgrade::upgrade_bytes;
+use cg_faults::fault::CliFault;
 use std::alloc::Global;
 use std::io::{BufReader, Read, Write};
 use streams::again::Again;
@@ -123,18 +126,35 @@ fn advise<F: Files, I: Read + Drop, W: Write>(
     input: I,
     out: &mut W,
 ) -> Result<u8, CliFault>
-    ensures { ReportsOnTree (source (F.given files.now) (name_of asked.now.tree) (I.remaining input)) (advise_said asked.now)
+    ensures { OnTree (source (F.given files.now) (name_of asked.now.tree) (I.remaining input))
+        (AdviseSays asked.now (W.contents out.old) (W.contents out.new) result)
         (W.contents out.old) (W.contents out.new) result }
 {
     let tree = tree_text(alloc, files, asked.tree, input)?;
     let users = all_ids(alloc, asked.users.as_slice())?;
-    advise_bytes(
-        alloc,
-        tree.as_slice(),
-        users.as_slice(),
-        asked.subtrees.as_slice(),
-        out,
-    )
+    advised_by(alloc, tree.as_slice(), users.as_slice(), asked, out)
+}
+
+/// Advises on a tree, by its guards alone or looking further.
+fn advised_by<W: Write>(
+    alloc: Global,
+    tree: &[u8],
+    users: &[UserIds<'_>],
+    request: &Advise<'_>,
+    out: &mut W,
+) -> Result<u8, CliFault>
+    ensures { OnText tree.now (λ read. MatchBool request.now.settle
+        (AdvisesFurther read (map (λ user. (user.uid, user.gids.now)) users.now) (map (λ subtree. subtree.now) request.now.subtrees.items)
+        (W.contents out.old) (W.contents out.new) result)
+        (Reports (advise_report read (map (λ user. (user.uid, user.gids.now)) users.now) (map (λ subtree. subtree.now) request.now.subtrees.items))
+        (W.contents out.old) (W.contents out.new) result)) }
+{
+    let subtrees = request.subtrees.as_slice();
+    if request.settle {
+        advise_settled_bytes(alloc, tree, users, subtrees, out)
+    } else {
+        advise_bytes(alloc, tree, users, subtrees, out)
+    }
 }
 
 /// Advises on the pairs of a text. Where one of its lines ends it, `line` is that line.

@@ -3,10 +3,10 @@ ghost use Rattle.std.specs.Prelude.{◌≡◌, ◌≢◌, ◌⊎◌};
 ghost use Rattle.std.specs.IoError.{error_kind};
 ghost use Rattle.commands.specs.Faults.{lifted, Prints};
 ghost use Rattle.commands.specs.declared.fault.Fault.TheVariants.{Cli};
-ghost use Rattle.cg_cli.specs.declared.fault.CliFault.TheVariants.{NoMemory as MemoryFault};
+ghost use Rattle.cg_faults.specs.declared.fault.CliFault.TheVariants.{NoMemory as MemoryFault};
 
 use arguments::fault::ArgumentsFault;
-use cg_cli::fault::{CliFault, fault_text};
+use cg_faults::fault::{CliFault, fault_text};
 use std::alloc::{AllocError, Global};
 use std::io;
 use std::io::{ErrorKind, Write};

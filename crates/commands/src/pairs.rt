@@ -3,15 +3,15 @@ ghost use Rattle.std.specs.Prelude.{◌≡◌, ◌≢◌, ◌+◌, ◌<◌, ◌+
 ghost use Rattle.std.specs.List.{slice_split};
 ghost use Rattle.arguments.specs.Given.{ids_of_pair};
 ghost use Rattle.cg_cli.specs.Replays.{is_newline};
-ghost use Rattle.cg_cli.specs.declared.fault.CliFault.TheVariants.{Line};
+ghost use Rattle.cg_faults.specs.declared.fault.CliFault.TheVariants.{Line};
 ghost use Rattle.cg_lines.specs.declared.lines.fault.LineFault.TheVariants.{BadWord};
 ghost use Rattle.commands.specs.PairLines.{GivenPair, words_read, line_read, text_end_read, pieces_read, pairs_read};
 
 use arguments::fault::ArgumentsFault;
 use arguments::named_pair::NamedPair;
 use cg_cgroup::path::{Path, PathFault};
-use cg_cli::fault::CliFault;
 use cg_cli::replay::line_end;
+use cg_faults::fault::CliFault;
 use cg_lines::lines::LineFault;
 use std::alloc::Global;
 use std::str;

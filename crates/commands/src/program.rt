@@ -6,7 +6,7 @@ ghost use Rattle.commands.specs.Runs.{exit_status, Tells, RunsTo};
 ghost use Rattle.commands.specs.declared.fault.Fault.{Fault};
 ghost use Rattle.commands.specs.declared.fault.Fault.TheVariants.{Cli, Usage as UsageFault};
 ghost use Rattle.streams.specs.declared.write.WriteFailed.{WriteFailed};
-ghost use Rattle.cg_cli.specs.declared.fault.CliFault.TheVariants.{NoMemory as MemoryFault};
+ghost use Rattle.cg_faults.specs.declared.fault.CliFault.TheVariants.{NoMemory as MemoryFault};
 
 use crate::fault::Fault;
 use crate::run::run;

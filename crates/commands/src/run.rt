@@ -4,12 +4,12 @@ ghost use Rattle.std.specs.Io.Buffered.{writer_buffer, writer_contents};
 ghost use Rattle.std.specs.Io.KnownBytes.{Keeps};
 ghost use Rattle.commands.specs.Runs.{IsFlushed, CarriesOutBuffered, LeadsTo, in_program, TellsWrites, RunsTo};
 ghost use Rattle.commands.specs.declared.fault.Fault.TheVariants.{Cli};
-ghost use Rattle.cg_cli.specs.declared.fault.CliFault.TheVariants.{NoMemory as MemoryFault};
+ghost use Rattle.cg_faults.specs.declared.fault.CliFault.TheVariants.{NoMemory as MemoryFault};
 
 use crate::carried::carried_out;
 use crate::fault::Fault;
 use arguments::request::Request;
-use cg_cli::fault::CliFault;
+use cg_faults::fault::CliFault;
 use std::alloc::Global;
 use std::io::{BufWriter, Read, Write};
 use streams::again::Again;

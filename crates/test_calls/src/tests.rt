@@ -1,5 +1,6 @@
 //! The tests, by what they are of.
 mod advise;
+mod advise_settle;
 mod answers_written;
 mod audit;
 mod audit_all;

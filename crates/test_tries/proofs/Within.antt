@@ -8,7 +8,7 @@ use Rattle.cg_model.specs.Clauses.{unless}
 use Rattle.cg_model.specs.Limits.{limits, fits_descendants, fits_depth}
 use Rattle.cg_model.specs.Edge.{is_crossed}
 use Rattle.cg_model.specs.declared.verdict.Clause.TheVariants.{Gone, Crossed, Limits as LimitsChanged, Descendants, Depth}
-use Rattle.cg_steps.proofs.LimitLaws.{same_limits-itself}
+use Rattle.cg_model.proofs.LimitLaws.{same_limits-itself}
 use Rattle.cg_tries.specs.Escapes.{IsUnbroken}
 
 uncrossed : (subtree : Names) (place : Option Names) → is_crossed subtree place place ≡ false

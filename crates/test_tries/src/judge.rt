@@ -8,9 +8,9 @@ use cg_cgroup::path::{Path, PathFault};
 use cg_cgroup::process::Pid;
 use cg_cgroup::user::User;
 use cg_model::changes::{Change, Changes};
+use cg_model::hierarchy::Hierarchy;
 use cg_model::operation::Op;
 use cg_rows::rows::Rows;
-use cg_tree::hierarchy::Hierarchy;
 use std::alloc::Global;
 
 /// The first of the plain tries that breaks the subtree.

@@ -7,16 +7,16 @@ use crate::random::Trees;
 use cg_cgroup::path::Path;
 use cg_cgroup::user::User;
 use cg_guards::failed::is_over;
+use cg_model::hierarchy::Hierarchy;
 use cg_model::operation::Op;
 use cg_rows::rows::Rows;
-use cg_tree::hierarchy::Hierarchy;
 use cg_tries::plain::first_plain_try;
 use std::alloc::Global;
 use std::process::Abort;
 use std::test::Fail;
 
 /// Whether there is a cgroup of a path.
-#[tactic(auto, using(cg_steps::proofs::Prefixes::take_whole))]
+#[tactic(auto, using(cg_model::proofs::Prefixes::take_whole))]
 fn is_there<H: Hierarchy>(tree: &H, path: &Path) -> bool
     ensures { result ≡ has_row (H.state tree.now) path.now }
 {
@@ -35,7 +35,7 @@ fn kind(found: Option<&[Op]>) -> usize {
     }
 }
 
-#[tactic(auto, using(crate::proofs::Within::unbroken_within, cg_steps::proofs::Prefixes::no_root_of_length))]
+#[tactic(auto, using(crate::proofs::Within::unbroken_within, cg_model::proofs::Prefixes::no_root_of_length))]
 /// Asks for a subtree, where it may be asked about, and gives the kind of what breaks it.
 fn ask(
     rt: &impl Abort,

@@ -6,11 +6,11 @@ use cg_cgroup::path::{Path, PathFault};
 use cg_cgroup::process::Pid;
 use cg_cgroup::user::{Mode, User};
 use cg_model::changes::{Change, Changes};
+use cg_model::hierarchy::Hierarchy;
 use cg_model::operation::Op;
 use cg_model::outcome::{Outcome, Refusal};
 use cg_ops::apply;
 use cg_rows::rows::Rows;
-use cg_tree::hierarchy::Hierarchy;
 use std::alloc::Global;
 use test_trees::random::Random;
 

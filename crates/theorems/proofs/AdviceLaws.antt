@@ -14,8 +14,8 @@ use Rattle.cg_model.specs.Several.{AreContained}
 use Rattle.cg_model.specs.Once.{once}
 use Rattle.cg_model.specs.Mends.{Pair, advised}
 use Rattle.cg_model.specs.Advised.{AreCountable}
-use Rattle.cg_steps.proofs.Lists.{all-append}
-use Rattle.cg_steps.proofs.OnceLaws.{all-once}
+use Rattle.cg_model.proofs.Lists.{all-append}
+use Rattle.cg_model.proofs.OnceLaws.{all-once}
 use Rattle.cg_check.proofs.Checking.{no_fault}
 use Rattle.cg_check.proofs.Pairs.{none-element}
 use Rattle.cg_advice.specs.AdviceLines.{is_pair_guarded, pairs_lines, advice_lines}
@@ -23,8 +23,8 @@ use Rattle.cg_cli.specs.Arguments.{or_fault, user_read}
 use Rattle.cg_cli.specs.Audits.{read_before, users_read, paths_read}
 use Rattle.cg_cli.specs.Once.{same_user}
 use Rattle.cg_cli.specs.Advising.{lines_report, pair_with, all_pairs, advise_report, IsAdvisable, AreNamed}
-use Rattle.cg_cli.specs.declared.fault.CliFault.{CliFault}
-use Rattle.cg_cli.specs.declared.fault.CliFault.TheVariants.{Uid, Gids}
+use Rattle.cg_faults.specs.declared.fault.CliFault.{CliFault}
+use Rattle.cg_faults.specs.declared.fault.CliFault.TheVariants.{Uid, Gids}
 use Rattle.cg_cli.proofs.AdvisedTrees.{contained-advised}
 use Rattle.cg_cli.proofs.AuditOnce.{same_user-is, some_once, contained_once}
 use Rattle.theorems.proofs.ListedLaws.{none, single, of_one}

@@ -28,7 +28,7 @@ use Rattle.cg_cli.specs.Arguments.{or_fault, user_read, path_read}
 use Rattle.cg_cli.specs.Containment.{in_call, answer_status, answer_report, subtree_report, check_report}
 use Rattle.cg_cli.specs.May.{tree_read}
 use Rattle.cg_cli.specs.Reports.{report_on}
-use Rattle.cg_cli.specs.declared.fault.CliFault.TheVariants.{Uid, Gids, BadPath}
+use Rattle.cg_faults.specs.declared.fault.CliFault.TheVariants.{Uid, Gids, BadPath}
 use Rattle.cg_cli.proofs.CheckReports.{report_is}
 use Rattle.cg_escapes.proofs.EscapeReplays.{report_ok, found_is, status_is, unfaulted}
 use Rattle.theorems.specs.Guarded.{NamesGuarded}

@@ -5,5 +5,6 @@ mod AdviceLaws
 mod PairedLaws
 mod ReplayedLaws
 mod SettledLaws
+mod FurtherLaws
 mod MayLaws
 mod ProgramLaws

@@ -14,7 +14,7 @@ use Rattle.cg_lines.specs.Outcomes.{outcome_text}
 use Rattle.cg_cli.specs.Arguments.{user_read, pid_read, path_read}
 use Rattle.cg_cli.specs.May.{permission, move_report, tree_read, may_report}
 use Rattle.cg_cli.specs.Reports.{Report, report_on}
-use Rattle.cg_cli.specs.declared.fault.CliFault.{CliFault}
+use Rattle.cg_faults.specs.declared.fault.CliFault.{CliFault}
 
 abbrev said_by : Op → List Refusal → Report
 said_by op found = let said : List ℕ × ℕ = permission op (first found) in record { text = said.0; ending = Ok said.1 }

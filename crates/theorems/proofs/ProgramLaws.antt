@@ -1,6 +1,6 @@
 -- What the program's status and its writers say, by the request that its words make.
 use Rattle.std.proofs.Common.{◌≡◌, ◌≢◌, ℕ, Bool, true, false, List, [], map, take, Option, Some, Result, Ok, Err, ap, ◌∙◌, subst, inl, inr, ⊎_elim, ◌≤◌, length, refl, arith}
-use Rattle.std.specs.Prelude.{None, IsOk, IfSome, MatchBool}
+use Rattle.std.specs.Prelude.{◌⊎◌, None, IsOk, IfSome, MatchBool, codes}
 use Rattle.std.specs.Io.KnownBytes.{Keeps}
 use Rattle.std.proofs.lemmas.List.{take_all}
 use Rattle.cg_cgroup.specs.Paths.{Names, path_at}
@@ -16,6 +16,8 @@ use Rattle.cg_model.specs.Several.{AreContained}
 use Rattle.cg_format.specs.Readings.{Reading, IsReading}
 use Rattle.cg_format.specs.TextOf.{IsTextOf}
 use Rattle.cg_format.proofs.ReadingLaws.{one_reading}
+use Rattle.cg_cli.specs.Advising.{advise_report}
+use Rattle.cg_cli.specs.FurtherAdvice.{AreHeld}
 use Rattle.cg_cli.specs.AllPairs.{all_report, ReportsPairs}
 use Rattle.cg_cli.specs.Containment.{answer_report}
 use Rattle.cg_cli.specs.Settling.{IsFurther}
@@ -24,7 +26,7 @@ use Rattle.cg_cli.specs.Replays.{closed, replay_report}
 use Rattle.cg_cli.specs.Replaying.{Reporting, Replays}
 use Rattle.cg_cli.specs.Reports.{Reports}
 use Rattle.cg_cli.specs.Upgrades.{Upgrades, IsNewText, upgrade_report}
-use Rattle.cg_cli.specs.declared.fault.CliFault.{CliFault}
+use Rattle.cg_faults.specs.declared.fault.CliFault.{CliFault}
 use Rattle.clap.specs.declared.error.Error.{Error}
 use Rattle.arguments.specs.Words.{Makes}
 use Rattle.arguments.specs.Given.{ids_of, tree_file, other_file}
@@ -38,13 +40,14 @@ use Rattle.arguments.specs.declared.request.Replay.{Replay}
 use Rattle.arguments.specs.declared.request.Request.{Request}
 use Rattle.arguments.specs.declared.request.Request.TheVariants as request
 use Rattle.streams.specs.declared.write.WriteFailed.{WriteFailed}
-use Rattle.commands.specs.Requests.{Files, IsUnread, source, name_of, may_said, check_said, SettlesAs, advise_said, pairs_said, AuditSays, replay_said, OnTree, OnPairs, ReplaysOver, CarriesOut}
+use Rattle.commands.specs.Requests.{Files, IsUnread, source, name_of, may_said, check_said, SettlesAs, AdviseSays, pairs_said, AuditSays, replay_said, OnTree, OnPairs, ReplaysOver, CarriesOut}
 use Rattle.commands.specs.Runs.{IsFlushed, CarriesOutBuffered, LeadsTo, LiesBelow, RunsTo}
 use Rattle.commands.specs.declared.fault.Fault.{Fault}
 use Rattle.commands.specs.declared.fault.Fault.TheVariants.{Usage, Cli}
 use Rattle.commands.proofs.BufferedLaws.{CarriesOut-Keeps}
 use Rattle.theorems.proofs.GuardedLaws.{contained_by_status}
 use Rattle.theorems.proofs.SettledLaws.{settled_as}
+use Rattle.theorems.proofs.FurtherLaws.{further_told}
 use Rattle.theorems.proofs.StatusLaws.{all_contained_by_status}
 
 -- ---- what lies in the first writer
@@ -185,12 +188,6 @@ module _ (files : Files) (given old new : Option (List ℕ)) (status : ℕ) wher
         (on_state (SettlesAs check old new (Ok status)) (source files (name_of check.tree) given) old new status text st of_known of_text
         carried)
 
-    pub advise_ended : (advise : Advise) → CarriesOut (request.Advise advise) files given old new (Ok status)
-        → source files (name_of advise.tree) given ≡ Some text → IsTextOf st text → Reports (advise_said advise (Ok st)) old new (Ok status)
-    advise_ended advise carried of_known of_text =
-        on_state (λ read. Reports (advise_said advise read) old new (Ok status)) (source files (name_of advise.tree) given) old new status
-        text st of_known of_text carried
-
     pub advise_pairs_ended : (advise : AdvisePairs) (pairs : List ℕ)
         → CarriesOut (request.AdvisePairs advise) files given old new (Ok status)
         → source files (tree_file advise.sources) given ≡ Some text → source files (other_file advise.sources) given ≡ Some pairs
@@ -216,6 +213,31 @@ module _ (files : Files) (given old new : Option (List ℕ)) (status : ℕ) wher
         on_operations (replay_said replay (Ok st)) (source files (other_file replay.sources) given) old new status ops of_ops
         (on_state (λ read. ReplaysOver (source files (other_file replay.sources) given) (replay_said replay read) old new (Ok status))
         (source files (tree_file replay.sources) given) old new status text st of_known of_text carried)
+
+    module _ (advise : Advise) (carried : CarriesOut (request.Advise advise) files given old new (Ok status))
+        (of_known : source files (name_of advise.tree) given ≡ Some text) (of_text : IsTextOf st text) where
+      abbrev who : List (ℕ × List ℕ)
+      who = map ids_of advise.users.items
+
+      abbrev paths : List (List ℕ)
+      paths = map (λ subtree. subtree.now) advise.subtrees.items
+
+      told : AdviseSays advise old new (Ok status) (Ok st)
+      told =
+          on_state (AdviseSays advise old new (Ok status)) (source files (name_of advise.tree) given) old new status text st of_known
+          of_text carried
+
+      pub advise_ended : advise.settle ≡ false → Reports (advise_report (Ok st) who paths) old new (Ok status)
+      advise_ended guards = first_alone _ _ advise.settle guards told
+
+      pub advise_settled_ended : (users : List Identity) (subtrees : List Names) → advise.settle ≡ true → users_read who ≡ Ok users
+          → paths_read paths ≡ Ok subtrees → users ≢ []
+          → (Reports (advise_report (Ok st) who paths) old new (Ok status)
+          ⊎ Reports (record { text = codes "contained\n"; ending = Ok 0 }) old new (Ok status))
+          × (status ≡ 0 → AreHeld st users subtrees)
+      advise_settled_ended users subtrees further of_users of_paths some =
+          further_told st who paths users subtrees of_text.says.formed of_users of_paths some old new status
+          (each_alone _ _ advise.settle further told)
 
     module _ (audit : Audit) (carried : CarriesOut (request.Audit audit) files given old new (Ok status))
         (of_known : source files (name_of audit.tree) given ≡ Some text) (of_text : IsTextOf st text) where

@@ -19,7 +19,7 @@ use Rattle.cg_cli.specs.Reports.{Report, report_on}
 use Rattle.cg_cli.specs.Arguments.{user_read, path_read}
 use Rattle.cg_cli.specs.Courses.{Course, Unwatched, state_of, on_course, verdict_status}
 use Rattle.cg_cli.specs.Replays.{is_newline, longest_line, outcome_of, operation_read, with_front, lines_said, closed, course_read, replay_report}
-use Rattle.cg_cli.specs.declared.fault.CliFault.TheVariants.{Line}
+use Rattle.cg_faults.specs.declared.fault.CliFault.TheVariants.{Line}
 use Rattle.cg_cli.proofs.ReplayReports.{report_of_line}
 use Rattle.cg_escapes.specs.EscapeLines.{HasLine, HaveLines}
 use Rattle.cg_escapes.proofs.EscapeReplays.{on_all, said_of, said_before, all_said, watched}

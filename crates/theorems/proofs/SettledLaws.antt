@@ -22,9 +22,9 @@ use Rattle.cg_cli.specs.Containment.{in_call, answer_report}
 use Rattle.cg_cli.specs.May.{tree_read}
 use Rattle.cg_cli.specs.Reports.{Report, Reports}
 use Rattle.cg_cli.specs.Settling.{SaysOn, AskedSays, AskedReports, FurtherSays, IsFurther}
-use Rattle.cg_cli.specs.Faults.{lifted_check}
-use Rattle.cg_cli.specs.declared.fault.CliFault.{CliFault}
-use Rattle.cg_cli.specs.declared.fault.CliFault.TheVariants.{BadPath}
+use Rattle.cg_faults.specs.Faults.{lifted_check}
+use Rattle.cg_faults.specs.declared.fault.CliFault.{CliFault}
+use Rattle.cg_faults.specs.declared.fault.CliFault.TheVariants.{BadPath}
 use Rattle.theorems.proofs.GuardedLaws.{named_read}
 
 module _ (st : State) (user : Identity) (subtree : Names) where

@@ -2,7 +2,7 @@
 //! does anything. Those of a tree say first what holds of a state, and then, as `bytes`, what a report on a text says of it.
 #![tactic(auto)]
 
-ghost use Rattle.std.specs.Prelude.{◌≡◌, ◌≢◌, ◌↔◌, ◌≤◌, ℕ, ◌+◌, true, false, List, [], ◌∷◌, ◌++◌, length, map, codes, Option, Some, None, Result, Ok, Err, IsOk};
+ghost use Rattle.std.specs.Prelude.{◌≡◌, ◌≢◌, ◌↔◌, ◌⊎◌, ◌≤◌, ℕ, ◌+◌, true, false, List, [], ◌∷◌, ◌++◌, length, map, codes, Option, Some, None, Result, Ok, Err, IsOk};
 ghost use Rattle.std.specs.List.{All, Contains};
 ghost use Rattle.cg_cgroup.specs.Paths.{Names, path_at, same_path};
 ghost use Rattle.cg_cgroup.specs.Users.{IsUser, user_of};
@@ -53,9 +53,10 @@ ghost use Rattle.cg_cli.specs.Audits.{users_read, paths_read, audit_report};
 ghost use Rattle.cg_cli.specs.Once.{same_user};
 ghost use Rattle.cg_cli.specs.AllPairs.{all_report, ReportsPairs, UnlistedAreContained};
 ghost use Rattle.cg_cli.specs.Upgrades.{upgrade_report, IsNewText};
+ghost use Rattle.cg_cli.specs.FurtherAdvice.{AreHeld};
 ghost use Rattle.cg_cli.specs.Advising.{all_pairs, paired, advise_report, advise_pairs_report, IsAdvisable, AreNamed, AreContainedAsNamed};
-ghost use Rattle.cg_cli.specs.declared.fault.CliFault.{CliFault};
-ghost use Rattle.cg_cli.specs.declared.fault.CliFault.TheVariants.{Line};
+ghost use Rattle.cg_faults.specs.declared.fault.CliFault.{CliFault};
+ghost use Rattle.cg_faults.specs.declared.fault.CliFault.TheVariants.{Line};
 ghost use Rattle.cg_lines.specs.declared.lines.fault.LineFault.TheVariants.{BadWord};
 ghost use Rattle.cg_escapes.specs.EscapeLines.{HaveLines};
 ghost use Rattle.cg_escapes.specs.EscapeReplays.{IsReplayed};
@@ -72,7 +73,7 @@ ghost use Rattle.arguments.specs.declared.request.Upgrade.{Upgrade};
 ghost use Rattle.arguments.specs.declared.request.Replay.{Replay};
 ghost use Rattle.arguments.specs.declared.request.Request.{Request};
 ghost use Rattle.arguments.specs.declared.request.Request.TheVariants as request;
-ghost use Rattle.commands.specs.Requests.{Files, source, name_of, may_said, check_said, advise_said, pairs_said, CarriesOut};
+ghost use Rattle.commands.specs.Requests.{Files, source, name_of, may_said, check_said, pairs_said, CarriesOut};
 ghost use Rattle.commands.specs.Runs.{LeadsTo, RunsTo};
 ghost use Rattle.commands.specs.declared.fault.Fault.{Fault};
 ghost use Rattle.streams.specs.declared.write.WriteFailed.{WriteFailed};
@@ -273,9 +274,16 @@ pub fn the_program()
         → source files (name_of audit.tree) given ≡ Some text → IsTextOf st text
         → ReportsPairs (all_report (Ok st) (map ids_of audit.users.items) (map (λ subtree. subtree.now) audit.subtrees.items)) old new (Ok status) }
     ensures advise { (advise : Advise) (files : Files) (given old new : Option (List ℕ)) (status : ℕ) (text : List ℕ) (st : State)
-        → CarriesOut (request.Advise advise) files given old new (Ok status)
+        → CarriesOut (request.Advise advise) files given old new (Ok status) → advise.settle ≡ false
         → source files (name_of advise.tree) given ≡ Some text → IsTextOf st text
-        → Reports (advise_said advise (Ok st)) old new (Ok status) }
+        → Reports (advise_report (Ok st) (map ids_of advise.users.items) (map (λ subtree. subtree.now) advise.subtrees.items)) old new (Ok status) }
+    ensures advise_settled { (advise : Advise) (files : Files) (given old new : Option (List ℕ)) (status : ℕ) (text : List ℕ) (st : State) (users : List Identity) (subtrees : List Names)
+        → CarriesOut (request.Advise advise) files given old new (Ok status) → advise.settle ≡ true
+        → source files (name_of advise.tree) given ≡ Some text → IsTextOf st text → users_read (map ids_of advise.users.items) ≡ Ok users
+        → paths_read (map (λ subtree. subtree.now) advise.subtrees.items) ≡ Ok subtrees → users ≢ []
+        → (Reports (advise_report (Ok st) (map ids_of advise.users.items) (map (λ subtree. subtree.now) advise.subtrees.items)) old new (Ok status)
+        ⊎ Reports (record { text = codes "contained\n"; ending = Ok 0 }) old new (Ok status))
+        × (status ≡ 0 → AreHeld st users subtrees) }
     ensures advise_pairs { (advise : AdvisePairs) (files : Files) (given old new : Option (List ℕ)) (status : ℕ) (text pairs : List ℕ) (st : State)
         → CarriesOut (request.AdvisePairs advise) files given old new (Ok status)
         → source files (tree_file advise.sources) given ≡ Some text → source files (other_file advise.sources) given ≡ Some pairs

@@ -3,7 +3,7 @@ use crate::allocations::{made_of, spend};
 use crate::words::Words;
 use cg_cgroup::memory::NoMemory;
 use cg_cgroup::path::PathFault;
-use cg_cli::fault::CliFault;
+use cg_faults::fault::CliFault;
 use cg_lines::lines::LineFault;
 use cg_model::fault::CheckFault;
 use cg_runs::fault::StepFault;

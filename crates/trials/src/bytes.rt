@@ -6,15 +6,16 @@ use crate::trial::{Ended, Trial};
 use crate::words::Words;
 use cg_cli::advise::advise_bytes;
 use cg_cli::advise_pairs::{PairIds, advise_pairs_bytes};
+use cg_cli::advise_settle::advise_settled_bytes;
 use cg_cli::arguments::UserIds;
 use cg_cli::audit::audit_bytes;
 use cg_cli::audit_all::audit_all_bytes;
 use cg_cli::check::check_bytes;
-use cg_cli::fault::{CliFault, fault_text};
 use cg_cli::may::may_bytes;
 use cg_cli::replay::{replay_bytes, replay_from};
 use cg_cli::settle::settle_bytes;
 use cg_cli::upgrade::upgrade_bytes;
+use cg_faults::fault::{CliFault, fault_text};
 use std::alloc::Global;
 
 /// Room for every report, made before the call: a writer that wants memory is another trial.
@@ -28,6 +29,7 @@ enum Call<'a> {
     Settle(UserIds<'a>, &'a str),
     Advise(UserIds<'a>, &'a str),
     AdvisePairs(Vec<PairIds<'a>>),
+    AdviseSettled(UserIds<'a>, &'a str),
     Upgrade,
     Audit(Vec<UserIds<'a>>, Vec<&'a str>),
     AuditAll(Vec<UserIds<'a>>, Vec<&'a str>),
@@ -43,6 +45,9 @@ impl Call<'_> {
             Call::Settle(user, subtree) => settle_bytes(alloc, tree, *user, subtree, out),
             Call::Advise(user, subtree) => { advise_bytes(alloc, tree, &[*user], &[*subtree], out) }
             Call::AdvisePairs(pairs) => advise_pairs_bytes(alloc, tree, pairs.as_slice(), out),
+            Call::AdviseSettled(user, subtree) => {
+                advise_settled_bytes(alloc, tree, &[*user], &[*subtree], out)
+            }
             Call::Upgrade => upgrade_bytes(alloc, tree, out),
             Call::AuditAll(users, subtrees) => {
                 audit_all_bytes(alloc, tree, users.as_slice(), subtrees.as_slice(), out)
@@ -121,6 +126,7 @@ fn call_told<'a>(alloc: Global, words: &mut Words<'a>) -> Result<Call<'a>, Stopp
         "settle" => Ok(Call::Settle(user(words.id()?), words.next()?)),
         "advise" => Ok(Call::Advise(user(words.id()?), words.next()?)),
         "advise_pairs" => Ok(Call::AdvisePairs(paired(alloc, words)?)),
+        "advise_settled" => Ok(Call::AdviseSettled(user(words.id()?), words.next()?)),
         "upgrade" => Ok(Call::Upgrade),
         "audit" => {
             let (users, subtrees) = audited(alloc, words.rest())?;

@@ -3,8 +3,8 @@ use crate::begin::Stopped;
 use crate::trial::{Ended, Trial};
 use crate::{bytes, checks, operations, paths, texts, trees};
 use cg_indexed::indexed::Indexed;
+use cg_model::hierarchy::Hierarchy;
 use cg_text::tree::read_tree;
-use cg_tree::hierarchy::Hierarchy;
 
 /// Prepares a call, makes it, and makes it again where it wanted memory.
 pub fn made(tree: &[u8], trial: &mut Trial<'_>) -> Ended {

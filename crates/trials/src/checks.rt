@@ -8,7 +8,7 @@ use cg_cgroup::user::User;
 use cg_check::{check, check_all};
 use cg_guards::failed::failed_guard;
 use cg_model::fault::CheckFault;
-use cg_tree::hierarchy::Hierarchy;
+use cg_model::hierarchy::Hierarchy;
 use std::alloc::Global;
 
 /// `failed_guard UID SUBTREE`

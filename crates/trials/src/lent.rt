@@ -4,7 +4,7 @@ use crate::trial::{Ended, Trial, answered};
 use cg_cgroup::memory::NoMemory;
 use cg_cgroup::path::Path;
 use cg_cgroup::process::Pid;
-use cg_tree::hierarchy::Hierarchy;
+use cg_model::hierarchy::Hierarchy;
 use std::alloc::Global;
 use std::fmt::Debug;
 

@@ -21,7 +21,7 @@ mod trial;
 mod words;
 
 use begin::{Begin, Stopped};
-use cg_cli::fault::CliFault;
+use cg_faults::fault::CliFault;
 use said::Said;
 use std::alloc::Global;
 use std::io::{Read, Write};

@@ -6,11 +6,11 @@ use crate::trial::{Ended, Trial};
 use cg_cgroup::path::Path;
 use cg_cgroup::user::User;
 use cg_lines::lines::read_op;
+use cg_model::hierarchy::Hierarchy;
 use cg_model::operation::Op;
 use cg_model::outcome::Outcome;
 use cg_ops::{apply, refusal};
 use cg_runs::replay::Replay;
-use cg_tree::hierarchy::Hierarchy;
 use std::alloc::Global;
 
 /// The operation of a line.

@@ -2,7 +2,7 @@
 use crate::said::{fault_said, text_said};
 use crate::trial::{Ended, Trial, answered};
 use cg_cgroup::path::Path;
-use cg_cli::fault::CliFault;
+use cg_faults::fault::CliFault;
 use std::alloc::Global;
 
 /// Makes a call that gives a path; `is_kept` says whether what was lent to it is as before.

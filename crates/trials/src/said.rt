@@ -1,6 +1,6 @@
 //! What a call said.
 use crate::begin::Stopped;
-use cg_cli::fault::{CliFault, fault_text};
+use cg_faults::fault::{CliFault, fault_text};
 use std::alloc::Global;
 use std::fmt::Debug;
 

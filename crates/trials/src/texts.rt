@@ -7,7 +7,7 @@ use crate::trial::{Ended, Trial, answered};
 use cg_check::check;
 use cg_cli::arguments::UserIds;
 use cg_cli::check::check_bytes;
-use cg_cli::fault::fault_text;
+use cg_faults::fault::fault_text;
 use cg_lines::lines::{LineFault, op_text, read_op};
 use cg_lines::outcome::outcome_text;
 use cg_ops::apply;

@@ -10,9 +10,9 @@ use cg_cgroup::path::Path;
 use cg_cgroup::process::Pid;
 use cg_cgroup::user::User;
 use cg_indexed::indexed::Indexed;
+use cg_model::hierarchy::Hierarchy;
 use cg_rows::rows::Rows;
 use cg_text::tree::read_tree;
-use cg_tree::hierarchy::Hierarchy;
 use std::alloc::Global;
 
 /// All paths and live PIDs of a tree.

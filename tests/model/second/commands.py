@@ -163,7 +163,7 @@ class Call:
         if self.command == "upgrade":
             return []
         if self.command == "advise" and "--pairs" in self.given:
-            if "--gid" in self.given:
+            if "--gid" in self.given or "--settle" in self.given:
                 raise Fault("usage")
             return []
         if self.command == "advise" and not ("--uid" in self.given and "--subtree" in self.given):
@@ -377,7 +377,7 @@ def replay(call, state, tops, files, lines):
 
 def advise(call, state, tops, _files, lines):
     pairs = list(dict.fromkeys(zip(call.users, tops) if "--pairs" in call.given else itertools.product(call.users, tops)))
-    if not ("--settle" in call.given and all(settled.known(state, *pair) == ("contained",) for pair in pairs)):
+    if not ("--settle" in call.given and all(settled.is_contained(state, call.users, top) for top in tops)):
         lines += rules.advice(state, pairs)
     if lines:
         return 1

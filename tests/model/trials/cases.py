@@ -195,15 +195,20 @@ def all_words(rng, tree, state):
 
 
 def settled_audit_words(rng, tree, state):
+    return ["audit", *settled_pairs(rng, tree, state), "--settle", *["--all"] * (rng.random() < 0.75)]
+
+
+def settled_pairs(rng, tree, state):
     users = rng.sample([tree.user, *small.USERS, trees.user_of(rng), other_user(rng, tree)], rng.choice([1, 2, 2, 3]))
-    words = ["audit"] + [word for user in users for word in ("--uid", listed_user(rng, *user))]
+    words = [word for user in users for word in ("--uid", listed_user(rng, *user))]
     for _ in range(rng.choice([1, 1, 2, 3])):
         words += ["--subtree", subtree_word(rng, tree, state)]
-    words += ["--settle"] + ["--all"] * (rng.random() < 0.75)
     return words
 
 
 def settled_advice_words(rng, tree, state):
+    if rng.random() < 0.6:
+        return ["advise", *settled_pairs(rng, tree, state), "--settle"]
     return [*advise_words(rng, tree, state), "--settle"]
 
 

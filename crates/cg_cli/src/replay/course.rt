@@ -2,14 +2,15 @@
 ghost use Rattle.std.specs.Prelude.{◌≡◌, Ok, IfOk, OnOk, OnErr};
 ghost use Rattle.cg_model.specs.Clauses.{first};
 ghost use Rattle.cg_model.specs.Bars.{bars};
-ghost use Rattle.cg_steps.specs.Outcomes.{RefusedBy};
+ghost use Rattle.cg_model.specs.Outcomes.{RefusedBy};
 ghost use Rattle.cg_cli.specs.Courses.{Course, HasRoom, state_of, on_course, closing, verdict_status};
 ghost use Rattle.cg_cli.specs.Reports.{Reports};
 
-use crate::fault::CliFault;
 use crate::report::write_said;
 use cg_cgroup::memory::NoMemory;
 use cg_cgroup::user::User;
+use cg_faults::fault::CliFault;
+use cg_model::hierarchy::Hierarchy;
 use cg_model::operation::Op;
 use cg_model::outcome::Outcome;
 use cg_model::verdict::Verdict;
@@ -17,7 +18,6 @@ use cg_ops::apply;
 use cg_report::verdict::verdict_text;
 use cg_runs::fault::StepFault;
 use cg_runs::replay::Replay;
-use cg_tree::hierarchy::Hierarchy;
 use std::alloc::Global;
 use std::io::Write;
 

@@ -5,9 +5,9 @@ ghost use Rattle.cg_cli.specs.Replays.{is_newline, operation_read, most_operatio
 ghost use Rattle.cg_cli.specs.Courses.{HasRoom};
 ghost use Rattle.cg_cli.specs.Replaying.{Answered};
 
-use crate::fault::CliFault;
 use crate::replay::course::OnCourse;
 use cg_cgroup::user::User;
+use cg_faults::fault::CliFault;
 use cg_lines::lines::read_op;
 use cg_lines::outcome::outcome_text;
 use std::alloc::Global;

@@ -9,10 +9,10 @@ ghost use Rattle.cg_cli.specs.Replaying.{standing_of, from_start, coming, most_t
 
 use super::course_of;
 use crate::arguments::{UserIds, read_user};
-use crate::fault::CliFault;
 use crate::replay::course::{OnCourse, write_closing};
 use crate::replay::run::Run;
 use cg_cgroup::user::User;
+use cg_faults::fault::CliFault;
 use std::alloc::Global;
 use std::io::{BufRead, Write};
 

@@ -3,10 +3,10 @@ ghost use Rattle.std.specs.Prelude.{◌≡◌, ◌+◌, ◌<◌, ◌≤◌, OnOk
 ghost use Rattle.cg_cli.specs.Courses.{came_to};
 ghost use Rattle.cg_cli.specs.Replaying.{standing_of, from_start, coming, ending, most_taken, IsWaiting, Fed};
 
-use crate::fault::CliFault;
 use crate::replay::course::OnCourse;
 use crate::replay::line::{MOST_OPERATIONS, answer, line_end};
 use cg_cgroup::user::User;
+use cg_faults::fault::CliFault;
 use cg_lines::lines::{LONGEST_LINE, LineFault};
 use std::alloc::Global;
 use std::io::Write;

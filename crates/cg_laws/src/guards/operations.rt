@@ -1,5 +1,5 @@
 //! Laws of the operations: which guard stops which. Each asks for that guard alone; what else an operation leaves of a
-//! subtree, whoever makes it, `cg_steps::laws` says.
+//! subtree, whoever makes it, `cg_model::laws` says.
 ghost use Rattle.std.specs.Prelude.{◌≡◌, ℕ, true, List, [], ◌∷◌, length};
 ghost use Rattle.cg_cgroup.specs.Paths.{Names};
 ghost use Rattle.cg_cgroup.specs.Identity.{Identity};

@@ -4,7 +4,7 @@ use super::changed::{Change, ROOT_PROCS_OWNED, SECOND_USER, delegation_with};
 use super::writers::{ByteByByte, FailsOnce, TakesNone};
 use crate::tests::users::USER;
 use cg_cli::arguments::UserIds;
-use cg_cli::fault::CliFault;
+use cg_faults::fault::CliFault;
 use std::alloc::Global;
 use std::io::ErrorKind;
 use std::process::Abort;

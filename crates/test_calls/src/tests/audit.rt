@@ -2,7 +2,7 @@
 use super::calls::{Call, expect, expect_fault};
 use super::changed::{FORMAT_2, GROUP_WRITES, SECOND_USER, delegation_with};
 use crate::tests::users::{MANY_GROUPS, USER, user};
-use cg_cli::fault::CliFault;
+use cg_faults::fault::CliFault;
 use cg_model::fault::CheckFault;
 use cg_text::tree::{Place, TreeFault};
 use std::alloc::Global;

@@ -2,15 +2,16 @@
 use crate::tests::readers::Pieces;
 use cg_cli::advise::advise_bytes;
 use cg_cli::advise_pairs::{PairIds, advise_pairs_bytes};
+use cg_cli::advise_settle::advise_settled_bytes;
 use cg_cli::arguments::UserIds;
 use cg_cli::audit::audit_bytes;
 use cg_cli::audit_all::audit_all_bytes;
 use cg_cli::audit_settle::audit_all_settled_bytes;
 use cg_cli::check::check_bytes;
-use cg_cli::fault::CliFault;
 use cg_cli::may::may_bytes;
 use cg_cli::replay::{replay_bytes, replay_from};
 use cg_cli::upgrade::upgrade_bytes;
+use cg_faults::fault::CliFault;
 use std::alloc::Global;
 use std::io::Write;
 use std::process::Abort;
@@ -25,6 +26,7 @@ pub enum Call<'a> {
     AuditAllSettled(&'a [UserIds<'a>], &'a [&'a str]),
     Advise(&'a [UserIds<'a>], &'a [&'a str]),
     AdvisePairs(&'a [PairIds<'a>]),
+    AdviseSettled(&'a [UserIds<'a>], &'a [&'a str]),
     Upgrade,
     Replay(UserIds<'a>, Option<&'a str>, &'a [u8]),
     ReplayFrom(UserIds<'a>, Option<&'a str>, &'a [u8]),
@@ -42,6 +44,9 @@ impl Call<'_> {
             }
             Call::Advise(users, subtrees) => advise_bytes(alloc, tree, users, subtrees, out),
             Call::AdvisePairs(pairs) => advise_pairs_bytes(alloc, tree, pairs, out),
+            Call::AdviseSettled(users, subtrees) => {
+                advise_settled_bytes(alloc, tree, users, subtrees, out)
+            }
             Call::Upgrade => upgrade_bytes(alloc, tree, out),
             Call::Replay(user, subtree, ops) => replay_bytes(alloc, tree, user, subtree, ops, out),
             Call::ReplayFrom(user, subtree, ops) => {

@@ -5,7 +5,7 @@ use super::changed::{
     ROOT_PROCS_OWNED, TOO_MANY, delegation_with,
 };
 use crate::tests::users::{MANY_GROUPS, MOST_GROUPS, USER, user};
-use cg_cli::fault::{CliFault, fault_text};
+use cg_faults::fault::{CliFault, fault_text};
 use cg_model::fault::CheckFault;
 use cg_text::tree::{Place, TreeFault};
 use std::alloc::Global;

@@ -1,6 +1,6 @@
 //! `read_input` at readers that fail and never end.
 use super::readers::{Endless, FailsAfter};
-use cg_cli::fault::CliFault;
+use cg_faults::fault::CliFault;
 use std::io::ErrorKind;
 use std::test::Fail;
 use streams::read::read_input;

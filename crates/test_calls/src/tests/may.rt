@@ -1,7 +1,7 @@
 //! `may_bytes` on rows worked out by hand, and on faults.
 use super::calls::{Call, expect, expect_fault};
 use crate::tests::users::{MANY_GROUPS, MOST_GROUPS, USER, user};
-use cg_cli::fault::{CliFault, fault_text};
+use cg_faults::fault::{CliFault, fault_text};
 use cg_text::tree::{Place, TreeFault};
 use std::test::Fail;
 use test_trees::texts::{DELEGATION, INTERNAL_PROCESS, NO_PARENT, PARENT_DELEGATED};

@@ -3,8 +3,8 @@ use super::changed::{MEMORY_MAX_OWNED, ROOT_PROCS_OPEN, TOO_MANY, delegation_wit
 use super::readers::{Pieces, Uneven};
 use crate::tests::users::{USER, user};
 use cg_cli::arguments::UserIds;
-use cg_cli::fault::CliFault;
 use cg_cli::replay::{replay_bytes, replay_from};
+use cg_faults::fault::CliFault;
 use cg_lines::lines::LineFault;
 use cg_model::fault::CheckFault;
 use std::alloc::Global;

@@ -6,10 +6,10 @@ use cg_cgroup::files::{Controller, ControllerSet, EntryName, Limit, LimitFile};
 use cg_cgroup::path::Path;
 use cg_cgroup::process::{Pid, Process};
 use cg_cgroup::user::{Entry, Mode, User};
+use cg_model::hierarchy::Hierarchy;
 use cg_rows::processes::Processes;
 use cg_rows::rows::Rows;
 use cg_rows::tables::path_table::PathTable;
-use cg_tree::hierarchy::Hierarchy;
 use fixtures::{
     ALL, MEMORY, Owners, add, copy_of, delegation, end, nested, nested_of_tables, open_delegation,
     path, populate, remove, set_enabled, set_limit, set_mode, transfer,

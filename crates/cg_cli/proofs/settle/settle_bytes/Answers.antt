@@ -1,4 +1,4 @@
-use Rattle.cg_answers.specs.Settled.{IsSettledFrom}
+use Rattle.cg_cli.specs.Settled.{IsSettledFrom}
 use Rattle.cg_cli.specs.Settling.{FurtherSays, IsFurther}
 use Rattle.cg_cli.proofs.Asked.{says_more, formed_read}
 use Rattle.cg_cli.proofs.SettleReports.{settling_takes, further}

@@ -3,9 +3,9 @@ use Rattle.std.specs.Prelude.{OnOk}
 use Rattle.cg_cgroup.specs.Paths.{parent}
 use Rattle.cg_cgroup.specs.Cgroups.{cgroup_made_by}
 use Rattle.cg_model.specs.WellFormed.{enabled_at}
-use Rattle.cg_steps.proofs.FormedParts.{enabled_at-row}
-use Rattle.cg_steps.proofs.Allowed.{allowed_mkdir, formed_mkdir}
-use Rattle.cg_steps.proofs.Prefixes.{take_parent}
+use Rattle.cg_model.proofs.FormedParts.{enabled_at-row}
+use Rattle.cg_model.proofs.Allowed.{allowed_mkdir, formed_mkdir}
+use Rattle.cg_model.proofs.Prefixes.{take_parent}
 use Rattle.cg_model.specs.States.{row_at, with_row}
 use Rattle.cg_ops.proofs.make_remove.mkdir.Goals as goal
 

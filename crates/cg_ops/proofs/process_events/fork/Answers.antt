@@ -1,7 +1,7 @@
 use Rattle.std.proofs.Common.{sym, ap, ◌∙◌, is_some, true≢false}
 use Rattle.cg_model.specs.States.{process_at}
 use Rattle.cg_cgroup.proofs.Options.{is_some-mapped}
-use Rattle.cg_steps.proofs.Allowed.{live_fork}
+use Rattle.cg_model.proofs.Allowed.{live_fork}
 use Rattle.cg_ops.proofs.process_events.fork.Goals as goal
 
 pub unreachable-requires : goal.unreachable-requires

@@ -1,5 +1,5 @@
 use Rattle.std.proofs.Common.{sym}
-use Rattle.cg_steps.proofs.ClauseLaws.{first_some}
+use Rattle.cg_model.proofs.ClauseLaws.{first_some}
 use Rattle.cg_ops.proofs.process_events.fork_refusal.Goals as goal
 
 pub returns-in-Some : goal.returns-in-Some

@@ -2,10 +2,10 @@ use Rattle.std.proofs.Common.{sym, subst, ap, ◌∙◌, is_some, true≢false}
 use Rattle.cg_model.specs.States.{row_at, with_enabled}
 use Rattle.cg_model.specs.Changes.{enabled_after}
 use Rattle.cg_model.specs.WellFormed.{MayEnable}
-use Rattle.cg_steps.proofs.Allowed.{there_control}
-use Rattle.cg_steps.proofs.AllowedControl.{allowed_control}
-use Rattle.cg_steps.proofs.FormedParts.{enabled_at-row}
-use Rattle.cg_steps.proofs.Prefixes.{take_whole}
+use Rattle.cg_model.proofs.Allowed.{there_control}
+use Rattle.cg_model.proofs.AllowedControl.{allowed_control}
+use Rattle.cg_model.proofs.FormedParts.{enabled_at-row}
+use Rattle.cg_model.proofs.Prefixes.{take_whole}
 use Rattle.cg_ops.proofs.subtree_control.carry_out.Goals as goal
 
 pub set_enabled-requires-clause-keeps : goal.set_enabled-requires-clause-keeps

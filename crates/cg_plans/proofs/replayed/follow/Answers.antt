@@ -1,7 +1,7 @@
 use Rattle.std.proofs.Common.{refl, sym, subst, ◌++◌, ◌∷◌, []}
 use Rattle.cg_model.specs.Clauses.{first}
 use Rattle.cg_model.specs.Bars.{bars}
-use Rattle.cg_steps.specs.Outcomes.{RefusedBy}
+use Rattle.cg_model.specs.Outcomes.{RefusedBy}
 use Rattle.cg_plans.specs.Following.{Follows}
 use Rattle.cg_plans.proofs.Following.{follows-more}
 use Rattle.cg_plans.proofs.replayed.follow.Goals as goal

@@ -1,5 +1,5 @@
 use Rattle.std.proofs.Common.{true, false, is_some, refl, sym, ap, ◌∙◌}
-use Rattle.cg_steps.proofs.BrokenLaws.{start-broken}
+use Rattle.cg_model.proofs.BrokenLaws.{start-broken}
 use Rattle.cg_runs.proofs.broken.broken_at_start.Goals as goal
 
 pub returns-then-not-fits_descendants : goal.returns-then-not-fits_descendants

@@ -14,11 +14,6 @@ returns-in_err-users g c =
 
 pub returns : goal.returns
 returns g c =
-    let said = rw (
-      c.as_slice-2.ensures.value,
-      c.as_slice-3.ensures.value,
-      c.in_ok-users.ensures.ids,
-      c.as_slice.ensures.value,
-      c.as_slice-4.ensures.value,
-    ) at c.advise_bytes.ensures.report in
+    let said = rw (c.as_slice-2.ensures.value, c.as_slice-3.ensures.value, c.in_ok-users.ensures.ids, c.as_slice.ensures.value)
+    at c.advised_by.ensures in
     inl (c.in_ok-tree.tree.items, c.in_ok-tree.ensures.text, said)

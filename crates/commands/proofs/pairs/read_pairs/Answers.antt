@@ -1,8 +1,8 @@
 use Rattle.std.proofs.Common.{◌≡◌, ◌≢◌, List, map, sym, subst, Ok, Err}
 use Rattle.std.specs.Prelude.{Result, MatchResult}
 use Rattle.arguments.specs.Given.{ids_of_pair}
-use Rattle.cg_cli.specs.declared.fault.CliFault.{CliFault}
-use Rattle.cg_cli.specs.declared.fault.CliFault.TheVariants.{NoMemory}
+use Rattle.cg_faults.specs.declared.fault.CliFault.{CliFault}
+use Rattle.cg_faults.specs.declared.fault.CliFault.TheVariants.{NoMemory}
 use Rattle.cg_format.specs.TreeTexts.{longest_text}
 use Rattle.commands.specs.PairLines.{GivenPair}
 use Rattle.commands.proofs.PairLaws.{length_front, front_fits, long_read, short_read}

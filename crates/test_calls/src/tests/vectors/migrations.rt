@@ -2,8 +2,8 @@
 use super::{Asked, expect_line};
 use crate::tests::users::{MANY_GROUPS, MOST_GROUPS};
 use cg_cli::arguments::UserIds;
-use cg_cli::fault::fault_text;
 use cg_cli::may::may_bytes;
+use cg_faults::fault::fault_text;
 use std::alloc::Global;
 use std::str::from_utf8;
 use std::test::Fail;

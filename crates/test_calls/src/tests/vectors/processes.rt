@@ -1,8 +1,8 @@
 //! Processes of a tree text.
 use super::{Asked, BASE, Parts, READ, TO_A, expect_line, expect_rest, text_of};
 use cg_cgroup::process::Pid;
+use cg_model::hierarchy::Hierarchy;
 use cg_text::tree::read_tree;
-use cg_tree::hierarchy::Hierarchy;
 use std::alloc::{AllocError, Global};
 use std::test::Fail;
 

@@ -1,8 +1,8 @@
 //! The top table, the form of the text, and how much it may hold.
 use super::{Asked, BASE, READ, TO_A, expect_keys, expect_line, expect_lines, repeated, text_of};
 use cg_cgroup::process::Pid;
+use cg_model::hierarchy::Hierarchy;
 use cg_text::tree::read_tree;
-use cg_tree::hierarchy::Hierarchy;
 use std::alloc::{AllocError, Global};
 use std::test::Fail;
 

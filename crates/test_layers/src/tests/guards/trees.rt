@@ -7,9 +7,9 @@ use cg_cgroup::user::User;
 use cg_guards::failed::failed_guard;
 use cg_indexed::indexed::Indexed;
 use cg_model::guard::Failed;
+use cg_model::hierarchy::Hierarchy;
 use cg_rows::rows::Rows;
 use cg_text::tree::read_tree;
-use cg_tree::hierarchy::Hierarchy;
 use std::alloc::Global;
 use std::test::Fail;
 use test_trees::changes::changed;
@@ -72,7 +72,7 @@ fn failed_of<H: Hierarchy>(
     Ok(failed_guard(tree, user, &subtree))
 }
 
-#[tactic(auto, using(cg_steps::proofs::Prefixes::root_of_length, cg_steps::proofs::Prefixes::no_root_of_length))]
+#[tactic(auto, using(cg_model::proofs::Prefixes::root_of_length, cg_model::proofs::Prefixes::no_root_of_length))]
 fn is_root(path: &Path) -> bool
     ensures { result ≡ is_root path.now }
 {

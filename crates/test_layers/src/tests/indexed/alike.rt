@@ -4,7 +4,7 @@ use cg_cgroup::files::{Controller, ControllerSet};
 use cg_cgroup::memory::NoMemory;
 use cg_cgroup::path::Path;
 use cg_cgroup::process::Pid;
-use cg_tree::hierarchy::Hierarchy;
+use cg_model::hierarchy::Hierarchy;
 use std::alloc::Global;
 use std::process::Abort;
 use std::test::Fail;

@@ -2,7 +2,7 @@
 use crate::tests::trees::fixtures::{Owners, add, delegation, path, remove};
 use cg_cgroup::path::PathFault;
 use cg_indexed::indexed::Indexed;
-use cg_tree::hierarchy::Hierarchy;
+use cg_model::hierarchy::Hierarchy;
 use std::alloc::Global;
 use std::process::Abort;
 use std::test::Fail;

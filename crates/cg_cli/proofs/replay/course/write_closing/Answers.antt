@@ -2,7 +2,7 @@ use Rattle.std.proofs.Common.{sym, subst}
 use Rattle.std.proofs.KnownBytes.{Keeps-refl}
 use Rattle.cg_cli.specs.Courses.{closing}
 use Rattle.cg_cli.specs.Reports.{Report, Reports}
-use Rattle.cg_cli.specs.declared.fault.CliFault.TheVariants.{NoMemory}
+use Rattle.cg_faults.specs.declared.fault.CliFault.TheVariants.{NoMemory}
 use Rattle.cg_cli.proofs.Closings.{closing_takes}
 use Rattle.cg_cli.proofs.ReportLaws.{handed_on}
 use Rattle.cg_cli.proofs.replay.course.write_closing.Goals as goal

@@ -11,7 +11,7 @@ use Rattle.cg_lines.specs.Outcomes.{outcome_text}
 use Rattle.cg_lines.specs.declared.lines.fault.LineFault.{LineFault}
 use Rattle.cg_lines.specs.declared.lines.fault.LineFault.TheVariants.{TooLong, BadWord, Cut, NoMemory}
 use Rattle.cg_cli.specs.Courses.{Course, state_of}
-use Rattle.cg_cli.specs.Faults.{lifted_line}
+use Rattle.cg_faults.specs.Faults.{lifted_line}
 use Rattle.cg_cli.specs.Replays.{operation_read, outcome_of}
 use Rattle.cg_cli.specs.Replaying.{Answered}
 use Rattle.streams.specs.Written.{AppendsPart}

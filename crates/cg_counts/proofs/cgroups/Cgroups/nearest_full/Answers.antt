@@ -1,6 +1,6 @@
 use Rattle.std.proofs.Common.{ap, sym, ◌∙◌, subst}
 use Rattle.std.specs.Option.{MatchOption}
-use Rattle.cg_tree.specs.Limits.{NoneIsFull, IsNearestFull}
+use Rattle.cg_model.specs.NearestFull.{NoneIsFull, IsNearestFull}
 use Rattle.cg_places.specs.Links.{climbed}
 use Rattle.cg_counts.specs.Kept.{tree_of}
 use Rattle.cg_counts.proofs.Limits.{climb_finds}

@@ -3,7 +3,7 @@ use Rattle.std.specs.FinMap as map
 use Rattle.cg_cgroup.specs.Paths.{Names}
 use Rattle.cg_model.specs.States.{State, is_used, with_process}
 use Rattle.cg_model.specs.WellFormed.{IsWellFormed, may_hold}
-use Rattle.cg_steps.proofs.FormedLaws.{formed-with_process}
+use Rattle.cg_model.proofs.FormedLaws.{formed-with_process}
 use Rattle.cg_rows.specs.Processes.{LiveAndUsed, with_new}
 use Rattle.cg_rows.specs.RowsForm.{state_of_tables}
 use Rattle.cg_counts.specs.Kept.{change_held, tallied_held}

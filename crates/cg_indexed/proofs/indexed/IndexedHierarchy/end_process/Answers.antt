@@ -1,7 +1,7 @@
 use Rattle.std.proofs.Common.{◌≡◌, ap, sym, subst, is_some, true≢false, refl, ◌∙◌}
 use Rattle.cg_model.specs.States.{State, process_at, without_process}
 use Rattle.cg_model.specs.WellFormed.{IsWellFormed}
-use Rattle.cg_steps.proofs.FormedLaws.{formed-without_process}
+use Rattle.cg_model.proofs.FormedLaws.{formed-without_process}
 use Rattle.cg_rows.specs.Processes.{without}
 use Rattle.cg_rows.specs.RowsForm.{state_of_tables}
 use Rattle.cg_counts.specs.Kept.{change_held, tallied_held}

@@ -2,7 +2,7 @@ use Rattle.std.proofs.Common.{ap, refl, subst, take, ◌∙◌}
 use Rattle.std.specs.Option.{MatchOption}
 use Rattle.cg_model.specs.States.{State}
 use Rattle.cg_model.specs.WellFormed.{has_row}
-use Rattle.cg_tree.specs.Limits.{NoneIsFull, IsNearestFull}
+use Rattle.cg_model.specs.NearestFull.{NoneIsFull, IsNearestFull}
 use Rattle.cg_counts.specs.Kept.{tree_of}
 use Rattle.cg_indexed.specs.Indexed.{state_of}
 use Rattle.cg_indexed.proofs.Living.{same_limits}

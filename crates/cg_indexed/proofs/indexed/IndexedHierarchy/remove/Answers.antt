@@ -2,7 +2,7 @@ use Rattle.std.proofs.Common.{◌≡◌, ap, sym, subst, ◌∙◌}
 use Rattle.std.specs.FinMap as map
 use Rattle.cg_model.specs.States.{State, has_child, without_row}
 use Rattle.cg_model.specs.WellFormed.{IsWellFormed, has_row}
-use Rattle.cg_steps.proofs.FormedLaws.{formed-without_row}
+use Rattle.cg_model.proofs.FormedLaws.{formed-without_row}
 use Rattle.cg_rows.specs.RowsForm.{state_of_tables}
 use Rattle.cg_indexed.specs.Indexed.{state_of, IsIndexed}
 use Rattle.cg_places.proofs.Values.{values-remove}

@@ -2,7 +2,7 @@ use Rattle.std.proofs.Common.{◌≡◌, ap, sym, subst, refl, ◌∙◌}
 use Rattle.std.specs.FinMap as map
 use Rattle.cg_model.specs.States.{State, with_enabled}
 use Rattle.cg_model.specs.WellFormed.{IsWellFormed, has_row}
-use Rattle.cg_steps.proofs.FormedLaws.{formed-with_enabled}
+use Rattle.cg_model.proofs.FormedLaws.{formed-with_enabled}
 use Rattle.cg_rows.specs.RowsForm.{state_of_tables}
 use Rattle.cg_counts.specs.Kept.{change_each_held, enabling_held}
 use Rattle.cg_indexed.specs.Indexed.{state_of, IsIndexed}

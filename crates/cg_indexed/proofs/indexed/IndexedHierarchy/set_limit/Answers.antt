@@ -3,7 +3,7 @@ use Rattle.cg_cgroup.specs.Cgroups.{with_value_in}
 use Rattle.cg_cgroup.proofs.CgroupLaws.{enabled-with_value_in}
 use Rattle.cg_model.specs.States.{State, row_at}
 use Rattle.cg_model.specs.WellFormed.{IsWellFormed}
-use Rattle.cg_steps.proofs.FormedLaws.{formed-with_value}
+use Rattle.cg_model.proofs.FormedLaws.{formed-with_value}
 use Rattle.cg_indexed.proofs.States.{enabled_there, there_by_part, put_shows, put_indexed}
 use Rattle.cg_indexed.proofs.indexed.IndexedHierarchy.set_limit.Goals as goal
 

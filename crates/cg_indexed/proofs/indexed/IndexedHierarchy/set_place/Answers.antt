@@ -2,8 +2,8 @@ use Rattle.std.proofs.Common.{◌≡◌, ap, sym, subst, is_some, true≢false, 
 use Rattle.std.specs.FinMap as map
 use Rattle.cg_model.specs.States.{State, process_at, placed_at, with_place}
 use Rattle.cg_model.specs.WellFormed.{IsWellFormed, may_hold}
-use Rattle.cg_steps.proofs.FormedLaws.{formed-with_place}
-use Rattle.cg_steps.proofs.MapLaws.{change_value-there}
+use Rattle.cg_model.proofs.FormedLaws.{formed-with_place}
+use Rattle.cg_model.proofs.MapLaws.{change_value-there}
 use Rattle.cg_rows.specs.Processes.{LiveAndUsed, with_place_of}
 use Rattle.cg_rows.specs.RowsForm.{state_of_tables}
 use Rattle.cg_counts.specs.Kept.{cgroups_of, change_held, tallied_held}

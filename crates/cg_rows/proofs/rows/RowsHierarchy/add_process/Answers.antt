@@ -6,7 +6,7 @@ use Rattle.cg_model.specs.States.{is_used, with_process}
 use Rattle.cg_model.specs.WellFormed.{IsWellFormed}
 use Rattle.cg_rows.specs.Processes.{with_new}
 use Rattle.cg_rows.specs.RowsForm.{state_of_tables}
-use Rattle.cg_steps.proofs.FormedLaws.{formed-with_process}
+use Rattle.cg_model.proofs.FormedLaws.{formed-with_process}
 use Rattle.cg_rows.proofs.rows.RowsHierarchy.add_process.Goals as goal
 
 pub insert-requires : goal.insert-requires

@@ -1,5 +1,5 @@
 use Rattle.std.proofs.Common.{◌≡◌, ◌≤◌, ℕ, false}
-use Rattle.cg_tree.specs.Limits.{is_full}
+use Rattle.cg_model.specs.NearestFull.{is_full}
 use Rattle.cg_rows.proofs.rows.RowsHierarchy.nearest_full.Given as goal
 
 -- none of those that were asked is full

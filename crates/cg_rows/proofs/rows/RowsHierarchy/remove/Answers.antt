@@ -2,7 +2,7 @@ use Rattle.std.proofs.Common.{ap, sym, ◌∙◌, subst}
 use Rattle.cg_model.specs.States.{without_row}
 use Rattle.cg_model.specs.WellFormed.{IsWellFormed}
 use Rattle.cg_rows.specs.RowsForm.{state_of_tables}
-use Rattle.cg_steps.proofs.FormedLaws.{formed-without_row}
+use Rattle.cg_model.proofs.FormedLaws.{formed-without_row}
 use Rattle.cg_rows.proofs.rows.RowsHierarchy.remove.Goals as goal
 
 pub invariant_of-self : goal.invariant_of-self

@@ -2,7 +2,7 @@ use Rattle.std.proofs.Common.{ap, sym, ◌∙◌, subst}
 use Rattle.cg_model.specs.States.{with_enabled}
 use Rattle.cg_model.specs.WellFormed.{IsWellFormed}
 use Rattle.cg_rows.specs.RowsForm.{state_of_tables}
-use Rattle.cg_steps.proofs.FormedLaws.{formed-with_enabled}
+use Rattle.cg_model.proofs.FormedLaws.{formed-with_enabled}
 use Rattle.cg_rows.proofs.rows.RowsHierarchy.set_enabled.Goals as goal
 
 pub invariant_of-self : goal.invariant_of-self

@@ -2,7 +2,7 @@ use Rattle.std.proofs.Common.{sym, subst, arith}
 use Rattle.std.proofs.lemmas.List.{take_all}
 use Rattle.cg_cgroup.specs.Cgroups.{with_value_in}
 use Rattle.cg_model.specs.WellFormed.{IsWellFormed}
-use Rattle.cg_steps.proofs.FormedLaws.{formed-with_value}
+use Rattle.cg_model.proofs.FormedLaws.{formed-with_value}
 use Rattle.cg_rows.proofs.TablesState.{tables_changed}
 use Rattle.cg_rows.proofs.rows.RowsHierarchy.set_limit.Goals as goal
 

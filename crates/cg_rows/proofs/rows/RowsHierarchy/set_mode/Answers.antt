@@ -2,7 +2,7 @@ use Rattle.std.proofs.Common.{◌≤◌, sym, subst, arith}
 use Rattle.std.proofs.lemmas.List.{take_all}
 use Rattle.cg_cgroup.specs.Cgroups.{with_mode_in}
 use Rattle.cg_model.specs.WellFormed.{IsWellFormed}
-use Rattle.cg_steps.proofs.FormedLaws.{formed-with_mode}
+use Rattle.cg_model.proofs.FormedLaws.{formed-with_mode}
 use Rattle.cg_rows.proofs.TablesState.{tables_changed}
 use Rattle.cg_rows.proofs.rows.RowsHierarchy.set_mode.Goals as goal
 

@@ -1,7 +1,7 @@
 use Rattle.std.proofs.Common.{ap, sym, subst, ◌∙◌, is_some}
 use Rattle.cg_model.specs.States.{process_at, with_place}
 use Rattle.cg_model.specs.WellFormed.{IsWellFormed}
-use Rattle.cg_steps.proofs.FormedLaws.{formed-with_place}
+use Rattle.cg_model.proofs.FormedLaws.{formed-with_place}
 use Rattle.cg_rows.specs.Processes.{with_place_of}
 use Rattle.cg_rows.specs.RowsForm.{state_of_tables}
 use Rattle.cg_rows.proofs.rows.RowsHierarchy.set_place.Goals as goal

@@ -3,7 +3,7 @@ use Rattle.std.proofs.lemmas.Iterator.Consumers.{YieldsList-from_rest}
 use Rattle.std.proofs.lemmas.Iterator.Search.{any_from_yields_List}
 use Rattle.std.specs.FinMap.{entries}
 use Rattle.cg_cgroup.specs.Paths.{same_path}
-use Rattle.cg_steps.proofs.MapLaws.{list_any-map}
+use Rattle.cg_model.proofs.MapLaws.{list_any-map}
 use Rattle.cg_rows.proofs.rows.below.any_at.Goals as goal
 
 pub returns : goal.returns

@@ -1,5 +1,0 @@
-pub mod Settling
-pub mod Places
-pub mod Knowing
-pub mod Auditing
-pub mod Rows

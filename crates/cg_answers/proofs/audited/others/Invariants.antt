@@ -1,9 +1,0 @@
-use Rattle.std.proofs.Common.{◌≡◌, not, take}
-use Rattle.cg_answers.specs.Audited.{picked, has_list}
-use Rattle.cg_answers.specs.Places.{found_at}
-use Rattle.cg_answers.proofs.audited.others.Given as goal
-
--- those of the users before this place
-abbrev pub invariant-loop-place : goal.invariant-loop-place
-invariant-loop-place l =
-    l.others.items ≡ picked (λ place. not (has_list (found_at l.found place))) 0 (take l.place-counter l.users)

@@ -1,5 +1,0 @@
-use Rattle.cg_answers.proofs.Knowing.{unlisted-settled}
-use Rattle.cg_answers.proofs.laws.unlisted_are_settled.Goals as goal
-
-pub returns : goal.returns
-returns c = λ st users subtree found formed is known. unlisted-settled st users subtree found formed is known

@@ -1,4 +1,0 @@
-pub mod Settled
-pub mod Audited
-pub mod Places
-pub mod Rows

@@ -1,0 +1,190 @@
+-- Where the second row of guards is asked first, the advice says no less than it may.
+use Rattle.std.proofs.Common.{◌≡◌, ℕ, zero, suc, ◌+◌, ◌<◌, ◌≤◌, Bool, true, false, ◌&&◌, cond, List, [], ◌∷◌, ◌++◌, length, get_or, take, take_all, take-suc, add-one, Option, Some, None, Result, Ok, Err, refl, sym, ap, ◌∙◌, subst, inl, inr, arith}
+use Rattle.std.specs.Prelude.{◌⊎◌}
+use Rattle.std.specs.List.{All, list_all, flat_map}
+use Rattle.std.proofs.lemmas.List.Elements.{All-from_recursion}
+use Rattle.cg_cgroup.specs.Paths.{Names, same_path}
+use Rattle.cg_cgroup.specs.Identity.{Identity}
+use Rattle.cg_cgroup.proofs.PathOrder.{same_path-is}
+use Rattle.cg_model.specs.States.{State}
+use Rattle.cg_model.specs.Clauses.{first}
+use Rattle.cg_model.specs.Guards.{IsSubtree}
+use Rattle.cg_model.specs.Held.{IsHeld}
+use Rattle.cg_model.specs.Once.{once}
+use Rattle.cg_model.specs.Checks.{subtree_faults, unless_fault}
+use Rattle.cg_model.specs.WellFormed.{IsWellFormed}
+use Rattle.cg_model.specs.declared.fault.CheckFault.{CheckFault}
+use Rattle.cg_model.proofs.Lists.{all-each}
+use Rattle.cg_settle.specs.SecondRow.{SecondRowHolds}
+use Rattle.cg_settle.specs.Judged.{second_row}
+use Rattle.cg_settle.proofs.Judged.{judged}
+use Rattle.cg_settle.proofs.Runs.{are_settled}
+use Rattle.cg_check.proofs.Checking.{no_fault}
+use Rattle.cg_check.proofs.Pairs.{none-element}
+use Rattle.cg_advice.specs.AdviceLines.{advice_lines}
+use Rattle.cg_format.specs.Readings.{Reading, IsReading, OnText}
+use Rattle.cg_format.specs.TextOf.{IsTextOf}
+use Rattle.cg_cli.specs.Advising.{lines_report, all_pairs, advice_report}
+use Rattle.cg_cli.specs.Asking.{named_read, IsKeptOnce}
+use Rattle.cg_cli.specs.Audits.{users_read, paths_read}
+use Rattle.cg_cli.specs.Containment.{in_call}
+use Rattle.cg_cli.specs.FurtherAdvice.{AreHeldAsNamed, AdvisesFurther}
+use Rattle.cg_cli.specs.May.{tree_read}
+use Rattle.cg_cli.specs.Once.{same_user}
+use Rattle.cg_cli.specs.Reports.{Report, Reports, report_on, takes_memory}
+use Rattle.cg_cli.specs.SettledAdvice.{are_held, settled_lines, settled_advice, settled_report, advise_settled_report}
+use Rattle.cg_cli.proofs.AdviseReports.{each_passes, of_lines, said_of_read}
+use Rattle.cg_cli.proofs.AuditOnce.{all_once, by_once}
+use Rattle.cg_cli.proofs.ReportLaws.{call_takes, report_takes}
+use Rattle.cg_faults.specs.declared.fault.CliFault.{CliFault}
+
+-- ---- the subtrees one after another
+
+all_more : {A : Type 0} (test : A → Bool) (xs : List A) (i : ℕ) (x : A) → i < length xs → x ≡ get_or xs i x
+    → list_all test (take i xs) ≡ true → test x ≡ true → list_all test (take (i + 1) xs) ≡ true
+all_more {A} test xs i x within is so_far here =
+    let more : take (i + 1) xs ≡ take i xs ++ get_or xs i x ∷ [] = rw add-one (take-suc xs i x within) in
+    ap (list_all test) more ∙ behind (take i xs) so_far
+  where
+    behind : (ys : List A) → list_all test ys ≡ true → list_all test (ys ++ get_or xs i x ∷ []) ≡ true
+    behind [] all = ap (λ b. b && true) (ap test (sym is) ∙ here)
+    behind (y ∷ ys) all = by_test (test y) all
+      where
+        by_test : (b : Bool) → b && list_all test ys ≡ true → b && list_all test (ys ++ get_or xs i x ∷ []) ≡ true
+        by_test true rest = behind ys rest
+        by_test false never = never
+
+module _ (st : State) (users : List Identity) (subtrees : List Names) where
+  pub held_more : (i : ℕ) (subtree : Names) (holds : Bool) → i < length subtrees → subtree ≡ get_or subtrees i subtree
+      → are_held st users (take i subtrees) ≡ true → holds ≡ second_row st users subtree → holds ≡ true
+      → are_held st users (take (i + 1) subtrees) ≡ true
+  held_more i subtree holds within is so_far row true_is =
+      all_more (second_row st users) subtrees i subtree within is so_far (sym row ∙ true_is)
+
+  pub held_all : (i : ℕ) → length subtrees ≤ i → are_held st users (take i subtrees) ≡ true → true ≡ are_held st users subtrees
+  held_all i low all = sym (subst (λ l. are_held st users l ≡ true) (take_all i subtrees (omega (arith, low))) all)
+
+  pub held_fails : (i : ℕ) (subtree : Names) (holds : Bool) → i < length subtrees → subtree ≡ get_or subtrees i subtree
+      → holds ≡ second_row st users subtree → holds ≡ false → false ≡ are_held st users subtrees
+  held_fails i subtree holds within is row fails = sym (one_fails subtrees i within is (sym row ∙ fails))
+    where
+      one_fails : (xs : List Names) (k : ℕ) → k < length xs → subtree ≡ get_or xs k subtree → second_row st users subtree ≡ false
+          → are_held st users xs ≡ false
+      one_fails [] k low at none = absurd (omega (arith, low))
+      one_fails (x ∷ xs) zero low at none = ap (λ b. b && are_held st users xs) (ap (second_row st users) (sym at) ∙ none)
+      one_fails (x ∷ xs) (suc k) low at none = by_test (second_row st users x)
+        where
+          by_test : (b : Bool) → b && are_held st users xs ≡ false
+          by_test true = one_fails xs k (omega (arith, low)) at none
+          by_test false = refl
+
+  module _ (none : first (flat_map (subtree_faults st) subtrees) ≡ None) where
+    pub sub_at : All (IsSubtree st) subtrees
+    sub_at k d within = no_fault st (get_or subtrees k d) (sym (none-element (subtree_faults st) subtrees k d within none))
+
+    pub sub_here : (i : ℕ) (subtree : Names) → i < length subtrees → subtree ≡ get_or subtrees i subtree → IsSubtree st subtree
+    sub_here i subtree within is = subst (IsSubtree st) (sym is) (sub_at i subtree within)
+
+-- ---- what is said
+
+pub settled_takes : (st : State) (users : List Identity) (subtrees : List Names)
+    → takes_memory (settled_report st users subtrees).ending ≡ true
+settled_takes st users subtrees =
+    report_takes (in_call (settled_advice st users subtrees)) lines_report of_lines (call_takes (settled_advice st users subtrees))
+
+-- of users and subtrees each of whom counts once
+abbrev pub once_settled : State → List Identity → List Names → Report
+once_settled st users subtrees = settled_report st (once same_user users) (once same_path subtrees)
+
+pub once_settled_takes : (st : State) (users : List Identity) (subtrees : List Names)
+    → takes_memory (once_settled st users subtrees).ending ≡ true
+once_settled_takes st users subtrees = settled_takes st (once same_user users) (once same_path subtrees)
+
+pub settled_of_kept : (tree : Reading) (given : List (ℕ × List ℕ)) (texts : List (List ℕ)) (users : List Identity) (subtrees : List Names)
+    (st : State) → IsKeptOnce (named_read given texts tree) users subtrees st
+    → advise_settled_report tree given texts ≡ settled_report st users subtrees
+settled_of_kept tree given texts users subtrees st kept =
+    said_of_read once_settled once_settled_takes tree given texts kept.all_users kept.all_subtrees st kept.is
+    ∙ (λ i. settled_report st (sym kept.of_users i) (sym kept.of_subtrees i))
+
+-- ---- what may be said
+
+-- where all pass, none who acts breaks a subtree
+module _ (st : State) (users : List Identity) (subtrees : List Names) (formed : IsWellFormed st)
+    (none : first (flat_map (subtree_faults st) (once same_path subtrees)) ≡ None)
+    (holds : are_held st (once same_user users) (once same_path subtrees) ≡ true) where
+  abbrev us : List Identity
+  us = once same_user users
+
+  abbrev ss : List Names
+  ss = once same_path subtrees
+
+  rows_hold : All (SecondRowHolds st us) ss
+  rows_hold =
+      All-from_recursion (SecondRowHolds st us) ss
+      (all-each (λ path. second_row st us path ≡ true) (SecondRowHolds st us) (λ path passes. (judged st us path).1 passes) ss
+      (each_passes (second_row st us) ss holds))
+
+  held_as_named : (tree : Reading) (given : List (ℕ × List ℕ)) (texts : List (List ℕ)) → users_read given ≡ Ok users
+      → paths_read texts ≡ Ok subtrees → tree ≡ Ok st → AreHeldAsNamed tree given texts
+  held_as_named tree given texts of_users of_paths of_tree = record {
+    users = users;
+    subtrees = subtrees;
+    state = st;
+    of_users = of_users;
+    of_subtrees = of_paths;
+    of_tree = of_tree;
+    there = all_once same_path same_path-is (IsSubtree st) subtrees (sub_at st us ss none);
+    held = λ deeds by.
+        all_once same_path same_path-is (IsHeld st deeds) subtrees
+        ((are_settled st us ss formed (sub_at st us ss none) rows_hold).held deeds (by_once users subtrees deeds by));
+  }
+
+module _ (tree : Reading) (given : List (ℕ × List ℕ)) (texts : List (List ℕ)) (old new : Option (List ℕ)) (result : Result ℕ CliFault)
+    (formed : (st : State) → tree ≡ Ok st → IsWellFormed st) where
+  abbrev May : Report → Type 0
+  May guards = Reports guards old new result ⊎ (Reports (lines_report None) old new result × AreHeldAsNamed tree given texts)
+
+  module _ (users : List Identity) (subtrees : List Names) (st : State) (of_users : users_read given ≡ Ok users)
+      (of_paths : paths_read texts ≡ Ok subtrees) (of_tree : tree ≡ Ok st) where
+    abbrev lines : Option (List ℕ)
+    lines = advice_lines st (all_pairs (once same_user users) (once same_path subtrees))
+
+    by_row : (holds : Bool) → are_held st (once same_user users) (once same_path subtrees) ≡ holds
+        → first (flat_map (subtree_faults st) (once same_path subtrees)) ≡ None
+        → Reports (lines_report (cond holds None lines)) old new result → May (lines_report lines)
+    by_row true holds none said =
+        inr (said, held_as_named st users subtrees (formed st of_tree) none holds tree given texts of_users of_paths of_tree)
+    by_row false fails none said = inl said
+
+    by_fault : (fault : Option CheckFault) → first (flat_map (subtree_faults st) (once same_path subtrees)) ≡ fault
+        → Reports (report_on (in_call (unless_fault fault (settled_lines st (once same_user users) (once same_path subtrees)))) lines_report)
+        old new result
+        → May (report_on (in_call (unless_fault fault lines)) lines_report)
+    by_fault (Some fault) is said = inl said
+    by_fault None is said = by_row (are_held st (once same_user users) (once same_path subtrees)) refl is said
+
+  by_read : (users : Result (List Identity) CliFault) (paths : Result (List Names) CliFault) (read : Reading) → users_read given ≡ users
+      → paths_read texts ≡ paths → tree ≡ read
+      → Reports (report_on users (λ us. report_on paths (λ ss. report_on (tree_read read) (λ st. once_settled st us ss)))) old new result
+      → May (report_on users (λ us. report_on paths (λ ss. report_on (tree_read read)
+      (λ st. advice_report st (once same_path ss) (all_pairs (once same_user us) (once same_path ss))))))
+  by_read (Err fault) paths read of_users of_paths of_tree said = inl said
+  by_read (Ok us) (Err fault) read of_users of_paths of_tree said = inl said
+  by_read (Ok us) (Ok ss) (Err fault) of_users of_paths of_tree said = inl said
+  by_read (Ok us) (Ok ss) (Ok st) of_users of_paths of_tree said =
+      by_fault us ss st of_users of_paths of_tree (first (flat_map (subtree_faults st) (once same_path ss))) refl said
+
+  pub advises_further : Reports (advise_settled_report tree given texts) old new result → AdvisesFurther tree given texts old new result
+  advises_further said = by_read (users_read given) (paths_read texts) tree refl refl refl said
+
+-- of the bytes of a text
+pub further_on : (bytes : List ℕ) (given : List (ℕ × List ℕ)) (texts : List (List ℕ)) (old new : Option (List ℕ))
+    (result : Result ℕ CliFault)
+    → OnText bytes (λ read. Reports (advise_settled_report read given texts) old new result)
+    → OnText bytes (λ read. AdvisesFurther read given texts old new result)
+further_on bytes given texts old new result said =
+    (said.0, said.1, advises_further said.0 given texts old new result formed said.2)
+  where
+    formed : (st : State) → said.0 ≡ Ok st → IsWellFormed st
+    formed st is = let of_text : IsTextOf st bytes = subst (IsReading bytes) is said.1 in of_text.says.formed

@@ -1,0 +1,113 @@
+//! What to change so that every subtree is contained against every user, where more is asked than guards.
+ghost use Rattle.std.specs.Prelude.{◌≡◌, ◌≢◌, List, [], map, Ok, Err, None, IfOk, MatchResult};
+ghost use Rattle.std.specs.List.{flat_map};
+ghost use Rattle.std.specs.Option.{option_map};
+ghost use Rattle.cg_model.specs.Clauses.{first};
+ghost use Rattle.cg_model.specs.Checks.{subtree_faults};
+ghost use Rattle.cg_model.specs.WellFormed.{IsWellFormed};
+ghost use Rattle.cg_format.specs.Readings.{OnText};
+ghost use Rattle.cg_cli.specs.FurtherAdvice.{AdvisesFurther};
+ghost use Rattle.cg_cli.specs.SettledAdvice.{are_held, settled_lines, settled_advice, settled_report, advise_settled_report};
+ghost use Rattle.cg_cli.specs.Reports.{Reports};
+
+use crate::advise::{advice, said_of};
+use crate::arguments::UserIds;
+use crate::named::read_named;
+use crate::report::write_said;
+use cg_cgroup::memory::NoMemory;
+use cg_cgroup::path::Path;
+use cg_cgroup::user::User;
+use cg_check::first_fault;
+use cg_faults::fault::CliFault;
+use cg_model::fault::CheckFault;
+use cg_model::hierarchy::Hierarchy;
+use cg_second::row::second_row;
+use std::alloc::Global;
+use std::io::Write;
+
+/// Writes what `advise_bytes` does, but `contained` with status 0 also where a guard fails and the second row of guards of each
+/// subtree holds for all users together.
+///
+/// # Errors
+/// Those of `advise_bytes`.
+pub fn advise_settled_bytes<W: Write>(
+    alloc: Global,
+    tree: &[u8],
+    users: &[UserIds<'_>],
+    subtrees: &[&str],
+    out: &mut W,
+) -> Result<u8, CliFault>
+    ensures report { OnText tree.now (λ read. Reports
+        (advise_settled_report read (map (λ user. (user.uid, user.gids.now)) users.now) (map (λ subtree. subtree.now) subtrees.now))
+        (W.contents out.old) (W.contents out.new) result) }
+    ensures further { OnText tree.now (λ read. AdvisesFurther read
+        (map (λ user. (user.uid, user.gids.now)) users.now) (map (λ subtree. subtree.now) subtrees.now)
+        (W.contents out.old) (W.contents out.new) result) }
+{
+    let named = read_named(alloc, tree, users, subtrees)?;
+    let said = advised(
+        alloc,
+        &named.tree,
+        named.users.as_slice(),
+        named.subtrees.as_slice(),
+    )?;
+    write_said(out, said)
+}
+
+/// What is said of users and subtrees, and the status.
+fn advised<H: Hierarchy + Drop>(
+    alloc: Global,
+    tree: &H,
+    users: &[User],
+    subtrees: &[Path],
+) -> Result<(Vec<u8>, u8), CheckFault>
+    ensures { MatchResult result
+        (λ said. settled_report (H.state tree.now) users.now subtrees.now ≡ record { text = said.0.items; ending = Ok said.1 })
+        (λ fault. fault ≢ CheckFault.NoMemory → settled_advice (H.state tree.now) users.now subtrees.now ≡ Err fault) }
+{
+    if let Some(fault) = first_fault(tree, subtrees) {
+        return Err(fault);
+    }
+    match said_of(alloc, settled_lines(alloc, tree, users, subtrees)) {
+        Err(NoMemory) => Err(CheckFault::NoMemory),
+        Ok(said) => Ok(said),
+    }
+}
+
+/// Nothing where the second row of each subtree holds, and else the advice.
+fn settled_lines<H: Hierarchy>(
+    alloc: Global,
+    tree: &H,
+    users: &[User],
+    subtrees: &[Path],
+) -> Result<Option<Vec<u8>>, NoMemory>
+    requires formed { subtrees.now ≢ [] → IsWellFormed (H.state tree.now) }
+    requires there { first (flat_map (subtree_faults (H.state tree.now)) subtrees.now) ≡ None }
+    ensures { IfOk result (λ found. option_map (λ text. text.items) found
+        ≡ settled_lines (H.state tree.now) users.now subtrees.now) }
+{
+    if are_held(alloc, tree, users, subtrees)? {
+        return Ok(None);
+    }
+    advice(alloc, tree, users, subtrees)
+}
+
+/// Whether the second row of each subtree holds for all users together.
+fn are_held<H: Hierarchy>(
+    alloc: Global,
+    tree: &H,
+    users: &[User],
+    subtrees: &[Path],
+) -> Result<bool, NoMemory>
+    requires formed { subtrees.now ≢ [] → IsWellFormed (H.state tree.now) }
+    requires there { first (flat_map (subtree_faults (H.state tree.now)) subtrees.now) ≡ None }
+    ensures { IfOk result (λ held. held ≡ are_held (H.state tree.now) users.now subtrees.now) }
+{
+    for subtree in subtrees {
+        let holds = second_row(alloc, tree, users, subtree)?;
+        if !holds {
+            return Ok(false);
+        }
+    }
+    Ok(true)
+}

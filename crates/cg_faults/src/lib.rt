@@ -1,0 +1,4 @@
+//! The faults of calls over bytes, and their lines.
+#![tactic(auto)]
+
+pub mod fault;

@@ -1,5 +1,0 @@
-use Rattle.cg_steps.proofs.StepFormed.{formed-after_all}
-use Rattle.cg_steps.proofs.laws.run_keeps_form.Goals as goal
-
-pub returns : goal.returns
-returns c = formed-after_all

@@ -1,5 +1,0 @@
-use Rattle.cg_steps.proofs.StepFormed.{formed-after}
-use Rattle.cg_steps.proofs.laws.step_keeps_form.Goals as goal
-
-pub returns : goal.returns
-returns c = formed-after

@@ -1,4 +1,0 @@
-//! Laws of states and of steps, over the definitions alone.
-#![tactic(auto)]
-
-pub mod laws;
