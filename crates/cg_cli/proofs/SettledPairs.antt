@@ -23,11 +23,11 @@ use Rattle.cg_model.specs.declared.answer.Answer.{Answer}
 use Rattle.cg_model.specs.declared.answer.Answer.TheVariants.{Contained, Escapes, Unsettled}
 use Rattle.cg_check.proofs.Checking.{checked-answer, no_fault}
 use Rattle.cg_check.proofs.Pairs.{none-element}
-use Rattle.cg_answers.specs.declared.audited.Found.{Found}
-use Rattle.cg_answers.specs.Audited.{IsKnownFrom, AreKnownWithEach, listed_with, listed_from, UnlistedAreSettled}
-use Rattle.cg_answers.specs.Places.{found_one}
-use Rattle.cg_answers.specs.Rows.{row_of, AreRows, AreListed}
-use Rattle.cg_answers.proofs.Knowing.{some_known, all-unlisted_settled}
+use Rattle.cg_cli.specs.declared.answers.audited.Found.{Found}
+use Rattle.cg_cli.specs.Audited.{IsKnownFrom, AreKnownWithEach, listed_with, listed_from, UnlistedAreSettled}
+use Rattle.cg_cli.specs.FoundPlaces.{found_one}
+use Rattle.cg_cli.specs.ListedRows.{row_of, AreRows, AreListed}
+use Rattle.cg_cli.proofs.Knowing.{some_known, all-unlisted_settled}
 use Rattle.cg_report.specs.AnswerLines.{IsShown}
 use Rattle.cg_report.proofs.Shown.{answers_are_shown}
 use Rattle.cg_format.specs.Readings.{Reading}
@@ -35,13 +35,13 @@ use Rattle.cg_format.specs.TextOf.{IsTextOf}
 use Rattle.cg_cli.specs.AllPairs.{listing_text, ReportsPairs}
 use Rattle.cg_cli.specs.Asking.{named_read, read_in_turn, read_takes_memory, IsMet, IsKeptOnce}
 use Rattle.cg_cli.specs.Audits.{users_read, paths_read}
-use Rattle.cg_cli.specs.Faults.{lifted_check}
+use Rattle.cg_faults.specs.Faults.{lifted_check}
 use Rattle.cg_cli.specs.May.{tree_read}
 use Rattle.cg_cli.specs.Once.{same_user}
 use Rattle.cg_cli.specs.SettledPairs.{MayBeFound, MayFollow, MayReport, ReportsFound, ReportsSettled, TellsUnsettled}
 use Rattle.cg_cli.specs.SettledRows.{pair_found, row_pairs, rows_pairs, IsPairLine, IsRowOfLines}
-use Rattle.cg_cli.specs.declared.fault.CliFault.{CliFault}
-use Rattle.cg_cli.specs.declared.fault.CliFault.TheVariants.{Write, NoMemory}
+use Rattle.cg_faults.specs.declared.fault.CliFault.{CliFault}
+use Rattle.cg_faults.specs.declared.fault.CliFault.TheVariants.{Write, NoMemory}
 use Rattle.cg_cli.specs.Reports.{takes_memory}
 use Rattle.cg_cli.proofs.AllPairs.{Front, fault_said, wants}
 use Rattle.cg_cli.proofs.ReportLaws.{handed_on, same_Ok}

@@ -12,13 +12,13 @@ use Rattle.cg_model.specs.Listed.{Listed}
 use Rattle.cg_model.specs.Once.{once}
 use Rattle.cg_model.specs.declared.answer.Answer.{Answer}
 use Rattle.cg_model.specs.declared.fault.CheckFault.{CheckFault}
-use Rattle.cg_answers.specs.Audited.{AreKnownWithEach, listed_from, UnlistedAreSettled}
+use Rattle.cg_cli.specs.Audited.{AreKnownWithEach, listed_from, UnlistedAreSettled}
 use Rattle.cg_format.specs.Readings.{Reading}
 use Rattle.cg_cli.specs.AllPairs.{listing_text, ReportsPairs}
 use Rattle.cg_cli.specs.Asking.{named_read}
-use Rattle.cg_cli.specs.Faults.{lifted_check}
+use Rattle.cg_faults.specs.Faults.{lifted_check}
 use Rattle.cg_cli.specs.Once.{same_user}
-use Rattle.cg_cli.specs.declared.fault.CliFault.{CliFault}
+use Rattle.cg_faults.specs.declared.fault.CliFault.{CliFault}
 
 -- The pairs that are listed go by what is known of all users with each subtree. Lists of operations aren't determined: any that
 -- was planned and breaks the subtree may be one.

@@ -5,7 +5,7 @@ use Rattle.std.specs.List.{All, flat_map}
 use Rattle.cg_cgroup.specs.Paths.{Names}
 use Rattle.cg_cgroup.specs.Identity.{Identity}
 use Rattle.cg_model.specs.Listed.{Listed, listed_unless_contained, is_contained}
-use Rattle.cg_answers.specs.declared.audited.Found.{Found}
+use Rattle.cg_cli.specs.declared.answers.audited.Found.{Found}
 use Rattle.cg_report.specs.AnswerLines.{IsShown}
 
 -- what was found with a subtree, by its place
