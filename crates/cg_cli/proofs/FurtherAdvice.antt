@@ -48,11 +48,12 @@ all_more {A} test xs i x within is so_far here =
   where
     behind : (ys : List A) → list_all test ys ≡ true → list_all test (ys ++ get_or xs i x ∷ []) ≡ true
     behind [] all = ap (λ b. b && true) (ap test (sym is) ∙ here)
-    behind (y ∷ ys) all = by_test (test y) all
+    behind (y ∷ ys) all = by_test (test y) (behind ys) all
       where
-        by_test : (b : Bool) → b && list_all test ys ≡ true → b && list_all test (ys ++ get_or xs i x ∷ []) ≡ true
-        by_test true rest = behind ys rest
-        by_test false never = never
+        by_test : (b : Bool) → (list_all test ys ≡ true → list_all test (ys ++ get_or xs i x ∷ []) ≡ true)
+            → b && list_all test ys ≡ true → b && list_all test (ys ++ get_or xs i x ∷ []) ≡ true
+        by_test true later rest = later rest
+        by_test false later never = never
 
 module _ (st : State) (users : List Identity) (subtrees : List Names) where
   pub held_more : (i : ℕ) (subtree : Names) (holds : Bool) → i < length subtrees → subtree ≡ get_or subtrees i subtree
@@ -72,11 +73,12 @@ module _ (st : State) (users : List Identity) (subtrees : List Names) where
           → are_held st users xs ≡ false
       one_fails [] k low at none = absurd (omega (arith, low))
       one_fails (x ∷ xs) zero low at none = ap (λ b. b && are_held st users xs) (ap (second_row st users) (sym at) ∙ none)
-      one_fails (x ∷ xs) (suc k) low at none = by_test (second_row st users x)
+      one_fails (x ∷ xs) (suc k) low at none =
+          by_test (second_row st users x) (one_fails xs k (omega (arith, low)) at none)
         where
-          by_test : (b : Bool) → b && are_held st users xs ≡ false
-          by_test true = one_fails xs k (omega (arith, low)) at none
-          by_test false = refl
+          by_test : (b : Bool) → are_held st users xs ≡ false → b && are_held st users xs ≡ false
+          by_test true later = later
+          by_test false later = refl
 
   module _ (none : first (flat_map (subtree_faults st) subtrees) ≡ None) where
     pub sub_at : All (IsSubtree st) subtrees
@@ -150,6 +152,9 @@ module _ (tree : Reading) (given : List (ℕ × List ℕ)) (texts : List (List �
     abbrev lines : Option (List ℕ)
     lines = advice_lines st (all_pairs (once same_user users) (once same_path subtrees))
 
+    abbrev settled : Option (List ℕ)
+    settled = settled_lines st (once same_user users) (once same_path subtrees)
+
     by_row : (holds : Bool) → are_held st (once same_user users) (once same_path subtrees) ≡ holds
         → first (flat_map (subtree_faults st) (once same_path subtrees)) ≡ None
         → Reports (lines_report (cond holds None lines)) old new result → May (lines_report lines)
@@ -158,8 +163,7 @@ module _ (tree : Reading) (given : List (ℕ × List ℕ)) (texts : List (List �
     by_row false fails none said = inl said
 
     by_fault : (fault : Option CheckFault) → first (flat_map (subtree_faults st) (once same_path subtrees)) ≡ fault
-        → Reports (report_on (in_call (unless_fault fault (settled_lines st (once same_user users) (once same_path subtrees)))) lines_report)
-        old new result
+        → Reports (report_on (in_call (unless_fault fault settled)) lines_report) old new result
         → May (report_on (in_call (unless_fault fault lines)) lines_report)
     by_fault (Some fault) is said = inl said
     by_fault None is said = by_row (are_held st (once same_user users) (once same_path subtrees)) refl is said
@@ -170,10 +174,10 @@ module _ (tree : Reading) (given : List (ℕ × List ℕ)) (texts : List (List �
       → May (report_on users (λ us. report_on paths (λ ss. report_on (tree_read read)
       (λ st. advice_report st (once same_path ss) (all_pairs (once same_user us) (once same_path ss))))))
   by_read (Err fault) paths read of_users of_paths of_tree said = inl said
-  by_read (Ok us) (Err fault) read of_users of_paths of_tree said = inl said
-  by_read (Ok us) (Ok ss) (Err fault) of_users of_paths of_tree said = inl said
-  by_read (Ok us) (Ok ss) (Ok st) of_users of_paths of_tree said =
-      by_fault us ss st of_users of_paths of_tree (first (flat_map (subtree_faults st) (once same_path ss))) refl said
+  by_read (Ok who) (Err fault) read of_users of_paths of_tree said = inl said
+  by_read (Ok who) (Ok tops) (Err fault) of_users of_paths of_tree said = inl said
+  by_read (Ok who) (Ok tops) (Ok st) of_users of_paths of_tree said =
+      by_fault who tops st of_users of_paths of_tree (first (flat_map (subtree_faults st) (once same_path tops))) refl said
 
   pub advises_further : Reports (advise_settled_report tree given texts) old new result → AdvisesFurther tree given texts old new result
   advises_further said = by_read (users_read given) (paths_read texts) tree refl refl refl said

@@ -103,8 +103,6 @@ OF_RULES = {
     "a name of 255 bytes is none": ("1 <= len(name) <= LONGEST_NAME", "1 <= len(name) < LONGEST_NAME"),
     "a path of 4095 bytes is none": ("len(text) > LONGEST_PATH", "len(text) >= LONGEST_PATH"),
 }
-SETTLED_ALONE = "advise --settle asks of each user alone"
-SETTLED_FIRST = "advise --settle asks of the first subtree"
 OF_COMMANDS = {
     "a list is too long behind one operation more": ("if number > MOST_STEPS:", "if number > MOST_STEPS + 1:"),
     "a line of 8192 bytes is too long": ("if len(line) > LONGEST_LINE:", "if len(line) >= LONGEST_LINE:"),
@@ -121,8 +119,6 @@ OF_COMMANDS = {
     "of the subtrees the root is a fault first": (
         "for word in subtrees]\n    return", 'for word in sorted(subtrees, key=lambda word: word != "/")]\n    return'),
     "advises all users of pairs with all their subtrees": ('zip(call.users, tops) if "--pairs" in call.given else ', ""),
-    SETTLED_ALONE: ("(state, call.users, top) for top in tops)", "(state, [user], top) for user, top in pairs)"),
-    SETTLED_FIRST: ("(state, call.users, top) for top in tops)", "(state, call.users, top) for top in tops[:1])"),
     "a line is a pair's that begins with the word": ('line.startswith(b"pair ")', 'line.startswith(b"pair")'),
     "a line of pairs that is cut is passed over": (
         '    if end:\n        raise Fault(f"line {len(lines) + 1} cut")\n    return pairs', "    return pairs"),
@@ -198,13 +194,13 @@ MUTANTS = {name: (module, *turn) for module, turns in zip(MODULES, (OF_DOCUMENTS
           for name, turn in turns.items()}
 
 
-# of a module, or of one wrong model, the command without which a program isn't told from what is turned there
-NEEDS = {"lasting": "settle", "settled": "audit --settle", SETTLED_ALONE: "advise --settle", SETTLED_FIRST: "advise --settle"}
+# of a module the command without which a program isn't told from what is turned there
+NEEDS = {"lasting": "settle", "settled": "audit --settle"}
 
 
 def able(known):
     """The wrong models of which something shows in the commands that a program has."""
-    return [name for name, (module, *_) in MUTANTS.items() if NEEDS.get(name, NEEDS.get(module, "may")) in known]
+    return [name for name, (module, *_) in MUTANTS.items() if NEEDS.get(module, "may") in known]
 
 
 @functools.lru_cache(maxsize=None)
