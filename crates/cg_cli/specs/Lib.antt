@@ -19,3 +19,5 @@ pub mod Advising
 pub mod SettledAdvice
 pub mod FurtherAdvice
 pub mod Pairs
+pub mod SettledPairs
+pub mod SettledRows
