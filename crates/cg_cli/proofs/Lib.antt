@@ -18,6 +18,8 @@ mod AuditReports
 mod Once
 mod AllPairs
 mod SettledPairs
+mod FurtherPairs
+mod FirstPairs
 mod Closings
 mod ReplayCalls
 mod UpgradeReports

@@ -24,7 +24,8 @@ use Rattle.cg_model.specs.declared.answer.Answer.TheVariants.{Contained, Escapes
 use Rattle.cg_check.proofs.Checking.{checked-answer, no_fault}
 use Rattle.cg_check.proofs.Pairs.{none-element}
 use Rattle.cg_cli.specs.declared.answers.audited.Found.{Found}
-use Rattle.cg_cli.specs.Audited.{IsKnownFrom, AreKnownWithEach, listed_with, listed_from, UnlistedAreSettled}
+use Rattle.cg_cli.specs.Audited.{IsKnownFrom, AreKnownWithEach, UnlistedAreSettled}
+use Rattle.cg_cli.specs.FurtherPairs.{listed_with, listed_from, ReportsFirst}
 use Rattle.cg_cli.specs.FoundPlaces.{found_one}
 use Rattle.cg_cli.specs.ListedRows.{row_of, AreRows, AreListed}
 use Rattle.cg_cli.proofs.Knowing.{some_known, all-unlisted_settled}
@@ -226,30 +227,89 @@ no_pair user subtrees row i all = ap (row_pairs user subtrees) (drop_all i row a
 
 -- ---- the report
 
-abbrev Settles : Result (List Identity × List Names × State) CliFault → Option (List ℕ) → Option (List ℕ) → Result ℕ CliFault → Type 0
-Settles read old new result = (report : Result (List Listed) CliFault) × MayFollow read report × ReportsPairs report old new result
+abbrev Says : Type 1
+Says = Result (List Listed) CliFault → Option (List ℕ) → Option (List ℕ) → Result ℕ CliFault → Type 0
 
 lifted_takes : (fault : CheckFault) → takes_memory (Err (lifted_check fault)) ≡ true
 lifted_takes RootSubtree = refl
 lifted_takes NoSuchSubtree = refl
 lifted_takes CheckNoMemory = refl
 
-found_wanted : (st : State) (users : List Identity) (subtrees : List Names) (fault : Option CheckFault) (known : Option (List ℕ))
-    → (report : Result (List Listed) CliFault) × MayBeFound st users subtrees fault report × ReportsPairs report known known (Err NoMemory)
-found_wanted st users subtrees None known =
-    let some = some_known st users subtrees in
-    let pairs : List Listed = listed_from some.0 0 users subtrees in
-    (Ok pairs, (pairs, (some.0, some.1, refl), refl), wants pairs known)
-found_wanted st users subtrees (Some fault) known = (Err (lifted_check fault), refl, (lifted_takes fault, Keeps-refl known))
+-- whatever is said of pairs, so of a fault or out of memory, by which nothing is written
+module _ (says : Says) (known : Option (List ℕ))
+    (of_fault : (fault : CliFault) → fault ≢ Write → says (Err fault) known known (Err fault))
+    (of_memory : (report : Result (List Listed) CliFault) → read_takes_memory report ≡ true → says report known known (Err NoMemory)) where
+  found_wanted : (st : State) (users : List Identity) (subtrees : List Names) (fault : Option CheckFault)
+      → (report : Result (List Listed) CliFault) × MayBeFound st users subtrees fault report × says report known known (Err NoMemory)
+  found_wanted st users subtrees None =
+      let some = some_known st users subtrees in
+      let pairs : List Listed = listed_from some.0 0 users subtrees in
+      (Ok pairs, (pairs, (some.0, some.1, refl), refl), of_memory (Ok pairs) refl)
+  found_wanted st users subtrees (Some fault) =
+      (Err (lifted_check fault), refl, of_memory (Err (lifted_check fault)) (lifted_takes fault))
 
-met_settles : (read : Result (List Identity × List Names × State) CliFault) (fault : CliFault) → IsMet read fault
-    → (known : Option (List ℕ)) → Settles read known known (Err fault)
-met_settles read Write met known = absurd met
-met_settles (Ok all) NoMemory met known =
-    found_wanted all.2 (once same_user all.0) (once same_path all.1) (first (flat_map (subtree_faults all.2) (once same_path all.1))) known
-met_settles (Err fault) NoMemory met known = (Err fault, refl, (met, Keeps-refl known))
-met_settles read fault met known =
-    (Err fault, subst (λ r. MayFollow r (Err fault)) (sym met) refl, fault_said fault known)
+  abbrev Settles : Result (List Identity × List Names × State) CliFault → Result ℕ CliFault → Type 0
+  Settles read result = (report : Result (List Listed) CliFault) × MayFollow read report × says report known known result
+
+  met_settles : (read : Result (List Identity × List Names × State) CliFault) (fault : CliFault) → IsMet read fault
+      → Settles read (Err fault)
+  met_settles read Write met = absurd met
+  met_settles (Ok all) NoMemory met =
+      found_wanted all.2 (once same_user all.0) (once same_path all.1) (first (flat_map (subtree_faults all.2) (once same_path all.1)))
+  met_settles (Err fault) NoMemory met = (Err fault, refl, of_memory (Err fault) met)
+  met_settles read fault met = (Err fault, subst (λ r. MayFollow r (Err fault)) (sym met) refl, of_fault fault (λ same. cc))
+
+  met_said : (tree : Reading) (given : List (ℕ × List ℕ)) (texts : List (List ℕ)) (fault : CliFault)
+      → IsMet (named_read given texts tree) fault → (result : Result ℕ CliFault)
+      → IsErrAnd result (λ found. found ≡ fault) → ReportsSettled says tree given texts known known result
+  met_said tree given texts fault met result is =
+      handed_on (ReportsSettled says tree given texts known known) fault result is (met_settles (named_read given texts tree) fault met)
+
+-- of who and what is kept once
+module _ (says : Says) (tree : Reading) (given : List (ℕ × List ℕ)) (texts : List (List ℕ)) (users : List Identity) (subtrees : List Names)
+    (st : State) (kept : IsKeptOnce (named_read given texts tree) users subtrees st) where
+  follows_kept : (report : Result (List Listed) CliFault)
+      → MayBeFound st users subtrees (first (flat_map (subtree_faults st) subtrees)) report → MayReport tree given texts report
+  follows_kept report may =
+      subst (λ read. MayFollow read report) (sym kept.is)
+      (subst (λ l. MayBeFound st l (once same_path kept.all_subtrees)
+      (first (flat_map (subtree_faults st) (once same_path kept.all_subtrees))) report)
+      kept.of_users
+      (subst (λ l. MayBeFound st users l (first (flat_map (subtree_faults st) l)) report) kept.of_subtrees may))
+
+  pub kept_said : (report : Result (List Listed) CliFault)
+      → MayBeFound st users subtrees (first (flat_map (subtree_faults st) subtrees)) report
+      → (old new : Option (List ℕ)) (result : Result ℕ CliFault) → says report old new result
+      → ReportsSettled says tree given texts old new result
+  kept_said report may old new result said = (report, follows_kept report may, said)
+
+-- ---- all pairs, one after another
+
+pairs_fault : (known : Option (List ℕ)) (fault : CliFault) → fault ≢ Write → ReportsPairs (Err fault) known known (Err fault)
+pairs_fault known fault other = fault_said fault known
+
+pairs_memory : (known : Option (List ℕ)) (report : Result (List Listed) CliFault) → read_takes_memory report ≡ true
+    → ReportsPairs report known known (Err NoMemory)
+pairs_memory known (Ok pairs) takes = wants pairs known
+pairs_memory known (Err fault) takes = (takes, Keeps-refl known)
+
+-- ---- the first alone
+
+first_fault : (known : Option (List ℕ)) (fault : CliFault) → fault ≢ Write → ReportsFirst (Err fault) known known (Err fault)
+first_fault known Write other = absurd (other refl)
+first_fault known NoMemory other = (refl, Keeps-refl known)
+first_fault known fault other = (refl, Keeps-refl known)
+
+first_memory : (known : Option (List ℕ)) (report : Result (List Listed) CliFault) → read_takes_memory report ≡ true
+    → ReportsFirst report known known (Err NoMemory)
+first_memory known (Ok pairs) takes = (refl, Keeps-refl known)
+first_memory known (Err fault) takes = (takes, Keeps-refl known)
+
+pub first_met : (tree : Reading) (given : List (ℕ × List ℕ)) (texts : List (List ℕ)) (fault : CliFault)
+    → IsMet (named_read given texts tree) fault → (known : Option (List ℕ)) (result : Result ℕ CliFault)
+    → IsErrAnd result (λ found. found ≡ fault) → ReportsSettled ReportsFirst tree given texts known known result
+first_met tree given texts fault met known result is =
+    met_said ReportsFirst known (first_fault known) (first_memory known) tree given texts fault met result is
 
 module _ (st : State) (users : List Identity) (subtrees : List Names) where
   pub subtree_found : (fault : CheckFault) (known : Option (List ℕ)) → Some fault ≡ first (flat_map (subtree_faults st) subtrees)
@@ -262,7 +322,8 @@ module _ (st : State) (users : List Identity) (subtrees : List Names) where
       → ReportsFound st users subtrees known known result
   memory_wanted known result is =
       handed_on (ReportsFound st users subtrees known known) NoMemory result is
-      (found_wanted st users subtrees (first (flat_map (subtree_faults st) subtrees)) known)
+      (found_wanted ReportsPairs known (pairs_fault known) (pairs_memory known) st users subtrees
+      (first (flat_map (subtree_faults st) subtrees)))
 
   pub rows_found : (rows : List (List Found)) → AreListed st users subtrees rows → first (flat_map (subtree_faults st) subtrees) ≡ None
       → (old new : Option (List ℕ)) (result : Result ℕ CliFault) → ReportsPairs (Ok (rows_pairs users subtrees rows)) old new result
@@ -272,23 +333,16 @@ module _ (st : State) (users : List Identity) (subtrees : List Names) where
 
 module _ (tree : Reading) (given : List (ℕ × List ℕ)) (texts : List (List ℕ)) where
   pub met_reports : (fault : CliFault) → IsMet (named_read given texts tree) fault → (known : Option (List ℕ)) (result : Result ℕ CliFault)
-      → IsErrAnd result (λ found. found ≡ fault) → ReportsSettled tree given texts known known result
+      → IsErrAnd result (λ found. found ≡ fault) → ReportsSettled ReportsPairs tree given texts known known result
   met_reports fault met known result is =
-      handed_on (ReportsSettled tree given texts known known) fault result is (met_settles (named_read given texts tree) fault met known)
+      met_said ReportsPairs known (pairs_fault known) (pairs_memory known) tree given texts fault met result is
 
   module _ (users : List Identity) (subtrees : List Names) (st : State) (kept : IsKeptOnce (named_read given texts tree) users subtrees st)
   where
     pub found_reports : (old new : Option (List ℕ)) (result : Result ℕ CliFault) → ReportsFound st users subtrees old new result
-        → ReportsSettled tree given texts old new result
-    found_reports old new result found = (found.0, follows, found.2)
-      where
-        follows : MayReport tree given texts found.0
-        follows =
-            subst (λ read. MayFollow read found.0) (sym kept.is)
-            (subst (λ l. MayBeFound st l (once same_path kept.all_subtrees)
-            (first (flat_map (subtree_faults st) (once same_path kept.all_subtrees))) found.0)
-            kept.of_users
-            (subst (λ l. MayBeFound st users l (first (flat_map (subtree_faults st) l)) found.0) kept.of_subtrees found.1))
+        → ReportsSettled ReportsPairs tree given texts old new result
+    found_reports old new result found =
+        kept_said ReportsPairs tree given texts users subtrees st kept found.0 found.1 old new result found.2
 
     pub unsettled_said : (bytes : List ℕ) → ((start : State) → IsTextOf start bytes → tree ≡ Ok start) → (result : Result ℕ CliFault)
         → (old new : Option (List ℕ)) → IfOk result (λ status. TellsUnsettled st users subtrees old new)

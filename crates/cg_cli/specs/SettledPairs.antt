@@ -12,10 +12,12 @@ use Rattle.cg_model.specs.Listed.{Listed}
 use Rattle.cg_model.specs.Once.{once}
 use Rattle.cg_model.specs.declared.answer.Answer.{Answer}
 use Rattle.cg_model.specs.declared.fault.CheckFault.{CheckFault}
-use Rattle.cg_cli.specs.Audited.{AreKnownWithEach, listed_from, UnlistedAreSettled}
+use Rattle.cg_cli.specs.Audited.{AreKnownWithEach, UnlistedAreSettled}
+use Rattle.cg_cli.specs.FurtherPairs.{listed_from, first_pair_report}
 use Rattle.cg_format.specs.Readings.{Reading}
 use Rattle.cg_cli.specs.AllPairs.{listing_text, ReportsPairs}
 use Rattle.cg_cli.specs.Asking.{named_read}
+use Rattle.cg_cli.specs.Reports.{Report, report_on}
 use Rattle.cg_faults.specs.Faults.{lifted_check}
 use Rattle.cg_cli.specs.Once.{same_user}
 use Rattle.cg_faults.specs.declared.fault.CliFault.{CliFault}
@@ -37,6 +39,12 @@ ReportsFound st users subtrees old new result =
     (report : Result (List Listed) CliFault) × MayBeFound st users subtrees (first (flat_map (subtree_faults st) subtrees)) report
     × ReportsPairs report old new result
 
+-- what is said of the first of such pairs, where the subtrees have no fault
+abbrev pub SaysFirst : State → List Identity → List Names → Report → Type 0
+SaysFirst st users subtrees said =
+    (report : Result (List Listed) CliFault)
+    × MayBeFound st users subtrees (first (flat_map (subtree_faults st) subtrees)) report × (report_on report first_pair_report ≡ said)
+
 -- Who and what is named again counts once.
 abbrev pub MayFollow : Result (List Identity × List Names × State) CliFault → Result (List Listed) CliFault → Type 0
 MayFollow (Err fault) report = report ≡ Err fault
@@ -47,10 +55,10 @@ MayFollow (Ok all) report =
 abbrev pub MayReport : Reading → List (ℕ × List ℕ) → List (List ℕ) → Result (List Listed) CliFault → Type 0
 MayReport tree given texts report = MayFollow (named_read given texts tree) report
 
--- and of what is given
-abbrev pub ReportsSettled : Reading → List (ℕ × List ℕ) → List (List ℕ) → Option (List ℕ) → Option (List ℕ) → Result ℕ CliFault → Type 0
-ReportsSettled tree given texts old new result =
-    (report : Result (List Listed) CliFault) × MayReport tree given texts report × ReportsPairs report old new result
+-- and of what is given, by what is said of pairs
+abbrev pub ReportsSettled : (Result (List Listed) CliFault → Option (List ℕ) → Option (List ℕ) → Result ℕ CliFault → Type 0) → Reading → List (ℕ × List ℕ) → List (List ℕ) → Option (List ℕ) → Option (List ℕ) → Result ℕ CliFault → Type 0
+ReportsSettled says tree given texts old new result =
+    (report : Result (List Listed) CliFault) × MayReport tree given texts report × says report old new result
 
 -- What is written lists pairs, and each subtree is held against those with whom it isn't listed, together.
 abbrev pub TellsUnsettled : State → List Identity → List Names → Option (List ℕ) → Option (List ℕ) → Type 0

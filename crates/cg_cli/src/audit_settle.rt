@@ -1,9 +1,11 @@
 //! All pairs of some users and some subtrees that aren't settled.
-ghost use Rattle.std.specs.Prelude.{◌≡◌, false, List, map, length, Ok, IfOk};
-ghost use Rattle.std.specs.List.{All};
+ghost use Rattle.std.specs.Prelude.{◌≡◌, ◌≢◌, false, List, map, length, Some, Ok, IfOk, MatchResult};
+ghost use Rattle.std.specs.List.{All, flat_map};
 ghost use Rattle.cg_cgroup.specs.Identity.{Identity};
 ghost use Rattle.cg_cgroup.specs.Paths.{Names, same_path};
 ghost use Rattle.cg_model.specs.States.{State};
+ghost use Rattle.cg_model.specs.Clauses.{first};
+ghost use Rattle.cg_model.specs.Checks.{subtree_faults};
 ghost use Rattle.cg_model.specs.Once.{once};
 ghost use Rattle.cg_model.specs.Listed.{listed_unless_contained, is_contained};
 ghost use Rattle.cg_format.specs.Readings.{OnText};
@@ -11,23 +13,29 @@ ghost use Rattle.cg_format.specs.TextOf.{IsTextOf};
 ghost use Rattle.cg_cli.specs.Audits.{users_read, paths_read};
 ghost use Rattle.cg_cli.specs.Once.{same_user};
 ghost use Rattle.cg_cli.specs.AllPairs.{WritesPairs, ReportsPairs};
-ghost use Rattle.cg_cli.specs.SettledPairs.{ReportsFound, ReportsSettled, TellsUnsettled};
-ghost use Rattle.cg_cli.specs.SettledRows.{row_pairs, rows_pairs, IsPairLine, IsRowOfLines};
+ghost use Rattle.cg_cli.specs.FurtherPairs.{ReportsFirst, ReportsFurther};
+ghost use Rattle.cg_cli.specs.SettledPairs.{ReportsFound, ReportsSettled, SaysFirst, TellsUnsettled};
+ghost use Rattle.cg_cli.specs.SettledRows.{row_pairs, rows_pairs, first_in_rows, IsPairLine, IsRowOfLines};
 ghost use Rattle.cg_report.specs.AnswerLines.{IsShown};
 
-use crate::arguments::UserIds;
-use crate::audit_all::worse;
-use crate::check::status;
-use cg_faults::fault::CliFault;
-use crate::named::read_named;
 use crate::answers::audited::Found;
 use crate::answers::listing::{Row, listed_rows};
+use crate::arguments::UserIds;
+use crate::audit::audit_status;
+use crate::audit_all::worse;
+use crate::check::status;
+use crate::named::read_named;
+use crate::report::write_said;
+use cg_cgroup::memory::NoMemory;
 use cg_cgroup::path::Path;
 use cg_cgroup::user::User;
 use cg_check::first_fault;
-use cg_model::answer::Answer;
-use cg_report::pair::pair_text;
+use cg_faults::fault::CliFault;
+use cg_model::answer::{AllAnswer, Answer};
+use cg_model::fault::CheckFault;
 use cg_model::hierarchy::Hierarchy;
+use cg_report::audit::audit_text;
+use cg_report::pair::pair_text;
 use std::alloc::Global;
 use std::io::Write;
 use streams::write::write_whole;
@@ -46,7 +54,10 @@ pub fn audit_all_settled_bytes<W: Write>(
     subtrees: &[&str],
     out: &mut W,
 ) -> Result<u8, CliFault>
-    ensures report { OnText tree.now (λ read. ReportsSettled read
+    ensures report { OnText tree.now (λ read. ReportsSettled ReportsPairs read
+        (map (λ user. (user.uid, user.gids.now)) users.now) (map (λ subtree. subtree.now) subtrees.now)
+        (W.contents out.old) (W.contents out.new) result) }
+    ensures further { OnText tree.now (λ read. ReportsFurther ReportsPairs read
         (map (λ user. (user.uid, user.gids.now)) users.now) (map (λ subtree. subtree.now) subtrees.now)
         (W.contents out.old) (W.contents out.new) result) }
     ensures unlisted { IfOk result (λ status. (st : State) (who : List Identity) (paths : List Names)
@@ -62,6 +73,75 @@ pub fn audit_all_settled_bytes<W: Write>(
         named.subtrees.as_slice(),
         out,
     )
+}
+
+/// Writes the first of these pairs alone, as `audit_bytes` writes one, with its status.
+///
+/// # Errors
+/// Those of `audit_bytes`.
+pub fn audit_settled_bytes<W: Write>(
+    alloc: Global,
+    tree: &[u8],
+    users: &[UserIds<'_>],
+    subtrees: &[&str],
+    out: &mut W,
+) -> Result<u8, CliFault>
+    ensures report { OnText tree.now (λ read. ReportsSettled ReportsFirst read
+        (map (λ user. (user.uid, user.gids.now)) users.now) (map (λ subtree. subtree.now) subtrees.now)
+        (W.contents out.old) (W.contents out.new) result) }
+    ensures further { OnText tree.now (λ read. ReportsFurther ReportsFirst read
+        (map (λ user. (user.uid, user.gids.now)) users.now) (map (λ subtree. subtree.now) subtrees.now)
+        (W.contents out.old) (W.contents out.new) result) }
+{
+    let named = read_named(alloc, tree, users, subtrees)?;
+    let said = first_said(
+        alloc,
+        &named.tree,
+        named.users.as_slice(),
+        named.subtrees.as_slice(),
+    )?;
+    write_said(out, said)
+}
+
+/// What is said of the first pair that isn't settled, and the status.
+fn first_said<H: Hierarchy + Drop>(
+    alloc: Global,
+    tree: &H,
+    users: &[User],
+    subtrees: &[Path],
+) -> Result<(Vec<u8>, u8), CheckFault>
+    ensures { MatchResult result
+        (λ said. SaysFirst (H.state tree.now) users.now subtrees.now (record { text = said.0.items; ending = Ok said.1 }))
+        (λ fault. fault ≢ CheckFault.NoMemory
+            → Some fault ≡ first (flat_map (subtree_faults (H.state tree.now)) subtrees.now)) }
+{
+    if let Some(fault) = first_fault(tree, subtrees) {
+        return Err(fault);
+    }
+    let Ok(rows) = listed_rows(alloc, tree, users, subtrees) else {
+        return Err(CheckFault::NoMemory);
+    };
+    let first = first_in_rows(rows);
+    match audit_text(alloc, users, subtrees, &first) {
+        Ok(text) => Ok((text, audit_status(&first))),
+        Err(NoMemory) => Err(CheckFault::NoMemory),
+    }
+}
+
+/// The first pair of users' rows.
+fn first_in_rows(rows: Vec<Row>) -> AllAnswer
+    ensures { result ≡ first_in_rows 0 rows.items }
+{
+    for (user, row) in rows.into_iter().enumerate() {
+        if let Some(Found { place, answer }) = row.into_first() {
+            return AllAnswer::Pair {
+                user,
+                subtree: place,
+                answer,
+            };
+        }
+    }
+    AllAnswer::Contained
 }
 
 /// Writes all pairs that aren't settled, or that there is none.

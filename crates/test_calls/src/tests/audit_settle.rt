@@ -1,4 +1,5 @@
-//! `audit_all_settled_bytes` on rows worked out by hand; `audit` has its faults.
+//! `audit_all_settled_bytes`, and `audit_settled_bytes` which writes the first pair alone, on rows worked out by hand; `audit` has
+//! their faults.
 use super::calls::{Call, expect};
 use super::changed::{Change, ROOT, SECOND_USER, delegation_with};
 use crate::tests::users::{USER, user};
@@ -56,6 +57,28 @@ fn pairs_are_by_user_and_then_subtree(rt: HostRuntime) -> Result<(), Fail> {
         (&[third], &[], "contained\n", 0),
     ] {
         let call = Call::AuditAllSettled(users, subtrees);
+        expect(&rt, rt.alloc(), tree.as_bytes(), call, report, status);
+    }
+    Ok(())
+}
+
+#[test]
+fn the_first_pair_is_written_alone(rt: HostRuntime) -> Result<(), Fail> {
+    let second = user(1001, &[]);
+    let third = user(1002, &[51]);
+    let escapes = "pair 1001 /c0\nescapes\nset /c0 memory.max max\n";
+    let open = "pair 1002 /c1\nunsettled parent-dir /\n";
+    let tree = delegation_with(rt.alloc(), &[THIRD_USER, SECOND_USER])?;
+    for (users, subtrees, report, status) in [
+        ([third].as_slice(), ["/c0", "/c1"].as_slice(), "contained\n", 0),
+        (&[USER, third, second], &["/c1", "/c0"], open, 2),
+        (&[USER, second, third], &["/c1", "/c0"], escapes, 1),
+        (&[second, third, third], &["/c0", "/c1", "/c0"], escapes, 1),
+        (&[second, third], &["/c1"], "contained\n", 0),
+        (&[], &["/c0"], "contained\n", 0),
+        (&[second], &[], "contained\n", 0),
+    ] {
+        let call = Call::AuditSettled(users, subtrees);
         expect(&rt, rt.alloc(), tree.as_bytes(), call, report, status);
     }
     Ok(())
