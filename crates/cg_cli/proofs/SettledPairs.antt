@@ -169,14 +169,20 @@ module _ (st : State) (users : List Identity) (subtrees : List Names) (rows : Li
       subst (λ o. MayBeFound st users subtrees o (Ok (rows_pairs users subtrees rows))) (sym none)
       (rows_pairs users subtrees rows, (are.found, are.known, listing), refl)
 
-  pub tells : (subtrees ≢ [] → IsWellFormed st) → (old new : Option (List ℕ)) (status : ℕ)
+  tells_all : (subtrees ≢ [] → IsWellFormed st) → (old new : Option (List ℕ)) (status : ℕ)
       → ReportsPairs (Ok (rows_pairs users subtrees rows)) old new (Ok status) → TellsUnsettled st users subtrees old new
-  tells formed old new status reports = (
+  tells_all formed old new status reports = (
     are.found,
     subst (λ l. Appends old new (listing_text l)) listing reports.1,
     all-unlisted_settled st users subtrees are.found formed
         (λ k d within. no_fault st (get_or subtrees k d) (sym (none-element (subtree_faults st) subtrees k d within none))) are.known,
   )
+
+  pub tells : (subtrees ≢ [] → IsWellFormed st) → (old new : Option (List ℕ)) (result : Result ℕ CliFault)
+      → ReportsPairs (Ok (rows_pairs users subtrees rows)) old new result
+      → IfOk result (λ status. TellsUnsettled st users subtrees old new)
+  tells formed old new (Ok status) reports = tells_all formed old new status reports
+  tells formed old new (Err fault) reports = tt
 
 -- ---- one after another
 
