@@ -81,8 +81,8 @@ may_list : (st : State) (users : List Identity) (subtrees : List Names) → IsWe
     → first (flat_map (subtree_faults st) subtrees) ≡ fault → (report : Result (List Listed) CliFault)
     → MayBeFound st users subtrees fault report → MayList st users subtrees fault report
 may_list st users subtrees formed (Some fault) is report may = may
-may_list st users subtrees formed None is report (pairs, listed, same) =
-    (listed.0, are_further st users subtrees listed.0 formed is listed.1, same ∙ ap Ok listed.2)
+may_list st users subtrees formed None is report may =
+    (may.1.0, are_further st users subtrees may.1.0 formed is may.1.1, may.2 ∙ ap Ok may.1.2)
 
 module _ (tree : Reading) (given : List (ℕ × List ℕ)) (texts : List (List ℕ)) (report : Result (List Listed) CliFault)
     (formed : (st : State) → tree ≡ Ok st → IsWellFormed st) where

@@ -39,11 +39,11 @@ use Rattle.cg_cli.specs.Audits.{users_read, paths_read}
 use Rattle.cg_faults.specs.Faults.{lifted_check}
 use Rattle.cg_cli.specs.May.{tree_read}
 use Rattle.cg_cli.specs.Once.{same_user}
-use Rattle.cg_cli.specs.SettledPairs.{MayBeFound, MayFollow, MayReport, ReportsFound, ReportsSettled, TellsUnsettled}
+use Rattle.cg_cli.specs.SettledPairs.{MayBeFound, MayFollow, MayReport, ReportsFound, ReportsSettled, SaysFirst, TellsUnsettled}
 use Rattle.cg_cli.specs.SettledRows.{pair_found, row_pairs, rows_pairs, IsPairLine, IsRowOfLines}
 use Rattle.cg_faults.specs.declared.fault.CliFault.{CliFault}
 use Rattle.cg_faults.specs.declared.fault.CliFault.TheVariants.{Write, NoMemory}
-use Rattle.cg_cli.specs.Reports.{takes_memory}
+use Rattle.cg_cli.specs.Reports.{Report, Reports, takes_memory}
 use Rattle.cg_cli.proofs.AllPairs.{Front, fault_said, wants}
 use Rattle.cg_cli.proofs.ReportLaws.{handed_on, same_Ok}
 
@@ -316,6 +316,44 @@ pub first_met : (tree : Reading) (given : List (ℕ × List ℕ)) (texts : List 
     → IsErrAnd result (λ found. found ≡ fault) → ReportsSettled ReportsFirst tree given texts known known result
 first_met tree given texts fault met known result is =
     met_said ReportsFirst known (first_fault known) (first_memory known) tree given texts fault met result is
+
+module _ (st : State) (users : List Identity) (subtrees : List Names) (known : Option (List ℕ)) where
+  abbrev FirstStops : Result ℕ CliFault → Type 0
+  FirstStops result =
+      (report : Result (List Listed) CliFault)
+      × MayBeFound st users subtrees (first (flat_map (subtree_faults st) subtrees)) report × ReportsFirst report known known result
+
+  first_stopped : (fault : CheckFault) → (fault ≢ CheckNoMemory → Some fault ≡ first (flat_map (subtree_faults st) subtrees))
+      → FirstStops (Err (lifted_check fault))
+  first_stopped RootSubtree is = (
+    Err (lifted_check RootSubtree),
+    subst (λ o. MayBeFound st users subtrees o (Err (lifted_check RootSubtree))) (is (λ same. cc)) refl,
+    (refl, Keeps-refl known),
+  )
+  first_stopped NoSuchSubtree is = (
+    Err (lifted_check NoSuchSubtree),
+    subst (λ o. MayBeFound st users subtrees o (Err (lifted_check NoSuchSubtree))) (is (λ same. cc)) refl,
+    (refl, Keeps-refl known),
+  )
+  first_stopped CheckNoMemory is =
+      found_wanted ReportsFirst known (first_fault known) (first_memory known) st users subtrees
+      (first (flat_map (subtree_faults st) subtrees))
+
+module _ (tree : Reading) (given : List (ℕ × List ℕ)) (texts : List (List ℕ)) (users : List Identity) (subtrees : List Names) (st : State)
+    (kept : IsKeptOnce (named_read given texts tree) users subtrees st) where
+  pub first_stops : (fault : CheckFault) → (fault ≢ CheckNoMemory → Some fault ≡ first (flat_map (subtree_faults st) subtrees))
+      → (known : Option (List ℕ)) (result : Result ℕ CliFault) → IsErrAnd result (λ found. found ≡ lifted_check fault)
+      → ReportsSettled ReportsFirst tree given texts known known result
+  first_stops fault is known result handed =
+      let stops =
+      handed_on (FirstStops st users subtrees known) (lifted_check fault) result handed (first_stopped st users subtrees known fault is) in
+      kept_said ReportsFirst tree given texts users subtrees st kept stops.0 stops.1 known known result stops.2
+
+  pub first_reports : (said : Report) → SaysFirst st users subtrees said → (old new : Option (List ℕ)) (result : Result ℕ CliFault)
+      → Reports said old new result → ReportsSettled ReportsFirst tree given texts old new result
+  first_reports said says old new result written =
+      kept_said ReportsFirst tree given texts users subtrees st kept says.0 says.1 old new result
+      (subst (λ (report : Report). Reports report old new result) (sym says.2) written)
 
 module _ (st : State) (users : List Identity) (subtrees : List Names) where
   pub subtree_found : (fault : CheckFault) (known : Option (List ℕ)) → Some fault ≡ first (flat_map (subtree_faults st) subtrees)
