@@ -1,6 +1,8 @@
 -- The first of the pairs that are listed, and what is said of it.
-use Rattle.std.proofs.Common.{◌≡◌, ℕ, zero, suc, ◌+◌, ◌<◌, ◌≤◌, false, List, [], ◌∷◌, ◌++◌, length, get_or, Option, None, Result, Ok, Err, refl, sym, ap, ◌∙◌, subst, arith}
+use Rattle.std.proofs.Common.{◌≡◌, ℕ, ◌+◌, ◌<◌, ◌≤◌, false, List, [], ◌∷◌, ◌++◌, length, get_or, drop, drop-cons, add-one, Option, Some, None, Ok, refl, sym, ap, ◌∙◌, subst, arith}
+use Rattle.std.specs.Prelude.{slice_get}
 use Rattle.std.specs.List.{All, flat_map}
+use Rattle.std.proofs.lemmas.List.{drop_all}
 use Rattle.cg_cgroup.specs.Paths.{Names}
 use Rattle.cg_cgroup.specs.Identity.{Identity}
 use Rattle.cg_model.specs.States.{State}
@@ -9,76 +11,78 @@ use Rattle.cg_model.specs.Checks.{subtree_faults}
 use Rattle.cg_model.specs.Listed.{Listed, listed_unless_contained, is_contained}
 use Rattle.cg_model.specs.declared.answer.Answer.{Answer}
 use Rattle.cg_model.specs.declared.answer.Answer.TheVariants.{Contained, Escapes, Unsettled}
-use Rattle.cg_model.specs.declared.answer.AllAnswer.{AllAnswer}
-use Rattle.cg_model.specs.declared.answer.AllAnswer.TheVariants.{Pair}
 use Rattle.cg_report.specs.AnswerLines.{answer_text, IsShown}
-use Rattle.cg_report.specs.AuditLines.{uid_at, pair_line, IsPairShown}
+use Rattle.cg_report.specs.AuditLines.{pair_line}
 use Rattle.cg_cli.specs.declared.answers.audited.Found.{Found}
-use Rattle.cg_cli.specs.Audits.{audit_answer_report}
+use Rattle.cg_cli.specs.Containment.{answer_status}
 use Rattle.cg_cli.specs.FurtherPairs.{first_pair_report}
 use Rattle.cg_cli.specs.ListedRows.{AreListed}
 use Rattle.cg_cli.specs.Reports.{Report}
 use Rattle.cg_cli.specs.SettledPairs.{SaysFirst}
-use Rattle.cg_cli.specs.SettledRows.{pair_found, row_pairs, rows_pairs, first_in_rows, IsRowOfLines}
-use Rattle.cg_cli.proofs.SettledPairs.{may_list, rows_all, rows_lines}
+use Rattle.cg_cli.specs.SettledRows.{pair_found, row_pairs, rows_pairs, IsPairLine, IsRowOfLines}
+use Rattle.cg_cli.proofs.SettledPairs.{may_list}
 
-uid_in : (users : List Identity) (place : ℕ) (d : Identity) → place < length users → uid_at users place ≡ (get_or users place d).uid
-uid_in [] place d low = absurd (omega (arith, low))
-uid_in (user ∷ users) zero d low = refl
-uid_in (user ∷ users) (suc place) d low = uid_in users place d (omega (arith, low))
+none_first : (row : List Found) → slice_get row 0 ≡ None → row ≡ []
+none_first [] none = refl
+none_first (found ∷ others) none = let never : ⊥ = cc in absurd never
 
-module _ (all : List Identity) (subtrees : List Names) where
-  -- of one, whatever is behind it
-  one_said : (user : Identity) (at place : ℕ) (a : Answer) (more rest : List Listed) → uid_at all at ≡ user.uid → is_contained a ≡ false
-      → audit_answer_report all subtrees (Pair at place a)
-      ≡ first_pair_report ((listed_unless_contained user (get_or subtrees place []) a ++ more) ++ rest)
-  one_said user at place Contained more rest uid listed = cc
-  one_said user at place (Escapes ops) more rest uid listed = (λ i. record {
-    text = pair_line (uid i) (get_or subtrees place []) ++ answer_text (get_or subtrees place []) (Escapes ops);
-    ending = Ok 1;
-  })
-  one_said user at place (Unsettled failed) more rest uid listed = (λ i. record {
-    text = pair_line (uid i) (get_or subtrees place []) ++ answer_text (get_or subtrees place []) (Unsettled failed);
-    ending = Ok 2;
-  })
+some_first : (row : List Found) (found : Found) → slice_get row 0 ≡ Some found → row ≡ found ∷ drop 1 row
+some_first [] found some = let never : ⊥ = cc in absurd never
+some_first (x ∷ xs) found some = let same : x ≡ found = cc in (λ i. same i ∷ xs)
 
-  first_as : (users : List Identity) (rows : List (List Found)) (at : ℕ) → length rows ≡ length users
-      → ((k : ℕ) (d : Identity) → k < length users → uid_at all (at + k) ≡ (get_or users k d).uid) → All (IsRowOfLines subtrees) rows
-      → audit_answer_report all subtrees (first_in_rows at rows) ≡ first_pair_report (rows_pairs users subtrees rows)
-  first_as [] [] at count uids lines = refl
-  first_as (user ∷ users) [] at count uids lines = let never : ⊥ = omega (arith, count) in absurd never
-  first_as [] (row ∷ rows) at count uids lines = let never : ⊥ = omega (arith, count) in absurd never
-  first_as (user ∷ users) ([] ∷ rows) at count uids lines =
-      first_as users rows (suc at) (omega (arith, count)) (λ k d low.
-      let same : suc at + k ≡ at + suc k = omega arith in
-      ap (uid_at all) same ∙ uids (suc k) d (omega (arith, low)))
-      (λ k d low. lines (suc k) d (omega (arith, low)))
-  first_as (user ∷ users) ((found ∷ others) ∷ rows) at count uids lines =
-      let whole : at ≡ at + 0 = omega arith in
-      one_said user at found.place found.answer (row_pairs user subtrees others) (rows_pairs users subtrees rows)
-      (ap (uid_at all) whole ∙ uids 0 user (omega arith)) (lines 0 [] (omega arith) 0 found (omega arith)).1
+module _ (users : List Identity) (subtrees : List Names) (rows : List (List Found)) (i : ℕ) (user : Identity) (row : List Found)
+    (within : i < length users) (all : length rows ≡ length users) (at : user ≡ get_or users i user) (row_at : row ≡ get_or rows i row)
+    (far : rows_pairs (drop i users) subtrees (drop i rows) ≡ rows_pairs users subtrees rows) where
+  abbrev rest : List Listed
+  rest = rows_pairs (drop (i + 1) users) subtrees (drop (i + 1) rows)
 
-  shown_from : (rows : List (List Found)) (at : ℕ) → at + length rows ≤ length all → All (IsRowOfLines subtrees) rows
-      → IsPairShown all subtrees (first_in_rows at rows)
-  shown_from [] at within lines = tt
-  shown_from ([] ∷ rows) at within lines =
-      shown_from rows (suc at) (omega (arith, within)) (λ k d low. lines (suc k) d (omega (arith, low)))
-  shown_from ((found ∷ others) ∷ rows) at within lines =
-      let line = lines 0 [] (omega arith) 0 found (omega arith) in (omega (arith, within), line.0, line.2)
+  behind : row_pairs user subtrees row ++ rest ≡ rows_pairs users subtrees rows
+  behind =
+      let of_users : drop i users ≡ user ∷ drop (i + 1) users =
+      drop-cons users i user within ∙ (λ j. sym at j ∷ drop (sym (add-one i) j) users) in
+      let of_rows : drop i rows ≡ row ∷ drop (i + 1) rows =
+      drop-cons rows i row (omega (arith, within, all)) ∙ (λ j. sym row_at j ∷ drop (sym (add-one i) j) rows) in
+      (λ j. rows_pairs (sym of_users j) subtrees (sym of_rows j)) ∙ far
 
-module _ (st : State) (users : List Identity) (subtrees : List Names) (rows : List (List Found)) (are : AreListed st users subtrees rows)
-    (none : first (flat_map (subtree_faults st) subtrees) ≡ None) (found : AllAnswer) (is : found ≡ first_in_rows 0 rows) where
-  pub first_shown : IsPairShown users subtrees found
-  first_shown =
-      let count = rows_all st users subtrees rows are none in
-      subst (IsPairShown users subtrees) (sym is)
-      (shown_from users subtrees rows 0 (omega (arith, count)) (rows_lines st users subtrees rows are none))
+  -- nothing is listed of this user
+  pub first_later : slice_get row 0 ≡ None → rest ≡ rows_pairs users subtrees rows
+  first_later none = (λ j. row_pairs user subtrees (sym (none_first row none) j) ++ rest) ∙ behind
 
-  pub first_says : (said : Report) → audit_answer_report users subtrees found ≡ said → SaysFirst st users subtrees said
-  first_says said same = (
-    Ok (rows_pairs users subtrees rows),
-    may_list st users subtrees rows are none,
-    sym (first_as users subtrees users rows 0 (rows_all st users subtrees rows are none) (λ k d low. uid_in users k d low)
-        (rows_lines st users subtrees rows are none))
-        ∙ sym (ap (audit_answer_report users subtrees) is) ∙ same,
-  )
+  -- the first that is listed of this user is the first of all
+  pub first_here : (found : Found) → slice_get row 0 ≡ Some found → rows_pairs users subtrees rows
+      ≡ (pair_found user subtrees found ++ row_pairs user subtrees (drop 1 row)) ++ rest
+  first_here found some = sym behind ∙ (λ j. row_pairs user subtrees (some_first row found some j) ++ rest)
+
+  pub line_first : (found : Found) → slice_get row 0 ≡ Some found → All (IsRowOfLines subtrees) rows → IsPairLine subtrees found
+  line_first found some lines =
+      let own : IsRowOfLines subtrees row =
+      subst (IsRowOfLines subtrees) (sym row_at) (lines i row (omega (arith, within, all))) in
+      let same : get_or row 0 found ≡ found = (λ j. get_or (some_first row found some j) 0 found) in
+      subst (IsPairLine subtrees) same (own 0 found (some_within row some))
+    where
+      some_within : (l : List Found) → slice_get l 0 ≡ Some found → 0 < length l
+      some_within [] none = let never : ⊥ = cc in absurd never
+      some_within (x ∷ xs) is = omega arith
+
+-- what is said of a pair that comes first
+pub one_said : (user : Identity) (subtree : Names) (a : Answer) (more rest : List Listed) (text : List ℕ) (status : ℕ)
+    → is_contained a ≡ false → text ≡ pair_line user.uid subtree ++ answer_text subtree a → status ≡ answer_status a
+    → first_pair_report ((listed_unless_contained user subtree a ++ more) ++ rest) ≡ record { text = text; ending = Ok status }
+one_said user subtree Contained more rest text status listed is status_is = cc
+one_said user subtree (Escapes ops) more rest text status listed is status_is =
+    (λ i. record { text = sym is i; ending = Ok (sym status_is i) })
+one_said user subtree (Unsettled failed) more rest text status listed is status_is =
+    (λ i. record { text = sym is i; ending = Ok (sym status_is i) })
+
+-- nothing is listed of anybody
+pub none_said : (users : List Identity) (subtrees : List Names) (rows : List (List Found)) (i : ℕ) → length users ≤ i
+    → rows_pairs (drop i users) subtrees (drop i rows) ≡ rows_pairs users subtrees rows
+    → first_pair_report (rows_pairs users subtrees rows) ≡ first_pair_report []
+none_said users subtrees rows i all far =
+    ap first_pair_report (sym far ∙ (λ j. rows_pairs (drop_all i users all j) subtrees (drop i rows)))
+
+pub first_says : (st : State) (users : List Identity) (subtrees : List Names) (rows : List (List Found))
+    → AreListed st users subtrees rows → first (flat_map (subtree_faults st) subtrees) ≡ None → (said : Report)
+    → first_pair_report (rows_pairs users subtrees rows) ≡ said → SaysFirst st users subtrees said
+first_says st users subtrees rows are none said same =
+    (Ok (rows_pairs users subtrees rows), may_list st users subtrees rows are none, same)

@@ -1,12 +1,10 @@
 -- How it is read and written: nobody has to believe it.
 -- The rows of users, as pairs that are written one after another.
-use Rattle.std.specs.Prelude.{◌≡◌, ℕ, suc, ◌<◌, false, List, [], ◌∷◌, ◌++◌, length, get_or}
+use Rattle.std.specs.Prelude.{◌≡◌, ◌<◌, false, List, [], ◌∷◌, ◌++◌, length, get_or}
 use Rattle.std.specs.List.{All, flat_map}
 use Rattle.cg_cgroup.specs.Paths.{Names}
 use Rattle.cg_cgroup.specs.Identity.{Identity}
 use Rattle.cg_model.specs.Listed.{Listed, listed_unless_contained, is_contained}
-use Rattle.cg_model.specs.declared.answer.AllAnswer.{AllAnswer}
-use Rattle.cg_model.specs.declared.answer.AllAnswer.TheVariants.{Contained, Pair}
 use Rattle.cg_cli.specs.declared.answers.audited.Found.{Found}
 use Rattle.cg_report.specs.AnswerLines.{IsShown}
 
@@ -29,9 +27,3 @@ IsPairLine subtrees found =
 
 abbrev pub IsRowOfLines : List Names → List Found → Type 0
 IsRowOfLines subtrees row = All (IsPairLine subtrees) row
-
--- the first of them, by the places of users from one on
-abbrev pub first_in_rows : ℕ → List (List Found) → AllAnswer
-first_in_rows user [] = Contained
-first_in_rows user ([] ∷ rows) = first_in_rows (suc user) rows
-first_in_rows user ((found ∷ others) ∷ rows) = Pair user found.place found.answer

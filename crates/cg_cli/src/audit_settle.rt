@@ -1,9 +1,10 @@
 //! All pairs of some users and some subtrees that aren't settled.
-ghost use Rattle.std.specs.Prelude.{◌≡◌, ◌≢◌, false, List, map, length, Some, Ok, IfOk, MatchResult};
+ghost use Rattle.std.specs.Prelude.{◌≡◌, ◌≢◌, ◌++◌, false, List, [], map, length, Some, None, Ok, IfOk, MatchResult};
 ghost use Rattle.std.specs.List.{All, flat_map};
 ghost use Rattle.cg_cgroup.specs.Identity.{Identity};
 ghost use Rattle.cg_cgroup.specs.Paths.{Names, same_path};
 ghost use Rattle.cg_model.specs.States.{State};
+ghost use Rattle.cg_model.specs.WellFormed.{IsWellFormed};
 ghost use Rattle.cg_model.specs.Clauses.{first};
 ghost use Rattle.cg_model.specs.Checks.{subtree_faults};
 ghost use Rattle.cg_model.specs.Once.{once};
@@ -13,15 +14,16 @@ ghost use Rattle.cg_format.specs.TextOf.{IsTextOf};
 ghost use Rattle.cg_cli.specs.Audits.{users_read, paths_read};
 ghost use Rattle.cg_cli.specs.Once.{same_user};
 ghost use Rattle.cg_cli.specs.AllPairs.{WritesPairs, ReportsPairs};
-ghost use Rattle.cg_cli.specs.FurtherPairs.{ReportsFirst, ReportsFurther};
+ghost use Rattle.cg_cli.specs.Containment.{answer_status};
+ghost use Rattle.cg_cli.specs.FurtherPairs.{first_pair_report, ReportsFirst, ReportsFurther};
 ghost use Rattle.cg_cli.specs.SettledPairs.{ReportsFound, ReportsSettled, SaysFirst, TellsUnsettled};
-ghost use Rattle.cg_cli.specs.SettledRows.{row_pairs, rows_pairs, first_in_rows, IsPairLine, IsRowOfLines};
-ghost use Rattle.cg_report.specs.AnswerLines.{IsShown};
+ghost use Rattle.cg_cli.specs.SettledRows.{row_pairs, rows_pairs, IsPairLine, IsRowOfLines};
+ghost use Rattle.cg_report.specs.AnswerLines.{answer_text, IsShown};
+ghost use Rattle.cg_report.specs.AuditLines.{pair_line};
 
 use crate::answers::audited::Found;
 use crate::answers::listing::{Row, listed_rows};
 use crate::arguments::UserIds;
-use crate::audit::audit_status;
 use crate::audit_all::worse;
 use crate::check::status;
 use crate::named::read_named;
@@ -31,10 +33,10 @@ use cg_cgroup::path::Path;
 use cg_cgroup::user::User;
 use cg_check::first_fault;
 use cg_faults::fault::CliFault;
-use cg_model::answer::{AllAnswer, Answer};
+use cg_model::answer::Answer;
 use cg_model::fault::CheckFault;
 use cg_model::hierarchy::Hierarchy;
-use cg_report::audit::audit_text;
+use cg_report::audit::uid_pair_text;
 use cg_report::pair::pair_text;
 use std::alloc::Global;
 use std::io::Write;
@@ -118,30 +120,63 @@ fn first_said<H: Hierarchy + Drop>(
     if let Some(fault) = first_fault(tree, subtrees) {
         return Err(fault);
     }
-    let Ok(rows) = listed_rows(alloc, tree, users, subtrees) else {
-        return Err(CheckFault::NoMemory);
-    };
-    let first = first_in_rows(rows);
-    match audit_text(alloc, users, subtrees, &first) {
-        Ok(text) => Ok((text, audit_status(&first))),
+    match first_listed(alloc, tree, users, subtrees) {
         Err(NoMemory) => Err(CheckFault::NoMemory),
+        Ok(said) => Ok(said),
     }
 }
 
-/// The first pair of users' rows.
-fn first_in_rows(rows: Vec<Row>) -> AllAnswer
-    ensures { result ≡ first_in_rows 0 rows.items }
+/// The same of subtrees without a fault.
+fn first_listed<H: Hierarchy + Drop>(
+    alloc: Global,
+    tree: &H,
+    users: &[User],
+    subtrees: &[Path],
+) -> Result<(Vec<u8>, u8), NoMemory>
+    requires formed { subtrees.now ≢ [] → IsWellFormed (H.state tree.now) }
+    requires there { first (flat_map (subtree_faults (H.state tree.now)) subtrees.now) ≡ None }
+    ensures { IfOk result (λ said. SaysFirst (H.state tree.now) users.now subtrees.now (record { text = said.0.items; ending = Ok said.1 })) }
 {
-    for (user, row) in rows.into_iter().enumerate() {
-        if let Some(Found { place, answer }) = row.into_first() {
-            return AllAnswer::Pair {
-                user,
-                subtree: place,
-                answer,
-            };
+    let rows = listed_rows(alloc, tree, users, subtrees)?;
+    first_of_rows(alloc, users, subtrees, &rows)
+}
+
+/// What is said of the first pair of users' rows, and the status.
+fn first_of_rows(
+    alloc: Global,
+    users: &[User],
+    subtrees: &[Path],
+    rows: &[Row],
+) -> Result<(Vec<u8>, u8), NoMemory>
+    requires all { length rows.now ≡ length users.now }
+    requires lines { All (IsRowOfLines subtrees.now) rows.now }
+    ensures { IfOk result (λ said. first_pair_report (rows_pairs users.now subtrees.now rows.now)
+        ≡ record { text = said.0.items; ending = Ok said.1 }) }
+{
+    for (place, user) in users.iter().enumerate() {
+        match rows[place].as_slice().first() {
+            None => {}
+            Some(found) => {
+                return pair_said(alloc, user, &subtrees[found.place], &found.answer);
+            }
         }
     }
-    AllAnswer::Contained
+    Ok((b"contained\n".to_vec(alloc)?, 0))
+}
+
+/// What is said of a pair that isn't contained, and its status.
+fn pair_said(
+    alloc: Global,
+    user: &User,
+    subtree: &Path,
+    answer: &Answer,
+) -> Result<(Vec<u8>, u8), NoMemory>
+    requires shown { IsShown subtree.now answer.now }
+    ensures text { IfOk result (λ said. said.0.items ≡ pair_line user.now.uid subtree.now ++ answer_text subtree.now answer.now) }
+    ensures status { IfOk result (λ said. said.1 ≡ answer_status answer.now) }
+{
+    let text = uid_pair_text(alloc, user, subtree, answer)?;
+    Ok((text, status(answer)))
 }
 
 /// Writes all pairs that aren't settled, or that there is none.

@@ -51,13 +51,6 @@ impl Row {
         Ok(())
     }
 
-    /// What is listed first, if anything.
-    pub(crate) fn into_first(self) -> Option<Found>
-        ensures { result ≡ first self }
-    {
-        self.items.into_iter().next()
-    }
-
     /// What is listed, in the order of the subtrees.
     pub fn as_slice(&self) -> &[Found]
         ensures { result.now ≡ self.now }
