@@ -16,11 +16,12 @@ use Rattle.cg_cli.specs.Advising.{advise_report}
 use Rattle.cg_cli.specs.Audits.{users_read, paths_read}
 use Rattle.cg_cli.specs.FurtherAdvice.{AreHeld, AreHeldAsNamed, AdvisesFurther}
 use Rattle.cg_cli.specs.AllPairs.{ReportsPairs}
-use Rattle.cg_cli.specs.FurtherPairs.{listed_from, AreFurther, MayList, ListsOn, ListsFurther, first_pair_report, ReportsFirst, ReportsFurther}
+use Rattle.cg_cli.specs.FurtherPairs.{listed_from, AreFurther, MayList, ListsOn, ListsFurther, first_pair_status, first_pair_report, ReportsFirst, ReportsFurther}
 use Rattle.cg_cli.specs.Once.{same_user}
 use Rattle.cg_cli.specs.Reports.{Reports}
 use Rattle.cg_faults.specs.Faults.{lifted_check}
 use Rattle.cg_faults.specs.declared.fault.CliFault.{CliFault}
+use Rattle.theorems.proofs.NoneListed.{all_none, first_none, none_held}
 use Rattle.theorems.proofs.StatusLaws.{all_contained_by_advice}
 
 same_Ok : {A E : Type 0} (x y : A) → ◌≡◌ {A = Result A E} (Ok x) (Ok y) → x ≡ y
@@ -59,25 +60,32 @@ module _ (st : State) (given : List (ℕ × List ℕ)) (words : List (List ℕ))
       subst (λ p. ListsOn p (λ paths. MayListOf users paths) report) of_paths
       (subst (λ u. ListsOn u (λ who. ListsOn (paths_read words) (λ paths. MayListOf who paths)) report) of_users lists)
 
-  listed_told : (says : Result (List Listed) CliFault → Option (List ℕ) → Option (List ℕ) → Result ℕ CliFault → Type 0)
+  listed_told : {P : Type 0} (says : Result (List Listed) CliFault → Option (List ℕ) → Option (List ℕ) → Result ℕ CliFault → Type 0)
       → ((fault : CliFault) → ¬ (says (Err fault) old new (Ok status)))
-      → ReportsFurther says (Ok st) given words old new (Ok status)
-      → (found : ℕ → ℕ → Answer) × AreFurther st (once same_user users) (once same_path subtrees) found
-      × says (Ok (listed_from found 0 (once same_user users) (once same_path subtrees))) old new (Ok status)
-  listed_told says never told =
+      → ((found : ℕ → ℕ → Answer) → AreFurther st (once same_user users) (once same_path subtrees) found
+      → says (Ok (listed_from found 0 (once same_user users) (once same_path subtrees))) old new (Ok status) → P)
+      → ReportsFurther says (Ok st) given words old new (Ok status) → P
+  listed_told {P} says never tell told =
       by_fault (first (flat_map (subtree_faults st) (once same_path subtrees))) (lists_as_read told.0 told.1)
     where
-      by_fault : (fault : Option CheckFault) → MayList st (once same_user users) (once same_path subtrees) fault told.0
-          → (found : ℕ → ℕ → Answer) × AreFurther st (once same_user users) (once same_path subtrees) found
-          × says (Ok (listed_from found 0 (once same_user users) (once same_path subtrees))) old new (Ok status)
-      by_fault None may = (may.0, may.1, subst (λ report. says report old new (Ok status)) may.2 told.2)
+      by_fault : (fault : Option CheckFault) → MayList st (once same_user users) (once same_path subtrees) fault told.0 → P
+      by_fault None may = tell may.0 may.1 (subst (λ report. says report old new (Ok status)) may.2 told.2)
       by_fault (Some fault) same =
           absurd (never (lifted_check fault) (subst (λ report. says report old new (Ok status)) same told.2))
 
   pub all_told : ReportsFurther ReportsPairs (Ok st) given words old new (Ok status)
       → (found : ℕ → ℕ → Answer) × AreFurther st (once same_user users) (once same_path subtrees) found
       × ReportsPairs (Ok (listed_from found 0 (once same_user users) (once same_path subtrees))) old new (Ok status)
-  all_told told = listed_told ReportsPairs (λ fault said. said) told
+      × (status ≡ 0 → users ≢ [] → AreHeld st users subtrees)
+  all_told told =
+      listed_told ReportsPairs (λ fault said. said) (λ found further reports. (
+        found,
+        further,
+        reports,
+        λ zero some.
+            none_held st users subtrees found further
+            (all_none (listed_from found 0 (once same_user users) (once same_path subtrees)) (reports.0 ∙ zero)) some,
+      )) told
 
   no_status : (fault : CliFault) → ¬ (ReportsFirst (Err fault) old new (Ok status))
   no_status fault said =
@@ -87,4 +95,15 @@ module _ (st : State) (given : List (ℕ × List ℕ)) (words : List (List ℕ))
   pub first_told : ReportsFurther ReportsFirst (Ok st) given words old new (Ok status)
       → (found : ℕ → ℕ → Answer) × AreFurther st (once same_user users) (once same_path subtrees) found
       × Reports (first_pair_report (listed_from found 0 (once same_user users) (once same_path subtrees))) old new (Ok status)
-  first_told told = listed_told ReportsFirst no_status told
+      × (status ≡ 0 → users ≢ [] → AreHeld st users subtrees)
+  first_told told =
+      listed_told ReportsFirst no_status (λ found further reports. (
+        found,
+        further,
+        reports,
+        λ zero some.
+            none_held st users subtrees found further
+            (first_none found 0 (once same_user users) (once same_path subtrees)
+            (same_Ok (first_pair_status (listed_from found 0 (once same_user users) (once same_path subtrees))) status reports.0 ∙ zero))
+            some,
+      )) told
