@@ -382,7 +382,7 @@ module _ (tree : Reading) (given : List (ℕ × List ℕ)) (texts : List (List �
       met_said ReportsPairs known (pairs_fault known) (pairs_memory known) tree given texts fault met result is
 
   module _ (users : List Identity) (subtrees : List Names) (st : State) (kept : IsKeptOnce (named_read given texts tree) users subtrees st)
-  where
+    where
     pub found_reports : (old new : Option (List ℕ)) (result : Result ℕ CliFault) → ReportsFound st users subtrees old new result
         → ReportsSettled ReportsPairs tree given texts old new result
     found_reports old new result found =
