@@ -135,6 +135,10 @@ module _ (st : State) (user : Identity) (subtree : Names) where
   shown_known (Unsettled failed) (Unsettled other) together known shown =
       subst (λ f. IsShown subtree (Unsettled f)) (sym known.1) shown
 
+pub listed_as : {st : State} {users : List Identity} {subtrees : List Names} {rows other : List (List Found)} → rows ≡ other
+    → AreListed st users subtrees other → AreListed st users subtrees rows
+listed_as {st} {users} {subtrees} {rows} {other} same are = subst (AreListed st users subtrees) (sym same) are
+
 nobody : Identity
 nobody = record { uid = 0; gids = [] }
 

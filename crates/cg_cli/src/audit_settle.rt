@@ -138,7 +138,7 @@ fn first_listed<H: Hierarchy + Drop>(
     ensures { IfOk result (λ said. SaysFirst (H.state tree.now) users.now subtrees.now (record { text = said.0.items; ending = Ok said.1 })) }
 {
     let rows = listed_rows(alloc, tree, users, subtrees)?;
-    first_of_rows(alloc, users, subtrees, &rows)
+    first_of_rows(alloc, users, subtrees, rows.as_slice())
 }
 
 /// What is said of the first pair of users' rows, and the status.
@@ -195,7 +195,7 @@ fn write_found<H: Hierarchy + Drop, W: Write>(
         return Err(CliFault::from(fault));
     }
     let rows = listed_rows(alloc, tree, users, subtrees)?;
-    write_listing(alloc, users, subtrees, &rows, out)
+    write_listing(alloc, users, subtrees, rows.as_slice(), out)
 }
 
 /// Writes the pairs of each user, or that there is none.

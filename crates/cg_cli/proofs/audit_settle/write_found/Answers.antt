@@ -1,5 +1,5 @@
 use Rattle.std.proofs.Common.{refl, sym, ◌∙◌}
-use Rattle.cg_cli.proofs.SettledPairs.{subtree_found, memory_wanted, rows_found, rows_all, rows_lines, tells}
+use Rattle.cg_cli.proofs.SettledPairs.{subtree_found, memory_wanted, rows_found, listed_as, rows_all, rows_lines, tells}
 use Rattle.cg_cli.proofs.audit_settle.write_found.Goals as goal
 
 pub returns-in-Some-clause-report : goal.returns-in-Some-clause-report
@@ -17,19 +17,23 @@ write_listing-requires g c =
     let st = g.H.Hierarchy.state c.args.tree.now in
     record {
       all =
-          rows_all st c.args.users.now c.args.subtrees.now c.in_ok-rows.rows.items c.in_ok-rows.ensures (sym c.in_default.ensures.fault);
+          rows_all st c.args.users.now c.args.subtrees.now c.as_slice.result.now (listed_as c.as_slice.ensures.value c.in_ok-rows.ensures)
+          (sym c.in_default.ensures.fault);
       lines =
-          rows_lines st c.args.users.now c.args.subtrees.now c.in_ok-rows.rows.items c.in_ok-rows.ensures (sym c.in_default.ensures.fault);
+          rows_lines st c.args.users.now c.args.subtrees.now c.as_slice.result.now (listed_as c.as_slice.ensures.value c.in_ok-rows.ensures)
+          (sym c.in_default.ensures.fault);
     }
 
 pub returns-clause-report : goal.returns-clause-report
 returns-clause-report g c =
-    rows_found (g.H.Hierarchy.state c.args.tree.now) c.args.users.now c.args.subtrees.now c.in_ok-rows.rows.items c.in_ok-rows.ensures
+    rows_found (g.H.Hierarchy.state c.args.tree.now) c.args.users.now c.args.subtrees.now c.as_slice.result.now
+    (listed_as c.as_slice.ensures.value c.in_ok-rows.ensures)
     (sym c.in_default.ensures.fault) (g.W.Write.contents c.args.out.now) (g.W.Write.contents c.write_listing.new.out)
     c.write_listing.result c.write_listing.ensures
 
 pub returns-clause-unlisted : goal.returns-clause-unlisted
 returns-clause-unlisted g c =
-    tells (g.H.Hierarchy.state c.args.tree.now) c.args.users.now c.args.subtrees.now c.in_ok-rows.rows.items c.in_ok-rows.ensures
+    tells (g.H.Hierarchy.state c.args.tree.now) c.args.users.now c.args.subtrees.now c.as_slice.result.now
+    (listed_as c.as_slice.ensures.value c.in_ok-rows.ensures)
     (sym c.in_default.ensures.fault) (c.in_default.ensures.formed refl) (g.W.Write.contents c.args.out.now)
     (g.W.Write.contents c.write_listing.new.out) c.write_listing.result c.write_listing.ensures
