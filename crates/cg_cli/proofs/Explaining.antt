@@ -1,9 +1,9 @@
 -- Pairs told one after another, and what the report on them is where it ends early.
 use Rattle.std.proofs.Common.{◌≡◌, ◌≢◌, ℕ, ◌+◌, ◌<◌, ◌⊎◌, inl, inr, ◌||◌, Bool, true, false, cond, List, [], ◌∷◌, ◌++◌, length, get_or, take, drop, map, take_all, ◌≤◌, not}
-use Rattle.std.proofs.Common.{Option, Some, None, Result, Ok, Err, IsErrAnd, refl, sym, ap, ◌∙◌, subst, append_assoc, append-nil, arith}
+use Rattle.std.proofs.Common.{Option, Some, None, Result, Ok, Err, IsErrAnd, refl, sym, ap, ◌∙◌, subst, append_assoc, append-nil}
 use Rattle.std.specs.List.{All, list_any, flat_map}
-use Rattle.std.specs.Io.KnownBytes.{Appends, Keeps}
-use Rattle.std.proofs.KnownBytes.{Appends-nil, Appends-trans, Keeps-refl}
+use Rattle.std.specs.Io.KnownBytes.{Appends}
+use Rattle.std.proofs.KnownBytes.{Appends-nil, Appends-trans, Appends-kept, Keeps-refl}
 use Rattle.std.proofs.lemmas.List.{take-append-drop}
 use Rattle.std.proofs.lemmas.List.Concat.{flat_map-append}
 use Rattle.std.proofs.lemmas.List.Elements.{All-nil, All-push}
@@ -33,7 +33,7 @@ use Rattle.cg_cli.specs.Containment.{in_call, answer_status}
 use Rattle.cg_cli.specs.May.{tree_read}
 use Rattle.cg_cli.specs.Once.{same_user}
 use Rattle.cg_cli.specs.Reports.{takes_memory}
-use Rattle.cg_cli.specs.Settled.{IsSettled, IsSettledFault}
+use Rattle.cg_cli.specs.Settled.{IsSettledFault}
 use Rattle.cg_cli.specs.Explaining.{is_unsettled, told_status, told_text, pair_told, IsTold, AreTold, AreFrontTold, TellsPair, TellsPairs, pairs_asked, explain_asked, ReportsTold}
 use Rattle.streams.specs.Written.{AppendsPart}
 use Rattle.cg_faults.specs.Faults.{lifted_check}
@@ -131,7 +131,7 @@ module _ (st : State) (begun : List Pair) (pair : Pair) (old mid new : Option (L
   stops back NoMemory kept = (
     far.told,
     (begun, (pair ∷ []) ++ back, sym (append_assoc begun (pair ∷ []) back), far.named, far.settled),
-    subst (Appends old new) (append-nil (told_text st far.told)) (Appends-trans old mid new _ [] far.text kept),
+    Appends-kept old mid new (told_text st far.told) far.text kept,
   )
   stops back fault never = absurd never
 
