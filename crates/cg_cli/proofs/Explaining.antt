@@ -172,6 +172,7 @@ some_subtree users subtrees pairs are some none = some (unmapped pairs (are ∙ 
     of_none : (users : List Identity) → all_pairs users [] ≡ []
     of_none [] = refl
     of_none (user ∷ users) = of_none users
+
     unmapped : (ps : List PairOfBoth) → map pair_of ps ≡ [] → ps ≡ []
     unmapped [] h = refl
     unmapped (p ∷ ps) h = let never : ⊥ = cc in absurd never
