@@ -28,7 +28,7 @@ second_lines st user subtree =
 -- what the two limits of the subtree count, where it is there
 abbrev pub limits_lines : State → Names → List ℕ
 limits_lines st subtree =
-    elim option_map (counts_of st subtree) (row_at st subtree) [ None ↦ [] | Some counts ↦ counts_lines subtree counts ]
+    elim (option_map (counts_of st subtree) (row_at st subtree)) [ None ↦ [] | Some counts ↦ counts_lines subtree counts ]
 
 -- which answer it is: the first line of its report
 abbrev pub answer_line : Names → Answer → List ℕ

@@ -126,7 +126,12 @@ fn push_limits<H: Hierarchy>(
     let Some(counts) = counts_below(tree, subtree) else {
         return Ok(());
     };
-    let line = counted_line(alloc, subtree, LimitFile::MaxDescendants, counts.descendants)?;
+    let line = counted_line(
+        alloc,
+        subtree,
+        LimitFile::MaxDescendants,
+        counts.descendants,
+    )?;
     text.extend_from_slice(line.into_bytes().as_slice())?;
     let line = counted_line(alloc, subtree, LimitFile::MaxDepth, counts.depth)?;
     text.extend_from_slice(line.into_bytes().as_slice())?;
