@@ -1,6 +1,6 @@
 -- How it is read and written: nobody has to believe it.
 -- What is told of a fault stands in the row that has it.
-use Rattle.std.specs.Prelude.{ℕ, List, codes, String, Option, Some, None, option_and_then, slice_get, zero, suc}
+use Rattle.std.specs.Prelude.{ℕ, ◌-◌, nat_eq, cond, List, codes, String, Option, Some, None, option_and_then, slice_get}
 use Rattle.std.specs.Option.{option_map, option_copied}
 use Rattle.std.specs.Borrow.{Bor}
 use Rattle.std.specs.BTreeMap.{BTreeMap}
@@ -41,10 +41,12 @@ place_of (NoSuchPlace place) = Some place
 place_of (InternalProcess place) = Some place
 place_of NoMemory = None
 
--- the table of the row of a number, from 1 on
+-- the row of a number, from 1 on
+abbrev pub element_at : List Data → ℕ → Option Data
+element_at rows number = cond (nat_eq number 0) None (slice_get rows (number - 1))
+
 abbrev pub numbered : List Data → ℕ → Option Members
-numbered rows zero = None
-numbered rows (suc index) = option_and_then as_table (slice_get rows index)
+numbered rows number = option_and_then as_table (element_at rows number)
 
 -- the table of a row
 abbrev pub row_at : Place → Members → Option Members
@@ -66,4 +68,4 @@ entered (Some key) table = option_and_then (table_at key) table
 -- what stands in a row at the keys that lead there
 abbrev pub held_in : At → Option Members → Option Data
 held_in at row =
-    option_and_then (λ key. option_and_then (get_member key) (entered (option_copied at.file) (entered (option_copied at.table) row))) (option_copied at.key)
+    option_and_then (λ table. option_and_then (λ key. get_member key table) (option_copied at.key)) (entered (option_copied at.file) (entered (option_copied at.table) row))

@@ -2,7 +2,7 @@
 ghost use Rattle.std.specs.Prelude.{◌≡◌, Some, map, IfSome};
 ghost use Rattle.std.specs.Option.{option_map, option_copied};
 ghost use Rattle.toml.specs.View.{view, table_view};
-ghost use Rattle.cg_text.specs.Told.{seen, numbered, row_at, place_of, name_in, held_in, entered};
+ghost use Rattle.cg_text.specs.Told.{seen, element_at, numbered, row_at, place_of, name_in, held_in, entered};
 
 pub mod keys;
 mod rows;
@@ -180,12 +180,22 @@ fn row_at<'d>(document: &'d Table, place: Place) -> Option<&'d Table>
     }
 }
 
-/// The table of the row of a number, from 1 on.
+/// The table of the row of a number.
 fn numbered<'d>(elements: &'d [Value], number: u32) -> Option<&'d Table>
     ensures { seen result ≡ numbered (map view elements.now) number }
 {
-    let index = (number as usize).checked_sub(1)?;
-    elements.get(index)?.as_table()
+    element(elements, number)?.as_table()
+}
+
+/// The element of a number, from 1 on.
+#[tactic(auto, using(crate::proofs::ToldLaws::seen_at))]
+fn element<'d>(elements: &'d [Value], number: u32) -> Option<&'d Value>
+    ensures { option_map (λ held. view held.now) result ≡ element_at (map view elements.now) number }
+{
+    if number == 0 {
+        return None;
+    }
+    elements.get(number as usize - 1)
 }
 
 /// The path of a row, or of a process's cgroup.
