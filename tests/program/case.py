@@ -17,13 +17,14 @@ class Ended:
 
     @property
     def fault(self):
-        """The first line of standard error, or nothing."""
-        return self.errors.partition(b"\n")[0].decode("utf-8", "replace")
+        """The first line of standard error, where it isn't help, or nothing."""
+        first = self.errors.partition(b"\n")[0].decode("utf-8", "replace")
+        return "" if first.startswith("  ") else first
 
     @property
     def help(self):
-        """What stands below the fault's line."""
-        return self.errors.decode("utf-8", "replace").splitlines()[1:]
+        """What stands below the fault's line, or beside an answer."""
+        return self.errors.decode("utf-8", "replace").splitlines()[1 if self.fault else 0:]
 
 
 @dataclass(frozen=True)

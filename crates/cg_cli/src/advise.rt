@@ -19,6 +19,7 @@ ghost use Rattle.cg_cli.specs.Reports.{Reports};
 use crate::arguments::UserIds;
 use crate::named::read_named;
 use crate::report::write_said;
+use crate::strangers::first_stranger;
 use cg_advice::pair::Pair;
 use cg_advice::text::advice_lines;
 use cg_cgroup::memory::NoMemory;
@@ -35,7 +36,8 @@ use std::io::Write;
 /// Writes what to change so that every subtree is contained against every user: `contained` with status 0 where they are;
 /// else, with status 1, for each entry that lets one in, where it is met first, a line for each class by which one gets in,
 /// and below the last the changes that mend it for all; then the same of the limits of the subtrees. A user or a subtree
-/// that is named again counts once.
+/// that is named again counts once. `stranger` is the first uid
+/// of whom the tree says nothing.
 ///
 /// # Errors
 /// The first that holds of `Uid` and `Gids` for each user in turn, `BadPath`, `Tree` and `Subtree`, and then nothing is
@@ -45,6 +47,7 @@ pub fn advise_bytes<W: Write>(
     tree: &[u8],
     users: &[UserIds<'_>],
     subtrees: &[&str],
+    stranger: &mut Option<u32>,
     out: &mut W,
 ) -> Result<u8, CliFault>
     ensures report { OnText tree.now (λ read. Reports
@@ -55,6 +58,7 @@ pub fn advise_bytes<W: Write>(
         → paths_read (map (λ subtree. subtree.now) subtrees.now) ≡ Ok paths → who ≢ [] → AreContained st who paths }
 {
     let named = read_named(alloc, tree, users, subtrees)?;
+    *stranger = first_stranger(&named.tree, &named.users);
     let said = advised(
         alloc,
         &named.tree,

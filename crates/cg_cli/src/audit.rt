@@ -14,6 +14,7 @@ use crate::arguments::UserIds;
 use crate::check::status;
 use crate::named::read_named;
 use crate::report::write_said;
+use crate::strangers::first_stranger;
 use cg_cgroup::memory::NoMemory;
 use cg_cgroup::path::Path;
 use cg_cgroup::user::User;
@@ -29,7 +30,8 @@ use std::io::Write;
 
 /// Writes whether every subtree is contained against every user: `contained` with status 0, or the line of the first pair
 /// that isn't, by user and then subtree, and what `check_bytes` writes of it, with its status. A user or a subtree that is
-/// named again is asked once.
+/// named again is asked once. `stranger` is the first uid
+/// of whom the tree says nothing.
 ///
 /// # Errors
 /// The first that holds of `Uid` and `Gids` for each user in turn, `BadPath`, `Tree` and `Subtree`, and then nothing is
@@ -39,6 +41,7 @@ pub fn audit_bytes<W: Write>(
     tree: &[u8],
     users: &[UserIds<'_>],
     subtrees: &[&str],
+    stranger: &mut Option<u32>,
     out: &mut W,
 ) -> Result<u8, CliFault>
     ensures report { OnText tree.now (λ read. Reports
@@ -49,6 +52,7 @@ pub fn audit_bytes<W: Write>(
         → paths_read (map (λ subtree. subtree.now) subtrees.now) ≡ Ok paths → who ≢ [] → AreContained st who paths }
 {
     let named = read_named(alloc, tree, users, subtrees)?;
+    *stranger = first_stranger(&named.tree, &named.users);
     let said = audited(
         alloc,
         &named.tree,

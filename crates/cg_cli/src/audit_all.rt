@@ -18,6 +18,7 @@ ghost use Rattle.cg_cli.specs.AllPairs.{worse, WritesPairs, pairs_found, all_rep
 use crate::arguments::UserIds;
 use crate::check::status;
 use crate::named::read_named;
+use crate::strangers::first_stranger;
 use cg_cgroup::path::Path;
 use cg_cgroup::user::User;
 use cg_check::{check, first_fault, from_first_unguarded};
@@ -32,7 +33,8 @@ use streams::write::write_whole;
 
 /// Writes every pair of a user and a subtree that isn't contained, by user and then subtree: the line that names it, and
 /// what `check_bytes` writes of it; or `contained` where there is none. The status is 1 where one escapes, else 2 where
-/// one is unsettled, else 0. A user or a subtree that is named again counts once.
+/// one is unsettled, else 0. A user or a subtree that is named again counts once. `stranger` is the first uid
+/// of whom the tree says nothing.
 ///
 /// # Errors
 /// The first that holds of `Uid` and `Gids` for each user in turn, `BadPath`, `Tree` and `Subtree`, and then nothing is
@@ -43,6 +45,7 @@ pub fn audit_all_bytes<W: Write>(
     tree: &[u8],
     users: &[UserIds<'_>],
     subtrees: &[&str],
+    stranger: &mut Option<u32>,
     out: &mut W,
 ) -> Result<u8, CliFault>
     ensures report { OnText tree.now (λ read. ReportsPairs
@@ -53,6 +56,7 @@ pub fn audit_all_bytes<W: Write>(
         → paths_read (map (λ subtree. subtree.now) subtrees.now) ≡ Ok paths → UnlistedAreContained st (once same_user who) (once same_path paths)) }
 {
     let named = read_named(alloc, tree, users, subtrees)?;
+    *stranger = first_stranger(&named.tree, &named.users);
     let listing = Listing {
         alloc,
         tree: &named.tree,

@@ -13,6 +13,7 @@ ghost use Rattle.cg_cli.specs.Settling.{AskedReports};
 use crate::arguments::{UserIds, read_path, read_user};
 use crate::reading::read_tree;
 use crate::report::write_said;
+use crate::strangers::if_stranger;
 use cg_cgroup::path::Path;
 use cg_cgroup::user::User;
 use cg_faults::fault::CliFault;
@@ -41,13 +42,14 @@ pub trait Question {
         ensures contained { IfOk result (λ said. said.1 ≡ 0 → IsContained (H.state tree.now) user.now subtree.now) };
 }
 
-/// Asks a question of the tree of a text, and writes what is said.
+/// Asks a question of the tree of a text, and writes what is said. Where the tree says nothing of the user, `stranger` is their uid.
 pub fn ask<Q: Question, W: Write>(
     alloc: Global,
     question: &Q,
     tree: &[u8],
     user: UserIds<'_>,
     subtree: &str,
+    stranger: &mut Option<u32>,
     out: &mut W,
 ) -> Result<u8, CliFault>
     requires { (st : State) (who : Identity) (path : Names)
@@ -59,6 +61,7 @@ pub fn ask<Q: Question, W: Write>(
     let user = read_user(user)?;
     let subtree = read_path(alloc, subtree)?;
     let tree = read_tree(alloc, tree)?;
+    *stranger = if_stranger(&tree, &user);
     let said = question.answer(alloc, &tree, &user, &subtree)?;
     write_said(out, said)
 }

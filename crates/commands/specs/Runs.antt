@@ -59,9 +59,10 @@ abbrev pub exit_status : Result ℕ Fault → ℕ
 exit_status (Ok status) = status
 exit_status (Err fault) = 3
 
--- The line of a fault lies in the second writer, and help may stand below it; or a front of the line, where a write failed.
+-- The line of a fault lies in the second writer, and help may stand below it; or a front of the line, where a write failed. Beside an
+-- answer help may stand alone.
 abbrev pub Tells : Result ℕ Fault → Option (List ℕ) → Option (List ℕ) → Type 0
-Tells (Ok status) old new = Keeps old new
+Tells (Ok status) old new = (help : List ℕ) × Appends old new help
 Tells (Err fault) old new =
     (line : Option (List ℕ)) × (is_told : Bool) × (help : List ℕ)
     × Prints fault old line is_told × Appends line new help × (is_told ≡ false → help ≡ [])

@@ -26,6 +26,8 @@ use cg_cli::replay::replay_from;
 use cg_cli::settle::settle_bytes;
 use cg_cli::upgrade::upgrade_bytes;
 use cg_faults::fault::CliFault;
+use cg_help::beside::Beside;
+use cg_help::modes::mode_spelled;
 use std::alloc::Global;
 use std::io::{BufReader, Read, Write};
 use streams::again::Again;
@@ -34,28 +36,39 @@ use streams::line::{LineKept, line_of};
 use streams::read::read_input;
 use streams::write::write_whole;
 
-/// Carries out a request. What no file is named for is read from `input`, and the report goes to `out`. Where an operation line
-/// ends it, `line` is that line, as far as it was read and kept.
+/// What help is made of beside the fault.
+#[derive(Drop)]
+pub struct Noted {
+    /// The operation line that ended a replay, as far as it was read and kept.
+    pub line: Option<Vec<u8>>,
+    pub beside: Beside,
+}
+
+/// Carries out a request. What no file is named for is read from `input`, and the report goes to `out`.
 pub(crate) fn carried_out<F: Files, I: Read + Drop, W: Write>(
     alloc: Global,
     request: &Request<'_>,
     files: &F,
     input: I,
-    line: &mut Option<Vec<u8>>,
+    noted: &mut Noted,
     out: &mut W,
 ) -> Result<u8, CliFault>
     ensures { CarriesOut request.now (F.given files.now) (I.remaining input) (W.contents out.old) (W.contents out.new) result }
 {
     match request {
         Request::Help(help) => shown(alloc, help, out),
-        Request::May(request) => may(alloc, request, files, input, out),
-        Request::Check(request) => check(alloc, request, files, input, out),
-        Request::Settle(request) => settle(alloc, request, files, input, out),
-        Request::Audit(request) => audit(alloc, request, files, input, out),
-        Request::Advise(request) => advise(alloc, request, files, input, out),
-        Request::AdvisePairs(asked) => advise_pairs(alloc, *asked, files, input, line, out),
-        Request::Replay(asked) => replay(alloc, Replaying { asked, line }, files, input, out),
-        Request::Upgrade(request) => upgrade(alloc, request, files, input, out),
+        Request::May(request) => may(alloc, request, files, input, &mut noted.beside, out),
+        Request::Check(request) => check(alloc, request, files, input, &mut noted.beside, out),
+        Request::Settle(request) => settle(alloc, request, files, input, &mut noted.beside, out),
+        Request::Audit(request) => audit(alloc, request, files, input, &mut noted.beside, out),
+        Request::Advise(request) => advise(alloc, request, files, input, &mut noted.beside, out),
+        Request::AdvisePairs(asked) => {
+            advise_pairs(alloc, *asked, files, input, noted, out)
+        }
+        Request::Replay(asked) => {
+            replay(alloc, Replaying { asked, noted }, files, input, out)
+        }
+        Request::Upgrade(request) => upgrade(alloc, request, files, input, &mut noted.beside, out),
     }
 }
 
@@ -72,12 +85,14 @@ fn may<F: Files, I: Read + Drop, W: Write>(
     asked: &May<'_>,
     files: &F,
     input: I,
+    beside: &mut Beside,
     out: &mut W,
 ) -> Result<u8, CliFault>
     ensures { ReportsOnTree (source (F.given files.now) (name_of asked.now.tree) (I.remaining input)) (may_said asked.now)
         (W.contents out.old) (W.contents out.new) result }
 {
     let tree = tree_text(alloc, files, asked.tree, input)?;
+    beside.mode = mode_spelled(tree.as_slice());
     may_bytes(
         alloc,
         tree.as_slice(),
@@ -93,13 +108,16 @@ fn check<F: Files, I: Read + Drop, W: Write>(
     asked: &Check<'_>,
     files: &F,
     input: I,
+    beside: &mut Beside,
     out: &mut W,
 ) -> Result<u8, CliFault>
     ensures { ReportsOnTree (source (F.given files.now) (name_of asked.now.tree) (I.remaining input)) (check_said asked.now)
         (W.contents out.old) (W.contents out.new) result }
 {
     let tree = tree_text(alloc, files, asked.tree, input)?;
-    check_bytes(alloc, tree.as_slice(), ids(&asked.user), asked.subtree, out)
+    beside.mode = mode_spelled(tree.as_slice());
+    let (user, stranger) = (ids(&asked.user), &mut beside.stranger);
+    check_bytes(alloc, tree.as_slice(), user, asked.subtree, stranger, out)
 }
 
 fn settle<F: Files, I: Read + Drop, W: Write>(
@@ -107,13 +125,16 @@ fn settle<F: Files, I: Read + Drop, W: Write>(
     asked: &Check<'_>,
     files: &F,
     input: I,
+    beside: &mut Beside,
     out: &mut W,
 ) -> Result<u8, CliFault>
     ensures { SettlesOnTree (source (F.given files.now) (name_of asked.now.tree) (I.remaining input)) asked.now
         (W.contents out.old) (W.contents out.new) result }
 {
     let tree = tree_text(alloc, files, asked.tree, input)?;
-    settle_bytes(alloc, tree.as_slice(), ids(&asked.user), asked.subtree, out)
+    beside.mode = mode_spelled(tree.as_slice());
+    let (user, stranger) = (ids(&asked.user), &mut beside.stranger);
+    settle_bytes(alloc, tree.as_slice(), user, asked.subtree, stranger, out)
 }
 
 fn advise<F: Files, I: Read + Drop, W: Write>(
@@ -121,29 +142,32 @@ fn advise<F: Files, I: Read + Drop, W: Write>(
     asked: &Advise<'_>,
     files: &F,
     input: I,
+    beside: &mut Beside,
     out: &mut W,
 ) -> Result<u8, CliFault>
     ensures { ReportsOnTree (source (F.given files.now) (name_of asked.now.tree) (I.remaining input)) (advise_said asked.now)
         (W.contents out.old) (W.contents out.new) result }
 {
     let tree = tree_text(alloc, files, asked.tree, input)?;
+    beside.mode = mode_spelled(tree.as_slice());
     let users = all_ids(alloc, asked.users.as_slice())?;
     advise_bytes(
         alloc,
         tree.as_slice(),
         users.as_slice(),
         asked.subtrees.as_slice(),
+        &mut beside.stranger,
         out,
     )
 }
 
-/// Advises on the pairs of a text. Where one of its lines ends it, `line` is that line.
+/// Advises on the pairs of a text. Where one of its lines ends it, that line is noted.
 fn advise_pairs<F: Files, I: Read + Drop, W: Write>(
     alloc: Global,
     asked: AdvisePairs<'_>,
     files: &F,
     input: I,
-    line: &mut Option<Vec<u8>>,
+    noted: &mut Noted,
     out: &mut W,
 ) -> Result<u8, CliFault>
     ensures { OnPairs (source (F.given files.now) (tree_file asked.entry.sources) (I.remaining input))
@@ -151,11 +175,12 @@ fn advise_pairs<F: Files, I: Read + Drop, W: Write>(
         (W.contents out.old) (W.contents out.new) result }
 {
     let texts = both_texts(alloc, asked.sources, files, input)?;
+    noted.beside.mode = mode_spelled(texts.tree.as_slice());
     advised(
         alloc,
         texts.tree.as_slice(),
         texts.other.as_slice(),
-        line,
+        &mut noted.line,
         out,
     )
 }
@@ -239,6 +264,7 @@ fn audit<F: Files, I: Read + Drop, W: Write>(
     asked: &Audit<'_>,
     files: &F,
     input: I,
+    beside: &mut Beside,
     out: &mut W,
 ) -> Result<u8, CliFault>
     ensures { OnTree (source (F.given files.now) (name_of asked.now.tree) (I.remaining input))
@@ -246,8 +272,16 @@ fn audit<F: Files, I: Read + Drop, W: Write>(
         (W.contents out.old) (W.contents out.new) result }
 {
     let tree = tree_text(alloc, files, asked.tree, input)?;
+    beside.mode = mode_spelled(tree.as_slice());
     let users = all_ids(alloc, asked.users.as_slice())?;
-    audited(alloc, tree.as_slice(), users.as_slice(), asked, out)
+    audited(
+        alloc,
+        tree.as_slice(),
+        users.as_slice(),
+        asked,
+        &mut beside.stranger,
+        out,
+    )
 }
 
 /// Audits a tree, of which the first pair that isn't contained is asked for, or each.
@@ -256,6 +290,7 @@ fn audited<W: Write>(
     tree: &[u8],
     users: &[UserIds<'_>],
     request: &Audit<'_>,
+    stranger: &mut Option<u32>,
     out: &mut W,
 ) -> Result<u8, CliFault>
     ensures { OnText tree.now (λ read. MatchBool request.now.all
@@ -266,9 +301,9 @@ fn audited<W: Write>(
 {
     let subtrees = request.subtrees.as_slice();
     if request.all {
-        audit_all_bytes(alloc, tree, users, subtrees, out)
+        audit_all_bytes(alloc, tree, users, subtrees, stranger, out)
     } else {
-        audit_bytes(alloc, tree, users, subtrees, out)
+        audit_bytes(alloc, tree, users, subtrees, stranger, out)
     }
 }
 
@@ -277,20 +312,22 @@ fn upgrade<F: Files, I: Read + Drop, W: Write>(
     asked: &Upgrade<'_>,
     files: &F,
     input: I,
+    beside: &mut Beside,
     out: &mut W,
 ) -> Result<u8, CliFault>
     ensures { OnTree (source (F.given files.now) (name_of asked.now.tree) (I.remaining input))
         (Upgrades (W.contents out.old) (W.contents out.new) result) (W.contents out.old) (W.contents out.new) result }
 {
     let tree = tree_text(alloc, files, asked.tree, input)?;
+    beside.mode = mode_spelled(tree.as_slice());
     upgrade_bytes(alloc, tree.as_slice(), out)
 }
 
-/// A replay, and the place of the line that ends it.
+/// A replay, and what is noted of it.
 #[derive(Drop)]
 struct Replaying<'r, 'a> {
     asked: &'r Replay<'a>,
-    line: &'r mut Option<Vec<u8>>,
+    noted: &'r mut Noted,
 }
 
 fn replay<F: Files, I: Read + Drop, W: Write>(
@@ -347,6 +384,7 @@ fn replayed<O: Read + Drop, W: Write>(
     ensures { OnText tree.now (λ read. ReplaysOver (O.remaining ops) (replay_said of.entry.asked.now read)
         (W.contents out.old) (W.contents out.new) result) }
 {
+    of.noted.beside.mode = mode_spelled(tree);
     let inner = LineKept {
         inner: Again { inner: ops },
         bytes: Vec::new(alloc),
@@ -359,7 +397,7 @@ fn replayed<O: Read + Drop, W: Write>(
     let ended = replay_from(alloc, tree, replayer, of.asked.subtree, &mut ops, out);
     if let Err(CliFault::Line { .. }) = ended {
         if let Ok(kept) = line_of(alloc, &ops) {
-            *of.line = kept;
+            of.noted.line = kept;
         }
     }
     ended

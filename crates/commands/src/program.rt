@@ -1,16 +1,19 @@
 //! The whole program: what the host gives it in, its status and its streams out.
-ghost use Rattle.std.specs.Prelude.{◌≡◌, ◌≢◌, ◌⊎◌, ℕ, map, string_bytes, Result, Err, IsErrAnd, MatchOption, MatchResult};
+ghost use Rattle.std.specs.Prelude.{◌≡◌, ◌≢◌, ◌⊎◌, ℕ, List, [], false, map, string_bytes, Result, Err, IsErrAnd, MatchOption, MatchResult};
 ghost use Rattle.std.specs.IoError.{error_kind};
-ghost use Rattle.std.specs.Io.KnownBytes.{Keeps};
+ghost use Rattle.std.specs.Io.KnownBytes.{Appends, Keeps};
 ghost use Rattle.commands.specs.Runs.{exit_status, Tells, RunsTo};
 ghost use Rattle.commands.specs.declared.fault.Fault.{Fault};
 ghost use Rattle.commands.specs.declared.fault.Fault.TheVariants.{Cli, Usage as UsageFault};
 ghost use Rattle.streams.specs.declared.write.WriteFailed.{WriteFailed};
 ghost use Rattle.cg_faults.specs.declared.fault.CliFault.TheVariants.{NoMemory as MemoryFault};
 
+use crate::carried::Noted;
 use crate::fault::Fault;
 use crate::run::run;
+use cg_help::beside::{Beside, beside_text};
 use cg_help::help::{Seen, help_text};
+use cg_help::waiting::waiting_text;
 use std::alloc::Global;
 use std::io;
 use std::io::{ErrorKind, Read, Write};
@@ -21,6 +24,12 @@ use streams::write::write_whole;
 
 /// The status of a fault.
 const FAULT: u8 = 3;
+
+/// Of a tree that wasn't read nothing is told.
+const NOTHING: Beside = Beside {
+    mode: None,
+    stranger: None,
+};
 
 /// How the program ended.
 #[derive(Drop)]
@@ -62,7 +71,7 @@ pub fn run_program<F: Files, I: Read + Drop, W: Write + Drop, E: Write + Drop>(
                 line: None,
             };
             let fault = Fault::of_words(error);
-            let status = status_told(alloc, files, Err(fault), unseen, &mut errors);
+            let status = status_told(alloc, files, Err(fault), unseen, NOTHING, &mut errors);
             return Ended {
                 status,
                 out: Some(out),
@@ -71,14 +80,18 @@ pub fn run_program<F: Files, I: Read + Drop, W: Write + Drop, E: Write + Drop>(
         }
     };
     let mut input = Kept::new(alloc, input);
-    let mut line = None;
-    let ended = run(alloc, words.as_slice(), files, &mut input, &mut line, out);
+    let mut noted = Noted {
+        line: None,
+        beside: NOTHING,
+    };
+    let ended = run(alloc, words.as_slice(), files, &mut input, &mut noted, out);
     let seen = Seen {
         words: Some(words.as_slice()),
         input: input.whole(),
-        line: line.as_ref().map(Vec::as_slice),
+        line: noted.line.as_ref().map(Vec::as_slice),
     };
-    let status = status_told(alloc, files, ended.answer, seen, &mut errors);
+    let beside = noted.beside;
+    let status = status_told(alloc, files, ended.answer, seen, beside, &mut errors);
     Ended {
         status,
         out: ended.out,
@@ -86,19 +99,23 @@ pub fn run_program<F: Files, I: Read + Drop, W: Write + Drop, E: Write + Drop>(
     }
 }
 
-/// The status of an answer. Where it is a fault, its line is written, and help below it.
+/// The status of an answer. Where it is a fault, its line is written, and help below it; else what help there is beside it.
 fn status_told<F: Files, E: Write>(
     alloc: Global,
     files: &F,
     answer: Result<u8, Fault>,
     seen: Seen<'_, '_, '_>,
+    beside: Beside,
     errors: &mut E,
 ) -> u8
     ensures status { result ≡ exit_status answer }
     ensures told { Tells answer (E.contents errors.old) (E.contents errors.new) }
 {
     match answer {
-        Ok(status) => status,
+        Ok(status) => {
+            tell_beside(alloc, beside, errors);
+            status
+        }
         Err(fault) => {
             tell(alloc, files, fault, seen, errors);
             FAULT
@@ -124,6 +141,36 @@ fn tell<F: Files, E: Write>(
         Fault::Cli(inner) => Some(inner),
     };
     if let Ok(help) = help_text(alloc, files, of_call.as_ref(), seen) {
+        let _ = write_whole(errors, help.as_slice());
+    }
+}
+
+/// Writes what help there is beside an answer: of a mode that is spelled as an octal number, and of a user of whom the tree says
+/// nothing. Where that fails nothing more is said.
+fn tell_beside<E: Write>(alloc: Global, beside: Beside, errors: &mut E)
+    ensures { (help : List ℕ) × Appends (E.contents errors.old) (E.contents errors.new) help }
+{
+    if let Ok(help) = beside_text(alloc, beside) {
+        let _ = write_whole(errors, help.as_slice());
+    }
+}
+
+/// Writes that standard input is read, where it is a terminal and the words ask for that. Where it fails nothing more is said.
+pub fn tell_waiting<E: Write>(
+    alloc: Global,
+    words: &io::Result<Vec<String>>,
+    is_terminal: bool,
+    errors: &mut E,
+)
+    ensures { (help : List ℕ) × Appends (E.contents errors.old) (E.contents errors.new) help × (is_terminal ≡ false → help ≡ []) }
+{
+    if !is_terminal {
+        return;
+    }
+    let Ok(words) = words else {
+        return;
+    };
+    if let Ok(help) = waiting_text(alloc, words.as_slice()) {
         let _ = write_whole(errors, help.as_slice());
     }
 }

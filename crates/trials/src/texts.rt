@@ -124,7 +124,7 @@ pub fn fault_written(tree: &[u8], trial: &mut Trial<'_>) -> Ended {
         gids: &[],
     };
     let mut out = Vec::new(alloc);
-    let Err(fault) = check_bytes(alloc, tree, user, trial.words.next()?, &mut out) else {
+    let Err(fault) = check_bytes(alloc, tree, user, trial.words.next()?, &mut None, &mut out) else {
         return Err(Stopped::BadWords);
     };
     written(trial, || fault_text(alloc, &fault))

@@ -32,10 +32,10 @@ impl Call<'_> {
     pub fn make<W: Write>(self, alloc: Global, tree: &[u8], out: &mut W) -> Result<u8, CliFault> {
         match self {
             Call::May(user, pid, to) => may_bytes(alloc, tree, user, pid, to, out),
-            Call::Check(user, subtree) => check_bytes(alloc, tree, user, subtree, out),
-            Call::Audit(users, subtrees) => audit_bytes(alloc, tree, users, subtrees, out),
-            Call::AuditAll(users, subtrees) => audit_all_bytes(alloc, tree, users, subtrees, out),
-            Call::Advise(users, subtrees) => advise_bytes(alloc, tree, users, subtrees, out),
+            Call::Check(user, subtree) => check_bytes(alloc, tree, user, subtree, &mut None, out),
+            Call::Audit(users, subtrees) => audit_bytes(alloc, tree, users, subtrees, &mut None, out),
+            Call::AuditAll(users, subtrees) => audit_all_bytes(alloc, tree, users, subtrees, &mut None, out),
+            Call::Advise(users, subtrees) => advise_bytes(alloc, tree, users, subtrees, &mut None, out),
             Call::AdvisePairs(pairs) => advise_pairs_bytes(alloc, tree, pairs, out),
             Call::Upgrade => upgrade_bytes(alloc, tree, out),
             Call::Replay(user, subtree, ops) => replay_bytes(alloc, tree, user, subtree, ops, out),
