@@ -30,7 +30,7 @@ impl ControllerSet {
     pub fn contains(self, controller: Controller) -> bool
         ensures { result ≡ enables self controller }
     {
-        self.flags[controller.number()]
+        self.flags[controller as usize]
     }
 
     /// Whether no controller is in the set.

@@ -43,10 +43,14 @@ impl Controller {
     ];
 
     /// Those that texts of formats 1 and 2, and operation lines, know: the ones that bring a limit file.
-    pub const IN_FORMAT_2: [Controller; 3] = [Controller::Cpu, Controller::Memory, Controller::Pids];
+    pub const IN_FORMAT_2: [Controller; 3] = [
+        Controller::Cpu,
+        Controller::Memory,
+        Controller::Pids,
+    ];
 
     /// The number in their order, from 0.
-    pub fn number(self) -> usize
+    pub(crate) fn number(self) -> usize
         ensures number { result ≡ (controller_kind self).number }
         ensures within { result < length all_controllers }
     {
