@@ -63,7 +63,8 @@ find_among : (test : Controller → Bool) (controllers : List Controller) (contr
 find_among test [] controller h = absurd (none-some controller h)
 find_among test (front ∷ controllers) controller h =
     elim (test front) as
-    (λ b. cond b (Some front) (find test controllers) ≡ Some controller → list_any (same_controller controller) (front ∷ controllers) ≡ true) [
+    (λ b. cond b (Some front) (find test controllers) ≡ Some controller
+    → list_any (same_controller controller) (front ∷ controllers) ≡ true) [
       | true ↦ λ found.
           ap (λ one. same_controller controller one || list_any (same_controller controller) controllers) (same_Some front controller found)
           ∙ ap (λ same. same || list_any (same_controller controller) controllers) (same_controller-refl controller)
@@ -75,7 +76,8 @@ find_among test (front ∷ controllers) controller h =
 pub again_in_format_2 : (controller : Controller) → is_in_format_2 controller ≡ true
     → named_in_format_2 (controller_name controller) ≡ Some controller
 again_in_format_2 controller is =
-    each_in_format_2 (λ controller. named_in_format_2 (controller_name controller) ≡ Some controller) (refl, (refl, (refl, tt))) controller is
+    each_in_format_2 (λ controller. named_in_format_2 (controller_name controller) ≡ Some controller) (refl, (refl, (refl, tt)))
+    controller is
 
 pub name_in_format_2 : (text : List ℕ) (controller : Controller) → named_in_format_2 text ≡ Some controller
     → text ≡ controller_name controller

@@ -55,7 +55,8 @@ limit_length (At value) h = number_length value h
 
 controller_length : (controller : Controller) → is_in_format_2 controller ≡ true → length (controller_name controller) ≤ 6
 controller_length controller known =
-    each_in_format_2 (λ controller. length (controller_name controller) ≤ 6) (omega arith, (omega arith, (omega arith, tt))) controller known
+    each_in_format_2 (λ controller. length (controller_name controller) ≤ 6) (omega arith, (omega arith, (omega arith, tt)))
+    controller known
 
 -- two texts with a byte between them
 between : (first second : List ℕ) → length (first ++ (32 ∷ second)) ≡ length first + 1 + length second

@@ -121,7 +121,8 @@ known_from : (set : ControllerSet) (texts : List (List ℕ)) (found : Controller
 known_from set [] found known h = sym (ap is_of_format_2 (same_Some set found h)) ∙ known
 known_from set (text ∷ texts) found known h =
     elim (named_in_format_2 text) as
-    (λ one. named_in_format_2 text ≡ one → option_and_then (λ controller. controllers_from (with_controller set controller true) texts) one ≡ Some found
+    (λ one. named_in_format_2 text ≡ one
+    → option_and_then (λ controller. controllers_from (with_controller set controller true) texts) one ≡ Some found
     → is_of_format_2 found ≡ true) [
       | None ↦ λ _ none. absurd (none-some found none)
       | Some controller ↦ λ is more.

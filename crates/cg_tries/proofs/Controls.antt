@@ -163,7 +163,8 @@ module _ (st : State) (user : Identity) (subtree : Names) (on : Bool) (controlle
 
 -- what holds of each change of one controller holds of all that are tried
 pub all-control_tries : (P : List Op → Type 0) (subtree : Names)
-    → ((on : Bool) (controller : Controller) → is_in_format_2 controller ≡ true → P (Control (parent subtree) (change_of on controller ∷ []) ∷ []))
+    → ((on : Bool) (controller : Controller) → is_in_format_2 controller ≡ true
+    → P (Control (parent subtree) (change_of on controller ∷ []) ∷ []))
     → AllByRecursion P (control_tries subtree)
 all-control_tries P subtree each = (
   each false Cpu refl,

@@ -90,7 +90,9 @@ module _ (st : State) (user : Identity) (subtree : Names) (whole : IsUnbroken st
     first_control-is =
         find-flat_map (breaks st user subtree) (λ controller. (change false controller ∷ []) ∷ (change true controller ∷ []) ∷ [])
         format_2_controllers
-        ∙ first_given-each _ (control_of st user subtree) format_2_controllers
+        ∙ first_given-each
+        (λ controller. find (breaks st user subtree) ((change false controller ∷ []) ∷ (change true controller ∷ []) ∷ []))
+        (control_of st user subtree) format_2_controllers
         (one_control Cpu refl, (one_control Memory refl, (one_control Pids refl, tt)))
 
     pub plain-is : find (breaks st user subtree) (plain_tries st subtree)
