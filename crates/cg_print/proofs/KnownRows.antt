@@ -20,13 +20,13 @@ module _ (st : State) (formed : IsWellFormed st) (known : is_of_format_2 st.cont
   row_known most [] row short is = format_2-within row.enabled st.controllers (formed.top_down [] row is) known
   row_known zero (name ∷ names) row short is = absurd (omega (arith, short))
   row_known (suc most) (name ∷ names) row short is =
-      let path : Names = name ∷ names in
-      let above = some_value (row_at st (parent path)) (formed.parents path (ap is_some is)) in
+      let above = some_value (row_at st (parent (name ∷ names))) (formed.parents (name ∷ names) (ap is_some is)) in
       let within : is_within row.enabled above.0.enabled ≡ true =
       sym (ap (λ found. is_within row.enabled (elim found [ None ↦ no_controllers | Some r ↦ r.enabled ])) above.1)
-      ∙ formed.top_down path row is in
-      let fewer = length-parent path refl in
-      format_2-within row.enabled above.0.enabled within (row_known most (parent path) above.0 (omega (arith, fewer, short)) above.1)
+      ∙ formed.top_down (name ∷ names) row is in
+      let fewer = length-parent (name ∷ names) refl in
+      format_2-within row.enabled above.0.enabled within
+      (row_known most (parent (name ∷ names)) above.0 (omega (arith, fewer, short)) above.1)
 
   pub format_2-row : (path : Names) (row : Cgroup) → row_at st path ≡ Some row → is_of_format_2 row.enabled ≡ true
   format_2-row path row is = row_known (length path) path row (omega arith) is
