@@ -1,23 +1,24 @@
 //! What is wrong with a tree text, in words: the row's path, the key, the value, and what would be right.
-mod entries;
+mod keys;
+mod numbers;
+mod places;
 mod rows;
-mod shape;
 mod syntax;
-mod table;
 
 use crate::input::{is_blank, kind_said};
 use crate::paths::why_no_path;
-use cg_text::tree::{Place, TreeFault};
-use entries::{entry_said, value_said};
+use cg_text::tree::TreeFault;
+use cg_text::tree::told::{Told, Wrong, paths_of, told_of};
+use keys::{fronted, mistyped_said, unknown_said};
+use numbers::{number_said, value_said};
+use places::{RowAt, label};
 use rows::{
-    controller_said, double_said, enabled_said, file_said, inner_said, nowhere_said, parent_said,
+    again_said, controller_said, enabled_said, file_said, inner_said, nowhere_said, parent_said,
 };
-use shape::shape_said;
 use std::alloc::{AllocError, Global};
+use std::collections::BTreeSet;
 use streams::kept::MOST_BYTES;
 use syntax::syntax_said;
-use table::{RowAt, Said, label, paths_of_rows, row, text_at};
-use text_places::position::Position;
 use toml::Table;
 
 /// What is wrong with the text of a tree, which has this fault.
@@ -57,7 +58,7 @@ pub(crate) fn missing_said(
     let Ok(top) = toml::table_from_slice(alloc, bytes) else {
         return Ok(None);
     };
-    let there = paths_of_rows(alloc, &top)?;
+    let there = kept_paths(alloc, &top)?;
     for path in paths {
         if !there.contains(*path) {
             return Ok(Some(nowhere_said(alloc, &top, path)?));
@@ -66,95 +67,86 @@ pub(crate) fn missing_said(
     Ok(None)
 }
 
+/// The paths that rows have, in their order.
+fn kept_paths(alloc: Global, top: &Table) -> Result<BTreeSet<String>, AllocError> {
+    let mut paths = BTreeSet::new(alloc);
+    for path in paths_of(alloc, top)? {
+        paths.insert(String::from_str(alloc, path)?)?;
+    }
+    Ok(paths)
+}
+
 fn fault_said(
     alloc: Global,
     fault: TreeFault,
     top: &Table,
     text: &str,
 ) -> Result<Option<String>, AllocError> {
-    let place = match fault {
-        TreeFault::NoRoot => return plainly(alloc, "no row of cgroup has path = '/'"),
-        TreeFault::Format => Place::Top,
-        TreeFault::Shape(place)
-        | TreeFault::BadController(place)
-        | TreeFault::BadPath(place)
-        | TreeFault::BadEntry(place)
-        | TreeFault::BadValue(place)
-        | TreeFault::Duplicate(place)
-        | TreeFault::NoParent(place)
-        | TreeFault::TopDown(place)
-        | TreeFault::NoSuchFile(place)
-        | TreeFault::BadPid(place)
-        | TreeFault::DuplicatePid(place)
-        | TreeFault::NoSuchPlace(place)
-        | TreeFault::InternalProcess(place) => place,
-        _ => return Ok(None),
+    if fault == TreeFault::NoRoot {
+        return plainly(alloc, "no row of cgroup has path = '/'");
+    }
+    let Some(told) = told_of(top, fault) else {
+        return Ok(None);
     };
-    let label = label(alloc, top, place)?;
-    let Some(keys) = row(top, place) else {
-        return match fault {
-            TreeFault::Shape(_) => Ok(Some(format!(in alloc; "{label} isn't a table")?)),
-            _ => Ok(None),
-        };
-    };
+    let label = label(alloc, &told)?;
+    if matches!(told.wrong, Wrong::NoTable) {
+        return Ok(Some(format!(in alloc; "{label} isn't a table")?));
+    }
     let row = RowAt {
-        top,
-        place,
-        keys,
         text,
+        place: told.place,
+        at: told.at,
     };
-    match row_said(alloc, fault, &row)? {
-        Some(said) => Ok(Some(placed(alloc, label.as_str(), &row, &said)?)),
+    match wrong_said(alloc, top, &told, &row)? {
+        Some(why) => Ok(Some(row.placed(alloc, label.as_str(), why.as_str())?)),
         None => Ok(None),
     }
 }
 
-/// What is wrong with a row, behind its place where there is one, and above the line that has it.
-fn placed(
+/// What is wrong there.
+fn wrong_said(
     alloc: Global,
-    label: &str,
+    top: &Table,
+    told: &Told<'_>,
     row: &RowAt<'_>,
-    said: &Said<'_>,
-) -> Result<String, AllocError> {
-    let why = said.why.as_str();
-    match row.nearest_place(alloc, said.at.as_slice())? {
-        Some(offset) => {
-            let position = Position::at(row.text.as_bytes(), offset);
-            let (named, drawn) = (position.named(alloc)?, position.drawn(alloc)?);
-            format!(in alloc; "{named}, {label}: {why}\n{drawn}")
-        }
-        None => format!(in alloc; "{label}: {why}"),
-    }
+) -> Result<Option<String>, AllocError> {
+    let key = told.at.key.unwrap_or("");
+    let why = match told.wrong {
+        Wrong::NoGroups => return plainly(alloc, "in format 1 there is no key gid"),
+        Wrong::NoGroupBit => return plainly(alloc, "in format 1 a mode has no bit 0o020"),
+        Wrong::Format => return plainly(alloc, "format is 1 or 2: write format = 2"),
+        Wrong::NoPath => return path_said(alloc, told),
+        Wrong::Again => return again_said(alloc, told),
+        Wrong::NotAccepted(file) => return value_said(alloc, told, file),
+        Wrong::NoController(text) => controller_said(alloc, key, text)?,
+        Wrong::NoParent(parent) => parent_said(alloc, top, parent)?,
+        Wrong::NotEnabled { controller, above } => enabled_said(alloc, controller, above)?,
+        Wrong::NoFile { controller, above } => file_said(alloc, key, controller, above)?,
+        Wrong::NoPid(pid) => format!(in alloc; "pid {pid} isn't one of 1 to 4194303")?,
+        Wrong::Nowhere(at) => nowhere_said(alloc, top, at)?,
+        Wrong::Inner(at) => inner_said(alloc, at)?,
+        _ => return key_said(alloc, told, row, key),
+    };
+    Ok(Some(why))
 }
 
-/// What is wrong with a row, and where in it.
-fn row_said<'a>(
+/// What is wrong with a key or a number, behind the table within the row that has it.
+fn key_said(
     alloc: Global,
-    fault: TreeFault,
-    row: &RowAt<'a>,
-) -> Result<Option<Said<'a>>, AllocError> {
-    match fault {
-        TreeFault::Format => {
-            let why = String::from_str(alloc, "format is 1 or 2: write format = 2")?;
-            Said::at_key(alloc, "format", Some(why))
-        }
-        TreeFault::Shape(_) => shape_said(alloc, row),
-        TreeFault::BadController(_) => controller_said(alloc, row),
-        TreeFault::BadPath(_) => Said::at_key(alloc, "path", path_said(alloc, row)?),
-        TreeFault::BadEntry(_) => Ok(Some(entry_said(alloc, row)?)),
-        TreeFault::BadValue(_) => value_said(alloc, row),
-        TreeFault::Duplicate(_) => double_said(alloc, row, "path"),
-        TreeFault::NoParent(_) => Said::at_key(alloc, "path", parent_said(alloc, row)?),
-        TreeFault::TopDown(_) => Said::at_key(alloc, "enabled", enabled_said(alloc, row)?),
-        TreeFault::NoSuchFile(_) => file_said(alloc, row),
-        TreeFault::BadPid(_) => Said::at_key(alloc, "pid", pid_said(alloc, row)?),
-        TreeFault::DuplicatePid(_) => double_said(alloc, row, "pid"),
-        TreeFault::NoSuchPlace(_) => match text_at(row, "at") {
-            Some(at) => Said::at_key(alloc, "at", Some(nowhere_said(alloc, row.top, at)?)),
-            None => Ok(None),
-        },
-        TreeFault::InternalProcess(_) => Said::at_key(alloc, "at", inner_said(alloc, row)?),
-        _ => Ok(None),
+    told: &Told<'_>,
+    row: &RowAt<'_>,
+    key: &str,
+) -> Result<Option<String>, AllocError> {
+    let why = match told.wrong {
+        Wrong::Unknown(kind) => Some(unknown_said(alloc, kind, key, told.held)?),
+        Wrong::Missing => Some(format!(in alloc; "{key} is missing")?),
+        Wrong::Mistyped(takes) => mistyped_said(alloc, told, takes)?,
+        Wrong::OutOfRange(number) => Some(number_said(alloc, row, key, number)?),
+        _ => None,
+    };
+    match why {
+        Some(why) => Ok(Some(fronted(alloc, told.at, why.as_str())?)),
+        None => Ok(None),
     }
 }
 
@@ -162,19 +154,9 @@ fn plainly(alloc: Global, words: &str) -> Result<Option<String>, AllocError> {
     Ok(Some(String::from_str(alloc, words)?))
 }
 
-fn path_said(alloc: Global, row: &RowAt<'_>) -> Result<Option<String>, AllocError> {
-    match text_at(row, "path") {
+fn path_said(alloc: Global, told: &Told<'_>) -> Result<Option<String>, AllocError> {
+    match told.name {
         Some(path) => why_no_path(alloc, path),
-        None => Ok(None),
-    }
-}
-
-fn pid_said(alloc: Global, row: &RowAt<'_>) -> Result<Option<String>, AllocError> {
-    match row.keys.get("pid") {
-        Some(value) => match value.as_integer() {
-            Some(pid) => Ok(Some(format!(in alloc; "pid {pid} isn't one of 1 to 4194303")?)),
-            None => Ok(None),
-        },
         None => Ok(None),
     }
 }

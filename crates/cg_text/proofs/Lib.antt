@@ -13,3 +13,4 @@ pub mod EntriesLaws
 pub mod LeastNumbers
 pub mod LeastLaws
 pub mod WalkEnd
+pub mod ToldLaws

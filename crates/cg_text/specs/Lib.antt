@@ -3,3 +3,4 @@ pub mod Keys
 pub mod Rows
 pub mod Walk
 pub mod Live
+pub mod Told

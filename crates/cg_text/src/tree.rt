@@ -13,6 +13,8 @@ pub mod laws;
 mod processes;
 mod row;
 mod said;
+pub mod takes;
+pub mod told;
 mod walk;
 
 pub use cg_format::fault::{Place, TreeFault};

@@ -10,5 +10,6 @@ mod paths;
 mod processes;
 mod runs;
 mod texts;
+mod told;
 mod trees;
 mod users;

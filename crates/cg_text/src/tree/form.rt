@@ -2,16 +2,17 @@
 ghost use Rattle.std.specs.Prelude.{◌≡◌, ◌≤◌, ◌<◌, ◌+◌, length, map, is_some};
 ghost use Rattle.std.specs.List.{list_all};
 ghost use Rattle.cg_model.specs.Clauses.{first, unless};
-ghost use Rattle.toml.specs.Data.{table, get_member};
+ghost use Rattle.toml.specs.Data.{Data, table, get_member};
 ghost use Rattle.toml.specs.View.{view, table_view};
 ghost use Rattle.cg_format.specs.declared.fault.TreeFault.TheVariants.{Shape};
-ghost use Rattle.cg_format.specs.Form.{most_rows, is_text, are_texts, document_keys, owner_keys, limit_keys, file_keys_of, row_keys, live_keys, is_table};
+ghost use Rattle.cg_format.specs.Form.{most_rows, document_keys, owner_keys, limit_keys, file_keys_of, row_keys, live_keys, is_table};
 ghost use Rattle.cg_format.specs.TextFaults.{each_cgroup, each_process, form_faults};
 ghost use Rattle.cg_format.specs.TextOf.{IsInForm};
 ghost use Rattle.cg_text.specs.Faults.{Passes};
-ghost use Rattle.cg_text.specs.Keys.{flat_keys, takes, allows, allows_table};
+ghost use Rattle.cg_text.specs.Keys.{flat_keys, takes, takes_as, allows, allows_table};
 
 use crate::tree::said::{elements_at, format_at};
+use crate::tree::takes::Takes;
 use cg_cgroup::files::EntryName;
 use cg_format::fault::{Place, TreeFault};
 use cg_format::format::{Format, MOST_ROWS};
@@ -25,38 +26,38 @@ pub fn row_number(index: usize) -> u32
     index as u32 + 1
 }
 
-fn are_all_texts(values: &[Value]) -> bool
-    ensures { result ≡ list_all (λ value. is_text (view value)) values.now }
-{
-    values.iter().all(|value| value.is_str())
-}
-
-fn are_texts(value: &Value) -> bool
-    ensures { result ≡ are_texts (view value.now) }
-{
-    match value {
-        Value::Array(items) => are_all_texts(items),
-        _ => false,
-    }
-}
-
 /// A table in which no table stands.
 #[derive(Clone, Copy, Debug, PartialEq, Eq)]
-enum FlatTable {
+pub enum FlatTable {
     Document,
     Process,
     Owner(Format),
     Limit(Format),
 }
 
-/// Whether an owner, a group or a mode may be written so.
-fn takes_owner(format: Format, key: &str, value: &Value) -> bool
-    ensures { result ≡ takes (owner_keys format) key.now (view value.now) }
+/// What a key of an owner, a group or a mode takes.
+fn owner_takes(format: Format, key: &str) -> Option<Takes>
+    ensures { (held : Data) → takes_as result held ≡ takes (owner_keys format) key.now held }
 {
-    match key {
-        "uid" | "mode" => value.is_integer(),
-        "gid" => format == Format::Two && value.is_integer(),
-        _ => false,
+    match (format, key) {
+        (_, "uid" | "mode") | (Format::Two, "gid") => Some(Takes::Integer),
+        _ => None,
+    }
+}
+
+/// What a key of a table of this kind takes; nothing where there is no such key.
+pub fn flat_takes(kind: FlatTable, key: &str) -> Option<Takes>
+    ensures { (held : Data) → takes_as result held ≡ takes (flat_keys kind) key.now held }
+{
+    match (kind, key) {
+        (FlatTable::Document, "format") => Some(Takes::Integer),
+        (FlatTable::Document, "controllers") => Some(Takes::Texts),
+        (FlatTable::Document, "cgroup" | "process") => Some(Takes::Tables),
+        (FlatTable::Process, "pid" | "uid") => Some(Takes::Integer),
+        (FlatTable::Process, "at") => Some(Takes::Text),
+        (FlatTable::Limit(_), "value") => Some(Takes::Value),
+        (FlatTable::Owner(format) | FlatTable::Limit(format), _) => owner_takes(format, key),
+        _ => None,
     }
 }
 
@@ -64,15 +65,9 @@ fn takes_owner(format: Format, key: &str, value: &Value) -> bool
 fn takes_flat(kind: FlatTable, key: &str, value: &Value) -> bool
     ensures { result ≡ takes (flat_keys kind) key.now (view value.now) }
 {
-    match (kind, key) {
-        (FlatTable::Document, "format") => value.is_integer(),
-        (FlatTable::Document, "controllers") => are_texts(value),
-        (FlatTable::Document, "cgroup" | "process") => value.is_array(),
-        (FlatTable::Process, "pid" | "uid") => value.is_integer(),
-        (FlatTable::Process, "at") => value.is_str(),
-        (FlatTable::Limit(_), "value") => value.is_integer() || value.is_str(),
-        (FlatTable::Owner(format) | FlatTable::Limit(format), _) => takes_owner(format, key, value),
-        _ => false,
+    match flat_takes(kind, key) {
+        None => false,
+        Some(takes) => takes.fits(value),
     }
 }
 
@@ -138,8 +133,8 @@ fn takes_row(format: Format, key: &str, value: &Value) -> bool
     ensures { result ≡ takes (row_keys format) key.now (view value.now) }
 {
     match key {
-        "path" => value.is_str(),
-        "enabled" => are_texts(value),
+        "path" => Takes::Text.fits(value),
+        "enabled" => Takes::Texts.fits(value),
         "dir" => is_entry(FlatTable::Owner(format), value),
         "files" => are_files(format, value),
         _ => false,

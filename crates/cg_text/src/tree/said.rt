@@ -21,7 +21,7 @@ use toml::value::Array;
 use toml::{Table, Value};
 
 /// The value at a key.
-fn member<'a>(table: &'a Table, key: &str) -> Option<&'a Value>
+pub fn member<'a>(table: &'a Table, key: &str) -> Option<&'a Value>
     ensures { option_map (λ v. view v.now) result ≡ get_member key.now (table_view table.now) }
 {
     table.get(key)
@@ -134,7 +134,7 @@ pub fn id_read(written: Option<i64>) -> Option<u32>
 }
 
 /// A mode. `None` where it is out of range or has a bit that its format has not.
-fn mode_read(format: Format, missing: u16, written: Option<i64>) -> Option<u16>
+pub fn mode_read(format: Format, missing: u16, written: Option<i64>) -> Option<u16>
     ensures { result ≡ mode_read format missing written }
 {
     let mode = match written {

@@ -4,7 +4,7 @@ use Rattle.toml.specs.View.{view}
 use Rattle.toml.proofs.Views.{view-Array}
 use Rattle.cg_format.specs.Form.{is_text, are_texts}
 use Rattle.cg_text.proofs.SaidLaws.{texts_view}
-use Rattle.cg_text.proofs.tree.form.are_texts.Goals as goal
+use Rattle.cg_text.proofs.tree.takes.are_texts.Goals as goal
 
 pub returns-in-Array : goal.returns-in-Array
 returns-in-Array c =
