@@ -36,7 +36,7 @@ at-any test (x ∷ xs) (suc n) h =
     (λ later. let found = at-any test xs n later in
     (suc found.0, (let f = found.1 in omega (arith, f)), (let f = found.2 in omega (arith, f)), found.3)) (or_cases (test x) _ h)
 
-place-of : (st : State) (path : Names) → has_row st path ≡ true
+pub place-of : (st : State) (path : Names) → has_row st path ≡ true
     → (k : ℕ) × (k < length (paths_of st)) × (get_or (paths_of st) k [] ≡ path)
 place-of st path there =
     let found = at-any (same_path path) (paths_of st) (length (paths_of st))
