@@ -1,9 +1,7 @@
 -- Cgroups shut one after another, in the order of their paths.
-use Rattle.std.proofs.Common.{◌≡◌, ℕ, zero, suc, ◌+◌, ◌≤◌, ◌<◌, Bool, true, false, ◌&&◌, ◌||◌, cond, List, [], ◌∷◌, ◌++◌, length, take, get_or, max, min, nat_lt, ◌==◌, refl, sym, ap, subst, ◌∙◌, ⊎_elim, arith, take_all, lt-ltb, le-ltb}
+use Rattle.std.proofs.Common.{◌≡◌, ℕ, zero, suc, ◌+◌, ◌≤◌, ◌<◌, Bool, true, false, ◌&&◌, ◌||◌, cond, List, [], ◌∷◌, ◌++◌, length, take, get_or, max, min, nat_lt, refl, sym, ap, subst, ◌∙◌, ⊎_elim, arith, take_all, lt-ltb, le-ltb}
 use Rattle.std.specs.Prelude.{nat_le}
 use Rattle.std.specs.List.{list_all, list_any}
-use Rattle.std.specs.Ordering.{ord_max, nat_cmp, is_lt}
-use Rattle.std.specs.declared.cmp.Ordering.TheVariants.{Less, Equal, Greater}
 use Rattle.std.proofs.lemmas.Bool.{and_from, or_left, or_right, cases_lt}
 use Rattle.std.proofs.lemmas.List.Folds.{list_any_more, list_all_more}
 use Rattle.std.proofs.lemmas.Grind.{get_or_default_zero}
@@ -22,18 +20,6 @@ use Rattle.cg_second.proofs.Crowds.{full-is}
 use Rattle.cg_second.proofs.Levels.{deep-is, first-root, least-more}
 
 -- ---- tests
-
-max-is : (a b : ℕ) → ord_max nat_cmp a b ≡ max a b
-max-is a b =
-    ⊎_elim
-    (λ less. ap (λ t. cond (is_lt (cond t Less (cond (b == a) Equal Greater))) a b) (lt-ltb b a less)
-    ∙ (let e : a ≡ max a b = omega (arith, less) in e))
-    (λ more. ap (λ t. cond (is_lt (cond t Less (cond (b == a) Equal Greater))) a b) (le-ltb b a more)
-    ∙ either (b == a) ∙ (let e : b ≡ max a b = omega (arith, more) in e)) (cases_lt b a)
-  where
-    either : (t : Bool) → cond (is_lt (cond t Equal Greater)) a b ≡ b
-    either true = refl
-    either false = refl
 
 lt-max : (k a b : ℕ) → nat_lt k (max a b) ≡ (nat_lt k a || nat_lt k b)
 lt-max k a b =
@@ -74,7 +60,7 @@ module _ (st : State) (users : List Identity) (paths : List Names) (ends kept fi
     (crowded : (k : ℕ) → i ≤ k → k < length paths
     → nat_lt k until ≡ list_any (λ q. is_crowded st users q && below q (get_or paths k [])) (take i paths))
     (crowded_end-is : end ≡ cond (is_crowded st users (get_or paths i [])) (get_or ends i 0) 0)
-    (next-is : next ≡ ord_max nat_cmp until end) where
+    (next-is : next ≡ max until end) where
   abbrev here : Names
   here = get_or paths i []
 
@@ -89,7 +75,7 @@ module _ (st : State) (users : List Identity) (paths : List Names) (ends kept fi
 
   step : (k : ℕ) → nat_lt k next ≡ (nat_lt k until || (is_crowded st users here && nat_lt k (get_or ends i 0)))
   step k =
-      ap (nat_lt k) (next-is ∙ max-is until end ∙ ap (max until) crowded_end-is) ∙ lt-max k until _ ∙ ap (λ b. nat_lt k until || b) (lt-cond k (get_or ends i 0) (is_crowded st users here))
+      ap (nat_lt k) (next-is ∙ ap (max until) crowded_end-is) ∙ lt-max k until _ ∙ ap (λ b. nat_lt k until || b) (lt-cond k (get_or ends i 0) (is_crowded st users here))
 
   -- whether it is crowded, or one above
   crowded-here : nat_lt i next ≡ (is_crowded st users here || list_any (λ q. is_crowded st users q && below q here) (take i paths))
@@ -148,11 +134,11 @@ module _ (st : State) (users : List Identity) (paths : List Names) (ends kept fi
         ∙ (λ j. min (level_under (length here) (fixed_limit st users (sym (take_all (length here) here (omega arith)) j) MaxDepth))
         ((room.least (length here) (omega arith)).1 j))
 
-    pub full-told : depth < 18446744073709551615
+    pub full-told : length levels ≤ 18446744073709551615
         → (nat_lt i next || nat_le level depth) ≡ is_full_to st users (greatest st users) here (length here)
-    full-told small =
+    full-told few =
         (λ j. nat_lt i next || nat_le (level-here j) (deep j))
-        ∙ ap (λ b. nat_lt i next || b) (deep-is st users here (suc (length here)) (omega arith) (omega (arith, small, deep)))
+        ∙ ap (λ b. nat_lt i next || b) (deep-is st users here (suc (length here)) (omega arith) (omega (arith, few, long, deep)))
         ∙ full-here
 
     pub room-next : (cut more : List ℕ) → cut ≡ take (depth + 1) levels → more ≡ cut ++ level ∷ [] → IsRoom st users paths (i + 1) next more
@@ -178,11 +164,10 @@ pub room-first : (st : State) (users : List Identity) (paths : List Names) (ends
     → IsRoom st users paths 0 until levels
 room-first st users paths ends kept fixed survey until levels until-is levels-is = record {
   crowded = λ k first few. ap (nat_lt k) until-is ∙ le-ltb k 0 (omega arith);
-  least = λ n few. let none : n ≡ 0 = (let r = root in omega (arith, few, r)) in
-      (
-        (let one = ap length levels-is in omega (arith, none, one)),
-        (λ j. get_or (levels-is j) (none j) 0) ∙ ap (least_level st users (get_or paths 0 [])) (sym none),
-      );
+  least = λ n few. let none : n ≡ 0 = (let r = root in omega (arith, few, r)) in (
+    (let one = ap length levels-is in omega (arith, none, one)),
+    (λ j. get_or (levels-is j) (none j) 0) ∙ ap (least_level st users (get_or paths 0 [])) (sym none),
+  );
 }
   where
     root : length (get_or paths 0 []) ≡ 0

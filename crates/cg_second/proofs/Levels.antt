@@ -1,5 +1,5 @@
 -- The least level at which a limit lets nobody make a cgroup, from one cgroup to the next in the order of their paths.
-use Rattle.std.proofs.Common.{◌≡◌, ◌⊎◌, ℕ, zero, suc, ◌+◌, ◌-◌, ◌≤◌, ◌<◌, Bool, true, false, not, ◌&&◌, ◌||◌, cond, List, [], ◌∷◌, ◌++◌, length, take, get_or, min, nat_lt, refl, sym, ap, subst, ◌∙◌, true≢false, ⊎_elim, arith, take_all, take-take, lt-ltb, le-ltb, length-take-le}
+use Rattle.std.proofs.Common.{◌≡◌, ℕ, zero, suc, ◌+◌, ◌-◌, ◌≤◌, ◌<◌, Bool, true, false, not, ◌&&◌, ◌||◌, List, [], ◌∷◌, ◌++◌, length, take, get_or, min, refl, sym, ap, ◌∙◌, true≢false, ⊎_elim, arith, take_all, take-take, lt-ltb, length-take-le}
 use Rattle.std.specs.Prelude.{nat_le, Option, Some, None}
 use Rattle.std.proofs.lemmas.Bool.{and_parts, and_from, or_left, or_right, cases_lt, ltb-true, le-leb, lt-leb}
 use Rattle.std.proofs.lemmas.List.{get_or_append_left, get_or_at, get_or-take, length-append}
@@ -153,8 +153,7 @@ module _ (st : State) (formed : IsWellFormed st) where
       let cut : take (length (parent next)) here ≡ parent next =
       inside-is (parent next) here (parent-around i short (omega (arith, few))) in
       let long : length (parent next) ≤ length here = covers (length (parent next)) here (ap length cut) in
-      let within : m ≤ length next - 1 = omega (arith, few) in
-      (
+      let within : m ≤ length next - 1 = omega (arith, few) in (
         omega (arith, long, level, within),
         sym (take-take m (length next - 1) next within) ∙ ap (take m) (sym cut)
             ∙ take-take m (length (parent next)) here (omega (arith, level, within)),
@@ -179,39 +178,39 @@ module _ (st : State) (formed : IsWellFormed st) where
 
   -- ---- the levels on the way to a place, and to the next
 
-  pub least-more : (users : List Identity) (i : ℕ) (levels : List ℕ) (level : ℕ) → AreLeast st users (paths_of st) i levels
-      → level ≡ least_level st users (get_or (paths_of st) i []) (suc (length (get_or (paths_of st) i [])))
-      → AreLeast st users (paths_of st) (i + 1) (take (length (get_or (paths_of st) i []) + 1) levels ++ level ∷ [])
-  least-more users i levels level are last n few = (let w = within n few in omega (arith, w, whole), value)
-    where
-      abbrev here : Names
-      here = get_or (paths_of st) i []
+  module _ (users : List Identity) (i : ℕ) (levels : List ℕ) (level : ℕ) (are : AreLeast st users (paths_of st) i levels)
+      (last : level ≡ least_level st users (get_or (paths_of st) i []) (suc (length (get_or (paths_of st) i [])))) where
+    abbrev here : Names
+    here = get_or (paths_of st) i []
 
-      abbrev front : List ℕ
-      front = take (length here + 1) levels
+    abbrev front : List ℕ
+    front = take (length here + 1) levels
 
-      long : length front ≡ length here + 1
-      long = length-take-le (length here + 1) levels (let some = (are (length here) (omega arith)).0 in omega (arith, some))
+    long : length front ≡ length here + 1
+    long = length-take-le (length here + 1) levels (let some = (are (length here) (omega arith)).0 in omega (arith, some))
 
-      whole : length (front ++ level ∷ []) ≡ length here + 2
-      whole = let l = length-append front (level ∷ []) in omega (arith, l, long)
+    whole : length (front ++ level ∷ []) ≡ length here + 2
+    whole = let l = length-append front (level ∷ []) in omega (arith, l, long)
 
-      within : (n : ℕ) → n ≤ length (get_or (paths_of st) (i + 1) []) → n ≤ length here + 1
-      within zero few = omega arith
-      within (suc m) few = let above = above-next i m (omega (arith, few)) in (let a = above.0 in omega (arith, a))
+    within : (n : ℕ) → n ≤ length (get_or (paths_of st) (i + 1) []) → n ≤ length here + 1
+    within zero few = omega arith
+    within (suc m) few = let above = (above-next i m (omega (arith, few))).0 in omega (arith, above)
 
-      own : get_or (front ++ level ∷ []) n 0 ≡ least_level st users here n
-      own =
-          ⊎_elim
-          (λ less.
-          get_or_append_left front (level ∷ []) 0 n (omega (arith, less, long))
-          ∙ get_or-take (length here + 1) levels n 0 less ∙ (are n (omega (arith, less))).1)
-          (λ more.
-          let last-is : n ≡ suc (length here) = (let w = within n few in omega (arith, more, w)) in
-          get_or_at front level [] 0 n (omega (arith, long, last-is)) ∙ last ∙ ap (least_level st users here) (sym last-is))
-          (cases_lt n (length here + 1))
+    own : (n : ℕ) → n ≤ length here + 1 → get_or (front ++ level ∷ []) n 0 ≡ least_level st users here n
+    own n few =
+        ⊎_elim
+        (λ less.
+        get_or_append_left front (level ∷ []) 0 n (omega (arith, less, long))
+        ∙ get_or-take (length here + 1) levels n 0 less ∙ (are n (omega (arith, less))).1)
+        (λ more.
+        let last-is : n ≡ suc (length here) = omega (arith, more, few) in
+        get_or_at front level [] 0 n (omega (arith, long, last-is)) ∙ last ∙ ap (least_level st users here) (sym last-is))
+        (cases_lt n (length here + 1))
 
-      value : get_or (front ++ level ∷ []) n 0 ≡ least_level st users (get_or (paths_of st) (i + 1) []) n
-      value =
-          own ∙ sym (least-same st users (get_or (paths_of st) (i + 1) []) here n
-          (λ m less. (above-next i m (omega (arith, less, few))).1))
+    pub least-more : AreLeast st users (paths_of st) (i + 1) (take (length (get_or (paths_of st) i []) + 1) levels ++ level ∷ [])
+    least-more n few =
+        let up = within n few in (
+          omega (arith, up, whole),
+          own n up ∙ sym (least-same st users (get_or (paths_of st) (i + 1) []) here n
+              (λ m less. (above-next i m (omega (arith, less, few))).1)),
+        )

@@ -28,7 +28,8 @@ pub fn is_closed<H: Hierarchy>(
     let mut room = Room::new(alloc)?;
     for at in 0..survey.paths.len() {
         let is_full = room.is_full_at(survey, at)?;
-        if is_exposed(survey, subtree, is_passed, &survey.paths[at]) && !is_shut(survey, at, is_full)
+        if is_exposed(survey, subtree, is_passed, &survey.paths[at])
+            && !is_shut(survey, at, is_full)
         {
             return Ok(false);
         }

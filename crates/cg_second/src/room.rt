@@ -71,12 +71,7 @@ fn crowded_end<H: Hierarchy>(survey: &Survey<H>, at: usize) -> usize
     ensures { result ≡ cond (is_crowded (H.state survey.now.tree.now) survey.now.users.now (slice_index_or survey.now.paths.items at [])) (slice_index survey.now.ends.items at) 0 }
 {
     let count = survey.kept_below(at);
-    if is_bound(
-        survey,
-        &survey.paths[at],
-        LimitFile::MaxDescendants,
-        count,
-    ) {
+    if is_bound(survey, &survey.paths[at], LimitFile::MaxDescendants, count) {
         survey.ends[at]
     } else {
         0

@@ -250,7 +250,9 @@ fn tree_of_depths(alloc: Global, depths: [u64; 5]) -> Result<Rows, Fail> {
     )?;
     for (at, path) in ["/a", "/a/b", "/a/b/d", "/a/e", "/c"].iter().enumerate() {
         let depth = depths[at];
-        text = format!(in alloc; "{text}[[cgroup]]\npath = \"{path}\"\ndir = {OWNED}\n[cgroup.files]\n\"cgroup.max.depth\" = {{ value = {depth} }}\n")?;
+        text = format!(in alloc;
+            "{text}[[cgroup]]\npath = \"{path}\"\ndir = {OWNED}\n[cgroup.files]\n\"cgroup.max.depth\" = {{ value = {depth} }}\n"
+        )?;
     }
     Ok(read_tree(alloc, text.as_bytes())?)
 }

@@ -12,7 +12,7 @@ loop-at-init g c =
       told = sym (append-nil c.args.row.now.items);
       room =
           room-first (g.H.Hierarchy.state s.tree.now) s.users.now s.paths.items s.ends.items s.kept.items s.fixed.items c.requires
-          c.in_ok-room.field-0.crowded_until c.in_ok-room.field-0.levels.items c.in_ok-room.ensures.until c.in_ok-room.ensures.levels;
+          _ _ c.in_ok-room.ensures.until c.in_ok-room.ensures.levels;
     }
 
 pub loop-at-preserved : goal.loop-at-preserved

@@ -1,4 +1,4 @@
-use Rattle.std.proofs.Common.{◌≡◌, ◌<◌, ◌||◌, Bool, true, sym, ap, ◌∙◌, arith, lt-ltb, le-ltb}
+use Rattle.std.proofs.Common.{◌||◌, sym, ap, ◌∙◌, arith, lt-ltb, le-ltb}
 use Rattle.std.specs.Prelude.{nat_le}
 use Rattle.std.proofs.lemmas.Bool.{or_left}
 use Rattle.cg_second.proofs.Closing.{full-told, room-next}
@@ -17,7 +17,7 @@ returns-then-at-self-clause-full g c =
     c.args.at c.requires.within r.crowded_until c.crowded_end.result c.max-self.result c.requires.room.crowded c.crowded_end.ensures
     c.max-self.ensures r.levels.items c.requires.room path depth c.index.result.now c.own_level.result level
     c.index-path.ensures c.depth-depth.ensures.depth c.index.ensures c.own_level.ensures c.min-level.ensures
-    ?
+    (let ok = r.levels.ok in omega (arith, ok))
 
 pub returns-then-at-self-clause-room : goal.returns-then-at-self-clause-room
 returns-then-at-self-clause-room g c =
@@ -43,7 +43,7 @@ returns-else-at-self-clause-full g c =
     c.args.at c.requires.within r.crowded_until c.crowded_end.result c.max-self.result c.requires.room.crowded c.crowded_end.ensures
     c.max-self.ensures r.levels.items c.requires.room path depth c.index.result.now c.own_level.result level
     c.index-path.ensures c.depth-depth.ensures.depth c.index.ensures c.own_level.ensures c.min-level.ensures
-    ?
+    (let ok = r.levels.ok in omega (arith, ok))
 
 pub returns-else-at-self-clause-room : goal.returns-else-at-self-clause-room
 returns-else-at-self-clause-room g c =
