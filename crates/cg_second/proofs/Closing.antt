@@ -75,7 +75,8 @@ module _ (st : State) (users : List Identity) (paths : List Names) (ends kept fi
 
   step : (k : ℕ) → nat_lt k next ≡ (nat_lt k until || (is_crowded st users here && nat_lt k (get_or ends i 0)))
   step k =
-      ap (nat_lt k) (next-is ∙ ap (max until) crowded_end-is) ∙ lt-max k until _ ∙ ap (λ b. nat_lt k until || b) (lt-cond k (get_or ends i 0) (is_crowded st users here))
+      ap (nat_lt k) (next-is ∙ ap (max until) crowded_end-is) ∙ lt-max k until _
+      ∙ ap (λ b. nat_lt k until || b) (lt-cond k (get_or ends i 0) (is_crowded st users here))
 
   -- whether it is crowded, or one above
   crowded-here : nat_lt i next ≡ (is_crowded st users here || list_any (λ q. is_crowded st users q && below q here) (take i paths))

@@ -18,8 +18,8 @@ use Rattle.cg_settle.specs.Lasting.{is_reached}
 use Rattle.cg_settle.specs.Judged.{is_at_most, is_bound}
 use Rattle.cg_second.specs.Exposed.{is_deep_to}
 use Rattle.cg_second.specs.Room.{number_unless, fixed_limit, level_under, least_level, AreLeast}
-use Rattle.cg_second.proofs.Ranges.{below-until, not-below-later, below-itself, row-at}
-use Rattle.cg_second.proofs.Crowds.{place-of}
+use Rattle.cg_second.proofs.Ranges.{below-until, row-at}
+use Rattle.cg_second.proofs.Crowds.{place-of, stands-before}
 
 -- ---- one limit
 
@@ -95,17 +95,7 @@ module _ (st : State) (formed : IsWellFormed st) where
       let lower : below (get_or (paths_of st) place.0 []) path ≡ true =
       ap (λ q. below q path) place.2
       ∙ and_from _ _ (inside-take (length path - 1) path) (lt-ltb (length (parent path)) (length path) (omega (arith, level, some))) in
-      (place.0, before place.0 place.1 lower, place.2)
-    where
-      before : (k : ℕ) → k < length (paths_of st) → below (get_or (paths_of st) k []) (get_or (paths_of st) i []) ≡ true → k < i
-      before k few lower =
-          ⊎_elim (λ less. less)
-          (λ late. ⊎_elim
-          (λ later. absurd (true≢false (sym lower ∙ not-below-later st i k later few)))
-          (λ same. let is : k ≡ i = omega (arith, late, same) in
-          absurd (true≢false (sym lower ∙ ap (λ n. below (get_or (paths_of st) n []) (get_or (paths_of st) i [])) is
-          ∙ below-itself (get_or (paths_of st) i []))))
-          (cases_lt i k)) (cases_lt k i)
+      (place.0, stands-before st i place.0 place.1 lower, place.2)
 
   pub first-root : 0 < length (paths_of st) → length (get_or (paths_of st) 0 []) ≡ 0
   first-root some =
@@ -169,7 +159,8 @@ module _ (st : State) (formed : IsWellFormed st) where
       → (m ≤ length (get_or (paths_of st) i [])) × (take m (get_or (paths_of st) (i + 1) []) ≡ take m (get_or (paths_of st) i []))
   above-next i m few =
       ⊎_elim (λ short. next-above i short m few)
-      (λ past. absurd (let none = none_past (paths_of st) (i + 1) past in omega (arith, few, none))) (cases_lt (i + 1) (length (paths_of st)))
+      (λ past. absurd (let none = none_past (paths_of st) (i + 1) past in omega (arith, few, none)))
+      (cases_lt (i + 1) (length (paths_of st)))
     where
       none_past : (xs : List Names) (k : ℕ) → length xs ≤ k → length (get_or xs k []) ≡ 0
       none_past [] k past = refl
@@ -178,7 +169,8 @@ module _ (st : State) (formed : IsWellFormed st) where
 
   -- ---- the levels on the way to a place, and to the next
 
-  module _ (users : List Identity) (i : ℕ) (levels : List ℕ) (level : ℕ) (are : AreLeast st users (paths_of st) i levels)
+  module _ (users : List Identity) (i : ℕ) (levels : List ℕ) (level : ℕ)
+      (are : AreLeast st users (paths_of st) i levels)
       (last : level ≡ least_level st users (get_or (paths_of st) i []) (suc (length (get_or (paths_of st) i [])))) where
     abbrev here : Names
     here = get_or (paths_of st) i []
