@@ -1,4 +1,4 @@
-use Rattle.std.proofs.Common.{ap, sym, ◌∙◌, ◌<◌, ◌≤◌, ◌++◌, [], length, take_all, arith, append-nil, refl}
+use Rattle.std.proofs.Common.{ap, sym, ◌∙◌, ◌<◌, ◌≤◌, ◌++◌, length, take_all, arith, append-nil}
 use Rattle.std.specs.List.{flat_map}
 use Rattle.cg_second.proofs.Closing.{room-first}
 use Rattle.cg_explain.specs.SecondRow.{place_asked}
@@ -11,7 +11,7 @@ loop-at-init g c =
     record {
       told = sym (append-nil c.args.row.now.items);
       room =
-          room-first (g.H.Hierarchy.state s.tree.now) s.users.now s.paths.items s.ends.items s.kept.items s.fixed.items c.requires
+          room-first (g.H.Hierarchy.state s.tree.now) s.users.now s.paths.items s.ends.items s.kept.items s.fixed.items c.requires.survey
           _ _ c.in_ok-room.ensures.until c.in_ok-room.ensures.levels;
     }
 
