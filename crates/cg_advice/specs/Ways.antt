@@ -14,7 +14,7 @@ use Rattle.cg_cgroup.specs.Files.{entry_text}
 use Rattle.cg_cgroup.specs.declared.user.Entry.{Entry}
 use Rattle.cg_model.specs.Clauses.{unless}
 use Rattle.cg_model.specs.declared.guard.GuardedEntry.{GuardedEntry}
-use Rattle.cg_model.specs.Mended.{is_by, any_inside, any_outside, without_bits}
+use Rattle.cg_model.specs.Mended.{is_by, without_bits}
 use Rattle.cg_model.specs.Mends.{Pair as Named, Entrant as Entering}
 use Rattle.cg_model.specs.declared.mend.Class.{Class}
 use Rattle.cg_model.specs.declared.mend.Class.TheVariants.{Owner, Group, Others}
@@ -53,16 +53,6 @@ abbrev pub tells : Ways → Identity → Entry → Bool
 tells ways user entry =
     cond (owns user entry) ways.owner (cond (in_group user entry.gid) ways.group ways.others)
     && cond (in_group user entry.gid) ways.inside ways.outside
-
--- those of some users at an entry
-abbrev pub ways_of : List Identity → Entry → Ways
-ways_of users entry = record {
-  owner = list_any (is_by Owner entry) users;
-  group = list_any (is_by Group entry) users;
-  others = list_any (is_by Others entry) users;
-  inside = any_inside users entry.gid;
-  outside = any_outside users entry.gid;
-}
 
 abbrev pub has_way : Ways → Class → Bool
 has_way ways Owner = ways.owner

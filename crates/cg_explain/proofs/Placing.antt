@@ -9,12 +9,12 @@ use Rattle.cg_explain.specs.declared.second.Asked.{Asked}
 use Rattle.cg_explain.specs.SecondRow.{place_asked}
 
 pub place-added : (st : State) (users : List Identity) (subtree : Names) (paths : List Names) (at : ℕ) → at < length paths
-    → (before row more told : List Asked) → row ≡ before ++ flat_map (place_asked st users subtree) (take at paths)
-    → more ≡ row ++ told → told ≡ place_asked st users subtree (get_or paths at [])
+    → (before row more : List Asked) → row ≡ before ++ flat_map (place_asked st users subtree) (take at paths)
+    → more ≡ row ++ place_asked st users subtree (get_or paths at [])
     → more ≡ before ++ flat_map (place_asked st users subtree) (take (at + 1) paths)
-place-added st users subtree paths at within before row more told so_far added is =
+place-added st users subtree paths at within before row more so_far added =
     let asked = place_asked st users subtree in
     added
-    ∙ (λ i. so_far i ++ is i)
+    ∙ ap (λ l. l ++ asked (get_or paths at [])) so_far
     ∙ flat_map_more asked before (take at paths) (get_or paths at [])
     ∙ ap (λ l. before ++ flat_map asked l) (sym (take_more paths at [] within))

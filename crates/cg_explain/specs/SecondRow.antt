@@ -1,6 +1,6 @@
 -- How an answer is found: nobody has to believe it.
 -- What the second row of guards asks of a subtree against some users, one thing after another, and by what it is so.
-use Rattle.std.specs.Prelude.{suc, Bool, ◌&&◌, ◌||◌, not, cond, List, [], ◌∷◌, ◌++◌, map, length, Option, Some, None, is_some}
+use Rattle.std.specs.Prelude.{Bool, ◌&&◌, not, cond, List, [], ◌∷◌, ◌++◌, map, length, Option, Some, None, is_some}
 use Rattle.std.specs.List.{list_all, flat_map}
 use Rattle.cg_cgroup.specs.Paths.{Names, parent}
 use Rattle.cg_cgroup.specs.Identity.{Identity}
@@ -12,7 +12,7 @@ use Rattle.cg_settle.specs.Lasting.{is_reached}
 use Rattle.cg_settle.specs.Greatest.{greatest}
 use Rattle.cg_settle.specs.Judged.{takes_none, grows_none}
 use Rattle.cg_second.specs.Anchors.{is_anchored}
-use Rattle.cg_second.specs.Exposed.{is_off_to, is_exposed, is_deep_to}
+use Rattle.cg_second.specs.Exposed.{is_off_to, is_exposed}
 use Rattle.cg_explain.specs.declared.second.Staying.{Staying}
 use Rattle.cg_explain.specs.declared.second.Staying.TheVariants.{Spared as SparedStaying, Upheld}
 use Rattle.cg_explain.specs.declared.second.Switch.{Switch}
@@ -42,11 +42,6 @@ why_takes st users path none = cond none (Some (cond (is_reached st users path P
 abbrev pub why_grows : State → List Identity → Names → Bool → Option Growing
 why_grows st users path none = cond none (Some (cond (is_reached st users path Dir) Full SparedGrowing)) None
 
--- nobody makes a cgroup there, where it is known whether one from there up has as many below it as it may have
-abbrev pub grows_none_where : State → List Identity → Names → Bool → Bool
-grows_none_where st users path crowded =
-    not (is_reached st users path Dir) || (crowded || is_deep_to st users path (suc (length path)))
-
 -- a cgroup, and whether nobody makes one in it
 abbrev pub place_with : State → List Identity → Names → Bool → Place
 place_with st users path none = record {
@@ -56,11 +51,9 @@ place_with st users path none = record {
 }
 
 -- where a move over the edge of the subtree may lead there
-abbrev pub place_told : State → List Identity → Names → Names → Bool → List Asked
-place_told st users subtree path none = cond (is_exposed st users subtree path) (Shut (place_with st users path none) ∷ []) []
-
 abbrev pub place_asked : State → List Identity → Names → Names → List Asked
-place_asked st users subtree path = place_told st users subtree path (grows_none st users (greatest st users) path)
+place_asked st users subtree path =
+    cond (is_exposed st users subtree path) (Shut (place_with st users path (grows_none st users (greatest st users) path)) ∷ []) []
 
 abbrev pub control_asked : State → List Identity → Names → Controller → Asked
 control_asked st users subtree controller = Control controller (why_control st users subtree controller)

@@ -6,20 +6,21 @@ ghost use Rattle.cg_cgroup.specs.Files.{all_controllers};
 ghost use Rattle.cg_model.specs.WellFormed.{IsWellFormed};
 ghost use Rattle.cg_model.specs.Guards.{IsSubtree};
 ghost use Rattle.cg_settle.specs.Greatest.{greatest};
-ghost use Rattle.cg_settle.specs.Judged.{takes_none};
+ghost use Rattle.cg_settle.specs.Judged.{is_full_to, takes_none, grows_none};
 ghost use Rattle.cg_settle.specs.Lasting.{is_reached};
 ghost use Rattle.cg_second.specs.Counts.{IsSurvey};
 ghost use Rattle.cg_second.specs.Exposed.{is_passed_to};
-ghost use Rattle.cg_explain.specs.SecondRow.{is_met, why_stays, why_control, why_takes, why_grows, grows_none_where, place_with, place_told, place_asked, control_asked, second_row_asked};
+ghost use Rattle.cg_explain.specs.SecondRow.{is_met, why_stays, why_control, why_takes, why_grows, place_with, place_asked, control_asked, second_row_asked};
 
 use cg_cgroup::files::{Controller, EntryName};
 use cg_cgroup::memory::NoMemory;
 use cg_cgroup::path::Path;
 use cg_cgroup::user::User;
 use cg_model::hierarchy::Hierarchy;
-use cg_second::closed::{crowded_end, grows_none, is_exposed, is_passed, takes_none};
+use cg_second::closed::{grows_none, is_exposed, is_passed, takes_none};
 use cg_second::control::{stays, stays_off, stays_on};
 use cg_second::reach::{is_anchored, is_reached, spares_files};
+use cg_second::room::Room;
 use cg_second::survey::Survey;
 use std::alloc::Global;
 
@@ -192,11 +193,10 @@ fn push_places<H: Hierarchy>(
         ++ flat_map (place_asked (H.state survey.now.tree.now) survey.now.users.now subtree.now) survey.now.paths.items) }
 {
     let is_passed = is_passed(survey, subtree);
-    let mut crowded_until = 0;
+    let mut room = Room::new(alloc)?;
     for at in 0..survey.paths.len() {
-        crowded_until = crowded_until.max(crowded_end(survey, at));
-        let is_crowded = at < crowded_until;
-        push_place(alloc, row, survey, subtree, is_passed, at, is_crowded)?;
+        let is_full = room.is_full_at(survey, at)?;
+        push_place(alloc, row, survey, subtree, is_passed, at, is_full)?;
     }
     Ok(())
 }
@@ -209,19 +209,21 @@ fn push_place<H: Hierarchy>(
     subtree: &Path,
     is_passed: bool,
     at: usize,
-    is_crowded: bool,
+    is_full: bool,
 ) -> Result<(), NoMemory>
     requires survey { IsSurvey (H.state survey.now.tree.now) survey.now.users.now survey.now.paths.items survey.now.ends.items survey.now.kept.items survey.now.fixed.items }
     requires within { at < length survey.now.paths.items }
     requires passed { is_passed ≡ is_passed_to (H.state survey.now.tree.now) survey.now.users.now subtree.now (length subtree.now) }
-    ensures { OnOk result (row.new.items ≡ row.old.items ++ place_told (H.state survey.now.tree.now) survey.now.users.now subtree.now
-        (slice_index_or survey.now.paths.items at [])
-        (grows_none_where (H.state survey.now.tree.now) survey.now.users.now (slice_index_or survey.now.paths.items at []) is_crowded)) }
+    requires full { is_full ≡ is_full_to (H.state survey.now.tree.now) survey.now.users.now
+        (greatest (H.state survey.now.tree.now) survey.now.users.now) (slice_index_or survey.now.paths.items at [])
+        (length (slice_index_or survey.now.paths.items at [])) }
+    ensures { OnOk result (row.new.items ≡ row.old.items ++ place_asked (H.state survey.now.tree.now) survey.now.users.now subtree.now
+        (slice_index_or survey.now.paths.items at [])) }
 {
     if !is_exposed(survey, subtree, is_passed, &survey.paths[at]) {
         return Ok(());
     }
-    let place = place_at(alloc, survey, at, is_crowded)?;
+    let place = place_at(alloc, survey, at, is_full)?;
     row.push(Asked::Shut(place))?;
     Ok(())
 }
@@ -231,17 +233,21 @@ fn place_at<H: Hierarchy>(
     alloc: Global,
     survey: &Survey<H>,
     at: usize,
-    is_crowded: bool,
+    is_full: bool,
 ) -> Result<Place, NoMemory>
     requires survey { IsSurvey (H.state survey.now.tree.now) survey.now.users.now survey.now.paths.items survey.now.ends.items survey.now.kept.items survey.now.fixed.items }
     requires within { at < length survey.now.paths.items }
+    requires full { is_full ≡ is_full_to (H.state survey.now.tree.now) survey.now.users.now
+        (greatest (H.state survey.now.tree.now) survey.now.users.now) (slice_index_or survey.now.paths.items at [])
+        (length (slice_index_or survey.now.paths.items at [])) }
     ensures { IfOk result (λ place. place ≡ place_with (H.state survey.now.tree.now) survey.now.users.now
         (slice_index_or survey.now.paths.items at [])
-        (grows_none_where (H.state survey.now.tree.now) survey.now.users.now (slice_index_or survey.now.paths.items at []) is_crowded)) }
+        (grows_none (H.state survey.now.tree.now) survey.now.users.now
+        (greatest (H.state survey.now.tree.now) survey.now.users.now) (slice_index_or survey.now.paths.items at []))) }
 {
     let path = &survey.paths[at];
     let takes_none = why_takes(survey, at);
-    let grows_none = why_grows(survey, path, is_crowded);
+    let grows_none = why_grows(survey, path, is_full);
     let path = path.try_clone(alloc)?;
     Ok(Place {
         path,
@@ -269,11 +275,14 @@ fn why_takes<H: Hierarchy>(survey: &Survey<H>, at: usize) -> Option<Taking>
 }
 
 /// Why nobody makes a cgroup in one, if so.
-fn why_grows<H: Hierarchy>(survey: &Survey<H>, path: &Path, is_crowded: bool) -> Option<Growing>
+fn why_grows<H: Hierarchy>(survey: &Survey<H>, path: &Path, is_full: bool) -> Option<Growing>
+    requires { is_full ≡ is_full_to (H.state survey.now.tree.now) survey.now.users.now
+        (greatest (H.state survey.now.tree.now) survey.now.users.now) path.now (length path.now) }
     ensures { result ≡ why_grows (H.state survey.now.tree.now) survey.now.users.now path.now
-        (grows_none_where (H.state survey.now.tree.now) survey.now.users.now path.now is_crowded) }
+        (grows_none (H.state survey.now.tree.now) survey.now.users.now
+        (greatest (H.state survey.now.tree.now) survey.now.users.now) path.now) }
 {
-    if !grows_none(survey, path, is_crowded) {
+    if !grows_none(survey, path, is_full) {
         return None;
     }
     if is_written(survey, path, EntryName::Dir) {

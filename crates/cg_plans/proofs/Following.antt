@@ -51,11 +51,7 @@ follows-more start user subtree run ops op at free has = record {
   lines = lines-more ops op at.lines has;
 }
 
--- ---- the start and the end
-
-pub follows-none : (start : State) (user : Identity) (subtree : Names) (run : Progress) → run.subtree ≡ subtree → IsRunOf run start []
-    → Follows start user subtree run []
-follows-none start user subtree run of is = record { of = of; follows = is; allowed = tt; lines = tt }
+-- ---- the end
 
 pub follows-breaks : (start : State) (user : Identity) (subtree : Names) (run : Progress) (ops : List Op) (clause : Clause)
     → Follows start user subtree run ops → run.verdict ≡ Broken (length ops) clause → length ops < 65536 → Breaks start user subtree ops

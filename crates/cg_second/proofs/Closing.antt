@@ -1,35 +1,25 @@
 -- Cgroups shut one after another, in the order of their paths.
-use Rattle.std.proofs.Common.{◌≡◌, ℕ, zero, suc, ◌+◌, ◌≤◌, ◌<◌, Bool, true, false, not, ◌&&◌, ◌||◌, cond, List, [], ◌∷◌, length, take, get_or, max, nat_lt, ◌==◌, refl, sym, ap, subst, ◌∙◌, ⊎_elim, arith, take_all, lt-ltb, le-ltb}
+use Rattle.std.proofs.Common.{◌≡◌, ℕ, zero, suc, ◌+◌, ◌≤◌, ◌<◌, Bool, true, false, ◌&&◌, ◌||◌, cond, List, [], ◌∷◌, ◌++◌, length, take, get_or, max, min, nat_lt, refl, sym, ap, subst, ◌∙◌, ⊎_elim, arith, take_all, lt-ltb, le-ltb}
+use Rattle.std.specs.Prelude.{nat_le}
 use Rattle.std.specs.List.{list_all, list_any}
-use Rattle.std.specs.Ordering.{ord_max, nat_cmp, is_lt}
-use Rattle.std.specs.declared.cmp.Ordering.TheVariants.{Less, Equal, Greater}
 use Rattle.std.proofs.lemmas.Bool.{and_from, or_left, or_right, cases_lt}
 use Rattle.std.proofs.lemmas.List.Folds.{list_any_more, list_all_more}
+use Rattle.std.proofs.lemmas.Grind.{get_or_default_zero}
 use Rattle.cg_cgroup.specs.Paths.{Names, below}
 use Rattle.cg_cgroup.specs.Identity.{Identity}
-use Rattle.cg_cgroup.specs.declared.files.EntryName.TheVariants.{Dir}
+use Rattle.cg_cgroup.specs.declared.files.LimitFile.TheVariants.{MaxDepth}
 use Rattle.cg_model.specs.States.{State, paths_of, count_below}
-use Rattle.cg_settle.specs.Lasting.{is_reached}
 use Rattle.cg_settle.specs.Greatest.{greatest}
-use Rattle.cg_settle.specs.Judged.{takes_none, grows_none, is_full_to}
+use Rattle.cg_settle.specs.Judged.{is_full_to}
 use Rattle.cg_second.specs.Counts.{IsSurvey}
 use Rattle.cg_second.specs.Exposed.{is_crowded, is_deep_to}
+use Rattle.cg_second.specs.Room.{fixed_limit, level_under, least_level, AreLeast, IsRoom}
 use Rattle.cg_second.proofs.Ranges.{below-until, row-at}
+use Rattle.cg_second.proofs.Staying.{same_default}
 use Rattle.cg_second.proofs.Crowds.{full-is}
+use Rattle.cg_second.proofs.Levels.{deep-is, first-root, least-more}
 
 -- ---- tests
-
-pub max-is : (a b : ℕ) → ord_max nat_cmp a b ≡ max a b
-max-is a b =
-    ⊎_elim
-    (λ less. ap (λ t. cond (is_lt (cond t Less (cond (b == a) Equal Greater))) a b) (lt-ltb b a less)
-    ∙ (let e : a ≡ max a b = omega (arith, less) in e))
-    (λ more. ap (λ t. cond (is_lt (cond t Less (cond (b == a) Equal Greater))) a b) (le-ltb b a more)
-    ∙ either (b == a) ∙ (let e : b ≡ max a b = omega (arith, more) in e)) (cases_lt b a)
-  where
-    either : (t : Bool) → cond (is_lt (cond t Equal Greater)) a b ≡ b
-    either true = refl
-    either false = refl
 
 lt-max : (k a b : ℕ) → nat_lt k (max a b) ≡ (nat_lt k a || nat_lt k b)
 lt-max k a b =
@@ -66,10 +56,11 @@ pub all-of : (test : Names → Bool) (xs : List Names) (i : ℕ) → length xs �
 all-of test xs i all h = ap (list_all test) (sym (take_all i xs all)) ∙ h
 
 module _ (st : State) (users : List Identity) (paths : List Names) (ends kept fixed : List ℕ)
-    (survey : IsSurvey st users paths ends kept fixed) (i : ℕ) (within : i < length paths) (until next : ℕ)
+    (survey : IsSurvey st users paths ends kept fixed) (i : ℕ) (within : i < length paths) (until end next : ℕ)
     (crowded : (k : ℕ) → i ≤ k → k < length paths
     → nat_lt k until ≡ list_any (λ q. is_crowded st users q && below q (get_or paths k [])) (take i paths))
-    (next-is : next ≡ max until (cond (is_crowded st users (get_or paths i [])) (get_or ends i 0) 0)) where
+    (crowded_end-is : end ≡ cond (is_crowded st users (get_or paths i [])) (get_or ends i 0) 0)
+    (next-is : next ≡ max until end) where
   abbrev here : Names
   here = get_or paths i []
 
@@ -84,7 +75,8 @@ module _ (st : State) (users : List Identity) (paths : List Names) (ends kept fi
 
   step : (k : ℕ) → nat_lt k next ≡ (nat_lt k until || (is_crowded st users here && nat_lt k (get_or ends i 0)))
   step k =
-      ap (nat_lt k) next-is ∙ lt-max k until _ ∙ ap (λ b. nat_lt k until || b) (lt-cond k (get_or ends i 0) (is_crowded st users here))
+      ap (nat_lt k) (next-is ∙ ap (max until) crowded_end-is) ∙ lt-max k until _
+      ∙ ap (λ b. nat_lt k until || b) (lt-cond k (get_or ends i 0) (is_crowded st users here))
 
   -- whether it is crowded, or one above
   crowded-here : nat_lt i next ≡ (is_crowded st users here || list_any (λ q. is_crowded st users q && below q here) (take i paths))
@@ -95,7 +87,7 @@ module _ (st : State) (users : List Identity) (paths : List Names) (ends kept fi
       ∙ or_turned (list_any (λ q. is_crowded st users q && below q here) (take i paths)) (is_crowded st users here)
 
   -- and of those behind it
-  pub crowded-next : (k : ℕ) → i + 1 ≤ k → k < length paths
+  crowded-next : (k : ℕ) → i + 1 ≤ k → k < length paths
       → nat_lt k next ≡ list_any (λ q. is_crowded st users q && below q (get_or paths k [])) (take (i + 1) paths)
   crowded-next k later few =
       let lower : nat_lt k (get_or ends i 0) ≡ below here (get_or paths k []) =
@@ -106,10 +98,9 @@ module _ (st : State) (users : List Identity) (paths : List Names) (ends kept fi
       ∙ (λ j. crowded k (omega (arith, later)) few j || (is_crowded st users here && lower j))
       ∙ sym (list_any_more (λ q. is_crowded st users q && below q (get_or paths k [])) paths i [] within)
 
-  pub grows-is : (not (is_reached st users here Dir) || (nat_lt i next || is_deep_to st users here (suc (length here))))
-      ≡ grows_none st users (greatest st users) here
-  grows-is = ap (λ b. not (is_reached st users here Dir) || b)
-      (ap (λ b. b || is_deep_to st users here (suc (length here))) crowded-here ∙ full)
+  full-here : (nat_lt i next || is_deep_to st users here (suc (length here)))
+      ≡ is_full_to st users (greatest st users) here (length here)
+  full-here = ap (λ b. b || is_deep_to st users here (suc (length here))) crowded-here ∙ there paths (sym survey.all)
     where
       there : (ps : List Names) → paths_of st ≡ ps
           → ((is_crowded st users (get_or ps i []) || list_any (λ q. is_crowded st users q && below q (get_or ps i [])) (take i ps))
@@ -122,15 +113,75 @@ module _ (st : State) (users : List Identity) (paths : List Names) (ends kept fi
           ≡ is_full_to st users (greatest st users) (get_or ps i []) (length (get_or ps i []))) same
           (full-is st users survey.formed i short (row-at st i short))
 
-      full : ((is_crowded st users here || list_any (λ q. is_crowded st users q && below q here) (take i paths))
-          || is_deep_to st users here (suc (length here)))
-          ≡ is_full_to st users (greatest st users) here (length here)
-      full = there paths (sym survey.all)
+  -- ---- with the least levels, as the code reads them
 
-  pub shut-is : (takes_none st users (greatest st users) here
-      && (not (is_reached st users here Dir) || (nat_lt i next || is_deep_to st users here (suc (length here)))))
-      ≡ (takes_none st users (greatest st users) here && grows_none st users (greatest st users) here)
-  shut-is = ap (λ b. takes_none st users (greatest st users) here && b) grows-is
+  module _ (levels : List ℕ) (room : IsRoom st users paths i until levels) (path : Names) (depth above own level : ℕ)
+      (path-is : path ≡ get_or paths i path) (depth-is : depth ≡ length path) (above-is : above ≡ get_or levels depth above)
+      (own-is : own ≡ level_under (length path) (fixed_limit st users path MaxDepth)) (level-is : level ≡ min own above) where
+    named : path ≡ here
+    named = path-is ∙ same_default paths i path [] within
+
+    deep : depth ≡ length here
+    deep = depth-is ∙ ap length named
+
+    long : depth < length levels
+    long = let l = (room.least (length here) (omega arith)).0 in omega (arith, l, deep)
+
+    level-here : level ≡ least_level st users here (suc (length here))
+    level-here =
+        level-is
+        ∙ (λ j. min (own-is j) ((above-is ∙ get_or_default_zero levels depth above long) j))
+        ∙ (λ j. min (level_under (length (named j)) (fixed_limit st users (named j) MaxDepth)) (get_or levels (deep j) 0))
+        ∙ (λ j. min (level_under (length here) (fixed_limit st users (sym (take_all (length here) here (omega arith)) j) MaxDepth))
+        ((room.least (length here) (omega arith)).1 j))
+
+    pub full-told : length levels ≤ 18446744073709551615
+        → (nat_lt i next || nat_le level depth) ≡ is_full_to st users (greatest st users) here (length here)
+    full-told few =
+        (λ j. nat_lt i next || nat_le (level-here j) (deep j))
+        ∙ ap (λ b. nat_lt i next || b) (deep-is st users here (suc (length here)) (omega arith) (omega (arith, few, long, deep)))
+        ∙ full-here
+
+    pub room-next : (cut more : List ℕ) → cut ≡ take (depth + 1) levels → more ≡ cut ++ level ∷ [] → IsRoom st users paths (i + 1) next more
+    room-next cut more cut-is more-is =
+        let is : more ≡ take (length here + 1) levels ++ level ∷ [] = more-is ∙ (λ j. cut-is j ++ level ∷ [])
+        ∙ ap (λ n. take (n + 1) levels ++ level ∷ []) deep in
+        record {
+          crowded = crowded-next;
+          least = subst (AreLeast st users paths (i + 1)) (sym is) (at_paths paths (sym survey.all) room.least level-here);
+        }
+      where
+        at_paths : (ps : List Names) → paths_of st ≡ ps → AreLeast st users ps i levels
+            → level ≡ least_level st users (get_or ps i []) (suc (length (get_or ps i [])))
+            → AreLeast st users ps (i + 1) (take (length (get_or ps i []) + 1) levels ++ level ∷ [])
+        at_paths ps same =
+            subst (λ (ps : List Names). AreLeast st users ps i levels
+            → level ≡ least_level st users (get_or ps i []) (suc (length (get_or ps i [])))
+            → AreLeast st users ps (i + 1) (take (length (get_or ps i []) + 1) levels ++ level ∷ [])) same
+            (least-more st survey.formed users i levels level)
+
+pub room-first : (st : State) (users : List Identity) (paths : List Names) (ends kept fixed : List ℕ)
+    → IsSurvey st users paths ends kept fixed → (until : ℕ) (levels : List ℕ) → until ≡ 0 → levels ≡ 18446744073709551615 ∷ []
+    → IsRoom st users paths 0 until levels
+room-first st users paths ends kept fixed survey until levels until-is levels-is = record {
+  crowded = λ k first few. ap (nat_lt k) until-is ∙ le-ltb k 0 (omega arith);
+  least = λ n few. let none : n ≡ 0 = (let r = root in omega (arith, few, r)) in (
+    (let one = ap length levels-is in omega (arith, none, one)),
+    (λ j. get_or (levels-is j) (none j) 0) ∙ ap (least_level st users (get_or paths 0 [])) (sym none),
+  );
+}
+  where
+    root : length (get_or paths 0 []) ≡ 0
+    root =
+        ⊎_elim
+        (λ some. ap (λ ps. length (get_or ps 0 [])) survey.all
+        ∙ first-root st survey.formed (subst (λ ps. 0 < length ps) survey.all some))
+        (λ none. empty paths none)
+        (cases_lt 0 (length paths))
+      where
+        empty : (ps : List Names) → length ps ≤ 0 → length (get_or ps 0 []) ≡ 0
+        empty [] none = refl
+        empty (p ∷ ps) none = absurd (omega (arith, none))
 
 -- ---- one more, and the first that isn't
 

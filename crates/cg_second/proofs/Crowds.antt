@@ -36,13 +36,25 @@ at-any test (x ∷ xs) (suc n) h =
     (λ later. let found = at-any test xs n later in
     (suc found.0, (let f = found.1 in omega (arith, f)), (let f = found.2 in omega (arith, f)), found.3)) (or_cases (test x) _ h)
 
-place-of : (st : State) (path : Names) → has_row st path ≡ true
+pub place-of : (st : State) (path : Names) → has_row st path ≡ true
     → (k : ℕ) × (k < length (paths_of st)) × (get_or (paths_of st) k [] ≡ path)
 place-of st path there =
     let found = at-any (same_path path) (paths_of st) (length (paths_of st))
     (ap (list_any (same_path path)) (take_all (length (paths_of st)) (paths_of st) (omega arith))
     ∙ row-any st (same_path path) path there (same_path_refl path)) in
     (found.0, found.2, sym (same_path-is path (get_or (paths_of st) found.0 []) found.3))
+
+-- what is above one stands before it
+pub stands-before : (st : State) (i k : ℕ) → k < length (paths_of st)
+    → below (get_or (paths_of st) k []) (get_or (paths_of st) i []) ≡ true → k < i
+stands-before st i k few lower =
+    ⊎_elim (λ less. less)
+    (λ late. ⊎_elim
+    (λ later. absurd (true≢false (sym lower ∙ not-below-later st i k later few)))
+    (λ same. let is : k ≡ i = omega (arith, late, same) in
+    absurd (true≢false (sym lower ∙ ap (λ n. below (get_or (paths_of st) n []) (get_or (paths_of st) i [])) is
+    ∙ below-itself (get_or (paths_of st) i []))))
+    (cases_lt i k)) (cases_lt k i)
 
 module _ (st : State) (users : List Identity) (formed : IsWellFormed st) (i : ℕ) (short : i < length (paths_of st))
     (there : has_row st (get_or (paths_of st) i []) ≡ true) where
@@ -61,17 +73,8 @@ module _ (st : State) (users : List Identity) (formed : IsWellFormed st) (i : �
       and_from _ _ (inside-take len at) (lt-ltb (length (take len at)) (length at) (omega (arith, level, less))) in
       let lower_at : below (get_or (paths_of st) place.0 []) at ≡ true = ap (λ q. below q at) place.2 ∙ lower in
       any-at (λ q. is_crowded st users q && below q at) (paths_of st) i place.0
-      (before place.0 place.1 lower_at) (omega (arith, short))
+      (stands-before st i place.0 place.1 lower_at) (omega (arith, short))
       (and_from _ _ (ap (is_crowded st users) place.2 ∙ h) lower_at)
-    where
-      before : (k : ℕ) → k < length (paths_of st) → below (get_or (paths_of st) k []) at ≡ true → k < i
-      before k few lower =
-          ⊎_elim (λ less. less)
-          (λ late. ⊎_elim
-          (λ later. absurd (true≢false (sym lower ∙ not-below-later st i k later few)))
-          (λ same. let is : k ≡ i = omega (arith, late, same) in
-          absurd (true≢false (sym lower ∙ ap (λ n. below (get_or (paths_of st) n []) at) is ∙ below-itself at)))
-          (cases_lt i k)) (cases_lt k i)
 
   full-parts : (n : ℕ) → n ≤ length at → is_full_to st users (greatest st users) at n ≡ true
       → ((is_crowded st users at || any_crowded) || is_deep_to st users at (suc n)) ≡ true

@@ -4,4 +4,5 @@ pub mod Tallies
 pub mod Staying
 pub mod Crowds
 pub mod Edges
+pub mod Levels
 pub mod Closing

@@ -1,3 +1,4 @@
 pub mod Anchors
 pub mod Counts
 pub mod Exposed
+pub mod Room

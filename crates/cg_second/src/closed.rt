@@ -1,37 +1,40 @@
 //! Whether no move past a cgroup above the subtree leads anywhere.
-ghost use Rattle.std.specs.Prelude.{◌≡◌, ◌<◌, ◌≤◌, ◌&&◌, ◌||◌, not, cond, suc, length, take, slice_index, slice_index_or, []};
-ghost use Rattle.std.specs.List.{list_all};
-ghost use Rattle.cg_cgroup.specs.declared.files.EntryName.TheVariants.{Dir};
-ghost use Rattle.cg_cgroup.specs.declared.files.LimitFile.TheVariants.{MaxDepth};
+ghost use Rattle.std.specs.Prelude.{◌≡◌, ◌<◌, ◌&&◌, length, slice_index_or, [], IfOk};
 ghost use Rattle.cg_settle.specs.Greatest.{greatest};
-ghost use Rattle.cg_settle.specs.Lasting.{is_reached};
-ghost use Rattle.cg_settle.specs.Judged.{is_bound, takes_none, grows_none, is_closed_to};
+ghost use Rattle.cg_settle.specs.Judged.{is_full_to, takes_none, grows_none, is_closed_to};
 ghost use Rattle.cg_second.specs.Counts.{IsSurvey};
-ghost use Rattle.cg_second.specs.Exposed.{is_passed_to, is_exposed, is_crowded, is_deep_to};
+ghost use Rattle.cg_second.specs.Exposed.{is_passed_to, is_exposed};
 
 use crate::reach::{is_enabled, is_reached};
+use crate::room::Room;
 use crate::survey::Survey;
-use cg_cgroup::files::{Controller, EntryName, Limit, LimitFile};
+use cg_cgroup::files::{Controller, EntryName};
+use cg_cgroup::memory::NoMemory;
 use cg_cgroup::path::Path;
 use cg_model::hierarchy::Hierarchy;
+use std::alloc::Global;
 
 /// Whether wherever a move may lead to, over the edge of the subtree, nobody moves a process to, and nobody makes a cgroup.
-pub fn is_closed<H: Hierarchy>(survey: &Survey<H>, subtree: &Path) -> bool
+pub fn is_closed<H: Hierarchy>(
+    alloc: Global,
+    survey: &Survey<H>,
+    subtree: &Path,
+) -> Result<bool, NoMemory>
     requires survey { IsSurvey (H.state survey.now.tree.now) survey.now.users.now survey.now.paths.items survey.now.ends.items survey.now.kept.items survey.now.fixed.items }
-    ensures { result ≡ is_closed_to (H.state survey.now.tree.now) survey.now.users.now
-        (greatest (H.state survey.now.tree.now) survey.now.users.now) subtree.now (length subtree.now) }
+    ensures { IfOk result (λ is_closed. is_closed ≡ is_closed_to (H.state survey.now.tree.now) survey.now.users.now
+        (greatest (H.state survey.now.tree.now) survey.now.users.now) subtree.now (length subtree.now)) }
 {
     let is_passed = is_passed(survey, subtree);
-    let mut crowded_until = 0;
+    let mut room = Room::new(alloc)?;
     for at in 0..survey.paths.len() {
-        crowded_until = crowded_until.max(crowded_end(survey, at));
+        let is_full = room.is_full_at(survey, at)?;
         if is_exposed(survey, subtree, is_passed, &survey.paths[at])
-            && !is_shut(survey, at, at < crowded_until)
+            && !is_shut(survey, at, is_full)
         {
-            return false;
+            return Ok(false);
         }
     }
-    true
+    Ok(true)
 }
 
 /// Whether a move may pass one of the cgroups above the subtree.
@@ -69,58 +72,19 @@ pub fn is_exposed<H: Hierarchy>(
     )
 }
 
-/// The place behind all that lies below the cgroup at a place where it has as many below it as it may have; 0 where not.
-pub fn crowded_end<H: Hierarchy>(survey: &Survey<H>, at: usize) -> usize
-    requires survey { IsSurvey (H.state survey.now.tree.now) survey.now.users.now survey.now.paths.items survey.now.ends.items survey.now.kept.items survey.now.fixed.items }
-    requires within { at < length survey.now.paths.items }
-    ensures { result ≡ cond (is_crowded (H.state survey.now.tree.now) survey.now.users.now (slice_index_or survey.now.paths.items at [])) (slice_index survey.now.ends.items at) 0 }
-{
-    let path = &survey.paths[at];
-    let count = survey.kept_below(at);
-    if is_bound(survey, path, path.depth(), LimitFile::MaxDescendants, count) {
-        survey.ends[at]
-    } else {
-        0
-    }
-}
-
-/// Whether nobody reaches a limit of the cgroup of the first `len` names of a path, and it is no greater than what there is.
-fn is_bound<H: Hierarchy>(
-    survey: &Survey<H>,
-    path: &Path,
-    len: usize,
-    file: LimitFile,
-    count: usize,
-) -> bool
-    requires { len ≤ length path.now }
-    ensures { result ≡ is_bound (H.state survey.now.tree.now) survey.now.users.now (take len path.now) file count }
-{
-    let Some(cgroup) = survey.tree.get(path, len) else {
-        return false;
-    };
-    let Some(limit) = cgroup.file(file) else {
-        return false;
-    };
-    match limit.value {
-        Limit::Max => false,
-        Limit::At(most) => {
-            most <= count as u64
-                && !is_reached(survey.tree, survey.users, path, len, EntryName::File(file))
-        }
-    }
-}
-
 /// Whether nobody moves a process to the cgroup at a place, and nobody makes one in it.
-fn is_shut<H: Hierarchy>(survey: &Survey<H>, at: usize, is_crowded: bool) -> bool
+fn is_shut<H: Hierarchy>(survey: &Survey<H>, at: usize, is_full: bool) -> bool
     requires survey { IsSurvey (H.state survey.now.tree.now) survey.now.users.now survey.now.paths.items survey.now.ends.items survey.now.kept.items survey.now.fixed.items }
     requires within { at < length survey.now.paths.items }
+    requires full { is_full ≡ is_full_to (H.state survey.now.tree.now) survey.now.users.now
+        (greatest (H.state survey.now.tree.now) survey.now.users.now) (slice_index_or survey.now.paths.items at [])
+        (length (slice_index_or survey.now.paths.items at [])) }
     ensures { result ≡ (takes_none (H.state survey.now.tree.now) survey.now.users.now
         (greatest (H.state survey.now.tree.now) survey.now.users.now) (slice_index_or survey.now.paths.items at [])
-        && (not (is_reached (H.state survey.now.tree.now) survey.now.users.now (slice_index_or survey.now.paths.items at []) Dir)
-        || (is_crowded || is_deep_to (H.state survey.now.tree.now) survey.now.users.now (slice_index_or survey.now.paths.items at [])
-        (suc (length (slice_index_or survey.now.paths.items at [])))))) }
+        && grows_none (H.state survey.now.tree.now) survey.now.users.now
+        (greatest (H.state survey.now.tree.now) survey.now.users.now) (slice_index_or survey.now.paths.items at [])) }
 {
-    takes_none(survey, at) && grows_none(survey, &survey.paths[at], is_crowded)
+    takes_none(survey, at) && grows_none(survey, &survey.paths[at], is_full)
 }
 
 /// Whether nobody moves a process to the cgroup at a place.
@@ -148,34 +112,18 @@ pub fn takes_none<H: Hierarchy>(survey: &Survey<H>, at: usize) -> bool
 }
 
 /// Whether nobody makes a cgroup in one.
-pub fn grows_none<H: Hierarchy>(survey: &Survey<H>, path: &Path, is_crowded: bool) -> bool
-    ensures { result ≡ (not (is_reached (H.state survey.now.tree.now) survey.now.users.now path.now Dir)
-        || (is_crowded || is_deep_to (H.state survey.now.tree.now) survey.now.users.now path.now (suc (length path.now)))) }
+pub fn grows_none<H: Hierarchy>(survey: &Survey<H>, path: &Path, is_full: bool) -> bool
+    requires { is_full ≡ is_full_to (H.state survey.now.tree.now) survey.now.users.now
+        (greatest (H.state survey.now.tree.now) survey.now.users.now) path.now (length path.now) }
+    ensures { result ≡ grows_none (H.state survey.now.tree.now) survey.now.users.now
+        (greatest (H.state survey.now.tree.now) survey.now.users.now) path.now }
 {
-    if !is_reached(
-        survey.tree,
-        survey.users,
-        path,
-        path.depth(),
-        EntryName::Dir,
-    ) {
-        return true;
-    }
-    is_crowded || is_deep(survey, path)
-}
-
-/// Whether a cgroup from here up to the root allows no more levels below this one.
-fn is_deep<H: Hierarchy>(survey: &Survey<H>, path: &Path) -> bool
-    ensures { result ≡ is_deep_to (H.state survey.now.tree.now) survey.now.users.now path.now (suc (length path.now)) }
-{
-    let depth = path.depth();
-    if is_bound(survey, path, depth, LimitFile::MaxDepth, 0) {
-        return true;
-    }
-    for len in (0..depth).rev() {
-        if is_bound(survey, path, len, LimitFile::MaxDepth, depth - len) {
-            return true;
-        }
-    }
-    false
+    is_full
+        || !is_reached(
+            survey.tree,
+            survey.users,
+            path,
+            path.depth(),
+            EntryName::Dir,
+        )
 }

@@ -6,5 +6,6 @@ pub mod closed;
 pub mod control;
 mod counts;
 pub mod reach;
+pub mod room;
 pub mod row;
 pub mod survey;

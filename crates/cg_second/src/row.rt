@@ -34,5 +34,5 @@ pub fn second_row<H: Hierarchy>(
     if !stays(&survey, subtree) || !control_stays(&survey, subtree) {
         return Ok(false);
     }
-    Ok(is_closed(&survey, subtree))
+    is_closed(alloc, &survey, subtree)
 }

@@ -1,8 +1,9 @@
 //! Whether the line of an operation is short enough to be read again.
-ghost use Rattle.std.specs.Prelude.{◌≡◌, true};
+ghost use Rattle.std.specs.Prelude.{◌≡◌, ◌↔◌, true, IsTrue};
 ghost use Rattle.cg_cgroup.specs.Numbers.{is_pid, is_mode};
 ghost use Rattle.cg_cgroup.specs.Paths.{IsPath};
-ghost use Rattle.cg_lines.specs.OperationLines.{HasLine, IsLimitInRange};
+ghost use Rattle.cg_lines.specs.LineLengths.{HasFewChanges};
+ghost use Rattle.cg_lines.specs.OperationLines.{HasLine, IsInRange, IsLimitInRange};
 
 use cg_cgroup::files::Limit;
 use cg_cgroup::path::Path;
@@ -10,46 +11,68 @@ use cg_cgroup::process::Pid;
 use cg_cgroup::user::Mode;
 use cg_model::operation::Op;
 
-/// Whether the line of an operation has at most 8192 bytes: all have but those with over 511 changes. Of the others each
-/// part is asked whether it is in range, as all that can be held are.
+/// Whether an operation has at most 511 changes, as all have but some of `control`. Then its line has at most 8192 bytes.
 pub fn has_short_line(op: &Op) -> bool
-    ensures { result ≡ true → HasLine op.now }
+    ensures few { IsTrue result ↔ HasFewChanges op.now }
+    ensures line { result ≡ true → HasLine op.now }
 {
+    hold(op);
     match op {
-        Op::Move { pid, to } => is_pid(*pid) && is_path(to),
-        Op::Control { at, changes } => is_path(at) && changes.as_slice().len() <= 511,
-        Op::Mkdir { path } => is_path(path),
-        Op::Rmdir { path } => is_path(path),
-        Op::Set { at, value, .. } => is_path(at) && is_limit(*value),
-        Op::Fork { parent, child } => is_pid(*parent) && is_pid(*child),
-        Op::Exit { pid } => is_pid(*pid),
-        Op::Chmod { at, mode, .. } => is_path(at) && is_mode(*mode),
+        Op::Control { changes, .. } => changes.as_slice().len() <= 511,
+        _ => true,
     }
 }
 
-fn is_path(path: &Path) -> bool
+/// What an operation holds is in range, as all that can be held is.
+fn hold(op: &Op)
+    ensures { IsInRange op.now }
+{
+    match op {
+        Op::Move { pid, to } => {
+            hold_pid(*pid);
+            hold_path(to);
+        }
+        Op::Control { at, .. } => hold_path(at),
+        Op::Mkdir { path } => hold_path(path),
+        Op::Rmdir { path } => hold_path(path),
+        Op::Set { at, value, .. } => {
+            hold_path(at);
+            hold_limit(*value);
+        }
+        Op::Fork { parent, child } => {
+            hold_pid(*parent);
+            hold_pid(*child);
+        }
+        Op::Exit { pid } => hold_pid(*pid),
+        Op::Chmod { at, mode, .. } => {
+            hold_path(at);
+            hold_mode(*mode);
+        }
+    }
+}
+
+fn hold_path(path: &Path)
     ensures { IsPath path.now }
 {
-    path.depth() <= 2047
+    let _depth = path.depth();
 }
 
-fn is_pid(pid: Pid) -> bool
+fn hold_pid(pid: Pid)
     ensures { is_pid pid ≡ true }
 {
-    pid.get() >= 1
+    let _number = pid.get();
 }
 
-fn is_mode(mode: Mode) -> bool
+fn hold_mode(mode: Mode)
     ensures { is_mode mode ≡ true }
 {
-    mode.get() <= 0o777
+    let _bits = mode.get();
 }
 
-fn is_limit(limit: Limit) -> bool
+fn hold_limit(limit: Limit)
     ensures { IsLimitInRange limit }
 {
-    match limit {
-        Limit::Max => true,
-        Limit::At(number) => number <= u64::MAX,
+    if let Limit::At(number) = limit {
+        let _in_range = number <= u64::MAX;
     }
 }

@@ -243,6 +243,57 @@ fn what_keeps_a_place_shut_is_told(rt: HostRuntime) -> Result<(), Fail> {
     Ok(())
 }
 
+/// A tree in which user 1000 moves processes past the root and makes cgroups, with these limits of depth.
+fn tree_of_depths(alloc: Global, depths: [u64; 5]) -> Result<Rows, Fail> {
+    let mut text = format!(in alloc;
+        "format = 2\ncontrollers = []\n[[cgroup]]\npath = \"/\"\n[cgroup.files]\n\"cgroup.procs\" = {OWNED}\n"
+    )?;
+    for (at, path) in ["/a", "/a/b", "/a/b/d", "/a/e", "/c"].iter().enumerate() {
+        let depth = depths[at];
+        text = format!(in alloc;
+            "{text}[[cgroup]]\npath = \"{path}\"\ndir = {OWNED}\n[cgroup.files]\n\"cgroup.max.depth\" = {{ value = {depth} }}\n"
+        )?;
+    }
+    Ok(read_tree(alloc, text.as_bytes())?)
+}
+
+/// The cgroups in which a limit leaves no room, each behind a space.
+fn full_places(alloc: Global, tree: &Rows) -> Result<String, Fail> {
+    let user = User::new(1000).ok_or("user")?;
+    let subtree = Path::parse(alloc, "/a")?;
+    let mut words = String::new(alloc);
+    for asked in &second_row(alloc, tree, std::slice::from_ref(&user), &subtree)? {
+        words.push_str(word_of_full(alloc, asked)?.as_str())?;
+    }
+    Ok(words)
+}
+
+fn word_of_full(alloc: Global, asked: &Asked) -> Result<String, AllocError> {
+    match asked {
+        Asked::Shut(place) if place.grows_none == Some(Growing::Full) => {
+            format!(in alloc; " {}", place.path.prefix(place.path.depth()))
+        }
+        _ => Ok(String::new(alloc)),
+    }
+}
+
+/// A limit of depth counts for what is below it, beside a lower one too, and not for what comes behind.
+#[test]
+fn levels_are_told_where_none_are_left(rt: HostRuntime) -> Result<(), Fail> {
+    for (depths, full) in [
+        ([9, 0, 9, 9, 9], " /a/b /a/b/d"),
+        ([2, 5, 9, 9, 9], " /a/b/d"),
+        ([1, 9, 9, 9, 9], " /a/b /a/b/d /a/e"),
+        ([9, 9, 0, 9, 9], " /a/b/d"),
+        ([9, 9, 9, 9, 0], " /c"),
+        ([9, 9, 9, 9, 9], ""),
+    ] {
+        let tree = tree_of_depths(rt.alloc(), depths)?;
+        assert_eq!(rt; full_places(rt.alloc(), &tree)?.as_str(), full);
+    }
+    Ok(())
+}
+
 /// Whoever writes the parent's directory removes it, but not where one below it stays; and whoever writes its
 /// `cgroup.subtree_control` turns what nobody below enables.
 #[test]

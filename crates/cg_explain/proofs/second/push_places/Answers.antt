@@ -1,32 +1,31 @@
-use Rattle.std.proofs.Common.{ap, ◌∙◌, ◌<◌, ◌≤◌, ◌++◌, [], get_or, length, max, take_all, arith}
+use Rattle.std.proofs.Common.{ap, sym, ◌∙◌, ◌<◌, ◌≤◌, ◌++◌, length, take_all, arith, append-nil}
 use Rattle.std.specs.List.{flat_map}
-use Rattle.cg_second.proofs.Closing.{max-is, grows-is, crowded-next}
-use Rattle.cg_explain.specs.SecondRow.{place_told, place_asked}
+use Rattle.cg_second.proofs.Closing.{room-first}
+use Rattle.cg_explain.specs.SecondRow.{place_asked}
 use Rattle.cg_explain.proofs.Placing.{place-added}
 use Rattle.cg_explain.proofs.second.push_places.Goals as goal
+
+pub loop-at-init : goal.loop-at-init
+loop-at-init g c =
+    let s = c.args.survey.now in
+    record {
+      told = sym (append-nil c.args.row.now.items);
+      room =
+          room-first (g.H.Hierarchy.state s.tree.now) s.users.now s.paths.items s.ends.items s.kept.items s.fixed.items c.requires.survey
+          _ _ c.in_ok-room.ensures.until c.in_ok-room.ensures.levels;
+    }
 
 pub loop-at-preserved : goal.loop-at-preserved
 loop-at-preserved g c =
     let s = c.args.survey.now in
-    let st = g.H.Hierarchy.state s.tree.now in
-    let users = s.users.now in
-    let items = s.paths.items in
     let at = c.loop-at.at in
-    let q = get_or items at [] in
-    let subtree = c.args.subtree.now in
-    let within : at < length items =
+    let within : at < length s.paths.items =
     (let test = c.loop-at-test.true in let len = c.len-at-end.ensures in let ok = s.paths.ok in omega (arith, test, len, ok)) in
-    let next-is = c.max-crowded_until.ensures ∙ max-is c.loop-at.crowded_until c.crowded_end.result
-    ∙ ap (max c.loop-at.crowded_until) c.crowded_end.ensures in
-    let grows = grows-is st users items s.ends.items s.kept.items s.fixed.items c.requires.survey at within c.loop-at.crowded_until
-    c.max-crowded_until.result c.loop-at.invariant.crowded next-is in
     record {
       told =
-          place-added st users subtree items at within c.args.row.now.items c.loop-at.row.items c.push_place.new.row.items _
-          c.loop-at.invariant.told c.in_ok-push_place.ensures (ap (place_told st users subtree q) grows);
-      crowded =
-          crowded-next st users items s.ends.items s.kept.items s.fixed.items c.requires.survey at within c.loop-at.crowded_until
-          c.max-crowded_until.result c.loop-at.invariant.crowded next-is;
+          place-added (g.H.Hierarchy.state s.tree.now) s.users.now c.args.subtree.now s.paths.items at within c.args.row.now.items
+          c.loop-at.row.items c.push_place.new.row.items c.loop-at.invariant.told c.in_ok-push_place.ensures;
+      room = c.in_ok-is_full.ensures.room;
     }
 
 pub returns : goal.returns

@@ -12,6 +12,6 @@ returns g c start subtree at kept =
     let free = subst (λ outcome. RefusedBy outcome (first (bars c.args.replay.now.state user c.args.op))) c.in-Ok-Done.field-0-is
     c.in-Ok-Done.ensures.outcome in
     let more = follows-more start user subtree c.args.replay.now c.args.kept.now c.args.op at
-    free (c.if-not-has_short_line.ensures refl) in
+    free (c.if-not-has_short_line.ensures.line refl) in
     let stepped-is = subst (λ run. Follows start user subtree run (c.args.kept.now ++ c.args.op ∷ [])) (sym c.in-Ok-Done.ensures.ok) more in
     subst (λ ops. Follows start user subtree c.step.new.self ops) (sym c.in_ok-push.ensures.ok) stepped-is

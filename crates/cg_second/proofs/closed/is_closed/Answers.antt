@@ -1,14 +1,24 @@
-use Rattle.std.proofs.Common.{ap, sym, ◌∙◌, ◌≡◌, ◌<◌, ◌≤◌, ◌&&◌, ◌||◌, not, true, false, [], get_or, length, max, arith}
+use Rattle.std.proofs.Common.{ap, sym, ◌∙◌, ◌≡◌, ◌<◌, ◌≤◌, ◌&&◌, ◌||◌, not, true, false, [], get_or, length, arith, refl}
 use Rattle.std.specs.List.{list_all}
 use Rattle.std.proofs.lemmas.Bool.{or_left, or_right, not_from_false}
 use Rattle.cg_settle.specs.Judged.{takes_none, grows_none}
 use Rattle.cg_settle.specs.Greatest.{greatest}
 use Rattle.cg_second.specs.Exposed.{is_exposed, is_shut_or_apart}
 use Rattle.cg_second.proofs.Staying.{same_default}
-use Rattle.cg_second.proofs.Closing.{max-is, shut-is, crowded-next, shut-more, open-found, all-of}
+use Rattle.cg_second.proofs.Closing.{room-first, shut-more, open-found, all-of}
 use Rattle.cg_second.proofs.Edges.{closed-is}
 use Rattle.cg_second.proofs.closed.is_closed.Goals as goal
 use Rattle.cg_second.proofs.closed.is_closed.Goals.{else-is_exposed-via-then-is_exposed+else-not-is_shut, else-is_exposed-via-else-is_exposed}
+
+pub loop-at-init : goal.loop-at-init
+loop-at-init g c =
+    let s = c.args.survey.now in
+    record {
+      shut = refl;
+      room =
+          room-first (g.H.Hierarchy.state s.tree.now) s.users.now s.paths.items s.ends.items s.kept.items s.fixed.items c.requires.survey
+          _ _ c.in_ok-room.ensures.until c.in_ok-room.ensures.levels;
+    }
 
 pub returns-then-not-is_shut : goal.returns-then-not-is_shut
 returns-then-not-is_shut g c =
@@ -22,11 +32,8 @@ returns-then-not-is_shut g c =
     let within : at < length items =
     (let test = c.loop-at-test.true in let len = c.len-at-end.ensures in let ok = s.paths.ok in omega (arith, test, len, ok)) in
     let named : q ≡ c.index.result.now = same_default items at [] c.index.result.now within ∙ sym c.index.ensures in
-    let next-is = c.max-crowded_until.ensures ∙ max-is c.loop-at.crowded_until c.crowded_end.result
-    ∙ ap (max c.loop-at.crowded_until) c.crowded_end.ensures in
     let open_here : (takes_none st users (greatest st users) q && grows_none st users (greatest st users) q) ≡ false =
-    sym (shut-is st users items s.ends.items s.kept.items s.fixed.items c.requires.survey at within c.loop-at.crowded_until
-    c.max-crowded_until.result c.loop-at.invariant.crowded next-is) ∙ sym c.is_shut.ensures ∙ c.if-not-is_shut.true in
+    sym c.is_shut.ensures ∙ c.if-not-is_shut.true in
     let exposed : is_exposed st users subtree q ≡ true =
     ap (is_exposed st users subtree) named ∙ sym c.is_exposed.ensures ∙ c.if-is_exposed.true in
     let test = is_shut_or_apart st users subtree in
@@ -45,15 +52,11 @@ loop-at-preserved g c =
     let within : at < length items =
     (let test = c.loop-at-test.true in let len = c.len-at-end.ensures in let ok = s.paths.ok in omega (arith, test, len, ok)) in
     let named : q ≡ c.index.result.now = same_default items at [] c.index.result.now within ∙ sym c.index.ensures in
-    let next-is = c.max-crowded_until.ensures ∙ max-is c.loop-at.crowded_until c.crowded_end.result
-    ∙ ap (max c.loop-at.crowded_until) c.crowded_end.ensures in
-    let shut-here = shut-is st users items s.ends.items s.kept.items s.fixed.items c.requires.survey at within c.loop-at.crowded_until
-    c.max-crowded_until.result c.loop-at.invariant.crowded next-is in
     let test = is_shut_or_apart st users subtree in
     let passes : test q ≡ true =
     elim c.else-is_exposed.branch [
       | else-is_exposed-via-then-is_exposed+else-not-is_shut w ↦
-          or_right (not (is_exposed st users subtree q)) _ (sym shut-here ∙ sym w.is_shut.ensures ∙ w.if-not-is_shut.false)
+          or_right (not (is_exposed st users subtree q)) _ (sym w.is_shut.ensures ∙ w.if-not-is_shut.false)
       | else-is_exposed-via-else-is_exposed w ↦
           or_left (not (is_exposed st users subtree q)) _
           (not_from_false (is_exposed st users subtree q)
@@ -61,9 +64,7 @@ loop-at-preserved g c =
     ] in
     record {
       shut = shut-more test items at within c.loop-at.invariant.shut passes;
-      crowded =
-          crowded-next st users items s.ends.items s.kept.items s.fixed.items c.requires.survey at within c.loop-at.crowded_until
-          c.max-crowded_until.result c.loop-at.invariant.crowded next-is;
+      room = c.in_ok-is_full.ensures.room;
     }
 
 pub returns : goal.returns
