@@ -95,6 +95,29 @@ def settled(_):
     yield fault("usage", "settle", "--uid", "1000")
 
 
+# what is told of the delegation, where all guards hold
+TOLD = ["pair 1000 /c0", "holds common-ancestor / cgroup.procs 0:0 644", "holds limit-file /c0 cgroup.max.descendants 0:0 644",
+        "holds limit-file /c0 cgroup.max.depth 0:0 644", "holds limit-file /c0 memory.min 0:0 644", "holds limit-file /c0 memory.low 0:0 644",
+        "holds limit-file /c0 memory.high 0:0 644", "holds limit-file /c0 memory.max 0:0 644",
+        "holds parent-control / cgroup.subtree_control 0:0 644", "holds parent-dir / dir 0:0 755",
+        "holds already-over /c0 cgroup.max.descendants 2 4", "holds already-over /c0 cgroup.max.depth 1 2", "contained"]
+
+
+def explained(_):
+    yield Case(["explain", *asked("1000", "/c0")], 0, TOLD)
+    yield Case(["explain", *asked("1000", "/c0"), *asked("01000", "/c0")], 0, TOLD)
+    fails = [line.replace("holds limit-file /c0 memory.max 0:0 644", "fails limit-file /c0 memory.max 1000:0 644 owner") for line in TOLD]
+    second = ["holds stays /c0 spared", "holds control / cpu off", "holds control / memory on", "holds control / pids off", "fails files /c0 reached"]
+    yield Case(["explain", *tree("delegation-limit-writable"), *asked("1000", "/c0")], 1, [*fails[:10], *second, *fails[10:12], "escapes"])
+    yield fault("subtree missing", "explain", *asked("1000", "/zz"), "--subtree", "/")
+    yield fault("uid", "explain", "--uid", "1000", *asked("0", "zz"))
+    yield fault("gid", "explain", "--uid", f"1000:{','.join(map(str, range(1, 34)))}", *asked("0", "/c0"))
+    yield fault("read", "explain", *tree("none"), *asked("0", "c0"))
+    yield fault("usage", "explain", *asked("1000:", "/c0"))
+    yield fault("usage", "explain", "--all", *asked("1000", "/c0"))
+    yield fault("usage", "explain", "--uid", "1000")
+
+
 def audits(_):
     second = tree("delegation-second-user")
     both = ["--subtree", "/c0", "--subtree", "/c1"]
@@ -191,7 +214,7 @@ def upgrades(program):
 
 
 def cases(program):
-    for table in command_lines, migrations, checks, settled, audits, advices, replays, upgrades:
+    for table in command_lines, migrations, checks, settled, explained, audits, advices, replays, upgrades:
         yield from table(program)
 
 

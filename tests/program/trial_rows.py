@@ -138,6 +138,8 @@ def byte_trials():
     yield "advise_settled_bytes", PROCS_OWNED, ["advise_settled", "1000", "/p/s"], "contained\nstatus 0\n"
     yield ("advise_settled_bytes", ANCESTOR_OWNED, ["advise_settled", "1000", "/c0"],
            "fails common-ancestor / cgroup.procs 1000:0 446 owner\nchown / cgroup.procs 0:0\nchmod / cgroup.procs 444\nstatus 1\n")
+    yield "explain_bytes", DELEGATION, ["explain", "1000", "/c0"], "pair 1000 /c0\nholds common-ancestor / cgroup.procs 0:0 644"
+    yield "explain_bytes", PROCS_OWNED, ["explain", "1000", "/p/s"], "pair 1000 /p/s\nfails common-ancestor /p cgroup.procs 1000:0 644 owner"
     yield "advise_pairs_bytes", DELEGATION, ["advise_pairs", "1000", "/c0", "1001", "/c1"], "contained\nstatus 0\n"
     yield ("advise_pairs_bytes", SECOND_USER, ["advise_pairs", "1000", "/c0", "1001", "/c0"],
            "fails limit-file /c0 memory.max 1001:0 644 owner\nchown /c0 memory.max 0:0\nstatus 1\n")
@@ -159,6 +161,7 @@ def free_byte_trials():
     yield "settle_bytes", ["settle", "0", "/c0"], "fault: uid\n"
     yield "advise_bytes", ["advise", "0", "/c0"], "fault: uid\n"
     yield "advise_settled_bytes", ["advise_settled", "0", "/c0"], "fault: uid\n"
+    yield "explain_bytes", ["explain", "0", "/c0"], "fault: uid\n"
     yield "advise_pairs_bytes", ["advise_pairs", "1000", "/c0", "0", "/c0"], "fault: uid\n"
     yield "replay_bytes", ["replay", "0", "-"], "fault: uid\n"
     yield "replay_from", ["replay_from", "0", "-"], "fault: uid\n"

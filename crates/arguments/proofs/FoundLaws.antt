@@ -80,6 +80,13 @@ module _ (f g : Found) (same : rows_of f ≡ rows_of g) where
     some_user = λ none. h.some_user (words_same (codes "uid") ∙ none);
     some_subtree = λ none. h.some_subtree (words_same (codes "subtree") ∙ none);
   }
+  holds_same (request.Explain explain) h = record {
+    tree = h.tree ∙ file_same (codes "tree");
+    users = sym users_same ∙ h.users;
+    subtrees = sym (words_same (codes "subtree")) ∙ h.subtrees;
+    some_user = λ none. h.some_user (words_same (codes "uid") ∙ none);
+    some_subtree = λ none. h.some_subtree (words_same (codes "subtree") ∙ none);
+  }
   holds_same (request.Advise advise) h = record {
     tree = h.tree ∙ file_same (codes "tree");
     users = sym advised_same ∙ h.users;

@@ -2,7 +2,7 @@
 ghost use Rattle.std.specs.Prelude.{◌≡◌, [], ◌∷◌, IfOk, codes};
 ghost use Rattle.clap.specs.Words.{app_of};
 ghost use Rattle.arguments.specs.Building.{IsOption, IsCommand};
-ghost use Rattle.arguments.specs.CommandLine.{word_option, number_option, needed, program_command, command_with, of_user, may_command, subtree_command, audit_command, advise_named, advise_command, replay_command, upgrade_command, command_line};
+ghost use Rattle.arguments.specs.CommandLine.{word_option, number_option, needed, program_command, command_with, of_user, may_command, subtree_command, audit_command, explain_command, advise_named, advise_command, replay_command, upgrade_command, command_line};
 
 use clap::{Arg, ArgAction, Command, value_parser};
 use std::alloc::{AllocError, Global};
@@ -76,6 +76,21 @@ Example:
   escapes
   set /c0 memory.max max";
 
+const EXPLAIN_HELP: &str = "\
+Status: 0 contained, 1 escapes, 2 unsettled, 3 a fault
+Of every user and every subtree, by user and then subtree, the line `pair` names them, and below it each entry on which a guard
+stands has a line `holds` or `fails`: the guard, the cgroup, the entry with its owner and mode, and where it fails by what they
+reach it, `owner`, `group` or `others`. Where a guard fails, lines follow of what the second row of guards asks: that the subtree
+stays, what its parent enables, its limit files, and each cgroup to which a move over the edge of the subtree may lead. Then the
+two limits of the subtree have a line each with how many there are, and last stands the first line of what settle says.
+The status is 1 where one escapes, else 2 where one is unsettled. Users and subtrees that are named again count once.
+A user is UID or UID:GID,GID.. in decimal digits, with up to 32 gids, of which the first is the primary one.
+`fault: usage` means that the command line isn't as it says above.
+docs/FORMATS.md of the repository has the tree's format, and every line that is written.
+
+Example:
+  zirofen explain --tree examples/delegation.toml --uid 1000 --subtree /c0";
+
 const REPLAY_HELP: &str = "\
 Each operation is tried in the tree that those before it leave, up to the first line that is none. With --subtree a last line
 says `kept`, or `broken` with the step and what it broke of the subtree.
@@ -130,6 +145,7 @@ pub(crate) fn command<'a>(alloc: Global) -> Result<Command<'a>, AllocError>
         .subcommand(subtree_command(alloc, "check", CHECK, CHECK_HELP)?)?
         .subcommand(subtree_command(alloc, "settle", SETTLE, SETTLE_HELP)?)?
         .subcommand(audit_command(alloc)?)?
+        .subcommand(explain_command(alloc)?)?
         .subcommand(advise_command(alloc)?)?
         .subcommand(replay_command(alloc)?)?
         .subcommand(upgrade_command(alloc)?)
@@ -222,6 +238,27 @@ fn audit_command<'a>(alloc: Global) -> Result<Command<'a>, AllocError>
                 .long("all")
                 .action(ArgAction::SetTrue)
                 .help("Every pair that isn't shown to be contained, and not the first alone"),
+        )
+}
+
+fn explain_command<'a>(alloc: Global) -> Result<Command<'a>, AllocError>
+    ensures { IfOk result (IsCommand explain_command) }
+{
+    Command::new(alloc, "explain")
+        .about("Says of every user and subtree what each guard asks, and by what it holds or fails")
+        .after_help(EXPLAIN_HELP)
+        .arg(tree_argument(alloc))?
+        .arg(
+            word_argument(alloc, "uid", "UID[:GID,GID..]")
+                .action(ArgAction::Append)
+                .required(true)
+                .help("A user and their groups, once or more"),
+        )?
+        .arg(
+            subtree_argument(alloc)
+                .required(true)
+                .action(ArgAction::Append)
+                .help("The top of a subtree, once or more"),
         )
 }
 

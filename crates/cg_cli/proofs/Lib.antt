@@ -17,6 +17,7 @@ mod NamedReads
 mod AuditReports
 mod Once
 mod AllPairs
+mod Explaining
 mod Closings
 mod ReplayCalls
 mod UpgradeReports

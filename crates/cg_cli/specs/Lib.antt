@@ -19,3 +19,4 @@ pub mod Advising
 pub mod SettledAdvice
 pub mod FurtherAdvice
 pub mod Pairs
+pub mod Explaining

@@ -9,6 +9,7 @@ pub mod arguments;
 pub mod audit;
 pub mod audit_all;
 pub mod check;
+pub mod explain;
 pub mod laws;
 pub mod may;
 mod named;

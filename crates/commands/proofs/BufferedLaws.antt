@@ -12,6 +12,9 @@ use Rattle.cg_format.specs.Readings.{Reading}
 use Rattle.cg_cli.specs.AllPairs.{all_report, ReportsPairs}
 use Rattle.cg_cli.specs.Advising.{advise_report}
 use Rattle.cg_cli.specs.Audits.{audit_report}
+use Rattle.cg_cli.specs.Explaining.{TellsPairs, ReportsTold}
+use Rattle.cg_model.specs.States.{State}
+use Rattle.cg_model.specs.Mends.{Pair}
 use Rattle.cg_cli.specs.FurtherAdvice.{AdvisesFurther}
 use Rattle.cg_cli.specs.Upgrades.{Upgrades}
 use Rattle.streams.specs.Written.{AppendsPart}
@@ -92,6 +95,20 @@ AuditSays-Keeps audit old mid new result tree said k =
     AuditSays-by audit.all (all_report tree (map ids_of audit.users.items) (map (λ subtree. subtree.now) audit.subtrees.items))
     (audit_report tree (map ids_of audit.users.items) (map (λ subtree. subtree.now) audit.subtrees.items)) old mid new result said k
 
+TellsPairs-Keeps : (st : State) (pairs : List Pair) (old mid new : Option (List ℕ)) (result : Result ℕ CliFault)
+    → TellsPairs st pairs old mid result → Keeps mid new → TellsPairs st pairs old new result
+TellsPairs-Keeps st pairs old mid new (Ok status) h k = (h.0, h.1, h.2, Appends-Keeps old mid new _ h.3 k)
+TellsPairs-Keeps st pairs old mid new (Err Write) h k = (h.0, h.1, AppendsPart-Keeps old mid new _ h.2 k)
+TellsPairs-Keeps st pairs old mid new (Err NoMemory) h k = (h.0, h.1, Appends-Keeps old mid new _ h.2 k)
+TellsPairs-Keeps st pairs old mid new (Err fault) h k = h
+
+ReportsTold-Keeps : (asked : Result (State × List Pair) CliFault) (old mid new : Option (List ℕ)) (result : Result ℕ CliFault)
+    → ReportsTold asked old mid result → Keeps mid new → ReportsTold asked old new result
+ReportsTold-Keeps (Ok asked) old mid new result h k = TellsPairs-Keeps asked.0 asked.1 old mid new result h k
+ReportsTold-Keeps (Err fault) old mid new (Ok status) h k = h
+ReportsTold-Keeps (Err fault) old mid new (Err NoMemory) h k = (h.0, Keeps-Keeps old mid new h.1 k)
+ReportsTold-Keeps (Err fault) old mid new (Err other) h k = (h.0, Keeps-Keeps old mid new h.1 k)
+
 AdvisesFurther-Keeps : (tree : Reading) (users : List (ℕ × List ℕ)) (subtrees : List (List ℕ)) (old mid new : Option (List ℕ))
     (result : Result ℕ CliFault)
     → AdvisesFurther tree users subtrees old mid result → Keeps mid new → AdvisesFurther tree users subtrees old new result
@@ -145,6 +162,8 @@ CarriesOut-Keeps (request.Settle check) files given old mid new result h k =
     OnTree-Keeps _ _ _ old mid new result (λ tree said. (said.0, said.1, Reports-Keeps said.0 old mid new result said.2 k)) h k
 CarriesOut-Keeps (request.Audit audit) files given old mid new result h k =
     OnTree-Keeps _ _ _ old mid new result (λ tree said. AuditSays-Keeps audit old mid new result tree said k) h k
+CarriesOut-Keeps (request.Explain explain) files given old mid new result h k =
+    OnTree-Keeps _ _ _ old mid new result (λ tree said. ReportsTold-Keeps _ old mid new result said k) h k
 CarriesOut-Keeps (request.Advise advise) files given old mid new result h k =
     OnTree-Keeps _ _ _ old mid new result (λ tree said. AdviseSays-Keeps advise old mid new result tree said k) h k
 CarriesOut-Keeps (request.AdvisePairs advise) files given old mid new result h k = OnPairs-Keeps _ _ old mid new result h k

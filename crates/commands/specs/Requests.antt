@@ -7,6 +7,7 @@ use Rattle.arguments.specs.Given.{ids_of, tree_file, other_file}
 use Rattle.arguments.specs.declared.request.May.{May}
 use Rattle.arguments.specs.declared.request.Check.{Check}
 use Rattle.arguments.specs.declared.request.Audit.{Audit}
+use Rattle.arguments.specs.declared.request.Explain.{Explain}
 use Rattle.arguments.specs.declared.request.Advise.{Advise}
 use Rattle.arguments.specs.declared.request.Replay.{Replay}
 use Rattle.arguments.specs.declared.request.Request.{Request}
@@ -17,6 +18,7 @@ use Rattle.cg_cli.specs.Containment.{check_report}
 use Rattle.cg_cli.specs.Settling.{AskedReports, FurtherSays, IsFurther}
 use Rattle.cg_cli.specs.Audits.{audit_report}
 use Rattle.cg_cli.specs.AllPairs.{all_report, ReportsPairs}
+use Rattle.cg_cli.specs.Explaining.{explain_asked, ReportsTold}
 use Rattle.cg_cli.specs.Advising.{advise_report, advise_pairs_report}
 use Rattle.cg_cli.specs.FurtherAdvice.{AdvisesFurther}
 use Rattle.cg_cli.specs.Upgrades.{Upgrades}
@@ -84,6 +86,11 @@ AuditSays audit old new result tree =
     let subtrees = map (λ subtree. subtree.now) audit.subtrees.items in
     MatchBool audit.all (ReportsPairs (all_report tree users subtrees) old new result) (Reports (audit_report tree users subtrees) old new result)
 
+-- every user with every subtree
+abbrev pub ExplainSays : Explain → Option (List ℕ) → Option (List ℕ) → Result ℕ CliFault → Reading → Type 0
+ExplainSays explain old new result tree =
+    ReportsTold (explain_asked tree (map ids_of explain.users.items) (map (λ subtree. subtree.now) explain.subtrees.items)) old new result
+
 abbrev pub replay_said : Replay → Reading → Reporting
 replay_said replay tree = lines_report tree replay.user.uid replay.user.gids.items (name_of replay.subtree)
 
@@ -133,6 +140,8 @@ CarriesOut (request.Settle check) files given old new result =
     SettlesOnTree (source files (name_of check.tree) given) check old new result
 CarriesOut (request.Audit audit) files given old new result =
     OnTree (source files (name_of audit.tree) given) (AuditSays audit old new result) old new result
+CarriesOut (request.Explain explain) files given old new result =
+    OnTree (source files (name_of explain.tree) given) (ExplainSays explain old new result) old new result
 CarriesOut (request.Advise advise) files given old new result =
     OnTree (source files (name_of advise.tree) given) (AdviseSays advise old new result) old new result
 CarriesOut (request.AdvisePairs advise) files given old new result =

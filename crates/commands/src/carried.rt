@@ -9,13 +9,13 @@ ghost use Rattle.cg_cli.specs.FurtherAdvice.{AdvisesFurther};
 ghost use Rattle.cg_cli.specs.Reports.{Reports};
 ghost use Rattle.cg_cli.specs.Upgrades.{Upgrades};
 ghost use Rattle.arguments.specs.Given.{ids_of, ids_of_pair, tree_file, other_file};
-ghost use Rattle.commands.specs.Requests.{source, name_of, IsTree, may_said, check_said, AdviseSays, AuditSays, OnTree, ReportsOnTree, SettlesOnTree, ArePairs, ReportsOnPairs, OnPairs, replay_said, ReplaysOver, ReplaysOnTree, CarriesOut};
+ghost use Rattle.commands.specs.Requests.{source, name_of, IsTree, may_said, check_said, AdviseSays, AuditSays, ExplainSays, OnTree, ReportsOnTree, SettlesOnTree, ArePairs, ReportsOnPairs, OnPairs, replay_said, ReplaysOver, ReplaysOnTree, CarriesOut};
 
 use crate::pairs::{line_at, read_pairs};
 use arguments::named_pair::NamedPair;
 use arguments::named_user::NamedUser;
 use arguments::request::{
-    Advise, AdvisePairs, Audit, Check, May, Replay, Request, Sources, Upgrade,
+    Advise, AdvisePairs, Audit, Check, Explain, May, Replay, Request, Sources, Upgrade,
 };
 use cg_cli::advise::advise_bytes;
 use cg_cli::advise_pairs::{PairIds, advise_pairs_bytes};
@@ -24,6 +24,7 @@ use cg_cli::arguments::UserIds;
 use cg_cli::audit::audit_bytes;
 use cg_cli::audit_all::audit_all_bytes;
 use cg_cli::check::check_bytes;
+use cg_cli::explain::explain_bytes;
 use cg_cli::may::may_bytes;
 use cg_cli::replay::replay_from;
 use cg_cli::settle::settle_bytes;
@@ -55,6 +56,7 @@ pub(crate) fn carried_out<F: Files, I: Read + Drop, W: Write>(
         Request::Check(request) => check(alloc, request, files, input, out),
         Request::Settle(request) => settle(alloc, request, files, input, out),
         Request::Audit(request) => audit(alloc, request, files, input, out),
+        Request::Explain(request) => explain(alloc, request, files, input, out),
         Request::Advise(request) => advise(alloc, request, files, input, out),
         Request::AdvisePairs(asked) => advise_pairs(alloc, *asked, files, input, line, out),
         Request::Replay(asked) => replay(alloc, Replaying { asked, line }, files, input, out),
@@ -290,6 +292,23 @@ fn audited<W: Write>(
     } else {
         audit_bytes(alloc, tree, users, subtrees, out)
     }
+}
+
+fn explain<F: Files, I: Read + Drop, W: Write>(
+    alloc: Global,
+    asked: &Explain<'_>,
+    files: &F,
+    input: I,
+    out: &mut W,
+) -> Result<u8, CliFault>
+    ensures { OnTree (source (F.given files.now) (name_of asked.now.tree) (I.remaining input))
+        (ExplainSays asked.now (W.contents out.old) (W.contents out.new) result)
+        (W.contents out.old) (W.contents out.new) result }
+{
+    let tree = tree_text(alloc, files, asked.tree, input)?;
+    let users = all_ids(alloc, asked.users.as_slice())?;
+    let subtrees = asked.subtrees.as_slice();
+    explain_bytes(alloc, tree.as_slice(), users.as_slice(), subtrees, out)
 }
 
 fn upgrade<F: Files, I: Read + Drop, W: Write>(

@@ -7,6 +7,7 @@ mod audit_all;
 mod calls;
 mod changed;
 mod check;
+mod explain;
 mod input;
 mod may;
 mod readers;

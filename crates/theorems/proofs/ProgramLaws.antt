@@ -20,6 +20,7 @@ use Rattle.cg_cli.specs.Advising.{advise_report}
 use Rattle.cg_cli.specs.FurtherAdvice.{AreHeld}
 use Rattle.cg_cli.specs.AllPairs.{all_report, ReportsPairs}
 use Rattle.cg_cli.specs.Containment.{answer_report}
+use Rattle.cg_cli.specs.Explaining.{explain_asked, ReportsTold}
 use Rattle.cg_cli.specs.Settling.{IsFurther}
 use Rattle.cg_cli.specs.Audits.{users_read, paths_read, audit_report}
 use Rattle.cg_cli.specs.Replays.{closed, replay_report}
@@ -33,6 +34,7 @@ use Rattle.arguments.specs.Given.{ids_of, tree_file, other_file}
 use Rattle.arguments.specs.declared.request.May.{May}
 use Rattle.arguments.specs.declared.request.Check.{Check}
 use Rattle.arguments.specs.declared.request.Audit.{Audit}
+use Rattle.arguments.specs.declared.request.Explain.{Explain}
 use Rattle.arguments.specs.declared.request.Advise.{Advise}
 use Rattle.arguments.specs.declared.request.AdvisePairs.{AdvisePairs}
 use Rattle.arguments.specs.declared.request.Upgrade.{Upgrade}
@@ -40,7 +42,7 @@ use Rattle.arguments.specs.declared.request.Replay.{Replay}
 use Rattle.arguments.specs.declared.request.Request.{Request}
 use Rattle.arguments.specs.declared.request.Request.TheVariants as request
 use Rattle.streams.specs.declared.write.WriteFailed.{WriteFailed}
-use Rattle.commands.specs.Requests.{Files, IsUnread, source, name_of, may_said, check_said, SettlesAs, AdviseSays, pairs_said, AuditSays, replay_said, OnTree, OnPairs, ReplaysOver, CarriesOut}
+use Rattle.commands.specs.Requests.{Files, IsUnread, source, name_of, may_said, check_said, SettlesAs, AdviseSays, pairs_said, AuditSays, ExplainSays, replay_said, OnTree, OnPairs, ReplaysOver, CarriesOut}
 use Rattle.commands.specs.Runs.{IsFlushed, CarriesOutBuffered, LeadsTo, LiesBelow, RunsTo}
 use Rattle.commands.specs.declared.fault.Fault.{Fault}
 use Rattle.commands.specs.declared.fault.Fault.TheVariants.{Usage, Cli}
@@ -238,6 +240,14 @@ module _ (files : Files) (given old new : Option (List ℕ)) (status : ℕ) wher
       advise_settled_ended users subtrees further of_users of_paths some =
           further_told st who paths users subtrees of_text.says.formed of_users of_paths some old new status
           (each_alone _ _ advise.settle further told)
+
+    pub explain_ended : (explain : Explain) → CarriesOut (request.Explain explain) files given old new (Ok status)
+        → source files (name_of explain.tree) given ≡ Some text → IsTextOf st text
+        → ReportsTold (explain_asked (Ok st) (map ids_of explain.users.items) (map (λ subtree. subtree.now) explain.subtrees.items)) old new
+        (Ok status)
+    explain_ended explain carried of_known of_text =
+        on_state (ExplainSays explain old new (Ok status)) (source files (name_of explain.tree) given) old new status text st of_known
+        of_text carried
 
     module _ (audit : Audit) (carried : CarriesOut (request.Audit audit) files given old new (Ok status))
         (of_known : source files (name_of audit.tree) given ≡ Some text) (of_text : IsTextOf st text) where

@@ -11,6 +11,7 @@ use cg_cli::arguments::UserIds;
 use cg_cli::audit::audit_bytes;
 use cg_cli::audit_all::audit_all_bytes;
 use cg_cli::check::check_bytes;
+use cg_cli::explain::explain_bytes;
 use cg_cli::may::may_bytes;
 use cg_cli::replay::{replay_bytes, replay_from};
 use cg_cli::settle::settle_bytes;
@@ -30,6 +31,7 @@ enum Call<'a> {
     Advise(UserIds<'a>, &'a str),
     AdvisePairs(Vec<PairIds<'a>>),
     AdviseSettled(UserIds<'a>, &'a str),
+    Explain(UserIds<'a>, &'a str),
     Upgrade,
     Audit(Vec<UserIds<'a>>, Vec<&'a str>),
     AuditAll(Vec<UserIds<'a>>, Vec<&'a str>),
@@ -48,6 +50,7 @@ impl Call<'_> {
             Call::AdviseSettled(user, subtree) => {
                 advise_settled_bytes(alloc, tree, &[*user], &[*subtree], out)
             }
+            Call::Explain(user, subtree) => explain_bytes(alloc, tree, &[*user], &[*subtree], out),
             Call::Upgrade => upgrade_bytes(alloc, tree, out),
             Call::AuditAll(users, subtrees) => {
                 audit_all_bytes(alloc, tree, users.as_slice(), subtrees.as_slice(), out)
@@ -127,6 +130,7 @@ fn call_told<'a>(alloc: Global, words: &mut Words<'a>) -> Result<Call<'a>, Stopp
         "advise" => Ok(Call::Advise(user(words.id()?), words.next()?)),
         "advise_pairs" => Ok(Call::AdvisePairs(paired(alloc, words)?)),
         "advise_settled" => Ok(Call::AdviseSettled(user(words.id()?), words.next()?)),
+        "explain" => Ok(Call::Explain(user(words.id()?), words.next()?)),
         "upgrade" => Ok(Call::Upgrade),
         "audit" => {
             let (users, subtrees) = audited(alloc, words.rest())?;

@@ -1,4 +1,4 @@
-use Rattle.theorems.proofs.ProgramLaws.{carried_by_status, led_to_fault, help_ended, may_ended, check_ended, settle_ended, audit_ended, all_ended, advise_ended, advise_settled_ended, advise_pairs_ended, upgrade_ended, replay_ended}
+use Rattle.theorems.proofs.ProgramLaws.{carried_by_status, led_to_fault, help_ended, may_ended, check_ended, settle_ended, audit_ended, all_ended, explain_ended, advise_ended, advise_settled_ended, advise_pairs_ended, upgrade_ended, replay_ended}
 use Rattle.theorems.proofs.the_program.Goals as goal
 
 pub returns : goal.returns
@@ -14,6 +14,7 @@ returns c = record {
       audit_ended files given old new status text st audit carried of_known of_text first;
   audit_all = λ audit files given old new status text st carried each of_known of_text.
       all_ended files given old new status text st audit carried of_known of_text each;
+  explain = λ explain files given old new status text st. explain_ended files given old new status text st explain;
   advise = λ advise files given old new status text st carried guards of_known of_text.
       advise_ended files given old new status text st advise carried of_known of_text guards;
   advise_settled = λ advise files given old new status text st users subtrees carried further of_known of_text.
