@@ -10,7 +10,7 @@ use Rattle.cg_cgroup.specs.Paths.{Names}
 use Rattle.cg_cgroup.specs.Identity.{Identity}
 use Rattle.cg_model.specs.States.{State}
 use Rattle.cg_model.specs.Answers.{answer}
-use Rattle.cg_settle.specs.Judged.{second_row}
+use Rattle.cg_second.specs.Judged.{second_row}
 use Rattle.cg_cli.specs.declared.answers.audited.Found.{Found}
 use Rattle.cg_cli.specs.Audited.{picked, has_list, without_list, AreKnown}
 use Rattle.cg_cli.specs.FoundPlaces.{found_at, AreApart, AreBefore, IsAlone, AreAlone, is_unsettled, is_listed_at}

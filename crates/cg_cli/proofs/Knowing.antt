@@ -14,11 +14,11 @@ use Rattle.cg_model.specs.Answers.{answer}
 use Rattle.cg_model.specs.Listed.{is_contained}
 use Rattle.cg_model.specs.declared.answer.Answer.{Answer}
 use Rattle.cg_model.specs.declared.answer.Answer.TheVariants.{Contained, Escapes, Unsettled}
-use Rattle.cg_settle.specs.SecondRow.{SecondRowHolds, AreSettled}
-use Rattle.cg_settle.specs.Judged.{second_row}
-use Rattle.cg_settle.proofs.Judged.{judged}
-use Rattle.cg_settle.proofs.Cases.{second-guarded, second-fewer}
-use Rattle.cg_settle.proofs.Runs.{are_settled}
+use Rattle.cg_second.specs.SecondRow.{SecondRowHolds, AreSettled}
+use Rattle.cg_second.specs.Judged.{second_row}
+use Rattle.cg_second.proofs.Judged.{judged}
+use Rattle.cg_second.proofs.Cases.{second-guarded, second-fewer}
+use Rattle.cg_second.proofs.Runs.{are_settled}
 use Rattle.cg_laws.proofs.Steps.{sound-formed}
 use Rattle.cg_check.proofs.Checking.{answer-guarded}
 use Rattle.cg_cli.specs.Audited.{picked, has_list, without_list, not_listed, IsKnownFrom, AreKnown, AreKnownWithEach, UnlistedAreSettled}

@@ -9,8 +9,8 @@ use Rattle.cg_model.specs.Answers.{answer}
 use Rattle.cg_model.specs.Listed.{Listed, listed_unless_contained, is_contained}
 use Rattle.cg_model.specs.declared.answer.Answer.{Answer}
 use Rattle.cg_model.specs.declared.answer.Answer.TheVariants.{Contained, Escapes, Unsettled}
-use Rattle.cg_settle.specs.Judged.{second_row}
-use Rattle.cg_settle.specs.SecondRow.{AreSettled}
+use Rattle.cg_second.specs.Judged.{second_row}
+use Rattle.cg_second.specs.SecondRow.{AreSettled}
 use Rattle.cg_plans.specs.Breaking.{Breaks}
 
 -- those of a list, from a place on, whose places pass a test

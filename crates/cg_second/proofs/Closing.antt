@@ -9,9 +9,9 @@ use Rattle.cg_cgroup.specs.Paths.{Names, below}
 use Rattle.cg_cgroup.specs.Identity.{Identity}
 use Rattle.cg_cgroup.specs.declared.files.EntryName.TheVariants.{Dir}
 use Rattle.cg_model.specs.States.{State, paths_of, count_below}
-use Rattle.cg_settle.specs.Lasting.{is_reached}
-use Rattle.cg_settle.specs.Greatest.{greatest}
-use Rattle.cg_settle.specs.Judged.{takes_none, grows_none, is_full_to}
+use Rattle.cg_second.specs.Lasting.{is_reached}
+use Rattle.cg_second.specs.Greatest.{greatest}
+use Rattle.cg_second.specs.Judged.{takes_none, grows_none, is_full_to}
 use Rattle.cg_second.specs.Counts.{IsSurvey}
 use Rattle.cg_second.specs.Exposed.{is_crowded, is_deep_to}
 use Rattle.cg_second.proofs.Ranges.{below-until, row-at}

@@ -3,9 +3,9 @@ ghost use Rattle.std.specs.Prelude.{◌≡◌, ◌<◌, ◌≤◌, ◌&&◌, ◌
 ghost use Rattle.std.specs.List.{list_all};
 ghost use Rattle.cg_cgroup.specs.declared.files.EntryName.TheVariants.{Dir};
 ghost use Rattle.cg_cgroup.specs.declared.files.LimitFile.TheVariants.{MaxDepth};
-ghost use Rattle.cg_settle.specs.Greatest.{greatest};
-ghost use Rattle.cg_settle.specs.Lasting.{is_reached};
-ghost use Rattle.cg_settle.specs.Judged.{is_bound, takes_none, grows_none, is_closed_to};
+ghost use Rattle.cg_second.specs.Greatest.{greatest};
+ghost use Rattle.cg_second.specs.Lasting.{is_reached};
+ghost use Rattle.cg_second.specs.Judged.{is_bound, takes_none, grows_none, is_closed_to};
 ghost use Rattle.cg_second.specs.Counts.{IsSurvey};
 ghost use Rattle.cg_second.specs.Exposed.{is_passed_to, is_exposed, is_crowded, is_deep_to};
 

@@ -7,7 +7,7 @@ ghost use Rattle.cg_model.specs.States.{State};
 ghost use Rattle.cg_model.specs.WellFormed.{IsWellFormed};
 ghost use Rattle.cg_model.specs.Guards.{IsSubtree};
 ghost use Rattle.cg_model.specs.declared.answer.Answer.{Answer};
-ghost use Rattle.cg_settle.specs.SecondRow.{AreSettled};
+ghost use Rattle.cg_second.specs.SecondRow.{AreSettled};
 ghost use Rattle.cg_cli.specs.Audited.{not_listed, AreKnown};
 
 /// Whatever is known of some users with a subtree: against those with whom it isn't listed it is held over every run of theirs,
