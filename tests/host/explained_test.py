@@ -38,8 +38,8 @@ class ExplainedTest(HostTest):
         self.assertEqual(status, 2)
         failing = [line for line in lines if line.startswith("    fails: ")]
         self.assertEqual(failing, [
-            "    fails: cgroup.procs of /a (uid 0, group team(50), 664) is theirs through its group: by it processes are moved over the "
-            "subtree's edge", "    fails: the subtree may be removed"])
+            "    fails: cgroup.procs of /a (uid 0, group team(50), 664) is theirs through its group: whoever writes it moves processes "
+            "over the subtree's edge, into what else they write cgroup.procs of", "    fails: the subtree may be removed"])
         self.assertEqual(lines[-1], "unsettled common-ancestor /a")
 
     def test_where_not_all_cgroups_are_there(self):
@@ -62,10 +62,10 @@ class ExplainedTest(HostTest):
 
     def test_each_kind_of_line(self):
         for line, told in (
-                ("holds parent-dir / dir 0:0 755", "holds: the directory of / (root(0), group root(0), 755) is out of their reach: by it "
-                 "the subtree is removed where it is empty, and others are made beside it"),
+                ("holds parent-dir / dir 0:0 755", "holds: the directory of / (root(0), group root(0), 755) is out of their reach: "
+                 "whoever writes it removes the subtree where it is empty, and makes others beside it"),
                 ("fails limit-file /c0 memory.max 1000:50 646 others", "fails: memory.max of /c0 (alice(1000), group staff(50), 646) is "
-                 "theirs as one of all others: by it this limit is set"),
+                 "theirs as one of all others: whoever writes it sets this limit"),
                 ("holds stays /c0 upheld", "holds: the subtree stays: a cgroup below it does"),
                 ("fails control / memory turned", "fails: memory may be enabled or disabled in /"),
                 ("holds files /c0 spared", "holds: they reach no limit file of the subtree"),
