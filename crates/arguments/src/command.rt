@@ -89,7 +89,20 @@ A user is UID or UID:GID,GID.. in decimal digits, with up to 32 gids, of which t
 docs/FORMATS.md of the repository has the tree's format, and every line that is written.
 
 Example:
-  zirofen explain --tree examples/delegation.toml --uid 1000 --subtree /c0";
+  zirofen explain --tree examples/delegation.toml --uid 1000 --subtree /c0
+  pair 1000 /c0
+  holds common-ancestor / cgroup.procs 0:0 644
+  holds limit-file /c0 cgroup.max.descendants 0:0 644
+  holds limit-file /c0 cgroup.max.depth 0:0 644
+  holds limit-file /c0 memory.min 0:0 644
+  holds limit-file /c0 memory.low 0:0 644
+  holds limit-file /c0 memory.high 0:0 644
+  holds limit-file /c0 memory.max 0:0 644
+  holds parent-control / cgroup.subtree_control 0:0 644
+  holds parent-dir / dir 0:0 755
+  holds already-over /c0 cgroup.max.descendants 2 4
+  holds already-over /c0 cgroup.max.depth 1 2
+  contained";
 
 const REPLAY_HELP: &str = "\
 Each operation is tried in the tree that those before it leave, up to the first line that is none. With --subtree a last line

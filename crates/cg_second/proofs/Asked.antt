@@ -24,7 +24,7 @@ use Rattle.cg_model.proofs.StateEntries.{entry_at-file}
 use Rattle.cg_laws.specs.Sound.{IsSound}
 use Rattle.cg_laws.proofs.Crossing.{move-passes}
 use Rattle.cg_second.specs.Lasting.{is_reached}
-use Rattle.cg_second.proofs.Reach.{reached}
+use Rattle.cg_second.proofs.Reached.{reached}
 
 module _ (st : State) (users : List Identity) (user : Identity) (named : Contains users user) where
   -- ---- a mkdir or an rmdir

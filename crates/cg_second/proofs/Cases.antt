@@ -26,7 +26,7 @@ use Rattle.cg_laws.proofs.RunLaws.{a_member}
 use Rattle.cg_laws.proofs.Sound.{take-there}
 use Rattle.cg_second.specs.Lasting.{is_reached, Lasting, IsLasting, IsNeverRemoved, IsNeverDisabled, TakesNone, GrowsNone}
 use Rattle.cg_second.specs.SecondRow.{SecondRowHolds}
-use Rattle.cg_second.proofs.Reach.{unreached, never_reached}
+use Rattle.cg_second.proofs.Reached.{unreached, never_reached}
 
 -- ---- where the guards hold
 

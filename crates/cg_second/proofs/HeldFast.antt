@@ -38,7 +38,7 @@ use Rattle.cg_laws.proofs.Sound.{sound-after, take-there}
 use Rattle.cg_laws.proofs.Untouched.{there-other}
 use Rattle.cg_second.specs.Lasting.{is_reached, Lasting, IsLasting, TakesNone, GrowsNone}
 use Rattle.cg_second.specs.SecondRow.{IsHeldFast}
-use Rattle.cg_second.proofs.Reach.{KeepsFile, keeps_file, unreached-after, elsewhere}
+use Rattle.cg_second.proofs.Reached.{KeepsFile, keeps_file, unreached-after, elsewhere}
 use Rattle.cg_second.proofs.Asked.{mkdir-reaches, set-reaches, move-takes, move-reaches}
 use Rattle.cg_second.proofs.Lasts.{row-stays, stays-there, lasting-after}
 use Rattle.cg_second.proofs.Rooms.{takes_none-after, grows_none-after}

@@ -31,7 +31,7 @@ use Rattle.cg_model.proofs.StepFormed.{after-allowed}
 use Rattle.cg_laws.specs.Sound.{IsSound}
 use Rattle.cg_laws.proofs.Untouched.{there-other}
 use Rattle.cg_second.specs.Lasting.{is_reached, Lasting, IsLasting, IsNeverRemoved, IsNeverDisabled, IsNeverAvailable, IsNeverEnabled}
-use Rattle.cg_second.proofs.Reach.{unreached-after, keeps_file, elsewhere}
+use Rattle.cg_second.proofs.Reached.{unreached-after, keeps_file, elsewhere}
 use Rattle.cg_second.proofs.Asked.{rmdir-reaches, control-asks}
 
 -- ---- a change of one controller

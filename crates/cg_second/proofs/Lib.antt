@@ -1,4 +1,4 @@
-pub mod Reach
+pub mod Reached
 pub mod Asked
 pub mod Lasts
 pub mod Rooms

@@ -29,7 +29,7 @@ use Rattle.cg_laws.specs.Sound.{IsSound}
 use Rattle.cg_laws.proofs.Sound.{sound-after, take-there}
 use Rattle.cg_laws.proofs.Untouched.{there-other}
 use Rattle.cg_second.specs.Lasting.{is_reached, Lasting, IsLasting, lasting_below, Bounds, IsFull, TakesNone, GrowsNone}
-use Rattle.cg_second.proofs.Reach.{unreached-after, keeps_file, elsewhere}
+use Rattle.cg_second.proofs.Reached.{unreached-after, keeps_file, elsewhere}
 use Rattle.cg_second.proofs.Asked.{set-reaches}
 use Rattle.cg_second.proofs.Lasts.{row-stays, never_disabled}
 
