@@ -4,11 +4,16 @@ import sys
 import unittest
 from unittest import mock
 
+import example
 from check_test import HostTest, owned
+from shown import made
 from zirofen_host.fault import Fault
 from zirofen_host.judge import explained
+from zirofen_host.judge.finding_lines import explaining
 from zirofen_host.judge.names import Names
 from zirofen_host.options import AskOptions
+from zirofen_host.show import page
+from zirofen_host.show.lines import finding_lines
 
 NAMES = Names({0: "root", 1000: "alice"}, {0: "root", 50: "staff"})
 
@@ -59,6 +64,15 @@ class ExplainedTest(HostTest):
         self.can("all")
         with self.assertRaisesRegex(Fault, "^this zirofen has no explain$"):
             self.explain("1000", "/a")
+
+    def test_a_finding_names_the_command(self):
+        report = made(example.kept())
+        commands = ["zirofen-host ask 1002 --explain /batch.slice/nightly.service", "zirofen-host ask 990 --explain /system.slice/build.service",
+                    "zirofen-host ask 1000 --explain /user.slice/user-1000.slice/user@1000.service"]
+        self.assertEqual([line for line in finding_lines(report) if line.startswith("    why: ")], [f"    why: {each}" for each in commands])
+        shown = page.page([report])
+        self.assertEqual([shown.count(f"<code>{each}</code>") for each in commands], [1, 1, 1])
+        self.assertEqual(explaining(5, "/a;b"), "zirofen-host ask 5 --explain '/a;b'")
 
     def test_each_kind_of_line(self):
         for line, told in (
