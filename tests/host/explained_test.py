@@ -67,9 +67,11 @@ class ExplainedTest(HostTest):
 
     def test_a_finding_names_the_command(self):
         report = made(example.kept())
-        commands = ["zirofen-host ask 1002 --explain /batch.slice/nightly.service", "zirofen-host ask 990 --explain /system.slice/build.service",
+        commands = ["zirofen-host ask 1002 --explain /batch.slice/nightly.service",
+                    "zirofen-host ask 990 --explain /system.slice/build.service",
                     "zirofen-host ask 1000 --explain /user.slice/user-1000.slice/user@1000.service"]
-        self.assertEqual([line for line in finding_lines(report) if line.startswith("    why: ")], [f"    why: {each}" for each in commands])
+        told = [line for line in finding_lines(report) if line.startswith("    why: ")]
+        self.assertEqual(told, [f"    why: {each}" for each in commands])
         shown = page.page([report])
         self.assertEqual([shown.count(f"<code>{each}</code>") for each in commands], [1, 1, 1])
         self.assertEqual(explaining(5, "/a;b"), "zirofen-host ask 5 --explain '/a;b'")

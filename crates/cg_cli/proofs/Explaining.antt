@@ -123,14 +123,16 @@ module _ (st : State) (begun : List Pair) (pair : Pair) (old mid new : Option (L
           begun ++ (pair ∷ []),
           back,
           refl,
-          named_more far.told each ∙ ap (λ l. l ++ (pair ∷ [])) far.named,
-          All-push (IsTold st) far.told each far.settled part.1,
+          (
+            named_more far.told each ∙ ap (λ l. l ++ (pair ∷ [])) far.named,
+            All-push (IsTold st) far.told each far.settled part.1,
+          ),
         ),
         subst (AppendsPart old new) (sym (text_more st far.told each)) (part_behind old mid new _ _ far.text part.2),
       )
   stops back NoMemory kept = (
     far.told,
-    (begun, (pair ∷ []) ++ back, sym (append_assoc begun (pair ∷ []) back), far.named, far.settled),
+    (begun, (pair ∷ []) ++ back, sym (append_assoc begun (pair ∷ []) back), (far.named, far.settled)),
     Appends-kept old mid new (told_text st far.told) far.text kept,
   )
   stops back fault never = absurd never
@@ -197,7 +199,7 @@ fault_said NoMemory known = (refl, Keeps-refl known)
 fault_said fault known = (refl, Keeps-refl known)
 
 pub none_told : (st : State) (pairs : List Pair) (known : Option (List ℕ)) → TellsPairs st pairs known known (Err NoMemory)
-none_told st pairs known = ([], ([], pairs, refl, refl, All-nil (IsTold st)), Appends-nil known)
+none_told st pairs known = ([], ([], pairs, refl, (refl, All-nil (IsTold st))), Appends-nil known)
 
 module _ (st : State) (users : List Identity) (subtrees : List Names) where
   pub subtree_said : (fault : CheckFault) (known : Option (List ℕ)) → Some fault ≡ first (flat_map (subtree_faults st) subtrees)
