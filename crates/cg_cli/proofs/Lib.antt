@@ -17,6 +17,9 @@ mod NamedReads
 mod AuditReports
 mod Once
 mod AllPairs
+mod SettledPairs
+mod FurtherPairs
+mod FirstPairs
 mod Closings
 mod ReplayCalls
 mod UpgradeReports

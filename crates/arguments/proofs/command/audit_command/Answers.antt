@@ -17,4 +17,5 @@ returns c =
     record { rule_is = search rules; local = search rules } in
     let of_subtree = option_added _ _ _ _ _ of_uid subtree c.in_ok-arg-3.ensures in
     let all : IsOption (flag (codes "all")) c.help-3.result = record { rule_is = search rules; local = search rules } in
-    IfOk-weaker c.arg-4.result _ _ (λ new added. option_added _ _ _ _ _ of_subtree all added) c.arg-4.ensures
+    let of_all = option_added _ _ _ _ _ of_subtree all c.in_ok-arg-4.ensures in
+    IfOk-weaker c.arg-5.result _ _ (λ new added. option_added _ _ _ _ _ of_all c.settle_argument.ensures added) c.arg-5.ensures
