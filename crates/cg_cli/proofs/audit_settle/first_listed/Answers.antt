@@ -6,11 +6,10 @@ use Rattle.cg_cli.proofs.audit_settle.first_listed.Goals as goal
 pub first_of_rows-requires : goal.first_of_rows-requires
 first_of_rows-requires g c =
     let st = g.H.Hierarchy.state c.args.tree.now in
+    let listed = listed_as c.as_slice.ensures.value c.in_ok-rows.ensures in
     record {
-      all = rows_all st c.args.users.now c.args.subtrees.now c.as_slice.result.now (listed_as c.as_slice.ensures.value c.in_ok-rows.ensures)
-          c.requires.there;
-      lines = rows_lines st c.args.users.now c.args.subtrees.now c.as_slice.result.now (listed_as c.as_slice.ensures.value c.in_ok-rows.ensures)
-          c.requires.there;
+      all = rows_all st c.args.users.now c.args.subtrees.now c.as_slice.result.now listed c.requires.there;
+      lines = rows_lines st c.args.users.now c.args.subtrees.now c.as_slice.result.now listed c.requires.there;
     }
 
 pub returns : goal.returns

@@ -9,7 +9,10 @@ write_pair-requires g c =
     let line =
     line_here c.args.subtrees.now c.args.row.now c.loop-found.found-index c.found-item.result c.requires.lines c.loop-found-test.true
     c.found-item.is in
-    record { shown = line_shown c.args.subtrees.now c.found-item.result c.index-subtrees-found.result line c.index-subtrees-found.is; listed = line.1 }
+    record {
+      shown = line_shown c.args.subtrees.now c.found-item.result c.index-subtrees-found.result line c.index-subtrees-found.is;
+      listed = line.1;
+    }
 
 pub returns-in_err-write_pair : goal.returns-in_err-write_pair
 returns-in_err-write_pair g c =
@@ -18,8 +21,8 @@ returns-in_err-write_pair g c =
     line_within c.args.subtrees.now c.args.row.now c.loop-found.found-index c.found-item.result c.requires.lines c.loop-found-test.true
     c.found-item.is in
     let far =
-    row_next c.args.user.now c.args.subtrees.now c.args.row.now c.loop-found.found-index c.found-item.result c.index-subtrees-found.result _ _ _ _
-    c.loop-found-test.true c.found-item.is within c.index-subtrees-found.is c.loop-found.invariant in
+    row_next c.args.user.now c.args.subtrees.now c.args.row.now c.loop-found.found-index c.found-item.result
+    c.index-subtrees-found.result _ _ _ _ c.loop-found-test.true c.found-item.is within c.index-subtrees-found.is c.loop-found.invariant in
     rw (p.1, p.2) (stops _ _ _ _ _ _ _ far c.in_err-write_pair.field-0.0 c.in_err-write_pair.ensures)
 
 pub loop-found-preserved : goal.loop-found-preserved
@@ -28,6 +31,6 @@ loop-found-preserved g c =
     line_within c.args.subtrees.now c.args.row.now c.loop-found.found-index c.found-item.result c.requires.lines c.loop-found-test.true
     c.found-item.is in
     let far =
-    row_next c.args.user.now c.args.subtrees.now c.args.row.now c.loop-found.found-index c.found-item.result c.index-subtrees-found.result _ _ _ _
-    c.loop-found-test.true c.found-item.is within c.index-subtrees-found.is c.loop-found.invariant in
+    row_next c.args.user.now c.args.subtrees.now c.args.row.now c.loop-found.found-index c.found-item.result
+    c.index-subtrees-found.result _ _ _ _ c.loop-found-test.true c.found-item.is within c.index-subtrees-found.is c.loop-found.invariant in
     subst (Front _ _ _ _) (sym c.worse-worst.ensures) (goes_on _ _ _ _ _ _ _ far c.in_ok-write_pair.field-0 c.in_ok-write_pair.ensures)
