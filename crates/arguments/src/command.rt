@@ -220,12 +220,7 @@ fn audit_command<'a>(alloc: Global) -> Result<Command<'a>, AllocError>
                 .action(ArgAction::Append)
                 .help("The top of a subtree, once or more"),
         )?
-        .arg(
-            Arg::new(alloc, "all")
-                .long("all")
-                .action(ArgAction::SetTrue)
-                .help("Every pair that isn't shown to be contained, and not the first alone"),
-        )?
+        .arg(all_argument(alloc))?
         .arg(settle_argument(alloc))
 }
 
@@ -298,6 +293,15 @@ fn subtree_argument<'a>(alloc: Global) -> Arg<'a>
     ensures { IsOption (word_option (codes "subtree")) result }
 {
     word_argument(alloc, "subtree", "PATH")
+}
+
+fn all_argument<'a>(alloc: Global) -> Arg<'a>
+    ensures { IsOption (flag (codes "all")) result }
+{
+    Arg::new(alloc, "all")
+        .long("all")
+        .action(ArgAction::SetTrue)
+        .help("Every pair that isn't shown to be contained, and not the first alone")
 }
 
 fn settle_argument<'a>(alloc: Global) -> Arg<'a>

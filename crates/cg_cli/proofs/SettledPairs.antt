@@ -387,21 +387,21 @@ module _ (tree : Reading) (given : List (ℕ × List ℕ)) (texts : List (List �
 
   module _ (users : List Identity) (subtrees : List Names) (st : State) (kept : IsKeptOnce (named_read given texts tree) users subtrees st)
     where
-    pub found_reports : (old new : Option (List ℕ)) (result : Result ℕ CliFault) → ReportsFound st users subtrees old new result
-        → ReportsSettled ReportsPairs tree given texts old new result
-    found_reports old new result found =
-        kept_said ReportsPairs tree given texts users subtrees st kept found.0 found.1 old new result found.2
+      pub found_reports : (old new : Option (List ℕ)) (result : Result ℕ CliFault) → ReportsFound st users subtrees old new result
+          → ReportsSettled ReportsPairs tree given texts old new result
+      found_reports old new result found =
+          kept_said ReportsPairs tree given texts users subtrees st kept found.0 found.1 old new result found.2
 
-    pub unsettled_said : (bytes : List ℕ) → ((start : State) → IsTextOf start bytes → tree ≡ Ok start) → (result : Result ℕ CliFault)
-        → (old new : Option (List ℕ)) → IfOk result (λ status. TellsUnsettled st users subtrees old new)
-        → IfOk result
-        (λ status. (start : State) (who : List Identity) (paths : List Names)
-        → IsTextOf start bytes → users_read given ≡ Ok who → paths_read texts ≡ Ok paths
-        → TellsUnsettled start (once same_user who) (once same_path paths) old new)
-    unsettled_said bytes means (Err fault) old new said = tt
-    unsettled_said bytes means (Ok status) old new said = λ start who paths is_start is_who are_paths.
-        subst (λ (all : List Identity × List Names × State). TellsUnsettled all.2 (once same_user all.0) (once same_path all.1) old new)
-        (same_Ok (kept.all_users, kept.all_subtrees, st) (who, paths, start)
-        (sym kept.is ∙ (λ i. read_in_turn (is_who i) (are_paths i) (tree_read (means start is_start i)))))
-        (subst (λ l. TellsUnsettled st l (once same_path kept.all_subtrees) old new) kept.of_users
-        (subst (λ l. TellsUnsettled st users l old new) kept.of_subtrees said))
+      pub unsettled_said : (bytes : List ℕ) → ((start : State) → IsTextOf start bytes → tree ≡ Ok start) → (result : Result ℕ CliFault)
+          → (old new : Option (List ℕ)) → IfOk result (λ status. TellsUnsettled st users subtrees old new)
+          → IfOk result
+          (λ status. (start : State) (who : List Identity) (paths : List Names)
+          → IsTextOf start bytes → users_read given ≡ Ok who → paths_read texts ≡ Ok paths
+          → TellsUnsettled start (once same_user who) (once same_path paths) old new)
+      unsettled_said bytes means (Err fault) old new said = tt
+      unsettled_said bytes means (Ok status) old new said = λ start who paths is_start is_who are_paths.
+          subst (λ (all : List Identity × List Names × State). TellsUnsettled all.2 (once same_user all.0) (once same_path all.1) old new)
+          (same_Ok (kept.all_users, kept.all_subtrees, st) (who, paths, start)
+          (sym kept.is ∙ (λ i. read_in_turn (is_who i) (are_paths i) (tree_read (means start is_start i)))))
+          (subst (λ l. TellsUnsettled st l (once same_path kept.all_subtrees) old new) kept.of_users
+          (subst (λ l. TellsUnsettled st users l old new) kept.of_subtrees said))

@@ -115,7 +115,7 @@ fn first_said<H: Hierarchy + Drop>(
     ensures { MatchResult result
         (λ said. SaysFirst (H.state tree.now) users.now subtrees.now (record { text = said.0.items; ending = Ok said.1 }))
         (λ fault. fault ≢ CheckFault.NoMemory
-            → Some fault ≡ first (flat_map (subtree_faults (H.state tree.now)) subtrees.now)) }
+        → Some fault ≡ first (flat_map (subtree_faults (H.state tree.now)) subtrees.now)) }
 {
     if let Some(fault) = first_fault(tree, subtrees) {
         return Err(fault);
@@ -253,10 +253,7 @@ fn write_row<W: Write>(
     let mut worst = 0;
     for found in row {
         let subtree = &subtrees[found.place];
-        worst = worse(
-            worst,
-            write_pair(alloc, user, subtree, &found.answer, out)?,
-        );
+        worst = worse(worst, write_pair(alloc, user, subtree, &found.answer, out)?);
     }
     Ok(worst)
 }

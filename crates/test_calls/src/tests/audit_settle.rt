@@ -52,7 +52,12 @@ fn pairs_are_by_user_and_then_subtree(rt: HostRuntime) -> Result<(), Fail> {
             both,
             1,
         ),
-        (&[third, USER, second, third], &["/c1", "/c0", "/c1"], both, 1),
+        (
+            &[third, USER, second, third],
+            &["/c1", "/c0", "/c1"],
+            both,
+            1,
+        ),
         (&[third, second], &["/c1"], "contained\n", 0),
         (&[third], &[], "contained\n", 0),
     ] {
@@ -70,7 +75,12 @@ fn the_first_pair_is_written_alone(rt: HostRuntime) -> Result<(), Fail> {
     let open = "pair 1002 /c1\nunsettled parent-dir /\n";
     let tree = delegation_with(rt.alloc(), &[THIRD_USER, SECOND_USER])?;
     for (users, subtrees, report, status) in [
-        ([third].as_slice(), ["/c0", "/c1"].as_slice(), "contained\n", 0),
+        (
+            [third].as_slice(),
+            ["/c0", "/c1"].as_slice(),
+            "contained\n",
+            0,
+        ),
         (&[USER, third, second], &["/c1", "/c0"], open, 2),
         (&[USER, second, third], &["/c1", "/c0"], escapes, 1),
         (&[second, third, third], &["/c0", "/c1", "/c0"], escapes, 1),
