@@ -144,6 +144,19 @@ def audits(_):
     yield fault("uid", "audit", "--all", "--uid", "1000", *asked("0", "zz"))
     yield fault("usage", "audit", "--all", "--all", *asked("1000", "/c0"))
     yield fault("usage", "audit", "--all")
+    # with --settle, who has a list, and the others where the second row doesn't hold for them together
+    for form in ["--settle"], ["--settle", "--all"]:
+        yield Case(["audit", *form, *tree("parent-procs-owned"), "--uid", "1001", *asked("1000", "/p/s")], 0, ["contained"])
+        yield Case(["audit", *form, *tree("parent-procs-no-process"), "--uid", "1001", *asked("1000", "/p/s")], 2,
+                   ["pair 1000 /p/s", "unsettled common-ancestor /p"])
+        yield Case(["audit", *form, *tree("delegation-parent-directory"), "--uid", "1001", *asked("1000", "/c0")], 1,
+                   ["pair 1000 /c0", "escapes", "exit 11", "rmdir /c0/c01", "rmdir /c0/c00", "rmdir /c0"])
+        yield fault("subtree missing", "audit", *form, *asked("1000", "/zz"), "--subtree", "/")
+        yield fault("uid", "audit", *form, "--uid", "1000", *asked("0", "zz"))
+        yield fault("path", "audit", *form, *asked("1000", "c0"))
+    yield Case(["audit", "--settle", *second, "--uid", "1000", "--uid", "01001:7", *both], 1, ["pair 1001 /c0", *LIMIT_SET])
+    yield Case(["audit", "--settle", "--all", *second, "--uid", "1000", "--uid", "01001:7", *both], 1, ["pair 1001:7 /c0", *LIMIT_SET])
+    yield fault("usage", "audit", "--settle", "--settle", *asked("1000", "/c0"))
 
 
 def advices(_):

@@ -131,6 +131,10 @@ def byte_trials():
     yield "audit_bytes", DELEGATION, ["audit", "1000", "1001", "/c0", "/c1"], "contained\nstatus 0\n"
     yield "audit_bytes", SECOND_USER, ["audit", "1000", "1001", "/c0", "/c1"], "pair 1001 /c0\nescapes\nset /c0 memory.max max\nstatus 1\n"
     yield "audit_all_bytes", DELEGATION, ["audit_all", "1000", "1001", "/c0", "/c1"], "contained\nstatus 0\n"
+    yield "audit_settled_bytes", PROCS_OWNED, ["audit_settled", "1000", "1001", "/p/s", "/p/s"], "contained\nstatus 0\n"
+    yield "audit_all_settled_bytes", PROCS_OWNED, ["audit_all_settled", "1000", "1001", "/p/s", "/p/s"], "contained\nstatus 0\n"
+    for call in "audit_settled", "audit_all_settled":
+        yield f"{call}_bytes", SECOND_USER, [call, "1000", "1001", "/c0", "/c1"], "pair 1001 /c0\nescapes\nset /c0 memory.max max\nstatus 1\n"
     yield "audit_all_bytes", SECOND_USER, ["audit_all", "1000", "1001", "/c0", "/c1"], "pair 1001 /c0\nescapes\nset /c0 memory.max max\nstatus 1\n"
     yield "advise_bytes", DELEGATION, ["advise", "1000", "/c0"], "contained\nstatus 0\n"
     yield ("advise_bytes", ANCESTOR_OWNED, ["advise", "1000", "/c0"],

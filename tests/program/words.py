@@ -108,6 +108,9 @@ def rows():
     pairs = ["advise", "--pairs", os.devnull]
     yield pairs, False
     yield ["advise", "--tree", DELEGATION, "--pairs", "-"], False
+    yield ["audit", "--settle", "--uid", "1000", "--uid", "1001", "--subtree", "/c0"], False
+    yield ["audit", "--all", "--settle", "--uid", "1000", "--subtree", "/c0"], False
+    yield ["audit", "--settle=true", "--uid", "1000", "--subtree", "/c0"], True
     yield ["advise", "--settle", "--uid", "1000", "--uid", "1001", "--subtree", "/c0"], False
     yield ["advise", "--settle=true", "--uid", "1000", "--subtree", "/c0"], True
     yield from ((words, True) for words in (

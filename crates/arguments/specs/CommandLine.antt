@@ -43,7 +43,7 @@ subtree_command name = command_with name (of_user ++ needed (word_option (codes 
 abbrev pub audit_command : Shape
 audit_command = command_with (codes "audit")
     (word_option (codes "tree") ∷ repeated (needed (word_option (codes "uid"))) ∷ repeated (needed (word_option (codes "subtree")))
-    ∷ flag (codes "all") ∷ [])
+    ∷ flag (codes "all") ∷ flag (codes "settle") ∷ [])
 
 abbrev pub explain_command : Shape
 explain_command = command_with (codes "explain")

@@ -115,6 +115,7 @@ pub record IsAudit (found : Found) (audit : Audit) : Type 0 where
   pub users : users_given found ≡ Some (map ids_of audit.users.items)
   pub subtrees : words_at found (codes "subtree") ≡ map (λ subtree. subtree.now) audit.subtrees.items
   pub all : IsFlag (one_text found (codes "all")) audit.all
+  pub settle : IsFlag (one_text found (codes "settle")) audit.settle
   pub some_user : words_at found (codes "uid") ≢ []
   pub some_subtree : words_at found (codes "subtree") ≢ []
 

@@ -2,7 +2,7 @@
 ghost use Rattle.std.specs.Prelude.{◌≡◌, [], ◌∷◌, IfOk, codes};
 ghost use Rattle.clap.specs.Words.{app_of};
 ghost use Rattle.arguments.specs.Building.{IsOption, IsCommand};
-ghost use Rattle.arguments.specs.CommandLine.{word_option, number_option, needed, program_command, command_with, of_user, may_command, subtree_command, audit_command, explain_command, advise_named, advise_command, replay_command, upgrade_command, command_line};
+ghost use Rattle.arguments.specs.CommandLine.{word_option, number_option, flag, needed, program_command, command_with, of_user, may_command, subtree_command, audit_command, explain_command, advise_named, advise_command, replay_command, upgrade_command, command_line};
 
 use clap::{Arg, ArgAction, Command, value_parser};
 use std::alloc::{AllocError, Global};
@@ -66,6 +66,9 @@ Status: 0 contained, 1 escapes, 2 unsettled, 3 a fault
 status.
 With --all every such pair has these lines, by user and then subtree, and its line `pair` names the groups too; the status
 is 1 where one escapes, else 2 where one is unsettled. Users and subtrees that are named again count once.
+With --settle it is looked further where check says `unsettled`, as settle does. Users against whom a list of operations is
+planned escape; where the second row of guards holds of a subtree against all others together none of these is listed with it,
+and else each whom check doesn't call contained. So a subtree is contained against all with whom it isn't listed, together.
 A user is UID or UID:GID,GID.. in decimal digits, with up to 32 gids, of which the first is the primary one.
 `fault: usage` means that the command line isn't as it says above.
 zirofen-tree(5) and zirofen(1), or docs/FORMATS.md, have the tree's format, and every line that is written.
@@ -246,12 +249,8 @@ fn audit_command<'a>(alloc: Global) -> Result<Command<'a>, AllocError>
                 .action(ArgAction::Append)
                 .help("The top of a subtree, once or more"),
         )?
-        .arg(
-            Arg::new(alloc, "all")
-                .long("all")
-                .action(ArgAction::SetTrue)
-                .help("Every pair that isn't shown to be contained, and not the first alone"),
-        )
+        .arg(all_argument(alloc))?
+        .arg(settle_argument(alloc))
 }
 
 fn explain_command<'a>(alloc: Global) -> Result<Command<'a>, AllocError>
@@ -282,14 +281,7 @@ fn advise_command<'a>(alloc: Global) -> Result<Command<'a>, AllocError>
         .arg(word_argument(alloc, "pairs", "FILE").help(
             "Pairs in place of --uid and --subtree, one a line, as audit --all prints them; - is standard input, and then the tree's text is a file",
         ))?
-        .arg(
-            Arg::new(alloc, "settle")
-                .long("settle")
-                .action(ArgAction::SetTrue)
-                .help(
-                    "Looks further before it says that anything is to be changed, as settle does",
-                ),
-        )
+        .arg(settle_argument(alloc))
 }
 
 /// The command `advise`, but for the text of pairs and how far it looks.
@@ -351,6 +343,24 @@ fn subtree_argument<'a>(alloc: Global) -> Arg<'a>
     ensures { IsOption (word_option (codes "subtree")) result }
 {
     word_argument(alloc, "subtree", "PATH")
+}
+
+fn all_argument<'a>(alloc: Global) -> Arg<'a>
+    ensures { IsOption (flag (codes "all")) result }
+{
+    Arg::new(alloc, "all")
+        .long("all")
+        .action(ArgAction::SetTrue)
+        .help("Every pair that isn't shown to be contained, and not the first alone")
+}
+
+fn settle_argument<'a>(alloc: Global) -> Arg<'a>
+    ensures { IsOption (flag (codes "settle")) result }
+{
+    Arg::new(alloc, "settle")
+        .long("settle")
+        .action(ArgAction::SetTrue)
+        .help("Looks further where check says unsettled, as settle does")
 }
 
 fn number_argument<'a>(alloc: Global, name: &'a str, value: &'a str) -> Arg<'a>

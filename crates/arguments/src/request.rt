@@ -158,6 +158,8 @@ pub struct Audit<'a> {
     pub subtrees: Vec<&'a str>,
     /// Whether every pair that isn't contained is asked for, and not the first alone.
     pub all: bool,
+    /// Whether it is looked further where `check` says `unsettled`.
+    pub settle: bool,
 }
 
 impl<'a> Audit<'a> {
@@ -173,6 +175,7 @@ impl<'a> Audit<'a> {
             users: users_of(alloc, given(matches, "uid")?)?,
             subtrees: given(matches, "subtree")?.to_vec(alloc)?,
             all: matches.get_flag("all"),
+            settle: matches.get_flag("settle"),
         })
     }
 }

@@ -18,6 +18,9 @@ mod AuditReports
 mod Once
 mod AllPairs
 mod Explaining
+mod SettledPairs
+mod FurtherPairs
+mod FirstPairs
 mod Closings
 mod ReplayCalls
 mod UpgradeReports

@@ -8,6 +8,7 @@ pub mod answers;
 pub mod arguments;
 pub mod audit;
 pub mod audit_all;
+pub mod audit_settle;
 pub mod check;
 pub mod explain;
 pub mod laws;

@@ -16,14 +16,15 @@ use Rattle.cg_cli.specs.Explaining.{TellsPairs, ReportsTold}
 use Rattle.cg_model.specs.States.{State}
 use Rattle.cg_model.specs.Mends.{Pair}
 use Rattle.cg_cli.specs.FurtherAdvice.{AdvisesFurther}
+use Rattle.cg_cli.specs.FurtherPairs.{first_pair_report}
 use Rattle.cg_cli.specs.Upgrades.{Upgrades}
 use Rattle.streams.specs.Written.{AppendsPart}
 use Rattle.cg_cli.specs.Replays.{closed}
 use Rattle.cg_cli.specs.Replaying.{Reporting, Replays, ReplaysFrom}
-use Rattle.cg_cli.specs.Reports.{Report, Reports}
+use Rattle.cg_cli.specs.Reports.{Report, Reports, report_on}
 use Rattle.cg_faults.specs.declared.fault.CliFault.{CliFault}
 use Rattle.cg_faults.specs.declared.fault.CliFault.TheVariants.{Read, Write, NoMemory}
-use Rattle.commands.specs.Requests.{Files, IsUnread, AdviseSays, AuditSays, OnTree, pairs_said, OnPairs, replay_said, ReplaysOver, CarriesOut}
+use Rattle.commands.specs.Requests.{Files, IsUnread, AdviseSays, GuardsSay, FurtherSay, AuditSays, OnTree, pairs_said, OnPairs, replay_said, ReplaysOver, CarriesOut}
 
 pub Appends-Keeps : (old mid new : Option (List ℕ)) (bs : List ℕ) → Appends old mid bs → Keeps mid new → Appends old new bs
 Appends-Keeps None mid new bs a k = tt
@@ -82,18 +83,21 @@ ReportsPairs-Keeps (Err fault) old mid new (Ok status) h k = h
 ReportsPairs-Keeps (Err fault) old mid new (Err NoMemory) h k = (h.0, Keeps-Keeps old mid new h.1 k)
 ReportsPairs-Keeps (Err fault) old mid new (Err other) h k = (h.0, Keeps-Keeps old mid new h.1 k)
 
-AuditSays-by : (all : Bool) (pairs : Result (List Listed) CliFault) (report : Report) (old mid new : Option (List ℕ))
-    (result : Result ℕ CliFault)
-    → MatchBool all (ReportsPairs pairs old mid result) (Reports report old mid result) → Keeps mid new
-    → MatchBool all (ReportsPairs pairs old new result) (Reports report old new result)
-AuditSays-by true pairs report old mid new result said k = ReportsPairs-Keeps pairs old mid new result said k
-AuditSays-by false pairs report old mid new result said k = Reports-Keeps report old mid new result said k
+module _ (users : List (ℕ × List ℕ)) (subtrees : List (List ℕ)) (old mid new : Option (List ℕ)) (result : Result ℕ CliFault)
+    (tree : Reading) (k : Keeps mid new) where
+  AuditSays-by : (settle all : Bool)
+      → MatchBool settle (FurtherSay all users subtrees old mid result tree) (GuardsSay all users subtrees old mid result tree)
+      → MatchBool settle (FurtherSay all users subtrees old new result tree) (GuardsSay all users subtrees old new result tree)
+  AuditSays-by true true said = (said.0, said.1, ReportsPairs-Keeps said.0 old mid new result said.2 k)
+  AuditSays-by true false said = (said.0, said.1, Reports-Keeps (report_on said.0 first_pair_report) old mid new result said.2 k)
+  AuditSays-by false true said = ReportsPairs-Keeps (all_report tree users subtrees) old mid new result said k
+  AuditSays-by false false said = Reports-Keeps (audit_report tree users subtrees) old mid new result said k
 
 AuditSays-Keeps : (audit : Audit) (old mid new : Option (List ℕ)) (result : Result ℕ CliFault) (tree : Reading)
     → AuditSays audit old mid result tree → Keeps mid new → AuditSays audit old new result tree
 AuditSays-Keeps audit old mid new result tree said k =
-    AuditSays-by audit.all (all_report tree (map ids_of audit.users.items) (map (λ subtree. subtree.now) audit.subtrees.items))
-    (audit_report tree (map ids_of audit.users.items) (map (λ subtree. subtree.now) audit.subtrees.items)) old mid new result said k
+    AuditSays-by (map ids_of audit.users.items) (map (λ subtree. subtree.now) audit.subtrees.items) old mid new result tree k
+    audit.settle audit.all said
 
 TellsPairs-Keeps : (st : State) (pairs : List Pair) (old mid new : Option (List ℕ)) (result : Result ℕ CliFault)
     → TellsPairs st pairs old mid result → Keeps mid new → TellsPairs st pairs old new result

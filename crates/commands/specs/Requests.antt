@@ -1,5 +1,5 @@
 -- What a request asks for, and what is answered. Own.
-use Rattle.std.specs.Prelude.{◌≡◌, ◌⊎◌, ℕ, List, map, take, Option, Some, None, Result, Ok, Err, IfSome, MatchBool}
+use Rattle.std.specs.Prelude.{◌≡◌, ◌⊎◌, ℕ, Bool, List, map, take, Option, Some, None, Result, Ok, Err, IfSome, MatchBool}
 use Rattle.std.specs.Option.{option_map}
 use Rattle.std.specs.Borrow.{Bor}
 use Rattle.std.specs.Io.KnownBytes.{Keeps}
@@ -21,6 +21,7 @@ use Rattle.cg_cli.specs.AllPairs.{all_report, ReportsPairs}
 use Rattle.cg_cli.specs.Explaining.{explain_asked, ReportsTold}
 use Rattle.cg_cli.specs.Advising.{advise_report, advise_pairs_report}
 use Rattle.cg_cli.specs.FurtherAdvice.{AdvisesFurther}
+use Rattle.cg_cli.specs.FurtherPairs.{ReportsFirst, ReportsFurther}
 use Rattle.cg_cli.specs.Upgrades.{Upgrades}
 use Rattle.cg_cli.specs.Replays.{closed, lines_report}
 use Rattle.cg_cli.specs.Replaying.{Reporting, ReplaysFrom}
@@ -79,12 +80,22 @@ AdviseSays advise old new result tree =
 abbrev pub pairs_said : List ℕ → Reading → Report
 pairs_said text tree = report_on (pairs_read text) (λ pairs. advise_pairs_report tree pairs)
 
--- the first pair that isn't contained, or each of them
+-- each pair that isn't contained, or the first alone
+abbrev pub GuardsSay : Bool → List (ℕ × List ℕ) → List (List ℕ) → Option (List ℕ) → Option (List ℕ) → Result ℕ CliFault → Reading → Type 0
+GuardsSay all users subtrees old new result tree =
+    MatchBool all (ReportsPairs (all_report tree users subtrees) old new result) (Reports (audit_report tree users subtrees) old new result)
+
+-- the same of pairs that may be listed where more is known
+abbrev pub FurtherSay : Bool → List (ℕ × List ℕ) → List (List ℕ) → Option (List ℕ) → Option (List ℕ) → Result ℕ CliFault → Reading → Type 0
+FurtherSay all users subtrees old new result tree =
+    MatchBool all (ReportsFurther ReportsPairs tree users subtrees old new result) (ReportsFurther ReportsFirst tree users subtrees old new result)
+
+-- what guards tell of the pairs, or what is told where more is known
 abbrev pub AuditSays : Audit → Option (List ℕ) → Option (List ℕ) → Result ℕ CliFault → Reading → Type 0
 AuditSays audit old new result tree =
     let users = map ids_of audit.users.items in
     let subtrees = map (λ subtree. subtree.now) audit.subtrees.items in
-    MatchBool audit.all (ReportsPairs (all_report tree users subtrees) old new result) (Reports (audit_report tree users subtrees) old new result)
+    MatchBool audit.settle (FurtherSay audit.all users subtrees old new result tree) (GuardsSay audit.all users subtrees old new result tree)
 
 -- every user with every subtree
 abbrev pub ExplainSays : Explain → Option (List ℕ) → Option (List ℕ) → Result ℕ CliFault → Reading → Type 0

@@ -4,6 +4,7 @@ mod advise_settle;
 mod answers_written;
 mod audit;
 mod audit_all;
+mod audit_settle;
 mod calls;
 mod changed;
 mod check;

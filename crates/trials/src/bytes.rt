@@ -10,6 +10,7 @@ use cg_cli::advise_settle::advise_settled_bytes;
 use cg_cli::arguments::UserIds;
 use cg_cli::audit::audit_bytes;
 use cg_cli::audit_all::audit_all_bytes;
+use cg_cli::audit_settle::{audit_all_settled_bytes, audit_settled_bytes};
 use cg_cli::check::check_bytes;
 use cg_cli::explain::explain_bytes;
 use cg_cli::may::may_bytes;
@@ -35,6 +36,8 @@ enum Call<'a> {
     Upgrade,
     Audit(Vec<UserIds<'a>>, Vec<&'a str>),
     AuditAll(Vec<UserIds<'a>>, Vec<&'a str>),
+    AuditSettled(Vec<UserIds<'a>>, Vec<&'a str>),
+    AuditAllSettled(Vec<UserIds<'a>>, Vec<&'a str>),
     ReplayBytes(UserIds<'a>, Option<&'a str>, Vec<u8>),
     ReplayFrom(UserIds<'a>, Option<&'a str>, Vec<u8>),
 }
@@ -54,6 +57,12 @@ impl Call<'_> {
             Call::Upgrade => upgrade_bytes(alloc, tree, out),
             Call::AuditAll(users, subtrees) => {
                 audit_all_bytes(alloc, tree, users.as_slice(), subtrees.as_slice(), out)
+            }
+            Call::AuditSettled(users, subtrees) => {
+                audit_settled_bytes(alloc, tree, users.as_slice(), subtrees.as_slice(), out)
+            }
+            Call::AuditAllSettled(users, subtrees) => {
+                audit_all_settled_bytes(alloc, tree, users.as_slice(), subtrees.as_slice(), out)
             }
             Call::Audit(users, subtrees) => {
                 audit_bytes(alloc, tree, users.as_slice(), subtrees.as_slice(), out)
@@ -139,6 +148,14 @@ fn call_told<'a>(alloc: Global, words: &mut Words<'a>) -> Result<Call<'a>, Stopp
         "audit_all" => {
             let (users, subtrees) = audited(alloc, words.rest())?;
             Ok(Call::AuditAll(users, subtrees))
+        }
+        "audit_settled" => {
+            let (users, subtrees) = audited(alloc, words.rest())?;
+            Ok(Call::AuditSettled(users, subtrees))
+        }
+        "audit_all_settled" => {
+            let (users, subtrees) = audited(alloc, words.rest())?;
+            Ok(Call::AuditAllSettled(users, subtrees))
         }
         "replay" => {
             let user = user(words.id()?);

@@ -6,6 +6,7 @@ use cg_cli::advise_settle::advise_settled_bytes;
 use cg_cli::arguments::UserIds;
 use cg_cli::audit::audit_bytes;
 use cg_cli::audit_all::audit_all_bytes;
+use cg_cli::audit_settle::{audit_all_settled_bytes, audit_settled_bytes};
 use cg_cli::check::check_bytes;
 use cg_cli::explain::explain_bytes;
 use cg_cli::may::may_bytes;
@@ -24,6 +25,8 @@ pub enum Call<'a> {
     Audit(&'a [UserIds<'a>], &'a [&'a str]),
     AuditAll(&'a [UserIds<'a>], &'a [&'a str]),
     Explain(&'a [UserIds<'a>], &'a [&'a str]),
+    AuditSettled(&'a [UserIds<'a>], &'a [&'a str]),
+    AuditAllSettled(&'a [UserIds<'a>], &'a [&'a str]),
     Advise(&'a [UserIds<'a>], &'a [&'a str]),
     AdvisePairs(&'a [PairIds<'a>]),
     AdviseSettled(&'a [UserIds<'a>], &'a [&'a str]),
@@ -40,6 +43,12 @@ impl Call<'_> {
             Call::Audit(users, subtrees) => audit_bytes(alloc, tree, users, subtrees, out),
             Call::AuditAll(users, subtrees) => audit_all_bytes(alloc, tree, users, subtrees, out),
             Call::Explain(users, subtrees) => explain_bytes(alloc, tree, users, subtrees, out),
+            Call::AuditSettled(users, subtrees) => {
+                audit_settled_bytes(alloc, tree, users, subtrees, out)
+            }
+            Call::AuditAllSettled(users, subtrees) => {
+                audit_all_settled_bytes(alloc, tree, users, subtrees, out)
+            }
             Call::Advise(users, subtrees) => advise_bytes(alloc, tree, users, subtrees, out),
             Call::AdvisePairs(pairs) => advise_pairs_bytes(alloc, tree, pairs, out),
             Call::AdviseSettled(users, subtrees) => {
