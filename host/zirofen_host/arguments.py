@@ -28,7 +28,8 @@ A helper: no part of the proved program, and only tested. The user's groups are 
 groups was found for their account, and others maybe for their running processes: each is asked of. It prints what `check`
 answers, and behind # what to change, and a warning where nothing here is the user's. The status is the worst answer's:
 3 for a fault, 1 for an escape, 2 where it is unsettled, 0 where the subtree is contained. With --may it lists in place of
-that which entries the user owns or writes there, and what follows of each; the status is 0 then.
+that which entries the user owns or writes there, and what follows of each; the status is 0 then. With --explain it says why: each
+entry that a guard stands on, and whether it keeps them out, and where one doesn't what else keeps the subtree.
 """,
     "check": f"""Asks zirofen whether everybody who can matter on this host is kept by every subtree that was handed over. Run it as root.
 
@@ -167,8 +168,10 @@ def add_program(parser: argparse.ArgumentParser) -> None:
 def add_ask(parser: argparse.ArgumentParser) -> None:
     parser.add_argument("user", metavar="NAME|UID", help="the user, by the name of an account or by a number")
     parser.add_argument("path", metavar="PATH", help="the top of the subtree, from the mount on")
-    parser.add_argument("--may", action="store_true", help="what the user may do there at all, in place of an answer: each entry that they "
-                        "own or write, and what follows")
+    way = parser.add_mutually_exclusive_group()
+    way.add_argument("--may", action="store_true", help="what the user may do there at all, in place of an answer: each entry that they "
+                     "own or write, and what follows")
+    way.add_argument("--explain", action="store_true", help="why: what each guard asks, and by what it holds or fails, and the answer last")
     for add in (add_host, add_text, add_accounts, add_keep, add_program):
         add(parser)
 

@@ -19,7 +19,7 @@ from zirofen_host.collect.holds import holds_of
 from zirofen_host.collect.model import Snapshot, User
 from zirofen_host.collect.processes import read_processes
 from zirofen_host.collect.looks import why_of
-from zirofen_host.judge import acceptances, baseline, check, may, one, plan, replayed, saved, settings, shell
+from zirofen_host.judge import acceptances, baseline, check, explained, may, one, plan, replayed, saved, settings, shell
 from zirofen_host.judge.model import Report
 from zirofen_host.options import (PROC, AskOptions, CheckOptions, CommandsOptions, DelegationsOptions, FleetOptions, PageOptions,
                                   PlanOptions, SnapshotOptions, TreeOptions, Way)
@@ -40,7 +40,8 @@ def ask(given: argparse.Namespace) -> int:
     if options.may:
         fault.write_lines(may.may(taken, options, lambda line: fault.warn(f"{NAME} ask: {line}")))
         return 0
-    told, status = one.ask(taken, options, lambda line: fault.warn(f"{NAME} ask: {line}"))
+    asking = explained.explain if options.explain else one.ask
+    told, status = asking(taken, options, lambda line: fault.warn(f"{NAME} ask: {line}"))
     fault.write_lines(told)
     return status
 

@@ -55,6 +55,8 @@ class AskOptions(Options):
     path: str = ""
     # what they may do at all, in place of an answer
     may: bool = False
+    # why, beside the answer
+    explain: bool = False
 
 
 @dataclass(frozen=True)

@@ -125,6 +125,19 @@ def advise(delegations, pairs):
     return 1 if met else 0
 
 
+def explain(delegations, user, subtree):
+    """The first row and one limit, and where a guard fails one line of the second row, which doesn't hold."""
+    reached = {(each.path, each.name) for each, _ in failing(delegations, user, subtree)}
+    for each in delegations.guarded(path_of(subtree)):
+        entry = delegations.entry(each.path, each.name)
+        is_reached = (each.path, each.name) in reached
+        yield " ".join(["fails" if is_reached else "holds", each.guard, text_of(each.path), each.name, f"{entry.uid}:{entry.gid}",
+                        f"{entry.mode:03o}", *([user.class_of(entry)] if is_reached else [])])
+    if reached:
+        yield f"fails stays {subtree} removed"
+    yield f"holds already-over {subtree} cgroup.max.depth 0 max"
+
+
 def pairs_in(file):
     with open(file, encoding="ascii") as text:
         return [(user_of(user), subtree) for _, user, subtree in (line.split() for line in text)]
@@ -146,10 +159,10 @@ def main(words):
     with open(os.environ["CALLS"], "a", encoding="ascii") as calls:
         calls.write(" ".join(words) + "\n")
     if words[-1] == "--help":
-        if words[0] == "advise" and not can("advise"):
+        if words[0] == "advise" and not can("advise") or words[0] == "explain" and not can("explain"):
             return fault("fault: usage")
         known = {"audit": ("  --all  x\n" if can("all") else "") + ("  --settle  x\n" if can("settle") else ""),
-                 "advise": "  --pairs <FILE>  x\n"}
+                 "advise": "  --pairs <FILE>  x\n", "explain": "  --subtree <PATH>  x\n"}
         print("Options:\n  --tree <FILE>\n" + known.get(words[0], ""))
         return 0
     if words == ["--version"]:
@@ -176,6 +189,11 @@ def main(words):
     if words[0] == "advise":
         pairs = pairs_in(given["--pairs"][0])
         return fault("fault: subtree missing") if any(path.endswith("/odd") for _, path in pairs) else advise(delegations, pairs)
+    if words[0] == "explain":
+        status, lines = next(settled(delegations, [user_of(given["--uid"][0])], given["--subtree"][0]))[1:]
+        print("\n".join([f"pair {given['--uid'][0]} {given['--subtree'][0]}",
+                         *explain(delegations, user_of(given["--uid"][0]), given["--subtree"][0]), lines[0]]))
+        return status
     user = User(int(given["--uid"][0]), tuple(map(int, given.get("--gid", ()))))
     subtree = given["--subtree"][0]
     status, lines = answer(delegations, user, subtree) if words[0] == "check" else next(settled(delegations, [user], subtree))[1:]

@@ -95,6 +95,29 @@ def settled(_):
     yield fault("usage", "settle", "--uid", "1000")
 
 
+# what is told of the delegation, where all guards hold
+TOLD = ["pair 1000 /c0", "holds common-ancestor / cgroup.procs 0:0 644", "holds limit-file /c0 cgroup.max.descendants 0:0 644",
+        "holds limit-file /c0 cgroup.max.depth 0:0 644", "holds limit-file /c0 memory.min 0:0 644", "holds limit-file /c0 memory.low 0:0 644",
+        "holds limit-file /c0 memory.high 0:0 644", "holds limit-file /c0 memory.max 0:0 644",
+        "holds parent-control / cgroup.subtree_control 0:0 644", "holds parent-dir / dir 0:0 755",
+        "holds already-over /c0 cgroup.max.descendants 2 4", "holds already-over /c0 cgroup.max.depth 1 2", "contained"]
+
+
+def explained(_):
+    yield Case(["explain", *asked("1000", "/c0")], 0, TOLD)
+    yield Case(["explain", *asked("1000", "/c0"), *asked("01000", "/c0")], 0, TOLD)
+    fails = [line.replace("holds limit-file /c0 memory.max 0:0 644", "fails limit-file /c0 memory.max 1000:0 644 owner") for line in TOLD]
+    second = ["holds stays /c0 spared", "holds control / cpu off", "holds control / memory on", "holds control / pids off", "fails files /c0 reached"]
+    yield Case(["explain", *tree("delegation-limit-writable"), *asked("1000", "/c0")], 1, [*fails[:10], *second, *fails[10:12], "escapes"])
+    yield fault("subtree missing", "explain", *asked("1000", "/zz"), "--subtree", "/")
+    yield fault("uid", "explain", "--uid", "1000", *asked("0", "zz"))
+    yield fault("gid", "explain", "--uid", f"1000:{','.join(map(str, range(1, 34)))}", *asked("0", "/c0"))
+    yield fault("read", "explain", *tree("none"), *asked("0", "c0"))
+    yield fault("usage", "explain", *asked("1000:", "/c0"))
+    yield fault("usage", "explain", "--all", *asked("1000", "/c0"))
+    yield fault("usage", "explain", "--uid", "1000")
+
+
 def audits(_):
     second = tree("delegation-second-user")
     both = ["--subtree", "/c0", "--subtree", "/c1"]
@@ -121,6 +144,19 @@ def audits(_):
     yield fault("uid", "audit", "--all", "--uid", "1000", *asked("0", "zz"))
     yield fault("usage", "audit", "--all", "--all", *asked("1000", "/c0"))
     yield fault("usage", "audit", "--all")
+    # with --settle, who has a list, and the others where the second row doesn't hold for them together
+    for form in ["--settle"], ["--settle", "--all"]:
+        yield Case(["audit", *form, *tree("parent-procs-owned"), "--uid", "1001", *asked("1000", "/p/s")], 0, ["contained"])
+        yield Case(["audit", *form, *tree("parent-procs-no-process"), "--uid", "1001", *asked("1000", "/p/s")], 2,
+                   ["pair 1000 /p/s", "unsettled common-ancestor /p"])
+        yield Case(["audit", *form, *tree("delegation-parent-directory"), "--uid", "1001", *asked("1000", "/c0")], 1,
+                   ["pair 1000 /c0", "escapes", "exit 11", "rmdir /c0/c01", "rmdir /c0/c00", "rmdir /c0"])
+        yield fault("subtree missing", "audit", *form, *asked("1000", "/zz"), "--subtree", "/")
+        yield fault("uid", "audit", *form, "--uid", "1000", *asked("0", "zz"))
+        yield fault("path", "audit", *form, *asked("1000", "c0"))
+    yield Case(["audit", "--settle", *second, "--uid", "1000", "--uid", "01001:7", *both], 1, ["pair 1001 /c0", *LIMIT_SET])
+    yield Case(["audit", "--settle", "--all", *second, "--uid", "1000", "--uid", "01001:7", *both], 1, ["pair 1001:7 /c0", *LIMIT_SET])
+    yield fault("usage", "audit", "--settle", "--settle", *asked("1000", "/c0"))
 
 
 def advices(_):
@@ -191,7 +227,7 @@ def upgrades(program):
 
 
 def cases(program):
-    for table in command_lines, migrations, checks, settled, audits, advices, replays, upgrades:
+    for table in command_lines, migrations, checks, settled, explained, audits, advices, replays, upgrades:
         yield from table(program)
 
 

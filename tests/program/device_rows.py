@@ -142,6 +142,9 @@ ASKED = (
     ("delegation", "audit --all --uid 1000 --uid 1001 --subtree /c0 --subtree /c1", 0),
     ("delegation-second-user", "audit --all --tree {tree} --uid 1000 --uid 1001 --subtree /c0 --subtree /c1", 1),
     ("delegation-parent-directory", "audit --all --uid 1000 --uid 1001 --subtree /c0 --subtree /c1", 2),
+    ("parent-procs-owned", "audit --settle --uid 1000 --uid 1001 --subtree /p/s", 0),
+    ("delegation-parent-directory", "audit --settle --all --uid 1000 --uid 1001 --subtree /c0", 1),
+    ("parent-procs-no-process", "audit --settle --all --uid 1000 --uid 1001 --subtree /p/s", 2),
 )
 COMMANDS = ("may", "check", "settle", "audit", "replay", "upgrade", "advise")
 HELP = ("--help", "--version", "may --help", "replay --help")

@@ -50,12 +50,12 @@ def commands_of(lines, indent, program):
 
 
 def status_of(words, lines):
-    """A replay without a subtree ends with 0 whatever it says; else the answer's word tells, which stands below a pair's."""
+    """A replay without a subtree ends with 0 whatever it says; else the answer's word tells, which stands below a pair's, and of what
+    is replayed or explained last."""
     if words[0] == "replay" and "--subtree" not in words and not lines[-1].startswith("fault:"):
         return 0
-    answer = lines[1] if lines[0].startswith("pair ") else lines[0]
-    telling = lines[-1] if words[0] == "replay" else answer
-    return STATUS[telling.split(" ")[0]]
+    answer = lines[-1] if words[0] in ("replay", "explain") else lines[1] if lines[0].startswith("pair ") else lines[0]
+    return STATUS[answer.split(" ")[0]]
 
 
 def is_right(words, lines):

@@ -84,6 +84,7 @@ def command_lines():
     yield Row(["check", "--user", *CHECK[2:]], "usage", ["unexpected argument '--user'"])
     yield Row(["check", "--uid", "1000", "--subtre", "/c0"], "usage", ["'--subtre'", "--subtree"])
     yield Row(["setle", *CHECK[1:]], "usage", ["unrecognized subcommand 'setle'", "settle"])
+    yield Row(["explian", *CHECK[1:]], "usage", ["unrecognized subcommand 'explian'", "explain"])
     yield Row(["settle", "--uid", "1000", "--all", "--subtree", "/c0"], "usage", ["unexpected argument '--all'"])
     yield Row(["check", "--uid", "alice", "--subtree", "/c0"], "usage", ["invalid value 'alice' for '--uid <UID>'", "`id -u NAME`"])
     yield Row(["check", "--uid", "-5", "--subtree", "/c0"], "usage", ["-5", "no uid, gid or PID is negative"])

@@ -131,6 +131,10 @@ def byte_trials():
     yield "audit_bytes", DELEGATION, ["audit", "1000", "1001", "/c0", "/c1"], "contained\nstatus 0\n"
     yield "audit_bytes", SECOND_USER, ["audit", "1000", "1001", "/c0", "/c1"], "pair 1001 /c0\nescapes\nset /c0 memory.max max\nstatus 1\n"
     yield "audit_all_bytes", DELEGATION, ["audit_all", "1000", "1001", "/c0", "/c1"], "contained\nstatus 0\n"
+    yield "audit_settled_bytes", PROCS_OWNED, ["audit_settled", "1000", "1001", "/p/s", "/p/s"], "contained\nstatus 0\n"
+    yield "audit_all_settled_bytes", PROCS_OWNED, ["audit_all_settled", "1000", "1001", "/p/s", "/p/s"], "contained\nstatus 0\n"
+    for call in "audit_settled", "audit_all_settled":
+        yield f"{call}_bytes", SECOND_USER, [call, "1000", "1001", "/c0", "/c1"], "pair 1001 /c0\nescapes\nset /c0 memory.max max\nstatus 1\n"
     yield "audit_all_bytes", SECOND_USER, ["audit_all", "1000", "1001", "/c0", "/c1"], "pair 1001 /c0\nescapes\nset /c0 memory.max max\nstatus 1\n"
     yield "advise_bytes", DELEGATION, ["advise", "1000", "/c0"], "contained\nstatus 0\n"
     yield ("advise_bytes", ANCESTOR_OWNED, ["advise", "1000", "/c0"],
@@ -138,6 +142,8 @@ def byte_trials():
     yield "advise_settled_bytes", PROCS_OWNED, ["advise_settled", "1000", "/p/s"], "contained\nstatus 0\n"
     yield ("advise_settled_bytes", ANCESTOR_OWNED, ["advise_settled", "1000", "/c0"],
            "fails common-ancestor / cgroup.procs 1000:0 446 owner\nchown / cgroup.procs 0:0\nchmod / cgroup.procs 444\nstatus 1\n")
+    yield "explain_bytes", DELEGATION, ["explain", "1000", "/c0"], "pair 1000 /c0\nholds common-ancestor / cgroup.procs 0:0 644"
+    yield "explain_bytes", PROCS_OWNED, ["explain", "1000", "/p/s"], "pair 1000 /p/s\nfails common-ancestor /p cgroup.procs 1000:0 644 owner"
     yield "advise_pairs_bytes", DELEGATION, ["advise_pairs", "1000", "/c0", "1001", "/c1"], "contained\nstatus 0\n"
     yield ("advise_pairs_bytes", SECOND_USER, ["advise_pairs", "1000", "/c0", "1001", "/c0"],
            "fails limit-file /c0 memory.max 1001:0 644 owner\nchown /c0 memory.max 0:0\nstatus 1\n")
@@ -159,6 +165,7 @@ def free_byte_trials():
     yield "settle_bytes", ["settle", "0", "/c0"], "fault: uid\n"
     yield "advise_bytes", ["advise", "0", "/c0"], "fault: uid\n"
     yield "advise_settled_bytes", ["advise_settled", "0", "/c0"], "fault: uid\n"
+    yield "explain_bytes", ["explain", "0", "/c0"], "fault: uid\n"
     yield "advise_pairs_bytes", ["advise_pairs", "1000", "/c0", "0", "/c0"], "fault: uid\n"
     yield "replay_bytes", ["replay", "0", "-"], "fault: uid\n"
     yield "replay_from", ["replay_from", "0", "-"], "fault: uid\n"

@@ -145,6 +145,8 @@ def asked_of_all(tree):
     yield Asked(["advise", "--pairs", OPS], "".join(f"pair {user} {path}\n" for user, path in pairs))
     yield Asked(["audit", *listed, *subtrees], "")
     yield Asked(["audit", "--all", *listed, *subtrees], "")
+    yield Asked(["audit", "--settle", *listed, *subtrees], "")
+    yield Asked(["audit", "--settle", "--all", *listed, *subtrees], "")
 
 
 def asked_of(example, files):

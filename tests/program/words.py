@@ -87,6 +87,7 @@ def rows():
         yield ["advise", "--uid", number, "--gid", number, "--subtree", "/c0"], False
         yield ["replay", "--uid", number, "--ops", os.devnull], False
         yield ["audit", "--uid", listed or number, "--subtree", "/c0"], listed is None
+        yield ["explain", "--uid", listed or number, "--subtree", "/c0"], listed is None
     for word in NO_NUMBERS:
         yield ["may", "--uid", word, "--pid", "11", "--to", "/c0"], True
         yield ["may", "--uid", "1000", "--gid", word, "--pid", "11", "--to", "/c0"], True
@@ -96,8 +97,10 @@ def rows():
         yield ["advise", "--uid", word, "--subtree", "/c0"], True
         yield ["replay", "--uid", word, "--ops", os.devnull], True
         yield ["audit", "--uid", word, "--subtree", "/c0"], True
+        yield ["explain", "--uid", word, "--subtree", "/c0"], True
     for word in LISTED:
         yield ["audit", "--uid", word, "--subtree", "/c0"], False
+        yield ["explain", "--uid", word, "--subtree", "/c0"], False
         yield ["advise", "--uid", word, "--uid", "1001", "--subtree", "/c0", "--subtree", "/c1"], False
         yield ["advise", "--uid", word, "--gid", "5", "--subtree", "/c0"], True
     yield ["advise", "--uid", "1000", "--uid", "1001", "--gid", "5", "--subtree", "/c0"], True
@@ -105,6 +108,9 @@ def rows():
     pairs = ["advise", "--pairs", os.devnull]
     yield pairs, False
     yield ["advise", "--tree", DELEGATION, "--pairs", "-"], False
+    yield ["audit", "--settle", "--uid", "1000", "--uid", "1001", "--subtree", "/c0"], False
+    yield ["audit", "--all", "--settle", "--uid", "1000", "--subtree", "/c0"], False
+    yield ["audit", "--settle=true", "--uid", "1000", "--subtree", "/c0"], True
     yield ["advise", "--settle", "--uid", "1000", "--uid", "1001", "--subtree", "/c0"], False
     yield ["advise", "--settle=true", "--uid", "1000", "--subtree", "/c0"], True
     yield from ((words, True) for words in (

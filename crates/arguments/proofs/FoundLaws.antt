@@ -77,6 +77,14 @@ module _ (f g : Found) (same : rows_of f ≡ rows_of g) where
     users = sym users_same ∙ h.users;
     subtrees = sym (words_same (codes "subtree")) ∙ h.subtrees;
     all = ((λ said. h.all.0 (text_same (codes "all") ∙ said)), (λ said. h.all.1 (text_same (codes "all") ∙ said)));
+    settle = ((λ said. h.settle.0 (text_same (codes "settle") ∙ said)), (λ said. h.settle.1 (text_same (codes "settle") ∙ said)));
+    some_user = λ none. h.some_user (words_same (codes "uid") ∙ none);
+    some_subtree = λ none. h.some_subtree (words_same (codes "subtree") ∙ none);
+  }
+  holds_same (request.Explain explain) h = record {
+    tree = h.tree ∙ file_same (codes "tree");
+    users = sym users_same ∙ h.users;
+    subtrees = sym (words_same (codes "subtree")) ∙ h.subtrees;
     some_user = λ none. h.some_user (words_same (codes "uid") ∙ none);
     some_subtree = λ none. h.some_subtree (words_same (codes "subtree") ∙ none);
   }

@@ -43,7 +43,11 @@ subtree_command name = command_with name (of_user ++ needed (word_option (codes 
 abbrev pub audit_command : Shape
 audit_command = command_with (codes "audit")
     (word_option (codes "tree") ∷ repeated (needed (word_option (codes "uid"))) ∷ repeated (needed (word_option (codes "subtree")))
-    ∷ flag (codes "all") ∷ [])
+    ∷ flag (codes "all") ∷ flag (codes "settle") ∷ [])
+
+abbrev pub explain_command : Shape
+explain_command = command_with (codes "explain")
+    (word_option (codes "tree") ∷ repeated (needed (word_option (codes "uid"))) ∷ repeated (needed (word_option (codes "subtree"))) ∷ [])
 
 -- by users and subtrees, or by pairs of them
 abbrev pub advise_named : Shape
@@ -67,6 +71,6 @@ program_command = record (new_shape (codes "zirofen")) { has_version = true; sub
 abbrev pub command_line : App
 command_line = record {
   top = record program_command { is_leaf = false };
-  subs = may_command ∷ subtree_command (codes "check") ∷ subtree_command (codes "settle") ∷ audit_command ∷ advise_command
-      ∷ replay_command ∷ upgrade_command ∷ [];
+  subs = may_command ∷ subtree_command (codes "check") ∷ subtree_command (codes "settle") ∷ audit_command ∷ explain_command
+      ∷ advise_command ∷ replay_command ∷ upgrade_command ∷ [];
 }

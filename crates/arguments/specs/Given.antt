@@ -13,6 +13,7 @@ use Rattle.arguments.specs.declared.named_user.NamedUser.{NamedUser}
 use Rattle.arguments.specs.declared.request.May.{May}
 use Rattle.arguments.specs.declared.request.Check.{Check}
 use Rattle.arguments.specs.declared.request.Audit.{Audit}
+use Rattle.arguments.specs.declared.request.Explain.{Explain}
 use Rattle.arguments.specs.declared.request.Advise.{Advise}
 use Rattle.arguments.specs.declared.request.AdvisePairs.{AdvisePairs}
 use Rattle.arguments.specs.declared.request.Sources.{Sources}
@@ -114,6 +115,14 @@ pub record IsAudit (found : Found) (audit : Audit) : Type 0 where
   pub users : users_given found ≡ Some (map ids_of audit.users.items)
   pub subtrees : words_at found (codes "subtree") ≡ map (λ subtree. subtree.now) audit.subtrees.items
   pub all : IsFlag (one_text found (codes "all")) audit.all
+  pub settle : IsFlag (one_text found (codes "settle")) audit.settle
+  pub some_user : words_at found (codes "uid") ≢ []
+  pub some_subtree : words_at found (codes "subtree") ≢ []
+
+pub record IsExplain (found : Found) (explain : Explain) : Type 0 where
+  pub tree : option_map (λ file. file.now) explain.tree ≡ file_at found (codes "tree")
+  pub users : users_given found ≡ Some (map ids_of explain.users.items)
+  pub subtrees : words_at found (codes "subtree") ≡ map (λ subtree. subtree.now) explain.subtrees.items
   pub some_user : words_at found (codes "uid") ≢ []
   pub some_subtree : words_at found (codes "subtree") ≢ []
 
@@ -152,6 +161,7 @@ command_of (request.May may) = Some (codes "may")
 command_of (request.Check check) = Some (codes "check")
 command_of (request.Settle check) = Some (codes "settle")
 command_of (request.Audit audit) = Some (codes "audit")
+command_of (request.Explain explain) = Some (codes "explain")
 command_of (request.Advise advise) = Some (codes "advise")
 command_of (request.AdvisePairs advise) = Some (codes "advise")
 command_of (request.Replay replay) = Some (codes "replay")
@@ -163,6 +173,7 @@ Holds found (request.May may) = IsMay found may
 Holds found (request.Check check) = IsCheck found check
 Holds found (request.Settle check) = IsCheck found check
 Holds found (request.Audit audit) = IsAudit found audit
+Holds found (request.Explain explain) = IsExplain found explain
 Holds found (request.Advise advise) = IsAdvise found advise
 Holds found (request.AdvisePairs advise) = IsAdvisePairs found advise
 Holds found (request.Replay replay) = IsReplay found replay

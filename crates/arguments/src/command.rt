@@ -2,7 +2,7 @@
 ghost use Rattle.std.specs.Prelude.{◌≡◌, [], ◌∷◌, IfOk, codes};
 ghost use Rattle.clap.specs.Words.{app_of};
 ghost use Rattle.arguments.specs.Building.{IsOption, IsCommand};
-ghost use Rattle.arguments.specs.CommandLine.{word_option, number_option, needed, program_command, command_with, of_user, may_command, subtree_command, audit_command, advise_named, advise_command, replay_command, upgrade_command, command_line};
+ghost use Rattle.arguments.specs.CommandLine.{word_option, number_option, flag, needed, program_command, command_with, of_user, may_command, subtree_command, audit_command, explain_command, advise_named, advise_command, replay_command, upgrade_command, command_line};
 
 use clap::{Arg, ArgAction, Command, value_parser};
 use std::alloc::{AllocError, Global};
@@ -66,6 +66,9 @@ Status: 0 contained, 1 escapes, 2 unsettled, 3 a fault
 status.
 With --all every such pair has these lines, by user and then subtree, and its line `pair` names the groups too; the status
 is 1 where one escapes, else 2 where one is unsettled. Users and subtrees that are named again count once.
+With --settle it is looked further where check says `unsettled`, as settle does. Users against whom a list of operations is
+planned escape; where the second row of guards holds of a subtree against all others together none of these is listed with it,
+and else each whom check doesn't call contained. So a subtree is contained against all with whom it isn't listed, together.
 A user is UID or UID:GID,GID.. in decimal digits, with up to 32 gids, of which the first is the primary one.
 `fault: usage` means that the command line isn't as it says above.
 zirofen-tree(5) and zirofen(1), or docs/FORMATS.md, have the tree's format, and every line that is written.
@@ -75,6 +78,34 @@ Example:
   pair 1001 /c0
   escapes
   set /c0 memory.max max";
+
+const EXPLAIN_HELP: &str = "\
+Status: 0 contained, 1 escapes, 2 unsettled, 3 a fault
+Of every user and every subtree, by user and then subtree, the line `pair` names them, and below it each entry on which a guard
+stands has a line `holds` or `fails`: the guard, the cgroup, the entry with its owner and mode, and where it fails by what they
+reach it, `owner`, `group` or `others`. Where a guard fails, lines follow of what the second row of guards asks: that the subtree
+stays, what its parent enables, its limit files, and each cgroup to which a move over the edge of the subtree may lead. Then the
+two limits of the subtree have a line each with how many there are, and last stands the first line of what settle says.
+The status is 1 where one escapes, else 2 where one is unsettled. Users and subtrees that are named again count once.
+A user is UID or UID:GID,GID.. in decimal digits, with up to 32 gids, of which the first is the primary one.
+`fault: usage` means that the command line isn't as it says above.
+docs/FORMATS.md of the repository has the tree's format, and every line that is written.
+
+Example:
+  zirofen explain --tree examples/delegation.toml --uid 1000 --subtree /c0
+  pair 1000 /c0
+  holds common-ancestor / cgroup.procs 0:0 644
+  holds limit-file /c0 cgroup.max.descendants 0:0 644
+  holds limit-file /c0 cgroup.max.depth 0:0 644
+  holds limit-file /c0 memory.min 0:0 644
+  holds limit-file /c0 memory.low 0:0 644
+  holds limit-file /c0 memory.high 0:0 644
+  holds limit-file /c0 memory.max 0:0 644
+  holds parent-control / cgroup.subtree_control 0:0 644
+  holds parent-dir / dir 0:0 755
+  holds already-over /c0 cgroup.max.descendants 2 4
+  holds already-over /c0 cgroup.max.depth 1 2
+  contained";
 
 const REPLAY_HELP: &str = "\
 Each operation is tried in the tree that those before it leave, up to the first line that is none. With --subtree a last line
@@ -130,6 +161,7 @@ pub(crate) fn command<'a>(alloc: Global) -> Result<Command<'a>, AllocError>
         .subcommand(subtree_command(alloc, "check", CHECK, CHECK_HELP)?)?
         .subcommand(subtree_command(alloc, "settle", SETTLE, SETTLE_HELP)?)?
         .subcommand(audit_command(alloc)?)?
+        .subcommand(explain_command(alloc)?)?
         .subcommand(advise_command(alloc)?)?
         .subcommand(replay_command(alloc)?)?
         .subcommand(upgrade_command(alloc)?)
@@ -217,11 +249,28 @@ fn audit_command<'a>(alloc: Global) -> Result<Command<'a>, AllocError>
                 .action(ArgAction::Append)
                 .help("The top of a subtree, once or more"),
         )?
+        .arg(all_argument(alloc))?
+        .arg(settle_argument(alloc))
+}
+
+fn explain_command<'a>(alloc: Global) -> Result<Command<'a>, AllocError>
+    ensures { IfOk result (IsCommand explain_command) }
+{
+    Command::new(alloc, "explain")
+        .about("Says of every user and subtree what each guard asks, and by what it holds or fails")
+        .after_help(EXPLAIN_HELP)
+        .arg(tree_argument(alloc))?
         .arg(
-            Arg::new(alloc, "all")
-                .long("all")
-                .action(ArgAction::SetTrue)
-                .help("Every pair that isn't shown to be contained, and not the first alone"),
+            word_argument(alloc, "uid", "UID[:GID,GID..]")
+                .action(ArgAction::Append)
+                .required(true)
+                .help("A user and their groups, once or more"),
+        )?
+        .arg(
+            subtree_argument(alloc)
+                .required(true)
+                .action(ArgAction::Append)
+                .help("The top of a subtree, once or more"),
         )
 }
 
@@ -232,14 +281,7 @@ fn advise_command<'a>(alloc: Global) -> Result<Command<'a>, AllocError>
         .arg(word_argument(alloc, "pairs", "FILE").help(
             "Pairs in place of --uid and --subtree, one a line, as audit --all prints them; - is standard input, and then the tree's text is a file",
         ))?
-        .arg(
-            Arg::new(alloc, "settle")
-                .long("settle")
-                .action(ArgAction::SetTrue)
-                .help(
-                    "Looks further before it says that anything is to be changed, as settle does",
-                ),
-        )
+        .arg(settle_argument(alloc))
 }
 
 /// The command `advise`, but for the text of pairs and how far it looks.
@@ -301,6 +343,24 @@ fn subtree_argument<'a>(alloc: Global) -> Arg<'a>
     ensures { IsOption (word_option (codes "subtree")) result }
 {
     word_argument(alloc, "subtree", "PATH")
+}
+
+fn all_argument<'a>(alloc: Global) -> Arg<'a>
+    ensures { IsOption (flag (codes "all")) result }
+{
+    Arg::new(alloc, "all")
+        .long("all")
+        .action(ArgAction::SetTrue)
+        .help("Every pair that isn't shown to be contained, and not the first alone")
+}
+
+fn settle_argument<'a>(alloc: Global) -> Arg<'a>
+    ensures { IsOption (flag (codes "settle")) result }
+{
+    Arg::new(alloc, "settle")
+        .long("settle")
+        .action(ArgAction::SetTrue)
+        .help("Looks further where check says unsettled, as settle does")
 }
 
 fn number_argument<'a>(alloc: Global, name: &'a str, value: &'a str) -> Arg<'a>

@@ -3,7 +3,7 @@ ghost use Rattle.std.specs.Prelude.{◌≡◌, ◌≢◌, ◌⊎◌, [], Some, N
 ghost use Rattle.std.specs.Option.{option_map};
 ghost use Rattle.clap.specs.Matches.{found_of, first_value, values_left};
 ghost use Rattle.arguments.specs.UserWords.{all_read, user_at};
-ghost use Rattle.arguments.specs.Given.{number_read, words_at, file_named, file_at, NamesNoFile, number_at, numbers_at, user_given, users_given, plain_number, users_beside, advised_given, ids_of, IsMay, IsCheck, IsAudit, IsAdvise, IsAdvisePairs, tree_file, other_file, IsReplay, IsUpgrade, command_of, Holds, IsOf};
+ghost use Rattle.arguments.specs.Given.{number_read, words_at, file_named, file_at, NamesNoFile, number_at, numbers_at, user_given, users_given, plain_number, users_beside, advised_given, ids_of, IsMay, IsCheck, IsAudit, IsExplain, IsAdvise, IsAdvisePairs, tree_file, other_file, IsReplay, IsUpgrade, command_of, Holds, IsOf};
 ghost use Rattle.arguments.specs.Words.{Makes, IsNone};
 ghost use Rattle.arguments.specs.declared.request.AdvisePairs.{AdvisePairs};
 ghost use Rattle.arguments.specs.declared.request.Request.{Request};
@@ -26,6 +26,7 @@ pub enum Request<'a> {
     /// What `check` is asked, looked at further.
     Settle(Check<'a>),
     Audit(Audit<'a>),
+    Explain(Explain<'a>),
     Advise(Advise<'a>),
     AdvisePairs(AdvisePairs<'a>),
     Replay(Replay<'a>),
@@ -78,6 +79,7 @@ impl<'a> Request<'a> {
             "check" => Ok(Request::Check(Check::from_matches(alloc, given)?)),
             "settle" => Ok(Request::Settle(Check::from_matches(alloc, given)?)),
             "audit" => Ok(Request::Audit(Audit::from_matches(alloc, given)?)),
+            "explain" => Ok(Request::Explain(Explain::from_matches(alloc, given)?)),
             "advise" => Request::of_advise(alloc, given),
             "replay" => Ok(Request::Replay(Replay::from_matches(alloc, given)?)),
             "upgrade" => Ok(Request::Upgrade(Upgrade::from_matches(given))),
@@ -156,6 +158,8 @@ pub struct Audit<'a> {
     pub subtrees: Vec<&'a str>,
     /// Whether every pair that isn't contained is asked for, and not the first alone.
     pub all: bool,
+    /// Whether it is looked further where `check` says `unsettled`.
+    pub settle: bool,
 }
 
 impl<'a> Audit<'a> {
@@ -171,6 +175,31 @@ impl<'a> Audit<'a> {
             users: users_of(alloc, given(matches, "uid")?)?,
             subtrees: given(matches, "subtree")?.to_vec(alloc)?,
             all: matches.get_flag("all"),
+            settle: matches.get_flag("settle"),
+        })
+    }
+}
+
+/// Subtrees and users: what each guard asks of them, and by what it holds or fails.
+#[derive(Drop)]
+pub struct Explain<'a> {
+    pub tree: Option<&'a str>,
+    pub users: Vec<NamedUser>,
+    pub subtrees: Vec<&'a str>,
+}
+
+impl<'a> Explain<'a> {
+    /// What was given to the command.
+    fn from_matches(alloc: Global, matches: &ArgMatches<'a>) -> Result<Explain<'a>, ArgumentsFault>
+        ensures given { IfOk result (IsExplain (found_of matches.now)) }
+        ensures fault { IfErr result (λ fault. fault ≢ ArgumentsFault.NoMemory → (users_given (found_of matches.now) ≡ None)
+            ⊎ (words_at (found_of matches.now) (codes "uid") ≡ [])
+            ⊎ (words_at (found_of matches.now) (codes "subtree") ≡ [])) }
+    {
+        Ok(Explain {
+            tree: file_of(matches, "tree"),
+            users: users_of(alloc, given(matches, "uid")?)?,
+            subtrees: given(matches, "subtree")?.to_vec(alloc)?,
         })
     }
 }

@@ -4,7 +4,8 @@ use clap::error::ErrorKind;
 use clap::{ArgMatches, Error};
 use std::alloc::{AllocError, Global};
 
-const USERS: &str = "a user of audit is UID or UID:GID,GID.. in decimal digits, with no spaces:
+const USERS: &str =
+    "a user of audit or explain is UID or UID:GID,GID.. in decimal digits, with no spaces:
 `id -u NAME` prints a user's uid, `id -G NAME` the gids";
 
 const ONE_INPUT: &str =

@@ -201,7 +201,7 @@ fn raised(subtree: &Path, file: LimitFile, fits: bool, there: u64) -> Option<Men
 }
 
 /// The line of a guard that fails on an entry: the entry's owner, group and mode, and a class by which it is reached.
-fn fails_line(
+pub fn fails_line(
     alloc: Global,
     subtree: &Path,
     at: &GuardedEntry,
@@ -273,14 +273,14 @@ fn mend_line(alloc: Global, subtree: &Path, mend: &Mend) -> Result<Vec<u8>, NoMe
 }
 
 /// An owner and a group, in one word.
-fn owner_word(alloc: Global, uid: u32, gid: u32) -> Result<String, AllocError>
+pub fn owner_word(alloc: Global, uid: u32, gid: u32) -> Result<String, AllocError>
     ensures { IfOk result (λ word. string_bytes word ≡ owner_word uid gid) }
 {
     format!(in alloc; "{uid}:{gid}")
 }
 
 /// A mode in three octal digits.
-fn mode_word(alloc: Global, mode: u16) -> Result<String, AllocError>
+pub fn mode_word(alloc: Global, mode: u16) -> Result<String, AllocError>
     requires { mode ≤ 511 }
     ensures { IfOk result (λ word. string_bytes word ≡ mode_word mode) }
 {

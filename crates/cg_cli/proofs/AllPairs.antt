@@ -18,7 +18,7 @@ use Rattle.cg_model.specs.declared.fault.CheckFault.TheVariants.{RootSubtree, No
 use Rattle.cg_model.specs.Answers.{answer}
 use Rattle.cg_model.specs.Checks.{subtree_faults, unless_fault, checked}
 use Rattle.cg_check.specs.Checks.{takes_memory as check_takes, Gives}
-use Rattle.cg_model.specs.Listed.{Listed, listed_unless_contained, listed_of, listed}
+use Rattle.cg_model.specs.Listed.{Listed, listed_unless_contained, listed_of, listed, is_contained}
 use Rattle.cg_model.specs.declared.answer.Answer.{Answer}
 use Rattle.cg_model.specs.declared.answer.Answer.TheVariants.{Contained, Escapes, Unsettled}
 use Rattle.cg_check.proofs.Checking.{checked-answer}
@@ -161,7 +161,7 @@ passes_on pairs rest next old new worst worse of_rest of_worst far =
 
 -- ---- one pair
 
-module _ (st : State) (user : Identity) (subtree : Names) where
+module _ (user : Identity) (subtree : Names) where
   abbrev here : Answer → List Listed
   here found = listed_unless_contained user subtree found
 
@@ -176,7 +176,22 @@ module _ (st : State) (user : Identity) (subtree : Names) where
   one_text (Escapes ops) other = append-nil _
   one_text (Unsettled failed) other = append-nil _
 
-  module _ (faultless : first (subtree_faults st subtree) ≡ None) where
+  one_listed : (found : Answer) → is_contained found ≡ false → found ≢ Contained
+  one_listed found listed same = let never : true ≡ false = ap is_contained (sym same) ∙ listed in cc
+
+  pub one_written : (found : Answer) (old new : Option (List ℕ)) (text : List ℕ) (status : ℕ) → is_contained found ≡ false
+      → text ≡ pair_text (record { user = user; subtree = subtree; found = found }) → status ≡ answer_status found → Appends old new text
+      → WritesPairs (here found) old new (Ok status)
+  one_written found old new text status listed is status_is written =
+      (one_status found ∙ sym status_is, subst (Appends old new) (is ∙ sym (one_text found (one_listed found listed))) written)
+
+  pub one_part : (found : Answer) (old new : Option (List ℕ)) (text : List ℕ) → is_contained found ≡ false
+      → text ≡ pair_text (record { user = user; subtree = subtree; found = found }) → AppendsPart old new text
+      → WritesPairs (here found) old new (Err Write)
+  one_part found old new text listed is part =
+      subst (AppendsPart old new) (is ∙ sym (one_text found (one_listed found listed))) part
+
+  module _ (st : State) (faultless : first (subtree_faults st subtree) ≡ None) where
     is_answer : (found : Answer) → Gives check_takes (checked st user subtree) (Ok found) → answer st user subtree ≡ found
     is_answer found gives = same_Ok (sym (checked-answer st user subtree (sym faultless)) ∙ gives)
       where
@@ -221,6 +236,50 @@ pub fault_said : (fault : CliFault) (known : Option (List ℕ)) → ReportsPairs
 fault_said NoMemory known = (refl, Keeps-refl known)
 fault_said fault known = (refl, Keeps-refl known)
 
+-- of some pairs, what their report is where they are written
+module _ (pairs : List Listed) where
+  listed_text : pairs_status pairs ≢ 0 → pairs_text pairs ≡ listing_text pairs
+  listed_text other = by_pairs pairs other
+    where
+      by_pairs : (all : List Listed) → pairs_status all ≢ 0 → pairs_text all ≡ listing_text all
+      by_pairs [] other = absurd (other refl)
+      by_pairs (pair ∷ all) other = refl
+
+  part_text : (all : List Listed) (old new : Option (List ℕ)) → AppendsPart old new (pairs_text all)
+      → AppendsPart old new (listing_text all)
+  part_text [] old new part = absurd (omega (arith, part.1))
+  part_text (pair ∷ all) old new part = part
+
+  pub stop_reports : (fault : CliFault) (old new : Option (List ℕ)) → WritesPairs pairs old new (Err fault)
+      → ReportsPairs (Ok pairs) old new (Err fault)
+  stop_reports Write old new part = part_text pairs old new part
+  stop_reports NoMemory old new left = left
+  stop_reports fault old new never = absurd never
+
+  pub pairs_report : (status : ℕ) (old new : Option (List ℕ)) → WritesPairs pairs old new (Ok status) → status ≢ 0
+      → ReportsPairs (Ok pairs) old new (Ok status)
+  pairs_report status old new written other =
+      (written.0, subst (Appends old new) (listed_text (λ zero. other (sym written.0 ∙ zero))) written.1)
+
+  none_listed : (status : ℕ) (old mid : Option (List ℕ)) → WritesPairs pairs old mid (Ok status) → status ≡ 0 → pairs ≡ []
+  none_listed status old mid written zero = no_status pairs (written.0 ∙ zero)
+
+  pub contained_reports : (status : ℕ) (old mid new : Option (List ℕ)) → WritesPairs pairs old mid (Ok status) → status ≡ 0
+      → Appends mid new (listing_text []) → ReportsPairs (Ok pairs) old new (Ok status)
+  contained_reports status old mid new written zero text =
+      let empty = none_listed status old mid written zero in (
+        written.0,
+        subst (λ l. Appends old new (listing_text l)) (sym empty)
+            (Appends-trans old mid new [] (listing_text []) (subst (λ l. Appends old mid (pairs_text l)) empty written.1) text),
+      )
+
+  pub contained_part : (status : ℕ) (old mid new : Option (List ℕ)) → WritesPairs pairs old mid (Ok status) → status ≡ 0
+      → AppendsPart mid new (listing_text []) → ReportsPairs (Ok pairs) old new (Err Write)
+  contained_part status old mid new written zero part =
+      let empty = none_listed status old mid written zero in
+      subst (λ l. AppendsPart old new (listing_text l)) (sym empty)
+      (part_behind old mid new [] (listing_text []) (subst (λ l. Appends old mid (pairs_text l)) empty written.1) part)
+
 module _ (st : State) (users : List Identity) (subtrees : List Names) where
   pub subtree_said : (fault : CheckFault) (known : Option (List ℕ)) → Some fault ≡ first (flat_map (subtree_faults st) subtrees)
       → ReportsPairs (pairs_found st users subtrees) known known (Err (lifted_check fault))
@@ -236,50 +295,23 @@ module _ (st : State) (users : List Identity) (subtrees : List Names) where
         → ReportsPairs (pairs_found st users subtrees) old new result
     by_pairs old new result = subst (λ o. ReportsPairs (in_call (unless_fault o pairs)) old new result) none
 
-    listed_text : (all : List Listed) → pairs_status all ≢ 0 → pairs_text all ≡ listing_text all
-    listed_text [] other = absurd (other refl)
-    listed_text (pair ∷ all) other = refl
-
-    part_text : (all : List Listed) (old new : Option (List ℕ)) → AppendsPart old new (pairs_text all)
-        → AppendsPart old new (listing_text all)
-    part_text [] old new part = absurd (omega (arith, part.1))
-    part_text (pair ∷ all) old new part = part
-
     pub stop_said : (fault : CliFault) (old new : Option (List ℕ)) → WritesPairs pairs old new (Err fault)
         → ReportsPairs (pairs_found st users subtrees) old new (Err fault)
-    stop_said fault old new written = by_pairs old new (Err fault) (by_fault fault written)
-      where
-        by_fault : (fault : CliFault) → WritesPairs pairs old new (Err fault) → ReportsPairs (Ok pairs) old new (Err fault)
-        by_fault Write part = part_text pairs old new part
-        by_fault NoMemory left = left
-        by_fault fault never = absurd never
+    stop_said fault old new written = by_pairs old new (Err fault) (stop_reports pairs fault old new written)
 
     pub listing_said : (status : ℕ) (old new : Option (List ℕ)) → WritesPairs pairs old new (Ok status) → status ≢ 0
         → ReportsPairs (pairs_found st users subtrees) old new (Ok status)
-    listing_said status old new written other =
-        by_pairs old new (Ok status)
-        (written.0, subst (Appends old new) (listed_text pairs (λ zero. other (sym written.0 ∙ zero))) written.1)
-
-    none_listed : (status : ℕ) (old mid : Option (List ℕ)) → WritesPairs pairs old mid (Ok status) → status ≡ 0 → pairs ≡ []
-    none_listed status old mid written zero = no_status pairs (written.0 ∙ zero)
+    listing_said status old new written other = by_pairs old new (Ok status) (pairs_report pairs status old new written other)
 
     pub contained_said : (status : ℕ) (old mid new : Option (List ℕ)) → WritesPairs pairs old mid (Ok status) → status ≡ 0
         → Appends mid new (listing_text []) → ReportsPairs (pairs_found st users subtrees) old new (Ok status)
     contained_said status old mid new written zero text =
-        let empty = none_listed status old mid written zero in
-        by_pairs old new (Ok status) (
-          written.0,
-          subst (λ l. Appends old new (listing_text l)) (sym empty)
-              (Appends-trans old mid new [] (listing_text []) (subst (λ l. Appends old mid (pairs_text l)) empty written.1) text),
-        )
+        by_pairs old new (Ok status) (contained_reports pairs status old mid new written zero text)
 
     pub contained_stops : (status : ℕ) (old mid new : Option (List ℕ)) → WritesPairs pairs old mid (Ok status) → status ≡ 0
         → AppendsPart mid new (listing_text []) → ReportsPairs (pairs_found st users subtrees) old new (Err Write)
     contained_stops status old mid new written zero part =
-        let empty = none_listed status old mid written zero in
-        by_pairs old new (Err Write)
-        (subst (λ l. AppendsPart old new (listing_text l)) (sym empty)
-        (part_behind old mid new [] (listing_text []) (subst (λ l. Appends old mid (pairs_text l)) empty written.1) part))
+        by_pairs old new (Err Write) (contained_part pairs status old mid new written zero part)
 
 -- ---- what is read before
 

@@ -15,10 +15,10 @@ use Rattle.cg_model.specs.Checks.{subtree_faults, unless_fault}
 use Rattle.cg_model.specs.WellFormed.{IsWellFormed}
 use Rattle.cg_model.specs.declared.fault.CheckFault.{CheckFault}
 use Rattle.cg_model.proofs.Lists.{all-each}
-use Rattle.cg_settle.specs.SecondRow.{SecondRowHolds}
-use Rattle.cg_settle.specs.Judged.{second_row}
-use Rattle.cg_settle.proofs.Judged.{judged}
-use Rattle.cg_settle.proofs.Runs.{are_settled}
+use Rattle.cg_second.specs.SecondRow.{SecondRowHolds}
+use Rattle.cg_second.specs.Judged.{second_row}
+use Rattle.cg_second.proofs.Judged.{judged}
+use Rattle.cg_second.proofs.Runs.{are_settled}
 use Rattle.cg_check.proofs.Checking.{no_fault}
 use Rattle.cg_check.proofs.Pairs.{none-element}
 use Rattle.cg_advice.specs.AdviceLines.{advice_lines}

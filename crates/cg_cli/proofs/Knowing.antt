@@ -9,19 +9,21 @@ use Rattle.cg_cgroup.specs.Identity.{Identity}
 use Rattle.cg_model.specs.States.{State}
 use Rattle.cg_model.specs.WellFormed.{IsWellFormed}
 use Rattle.cg_model.specs.Guards.{IsSubtree}
+use Rattle.cg_model.specs.Held.{IsContained}
 use Rattle.cg_model.specs.Strangers.{GuardsHoldForAll}
 use Rattle.cg_model.specs.Answers.{answer}
 use Rattle.cg_model.specs.Listed.{is_contained}
 use Rattle.cg_model.specs.declared.answer.Answer.{Answer}
 use Rattle.cg_model.specs.declared.answer.Answer.TheVariants.{Contained, Escapes, Unsettled}
-use Rattle.cg_settle.specs.SecondRow.{SecondRowHolds, AreSettled}
-use Rattle.cg_settle.specs.Judged.{second_row}
-use Rattle.cg_settle.proofs.Judged.{judged}
-use Rattle.cg_settle.proofs.Cases.{second-guarded, second-fewer}
-use Rattle.cg_settle.proofs.Runs.{are_settled}
+use Rattle.cg_second.specs.SecondRow.{SecondRowHolds, AreSettled}
+use Rattle.cg_second.specs.Judged.{second_row}
+use Rattle.cg_second.proofs.Judged.{judged}
+use Rattle.cg_second.proofs.Cases.{second-guarded, second-fewer}
+use Rattle.cg_second.proofs.Runs.{are_settled, contained-settled}
 use Rattle.cg_laws.proofs.Steps.{sound-formed}
 use Rattle.cg_check.proofs.Checking.{answer-guarded}
-use Rattle.cg_cli.specs.Audited.{picked, has_list, without_list, not_listed, IsKnownFrom, AreKnown, AreKnownWithEach, UnlistedAreSettled}
+use Rattle.cg_cli.specs.Audited.{has_list, without_list, IsKnownFrom, AreKnown, AreKnownWithEach, UnlistedAreSettled}
+use Rattle.cg_cli.specs.FurtherPairs.{picked, not_listed}
 use Rattle.cg_cli.specs.FoundPlaces.{IsAlone, is_unsettled}
 use Rattle.cg_cli.proofs.FoundPlaces.{kept}
 
@@ -241,6 +243,25 @@ module _ (st : State) (users : List Identity) (subtree : Names) (found : ℕ →
   row_holds some true holds =
       second-fewer st (without_list found users) rest among_others subtree ((judged st (without_list found users) subtree).1 holds)
   row_holds some false fails = second-guarded st rest subtree (sound-formed st formed) is (guards fails) some
+
+  -- one against whom no list is known is contained where the second row holds
+  one_among : (place : ℕ) (d : Identity) → place < length users → has_list (found place) ≡ false
+      → (user : Identity) → Contains (get_or users place d ∷ []) user → Contains (without_list found users) user
+  one_among place d within none user among = at_first among.0 among.1 among.2
+    where
+      at_first : (k : ℕ) → k < length (get_or users place d ∷ []) → get_or (get_or users place d ∷ []) k user ≡ user
+          → Contains (without_list found users) user
+      at_first zero low same =
+          at_picked (λ at. not (has_list (found at))) users place user within (get_or_default users place user d within ∙ same)
+          (ap not none)
+      at_first (suc k) low same = let never : ⊥ = omega (arith, low) in absurd never
+
+  pub one-contained : (place : ℕ) (d : Identity) → place < length users → has_list (found place) ≡ false
+      → second_row st (without_list found users) subtree ≡ true → IsContained st (get_or users place d) subtree
+  one-contained place d within none holds =
+      contained-settled st (get_or users place d) subtree formed is
+      (second-fewer st (without_list found users) (get_or users place d ∷ []) (one_among place d within none) subtree
+      ((judged st (without_list found users) subtree).1 holds))
 
   pub unlisted-settled : rest ≢ [] → AreSettled st rest (subtree ∷ [])
   unlisted-settled some =

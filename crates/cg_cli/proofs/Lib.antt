@@ -17,6 +17,10 @@ mod NamedReads
 mod AuditReports
 mod Once
 mod AllPairs
+mod Explaining
+mod SettledPairs
+mod FurtherPairs
+mod FirstPairs
 mod Closings
 mod ReplayCalls
 mod UpgradeReports

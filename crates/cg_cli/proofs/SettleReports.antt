@@ -14,7 +14,7 @@ use Rattle.cg_model.specs.declared.fault.CheckFault.{CheckFault}
 use Rattle.cg_model.specs.declared.fault.CheckFault.TheVariants.{RootSubtree, NoSuchSubtree, NoMemory}
 use Rattle.cg_model.specs.declared.verdict.Verdict.TheVariants.{Kept, Broken}
 use Rattle.cg_check.proofs.Checking.{no_fault}
-use Rattle.cg_settle.specs.Judged.{second_row}
+use Rattle.cg_second.specs.Judged.{second_row}
 use Rattle.cg_cli.specs.Settled.{IsSettledSo, IsSettledFrom, IsSettled, IsSettledFault}
 use Rattle.cg_cli.proofs.Settled.{contained-row}
 use Rattle.cg_report.specs.AnswerLines.{IsShown}

@@ -11,9 +11,9 @@ use Rattle.cg_model.specs.Answers.{answer}
 use Rattle.cg_model.specs.Held.{IsContained}
 use Rattle.cg_model.specs.declared.answer.Answer.{Answer}
 use Rattle.cg_model.specs.declared.fault.CheckFault.{CheckFault}
-use Rattle.cg_settle.specs.Judged.{second_row}
-use Rattle.cg_settle.proofs.Judged.{judged}
-use Rattle.cg_settle.proofs.Runs.{contained-settled}
+use Rattle.cg_second.specs.Judged.{second_row}
+use Rattle.cg_second.proofs.Judged.{judged}
+use Rattle.cg_second.proofs.Runs.{contained-settled}
 use Rattle.cg_cli.specs.Settled.{IsSettled, IsSettledFrom}
 
 module _ (st : State) (user : Identity) (subtree : Names) where

@@ -1,22 +1,17 @@
 -- How an answer is found: nobody has to believe it.
 -- What is known of several users with a subtree, by their places: where check finds no list one may be planned, and those
 -- against whom there is none are asked together.
-use Rattle.std.specs.Prelude.{◌≡◌, ◌≢◌, ℕ, suc, ◌<◌, Bool, true, false, not, cond, List, [], ◌∷◌, ◌++◌, length, get_or}
+use Rattle.std.specs.Prelude.{◌≡◌, ◌≢◌, ℕ, ◌<◌, Bool, true, false, not, List, [], ◌∷◌, length, get_or}
 use Rattle.cg_cgroup.specs.Paths.{Names}
 use Rattle.cg_cgroup.specs.Identity.{Identity}
 use Rattle.cg_model.specs.States.{State}
 use Rattle.cg_model.specs.Answers.{answer}
-use Rattle.cg_model.specs.Listed.{Listed, listed_unless_contained, is_contained}
 use Rattle.cg_model.specs.declared.answer.Answer.{Answer}
 use Rattle.cg_model.specs.declared.answer.Answer.TheVariants.{Contained, Escapes, Unsettled}
-use Rattle.cg_settle.specs.Judged.{second_row}
-use Rattle.cg_settle.specs.SecondRow.{AreSettled}
+use Rattle.cg_second.specs.Judged.{second_row}
+use Rattle.cg_second.specs.SecondRow.{AreSettled}
 use Rattle.cg_plans.specs.Breaking.{Breaks}
-
--- those of a list, from a place on, whose places pass a test
-abbrev pub picked : {A : Type 0} → (ℕ → Bool) → ℕ → List A → List A
-picked test place [] = []
-picked test place (x ∷ xs) = cond (test place) (x ∷ picked test (suc place) xs) (picked test (suc place) xs)
+use Rattle.cg_cli.specs.FurtherPairs.{picked, not_listed}
 
 abbrev pub has_list : Answer → Bool
 has_list Contained = false
@@ -26,10 +21,6 @@ has_list (Unsettled failed) = false
 -- the users against whom no list is known
 abbrev pub without_list : (ℕ → Answer) → List Identity → List Identity
 without_list found users = picked (λ place. not (has_list (found place))) 0 users
-
--- the users with whom the subtree isn't listed
-abbrev pub not_listed : (ℕ → Answer) → List Identity → List Identity
-not_listed found users = picked (λ place. is_contained (found place)) 0 users
 
 -- What is known of a user, from what check answers: a list where it has one; else a list that is planned and breaks the subtree,
 -- or contained where the second row holds for all against whom no list is known, and else the guard that fails.
@@ -51,18 +42,6 @@ AreKnown st users subtree found =
 abbrev pub AreKnownWithEach : State → List Identity → List Names → (ℕ → ℕ → Answer) → Type 0
 AreKnownWithEach st users subtrees found =
     (place : ℕ) (d : Names) → place < length subtrees → AreKnown st users (get_or subtrees place d) (λ user. found user place)
-
--- the pairs of one user that are listed, from a place of the subtrees on
-abbrev pub listed_with : (ℕ → Answer) → Identity → ℕ → List Names → List Listed
-listed_with found user place [] = []
-listed_with found user place (subtree ∷ subtrees) =
-    listed_unless_contained user subtree (found place) ++ listed_with found user (suc place) subtrees
-
--- those of the users from a place on, by user and then subtree
-abbrev pub listed_from : (ℕ → ℕ → Answer) → ℕ → List Identity → List Names → List Listed
-listed_from found place [] subtrees = []
-listed_from found place (user ∷ users) subtrees =
-    listed_with (found place) user 0 subtrees ++ listed_from found (suc place) users subtrees
 
 -- Each subtree is held against those with whom it isn't listed, all of them together, where there are such.
 abbrev pub UnlistedAreSettled : State → List Identity → List Names → (ℕ → ℕ → Answer) → Type 0

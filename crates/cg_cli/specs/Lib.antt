@@ -18,4 +18,8 @@ pub mod Asking
 pub mod Advising
 pub mod SettledAdvice
 pub mod FurtherAdvice
+pub mod FurtherPairs
 pub mod Pairs
+pub mod Explaining
+pub mod SettledPairs
+pub mod SettledRows

@@ -12,7 +12,7 @@ use Rattle.cg_model.specs.declared.answer.Answer.TheVariants.{Contained, Escapes
 use Rattle.cg_model.specs.declared.fault.CheckFault.{CheckFault}
 use Rattle.cg_model.specs.declared.fault.CheckFault.TheVariants.{NoMemory}
 use Rattle.cg_model.specs.declared.guard.Failed.{Failed}
-use Rattle.cg_settle.specs.Judged.{second_row}
+use Rattle.cg_second.specs.Judged.{second_row}
 use Rattle.cg_plans.specs.Breaking.{Breaks}
 
 -- Where a guard fails and no try breaks the subtree: contained exactly where the second row holds, else a list that breaks it, or the guard.

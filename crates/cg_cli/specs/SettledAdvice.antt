@@ -9,7 +9,7 @@ use Rattle.cg_model.specs.Clauses.{first}
 use Rattle.cg_model.specs.Once.{once}
 use Rattle.cg_model.specs.Checks.{subtree_faults, unless_fault}
 use Rattle.cg_model.specs.declared.fault.CheckFault.{CheckFault}
-use Rattle.cg_settle.specs.Judged.{second_row}
+use Rattle.cg_second.specs.Judged.{second_row}
 use Rattle.cg_advice.specs.AdviceLines.{advice_lines}
 use Rattle.cg_format.specs.Readings.{Reading}
 use Rattle.cg_cli.specs.Advising.{lines_report, all_pairs, named_report}

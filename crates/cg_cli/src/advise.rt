@@ -123,7 +123,7 @@ pub(crate) fn advice<H: Hierarchy>(
 }
 
 /// Every user with every subtree.
-fn all_pairs<'a>(
+pub(crate) fn all_pairs<'a>(
     alloc: Global,
     users: &'a [User],
     subtrees: &'a [Path],

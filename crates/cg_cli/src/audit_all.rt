@@ -139,7 +139,7 @@ fn write_pair<H: Hierarchy + Drop, W: Write>(
 }
 
 /// The worse of two statuses: 1 before 2, and 2 before 0.
-fn worse(status: u8, other: u8) -> u8
+pub(crate) fn worse(status: u8, other: u8) -> u8
     ensures { result ≡ worse status other }
 {
     if status == 1 || other == 0 {

@@ -9,14 +9,14 @@ use Rattle.cg_cgroup.specs.declared.files.Controller.TheVariants.{Cpu, Memory, P
 use Rattle.cg_model.specs.States.{State, paths_of}
 use Rattle.cg_model.specs.WellFormed.{IsWellFormed}
 use Rattle.cg_model.specs.Limits.{fits_descendants, fits_depth}
-use Rattle.cg_settle.specs.Greatest.{greatest}
-use Rattle.cg_settle.specs.Judged.{takes_none, grows_none, is_closed_to, second_row}
+use Rattle.cg_second.specs.Greatest.{greatest}
+use Rattle.cg_second.specs.Judged.{takes_none, grows_none, is_closed_to, second_row}
 use Rattle.cg_second.specs.Anchors.{is_anchored}
 use Rattle.cg_second.specs.Exposed.{is_off_to, is_exposed, is_shut_or_apart}
 use Rattle.cg_second.proofs.Staying.{off-above}
 use Rattle.cg_second.proofs.Edges.{closed-is}
 use Rattle.cg_cgroup.specs.declared.files.EntryName.TheVariants.{Dir, Procs}
-use Rattle.cg_settle.specs.Lasting.{is_reached}
+use Rattle.cg_second.specs.Lasting.{is_reached}
 use Rattle.cg_explain.specs.declared.second.Staying.TheVariants.{Spared as SparedStaying, Upheld}
 use Rattle.cg_explain.specs.declared.second.Switch.TheVariants.{On, Off}
 use Rattle.cg_explain.specs.declared.second.Taking.TheVariants.{Spared as SparedTaking, Enabling}

@@ -1,3 +1,5 @@
 pub mod FirstRow
 pub mod Counted
 pub mod SecondRow
+pub mod ExplainLines
+pub mod PairExplained

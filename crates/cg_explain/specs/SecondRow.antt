@@ -8,9 +8,9 @@ use Rattle.cg_cgroup.specs.Files.{all_controllers, all_files}
 use Rattle.cg_cgroup.specs.declared.files.Controller.{Controller}
 use Rattle.cg_cgroup.specs.declared.files.EntryName.TheVariants.{Dir, Procs, File}
 use Rattle.cg_model.specs.States.{State, paths_of}
-use Rattle.cg_settle.specs.Lasting.{is_reached}
-use Rattle.cg_settle.specs.Greatest.{greatest}
-use Rattle.cg_settle.specs.Judged.{takes_none, grows_none}
+use Rattle.cg_second.specs.Lasting.{is_reached}
+use Rattle.cg_second.specs.Greatest.{greatest}
+use Rattle.cg_second.specs.Judged.{takes_none, grows_none}
 use Rattle.cg_second.specs.Anchors.{is_anchored}
 use Rattle.cg_second.specs.Exposed.{is_off_to, is_exposed}
 use Rattle.cg_explain.specs.declared.second.Staying.{Staying}

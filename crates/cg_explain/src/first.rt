@@ -1,5 +1,7 @@
 //! The entries on which the guards of a subtree stand, and by what a user reaches them.
 ghost use Rattle.std.specs.Prelude.{◌≡◌, false, IfOk};
+ghost use Rattle.std.specs.List.{All};
+ghost use Rattle.cg_advice.specs.AdviceLines.{IsShown};
 ghost use Rattle.cg_cgroup.specs.Paths.{is_root};
 ghost use Rattle.cg_explain.specs.FirstRow.{class_of, first_row};
 
@@ -27,7 +29,8 @@ pub fn first_row<H: Hierarchy>(
     subtree: &Path,
 ) -> Result<Vec<Told>, NoMemory>
     requires { is_root subtree.now ≡ false }
-    ensures { IfOk result (λ row. row.items ≡ first_row (H.state tree.now) user.now subtree.now) }
+    ensures row { IfOk result (λ row. row.items ≡ first_row (H.state tree.now) user.now subtree.now) }
+    ensures shown { IfOk result (λ row. All (λ told. IsShown subtree.now told.at) row.items) }
 {
     let mut row = Vec::new(alloc);
     for place in 0..guarded_count(subtree) {

@@ -7,7 +7,7 @@ ghost use Rattle.cg_cgroup.specs.declared.cgroup.Cgroup.{Cgroup};
 ghost use Rattle.cg_model.specs.States.{State, row_at};
 ghost use Rattle.cg_model.specs.WellFormed.{IsWellFormed};
 ghost use Rattle.cg_model.specs.Guards.{GuardsHold, IsSubtree};
-ghost use Rattle.cg_settle.specs.Judged.{second_row};
+ghost use Rattle.cg_second.specs.Judged.{second_row};
 ghost use Rattle.cg_explain.specs.FirstRow.{first_row};
 ghost use Rattle.cg_explain.specs.Counted.{counts_of, are_within};
 ghost use Rattle.cg_explain.specs.SecondRow.{second_row_asked, is_met};

@@ -5,4 +5,6 @@
 pub mod counted;
 pub mod first;
 pub mod laws;
+pub mod pair;
 pub mod second;
+pub mod text;

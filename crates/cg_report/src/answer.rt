@@ -46,7 +46,8 @@ fn push_lines(alloc: Global, text: &mut Vec<u8>, ops: &[Op]) -> Result<(), NoMem
     Ok(())
 }
 
-fn failed_text(alloc: Global, subtree: &Path, failed: &Failed) -> Result<String, AllocError>
+/// A guard that fails, and the cgroup at which it does; and the limit file, where it is one's.
+pub fn failed_text(alloc: Global, subtree: &Path, failed: &Failed) -> Result<String, AllocError>
     requires { failed.now.len ≤ length subtree.now }
     ensures { IfOk result (λ text. string_bytes text ≡ failed_text subtree.now failed.now) }
 {

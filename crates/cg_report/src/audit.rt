@@ -1,17 +1,18 @@
 //! The lines of the answer for several users and several subtrees.
-ghost use Rattle.std.specs.Prelude.{◌≡◌, ℕ, List, Ok, IfOk, string_bytes};
+ghost use Rattle.std.specs.Prelude.{◌≡◌, ◌++◌, ℕ, List, Ok, IfOk, string_bytes};
 ghost use Rattle.cg_cgroup.specs.Identity.{Identity};
 ghost use Rattle.cg_cgroup.specs.Paths.{Names};
 ghost use Rattle.cg_model.specs.States.{State};
 ghost use Rattle.cg_model.specs.Checks.{all_checked};
 ghost use Rattle.cg_model.specs.declared.answer.AllAnswer.{AllAnswer};
+ghost use Rattle.cg_report.specs.AnswerLines.{answer_text, IsShown};
 ghost use Rattle.cg_report.specs.AuditLines.{audit_text, pair_line, IsPairShown};
 
 use crate::answer::answer_text;
 use cg_cgroup::memory::NoMemory;
 use cg_cgroup::path::Path;
 use cg_cgroup::user::User;
-use cg_model::answer::AllAnswer;
+use cg_model::answer::{AllAnswer, Answer};
 use std::alloc::{AllocError, Global};
 
 /// The lines of the answer for users and subtrees, each with its newline: `contained`, or the line of the first pair that
@@ -31,14 +32,24 @@ pub fn audit_text(
             user,
             subtree,
             answer,
-        } => {
-            let subtree = &subtrees[*subtree];
-            let mut text = pair_line(alloc, users[*user].uid(), subtree)?.into_bytes();
-            let lines = answer_text(alloc, subtree, answer)?;
-            text.extend_from_slice(lines.as_slice())?;
-            Ok(text)
-        }
+        } => uid_pair_text(alloc, &users[*user], &subtrees[*subtree], answer),
     }
+}
+
+/// The line of a pair that names the uid alone, and then those of its answer, each with its newline. Fails where memory is wanted.
+pub fn uid_pair_text(
+    alloc: Global,
+    user: &User,
+    subtree: &Path,
+    answer: &Answer,
+) -> Result<Vec<u8>, NoMemory>
+    requires { IsShown subtree.now answer.now }
+    ensures { IfOk result (λ text. text.items ≡ pair_line user.now.uid subtree.now ++ answer_text subtree.now answer.now) }
+{
+    let mut text = pair_line(alloc, user.uid(), subtree)?.into_bytes();
+    let lines = answer_text(alloc, subtree, answer)?;
+    text.extend_from_slice(lines.as_slice())?;
+    Ok(text)
 }
 
 /// The line that names a pair.

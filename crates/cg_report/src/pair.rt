@@ -28,7 +28,7 @@ pub fn pair_text(
 }
 
 /// The line that names a pair by its user and its subtree.
-fn user_line(alloc: Global, user: &User, subtree: &Path) -> Result<String, AllocError>
+pub fn user_line(alloc: Global, user: &User, subtree: &Path) -> Result<String, AllocError>
     ensures { IfOk result (λ line. string_bytes line ≡ user_line user.now subtree.now) }
 {
     let who = user_text(alloc, user)?;

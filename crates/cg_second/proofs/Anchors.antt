@@ -14,9 +14,9 @@ use Rattle.cg_model.specs.WellFormed.{IsWellFormed, has_row, enabled_at, availab
 use Rattle.cg_model.proofs.Prefixes.{no_root_of_length}
 use Rattle.cg_model.proofs.FormedParts.{enabled_at-row}
 use Rattle.cg_laws.proofs.Sound.{sound-formed, take-there}
-use Rattle.cg_settle.specs.Lasting.{Lasting, IsLasting, IsNeverRemoved, IsNeverDisabled}
-use Rattle.cg_settle.specs.Greatest.{any_child, stays_within, on_within, levels_from, greatest}
-use Rattle.cg_settle.proofs.Greatest.{row-any, any-row, child_found, stays-greatest, on-greatest}
+use Rattle.cg_second.specs.Lasting.{Lasting, IsLasting, IsNeverRemoved, IsNeverDisabled}
+use Rattle.cg_second.specs.Greatest.{any_child, stays_within, on_within, levels_from, greatest}
+use Rattle.cg_second.proofs.Greatest.{row-any, any-row, child_found, stays-greatest, on-greatest}
 use Rattle.cg_second.specs.Anchors.{is_anchored, any_below, is_upheld, is_fixed, is_upheld_on}
 
 pub same_bool : (a b : Bool) → (a ≡ true → b ≡ true) → (b ≡ true → a ≡ true) → a ≡ b

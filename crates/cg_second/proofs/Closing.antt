@@ -9,8 +9,8 @@ use Rattle.cg_cgroup.specs.Paths.{Names, below}
 use Rattle.cg_cgroup.specs.Identity.{Identity}
 use Rattle.cg_cgroup.specs.declared.files.LimitFile.TheVariants.{MaxDepth}
 use Rattle.cg_model.specs.States.{State, paths_of, count_below}
-use Rattle.cg_settle.specs.Greatest.{greatest}
-use Rattle.cg_settle.specs.Judged.{is_full_to}
+use Rattle.cg_second.specs.Greatest.{greatest}
+use Rattle.cg_second.specs.Judged.{is_full_to}
 use Rattle.cg_second.specs.Counts.{IsSurvey}
 use Rattle.cg_second.specs.Exposed.{is_crowded, is_deep_to}
 use Rattle.cg_second.specs.Room.{fixed_limit, level_under, least_level, AreLeast, IsRoom}

@@ -9,9 +9,9 @@ use Rattle.cg_cgroup.proofs.PathParents.{inside-take, inside-is}
 use Rattle.cg_model.specs.States.{State, paths_of}
 use Rattle.cg_model.specs.WellFormed.{IsWellFormed, has_row}
 use Rattle.cg_laws.proofs.Sound.{sound-formed, take-there}
-use Rattle.cg_settle.specs.Greatest.{greatest}
-use Rattle.cg_settle.specs.Judged.{is_full_by, is_full_to}
-use Rattle.cg_settle.proofs.Greatest.{row-any}
+use Rattle.cg_second.specs.Greatest.{greatest}
+use Rattle.cg_second.specs.Judged.{is_full_by, is_full_to}
+use Rattle.cg_second.proofs.Greatest.{row-any}
 use Rattle.cg_second.specs.Exposed.{is_crowded, is_deep_to}
 use Rattle.cg_second.proofs.Anchors.{same_bool}
 use Rattle.cg_second.proofs.Ranges.{not-below-later, below-itself}

@@ -8,9 +8,9 @@ use Rattle.cg_cgroup.specs.declared.files.EntryName.TheVariants.{Procs}
 use Rattle.cg_cgroup.proofs.PathOrder.{same_path-is, same_path_refl}
 use Rattle.cg_cgroup.proofs.PathLaws.{common-inside_second, common-take_first}
 use Rattle.cg_model.specs.States.{State, paths_of}
-use Rattle.cg_settle.specs.Lasting.{is_reached}
-use Rattle.cg_settle.specs.Greatest.{greatest}
-use Rattle.cg_settle.specs.Judged.{is_closed_at, is_closed_to, takes_none, grows_none}
+use Rattle.cg_second.specs.Lasting.{is_reached}
+use Rattle.cg_second.specs.Greatest.{greatest}
+use Rattle.cg_second.specs.Judged.{is_closed_at, is_closed_to, takes_none, grows_none}
 use Rattle.cg_second.specs.Exposed.{is_passed_to, is_exposed, is_shut_or_apart}
 use Rattle.cg_second.proofs.Anchors.{same_bool}
 use Rattle.std.proofs.Common.{take_all}

@@ -14,8 +14,8 @@ use Rattle.cg_cgroup.proofs.PathParents.{inside-take, inside-is}
 use Rattle.cg_model.specs.States.{State, paths_of, value_at, count_below}
 use Rattle.cg_model.specs.WellFormed.{IsWellFormed}
 use Rattle.cg_laws.proofs.Sound.{sound-formed, take-there}
-use Rattle.cg_settle.specs.Lasting.{is_reached}
-use Rattle.cg_settle.specs.Judged.{is_at_most, is_bound}
+use Rattle.cg_second.specs.Lasting.{is_reached}
+use Rattle.cg_second.specs.Judged.{is_at_most, is_bound}
 use Rattle.cg_second.specs.Exposed.{is_deep_to}
 use Rattle.cg_second.specs.Room.{number_unless, fixed_limit, level_under, least_level, AreLeast}
 use Rattle.cg_second.proofs.Ranges.{below-until, row-at}

@@ -1,3 +1,15 @@
+pub mod Reached
+pub mod Asked
+pub mod Lasts
+pub mod Rooms
+pub mod Sides
+pub mod Full
+pub mod HeldFast
+pub mod Others
+pub mod Runs
+pub mod Cases
+pub mod Greatest
+pub mod Judged
 pub mod Anchors
 pub mod Ranges
 pub mod Tallies

@@ -18,7 +18,7 @@ use Rattle.cg_model.specs.States.{State, paths_of, count_below}
 use Rattle.cg_model.specs.WellFormed.{has_row}
 use Rattle.cg_model.proofs.MapFolds.{gathered}
 use Rattle.cg_model.proofs.StateCounts.{one_more}
-use Rattle.cg_settle.proofs.Greatest.{any-row}
+use Rattle.cg_second.proofs.Greatest.{any-row}
 use Rattle.cg_second.specs.Anchors.{any_below}
 
 -- ---- counts from the front

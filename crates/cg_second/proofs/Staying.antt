@@ -16,10 +16,10 @@ use Rattle.cg_cgroup.proofs.PathParents.{inside-is, length-parent}
 use Rattle.cg_model.specs.States.{State, paths_of, count_below}
 use Rattle.cg_model.specs.WellFormed.{IsWellFormed, has_row, enabled_at}
 use Rattle.cg_laws.proofs.Sound.{sound-formed, take-there}
-use Rattle.cg_settle.specs.Lasting.{is_reached}
-use Rattle.cg_settle.specs.Greatest.{greatest, off_to}
-use Rattle.cg_settle.specs.Judged.{takes_none}
-use Rattle.cg_settle.proofs.Greatest.{row-any, any-row}
+use Rattle.cg_second.specs.Lasting.{is_reached}
+use Rattle.cg_second.specs.Greatest.{greatest, off_to}
+use Rattle.cg_second.specs.Judged.{takes_none}
+use Rattle.cg_second.proofs.Greatest.{row-any, any-row}
 use Rattle.cg_second.specs.Anchors.{is_anchored, any_below, is_upheld, is_fixed, is_upheld_on}
 use Rattle.cg_second.specs.Counts.{AreCounts, AreEnds, IsSurvey}
 use Rattle.cg_second.specs.Exposed.{is_off_to}

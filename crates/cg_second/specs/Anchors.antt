@@ -9,7 +9,7 @@ use Rattle.cg_cgroup.specs.declared.files.Controller.{Controller}
 use Rattle.cg_cgroup.specs.declared.files.EntryName.TheVariants.{Dir, SubtreeControl}
 use Rattle.cg_model.specs.States.{State, paths_of}
 use Rattle.cg_model.specs.WellFormed.{enabled_at}
-use Rattle.cg_settle.specs.Lasting.{is_reached}
+use Rattle.cg_second.specs.Lasting.{is_reached}
 
 -- nobody removes it, whatever is below it
 abbrev pub is_anchored : State → List Identity → Names → Bool

@@ -6,7 +6,7 @@ use Rattle.cg_cgroup.specs.Identity.{Identity}
 use Rattle.cg_cgroup.specs.declared.files.Controller.TheVariants.{Memory}
 use Rattle.cg_model.specs.States.{State, paths_of, count_below}
 use Rattle.cg_model.specs.WellFormed.{IsWellFormed}
-use Rattle.cg_settle.specs.Greatest.{greatest}
+use Rattle.cg_second.specs.Greatest.{greatest}
 use Rattle.cg_second.specs.Anchors.{is_fixed}
 
 -- for each number up to one, how many of the first so many pass a test

@@ -9,9 +9,9 @@ use Rattle.cg_cgroup.specs.declared.files.LimitFile.TheVariants.{MaxDescendants,
 use Rattle.cg_cgroup.specs.declared.files.EntryName.TheVariants.{Procs, SubtreeControl}
 use Rattle.cg_model.specs.States.{State}
 use Rattle.cg_model.specs.WellFormed.{enabled_at}
-use Rattle.cg_settle.specs.Lasting.{is_reached, lasting_below}
-use Rattle.cg_settle.specs.Greatest.{greatest}
-use Rattle.cg_settle.specs.Judged.{is_bound, takes_none, grows_none}
+use Rattle.cg_second.specs.Lasting.{is_reached, lasting_below}
+use Rattle.cg_second.specs.Greatest.{greatest}
+use Rattle.cg_second.specs.Judged.{is_bound, takes_none, grows_none}
 
 -- a move may pass one of the first so many cgroups of a path
 abbrev pub is_passed_to : State → List Identity → Names → ℕ → Bool

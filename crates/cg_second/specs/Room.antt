@@ -10,7 +10,7 @@ use Rattle.cg_cgroup.specs.declared.files.LimitFile.{LimitFile}
 use Rattle.cg_cgroup.specs.declared.files.LimitFile.TheVariants.{MaxDepth}
 use Rattle.cg_cgroup.specs.declared.files.EntryName.TheVariants.{File}
 use Rattle.cg_model.specs.States.{State, value_at}
-use Rattle.cg_settle.specs.Lasting.{is_reached}
+use Rattle.cg_second.specs.Lasting.{is_reached}
 use Rattle.cg_second.specs.Exposed.{is_crowded}
 
 -- the number that a limit is, unless somebody reaches it

@@ -1,7 +1,7 @@
 //! Whether no move past a cgroup above the subtree leads anywhere.
 ghost use Rattle.std.specs.Prelude.{◌≡◌, ◌<◌, ◌&&◌, length, slice_index_or, [], IfOk};
-ghost use Rattle.cg_settle.specs.Greatest.{greatest};
-ghost use Rattle.cg_settle.specs.Judged.{is_full_to, takes_none, grows_none, is_closed_to};
+ghost use Rattle.cg_second.specs.Greatest.{greatest};
+ghost use Rattle.cg_second.specs.Judged.{is_full_to, takes_none, grows_none, is_closed_to};
 ghost use Rattle.cg_second.specs.Counts.{IsSurvey};
 ghost use Rattle.cg_second.specs.Exposed.{is_passed_to, is_exposed};
 

@@ -4,7 +4,7 @@ ghost use Rattle.std.specs.List.{list_all};
 ghost use Rattle.cg_cgroup.specs.Paths.{parent, is_root};
 ghost use Rattle.cg_cgroup.specs.Files.{enables, all_controllers};
 ghost use Rattle.cg_model.specs.WellFormed.{enabled_at, has_row};
-ghost use Rattle.cg_settle.specs.Greatest.{greatest};
+ghost use Rattle.cg_second.specs.Greatest.{greatest};
 ghost use Rattle.cg_second.specs.Anchors.{is_fixed};
 ghost use Rattle.cg_second.specs.Counts.{IsSurvey};
 ghost use Rattle.cg_second.specs.Exposed.{is_off_to};

@@ -5,8 +5,8 @@ ghost use Rattle.cg_cgroup.specs.declared.files.EntryName.TheVariants.{SubtreeCo
 ghost use Rattle.cg_cgroup.specs.declared.files.Controller.TheVariants.{Memory};
 ghost use Rattle.cg_model.specs.States.{paths_of};
 ghost use Rattle.cg_model.specs.WellFormed.{IsWellFormed, enabled_at};
-ghost use Rattle.cg_settle.specs.Greatest.{greatest};
-ghost use Rattle.cg_settle.specs.Lasting.{is_reached};
+ghost use Rattle.cg_second.specs.Greatest.{greatest};
+ghost use Rattle.cg_second.specs.Lasting.{is_reached};
 ghost use Rattle.cg_second.specs.Anchors.{is_anchored, is_fixed};
 ghost use Rattle.cg_second.specs.Counts.{AreCounts, AreEnds};
 

@@ -5,7 +5,7 @@ ghost use Rattle.cg_cgroup.specs.Users.{reaches};
 ghost use Rattle.cg_cgroup.specs.Files.{all_files, enables};
 ghost use Rattle.cg_cgroup.specs.declared.files.EntryName.TheVariants.{File};
 ghost use Rattle.cg_model.specs.WellFormed.{enabled_at};
-ghost use Rattle.cg_settle.specs.Lasting.{is_reached};
+ghost use Rattle.cg_second.specs.Lasting.{is_reached};
 ghost use Rattle.cg_second.specs.Anchors.{is_anchored};
 
 use cg_cgroup::files::{Controller, EntryName, LimitFile};

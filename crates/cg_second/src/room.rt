@@ -1,7 +1,7 @@
 //! Whether limits leave room for a further cgroup below one, asked of one after another in the order of their paths.
 ghost use Rattle.std.specs.Prelude.{◌≡◌, ◌<◌, ◌≤◌, ◌+◌, ◌∷◌, cond, length, slice_index, slice_index_or, [], IfOk, OnOk};
-ghost use Rattle.cg_settle.specs.Greatest.{greatest};
-ghost use Rattle.cg_settle.specs.Judged.{is_bound, is_full_to};
+ghost use Rattle.cg_second.specs.Greatest.{greatest};
+ghost use Rattle.cg_second.specs.Judged.{is_bound, is_full_to};
 ghost use Rattle.cg_second.specs.Counts.{IsSurvey};
 ghost use Rattle.cg_second.specs.Exposed.{is_crowded};
 ghost use Rattle.cg_second.specs.Room.{fixed_limit, level_under, IsRoom};

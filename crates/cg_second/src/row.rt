@@ -2,7 +2,7 @@
 ghost use Rattle.std.specs.Prelude.{◌≡◌, IfOk};
 ghost use Rattle.cg_model.specs.WellFormed.{IsWellFormed};
 ghost use Rattle.cg_model.specs.Guards.{IsSubtree};
-ghost use Rattle.cg_settle.specs.Judged.{second_row};
+ghost use Rattle.cg_second.specs.Judged.{second_row};
 
 use crate::closed::is_closed;
 use crate::control::{control_stays, stays};

@@ -1,7 +1,7 @@
 //! What is known of the cgroups of a tree once all were gone over.
 ghost use Rattle.std.specs.Prelude.{◌≡◌, ◌<◌, length, slice_index_or, [], cond, IfOk};
-ghost use Rattle.cg_settle.specs.Greatest.{greatest};
-ghost use Rattle.cg_settle.specs.Lasting.{lasting_below};
+ghost use Rattle.cg_second.specs.Greatest.{greatest};
+ghost use Rattle.cg_second.specs.Lasting.{lasting_below};
 ghost use Rattle.cg_model.specs.WellFormed.{IsWellFormed};
 ghost use Rattle.cg_cgroup.specs.declared.files.Controller.TheVariants.{Memory};
 ghost use Rattle.cg_second.specs.Anchors.{any_below, is_fixed};

@@ -12,15 +12,19 @@ use Rattle.cg_format.specs.Readings.{Reading}
 use Rattle.cg_cli.specs.AllPairs.{all_report, ReportsPairs}
 use Rattle.cg_cli.specs.Advising.{advise_report}
 use Rattle.cg_cli.specs.Audits.{audit_report}
+use Rattle.cg_cli.specs.Explaining.{TellsPairs, ReportsTold}
+use Rattle.cg_model.specs.States.{State}
+use Rattle.cg_model.specs.Mends.{Pair}
 use Rattle.cg_cli.specs.FurtherAdvice.{AdvisesFurther}
+use Rattle.cg_cli.specs.FurtherPairs.{first_pair_report}
 use Rattle.cg_cli.specs.Upgrades.{Upgrades}
 use Rattle.streams.specs.Written.{AppendsPart}
 use Rattle.cg_cli.specs.Replays.{closed}
 use Rattle.cg_cli.specs.Replaying.{Reporting, Replays, ReplaysFrom}
-use Rattle.cg_cli.specs.Reports.{Report, Reports}
+use Rattle.cg_cli.specs.Reports.{Report, Reports, report_on}
 use Rattle.cg_faults.specs.declared.fault.CliFault.{CliFault}
 use Rattle.cg_faults.specs.declared.fault.CliFault.TheVariants.{Read, Write, NoMemory}
-use Rattle.commands.specs.Requests.{Files, IsUnread, AdviseSays, AuditSays, OnTree, pairs_said, OnPairs, replay_said, ReplaysOver, CarriesOut}
+use Rattle.commands.specs.Requests.{Files, IsUnread, AdviseSays, GuardsSay, FurtherSay, AuditSays, OnTree, pairs_said, OnPairs, replay_said, ReplaysOver, CarriesOut}
 
 pub Appends-Keeps : (old mid new : Option (List ℕ)) (bs : List ℕ) → Appends old mid bs → Keeps mid new → Appends old new bs
 Appends-Keeps None mid new bs a k = tt
@@ -79,18 +83,35 @@ ReportsPairs-Keeps (Err fault) old mid new (Ok status) h k = h
 ReportsPairs-Keeps (Err fault) old mid new (Err NoMemory) h k = (h.0, Keeps-Keeps old mid new h.1 k)
 ReportsPairs-Keeps (Err fault) old mid new (Err other) h k = (h.0, Keeps-Keeps old mid new h.1 k)
 
-AuditSays-by : (all : Bool) (pairs : Result (List Listed) CliFault) (report : Report) (old mid new : Option (List ℕ))
-    (result : Result ℕ CliFault)
-    → MatchBool all (ReportsPairs pairs old mid result) (Reports report old mid result) → Keeps mid new
-    → MatchBool all (ReportsPairs pairs old new result) (Reports report old new result)
-AuditSays-by true pairs report old mid new result said k = ReportsPairs-Keeps pairs old mid new result said k
-AuditSays-by false pairs report old mid new result said k = Reports-Keeps report old mid new result said k
+module _ (users : List (ℕ × List ℕ)) (subtrees : List (List ℕ)) (old mid new : Option (List ℕ)) (result : Result ℕ CliFault)
+    (tree : Reading) (k : Keeps mid new) where
+  AuditSays-by : (settle all : Bool)
+      → MatchBool settle (FurtherSay all users subtrees old mid result tree) (GuardsSay all users subtrees old mid result tree)
+      → MatchBool settle (FurtherSay all users subtrees old new result tree) (GuardsSay all users subtrees old new result tree)
+  AuditSays-by true true said = (said.0, said.1, ReportsPairs-Keeps said.0 old mid new result said.2 k)
+  AuditSays-by true false said = (said.0, said.1, Reports-Keeps (report_on said.0 first_pair_report) old mid new result said.2 k)
+  AuditSays-by false true said = ReportsPairs-Keeps (all_report tree users subtrees) old mid new result said k
+  AuditSays-by false false said = Reports-Keeps (audit_report tree users subtrees) old mid new result said k
 
 AuditSays-Keeps : (audit : Audit) (old mid new : Option (List ℕ)) (result : Result ℕ CliFault) (tree : Reading)
     → AuditSays audit old mid result tree → Keeps mid new → AuditSays audit old new result tree
 AuditSays-Keeps audit old mid new result tree said k =
-    AuditSays-by audit.all (all_report tree (map ids_of audit.users.items) (map (λ subtree. subtree.now) audit.subtrees.items))
-    (audit_report tree (map ids_of audit.users.items) (map (λ subtree. subtree.now) audit.subtrees.items)) old mid new result said k
+    AuditSays-by (map ids_of audit.users.items) (map (λ subtree. subtree.now) audit.subtrees.items) old mid new result tree k
+    audit.settle audit.all said
+
+TellsPairs-Keeps : (st : State) (pairs : List Pair) (old mid new : Option (List ℕ)) (result : Result ℕ CliFault)
+    → TellsPairs st pairs old mid result → Keeps mid new → TellsPairs st pairs old new result
+TellsPairs-Keeps st pairs old mid new (Ok status) h k = (h.0, h.1, h.2, Appends-Keeps old mid new _ h.3 k)
+TellsPairs-Keeps st pairs old mid new (Err Write) h k = (h.0, h.1, AppendsPart-Keeps old mid new _ h.2 k)
+TellsPairs-Keeps st pairs old mid new (Err NoMemory) h k = (h.0, h.1, Appends-Keeps old mid new _ h.2 k)
+TellsPairs-Keeps st pairs old mid new (Err fault) h k = h
+
+ReportsTold-Keeps : (asked : Result (State × List Pair) CliFault) (old mid new : Option (List ℕ)) (result : Result ℕ CliFault)
+    → ReportsTold asked old mid result → Keeps mid new → ReportsTold asked old new result
+ReportsTold-Keeps (Ok asked) old mid new result h k = TellsPairs-Keeps asked.0 asked.1 old mid new result h k
+ReportsTold-Keeps (Err fault) old mid new (Ok status) h k = h
+ReportsTold-Keeps (Err fault) old mid new (Err NoMemory) h k = (h.0, Keeps-Keeps old mid new h.1 k)
+ReportsTold-Keeps (Err fault) old mid new (Err other) h k = (h.0, Keeps-Keeps old mid new h.1 k)
 
 AdvisesFurther-Keeps : (tree : Reading) (users : List (ℕ × List ℕ)) (subtrees : List (List ℕ)) (old mid new : Option (List ℕ))
     (result : Result ℕ CliFault)
@@ -145,6 +166,8 @@ CarriesOut-Keeps (request.Settle check) files given old mid new result h k =
     OnTree-Keeps _ _ _ old mid new result (λ tree said. (said.0, said.1, Reports-Keeps said.0 old mid new result said.2 k)) h k
 CarriesOut-Keeps (request.Audit audit) files given old mid new result h k =
     OnTree-Keeps _ _ _ old mid new result (λ tree said. AuditSays-Keeps audit old mid new result tree said k) h k
+CarriesOut-Keeps (request.Explain explain) files given old mid new result h k =
+    OnTree-Keeps _ _ _ old mid new result (λ tree said. ReportsTold-Keeps _ old mid new result said k) h k
 CarriesOut-Keeps (request.Advise advise) files given old mid new result h k =
     OnTree-Keeps _ _ _ old mid new result (λ tree said. AdviseSays-Keeps advise old mid new result tree said k) h k
 CarriesOut-Keeps (request.AdvisePairs advise) files given old mid new result h k = OnPairs-Keeps _ _ old mid new result h k

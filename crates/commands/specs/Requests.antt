@@ -1,5 +1,5 @@
 -- What a request asks for, and what is answered. Own.
-use Rattle.std.specs.Prelude.{◌≡◌, ◌⊎◌, ℕ, List, map, take, Option, Some, None, Result, Ok, Err, IfSome, MatchBool}
+use Rattle.std.specs.Prelude.{◌≡◌, ◌⊎◌, ℕ, Bool, List, map, take, Option, Some, None, Result, Ok, Err, IfSome, MatchBool}
 use Rattle.std.specs.Option.{option_map}
 use Rattle.std.specs.Borrow.{Bor}
 use Rattle.std.specs.Io.KnownBytes.{Keeps}
@@ -7,6 +7,7 @@ use Rattle.arguments.specs.Given.{ids_of, tree_file, other_file}
 use Rattle.arguments.specs.declared.request.May.{May}
 use Rattle.arguments.specs.declared.request.Check.{Check}
 use Rattle.arguments.specs.declared.request.Audit.{Audit}
+use Rattle.arguments.specs.declared.request.Explain.{Explain}
 use Rattle.arguments.specs.declared.request.Advise.{Advise}
 use Rattle.arguments.specs.declared.request.Replay.{Replay}
 use Rattle.arguments.specs.declared.request.Request.{Request}
@@ -17,8 +18,10 @@ use Rattle.cg_cli.specs.Containment.{check_report}
 use Rattle.cg_cli.specs.Settling.{AskedReports, FurtherSays, IsFurther}
 use Rattle.cg_cli.specs.Audits.{audit_report}
 use Rattle.cg_cli.specs.AllPairs.{all_report, ReportsPairs}
+use Rattle.cg_cli.specs.Explaining.{explain_asked, ReportsTold}
 use Rattle.cg_cli.specs.Advising.{advise_report, advise_pairs_report}
 use Rattle.cg_cli.specs.FurtherAdvice.{AdvisesFurther}
+use Rattle.cg_cli.specs.FurtherPairs.{ReportsFirst, ReportsFurther}
 use Rattle.cg_cli.specs.Upgrades.{Upgrades}
 use Rattle.cg_cli.specs.Replays.{closed, lines_report}
 use Rattle.cg_cli.specs.Replaying.{Reporting, ReplaysFrom}
@@ -77,12 +80,27 @@ AdviseSays advise old new result tree =
 abbrev pub pairs_said : List ℕ → Reading → Report
 pairs_said text tree = report_on (pairs_read text) (λ pairs. advise_pairs_report tree pairs)
 
--- the first pair that isn't contained, or each of them
+-- each pair that isn't contained, or the first alone
+abbrev pub GuardsSay : Bool → List (ℕ × List ℕ) → List (List ℕ) → Option (List ℕ) → Option (List ℕ) → Result ℕ CliFault → Reading → Type 0
+GuardsSay all users subtrees old new result tree =
+    MatchBool all (ReportsPairs (all_report tree users subtrees) old new result) (Reports (audit_report tree users subtrees) old new result)
+
+-- the same of pairs that may be listed where more is known
+abbrev pub FurtherSay : Bool → List (ℕ × List ℕ) → List (List ℕ) → Option (List ℕ) → Option (List ℕ) → Result ℕ CliFault → Reading → Type 0
+FurtherSay all users subtrees old new result tree =
+    MatchBool all (ReportsFurther ReportsPairs tree users subtrees old new result) (ReportsFurther ReportsFirst tree users subtrees old new result)
+
+-- what guards tell of the pairs, or what is told where more is known
 abbrev pub AuditSays : Audit → Option (List ℕ) → Option (List ℕ) → Result ℕ CliFault → Reading → Type 0
 AuditSays audit old new result tree =
     let users = map ids_of audit.users.items in
     let subtrees = map (λ subtree. subtree.now) audit.subtrees.items in
-    MatchBool audit.all (ReportsPairs (all_report tree users subtrees) old new result) (Reports (audit_report tree users subtrees) old new result)
+    MatchBool audit.settle (FurtherSay audit.all users subtrees old new result tree) (GuardsSay audit.all users subtrees old new result tree)
+
+-- every user with every subtree
+abbrev pub ExplainSays : Explain → Option (List ℕ) → Option (List ℕ) → Result ℕ CliFault → Reading → Type 0
+ExplainSays explain old new result tree =
+    ReportsTold (explain_asked tree (map ids_of explain.users.items) (map (λ subtree. subtree.now) explain.subtrees.items)) old new result
 
 abbrev pub replay_said : Replay → Reading → Reporting
 replay_said replay tree = lines_report tree replay.user.uid replay.user.gids.items (name_of replay.subtree)
@@ -133,6 +151,8 @@ CarriesOut (request.Settle check) files given old new result =
     SettlesOnTree (source files (name_of check.tree) given) check old new result
 CarriesOut (request.Audit audit) files given old new result =
     OnTree (source files (name_of audit.tree) given) (AuditSays audit old new result) old new result
+CarriesOut (request.Explain explain) files given old new result =
+    OnTree (source files (name_of explain.tree) given) (ExplainSays explain old new result) old new result
 CarriesOut (request.Advise advise) files given old new result =
     OnTree (source files (name_of advise.tree) given) (AdviseSays advise old new result) old new result
 CarriesOut (request.AdvisePairs advise) files given old new result =

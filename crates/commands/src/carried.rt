@@ -2,20 +2,18 @@
 ghost use Rattle.std.specs.Prelude.{◌≡◌, ◌⊎◌, ℕ, List, map, Ok, IfOk, IfErr, MatchBool};
 ghost use Rattle.cg_format.specs.Readings.{OnText};
 ghost use Rattle.cg_cli.specs.Pairs.{pair_given};
-ghost use Rattle.cg_cli.specs.AllPairs.{all_report, ReportsPairs};
-ghost use Rattle.cg_cli.specs.Audits.{audit_report};
 ghost use Rattle.cg_cli.specs.Advising.{advise_report};
 ghost use Rattle.cg_cli.specs.FurtherAdvice.{AdvisesFurther};
 ghost use Rattle.cg_cli.specs.Reports.{Reports};
 ghost use Rattle.cg_cli.specs.Upgrades.{Upgrades};
 ghost use Rattle.arguments.specs.Given.{ids_of, ids_of_pair, tree_file, other_file};
-ghost use Rattle.commands.specs.Requests.{source, name_of, IsTree, may_said, check_said, AdviseSays, AuditSays, OnTree, ReportsOnTree, SettlesOnTree, ArePairs, ReportsOnPairs, OnPairs, replay_said, ReplaysOver, ReplaysOnTree, CarriesOut};
+ghost use Rattle.commands.specs.Requests.{source, name_of, IsTree, may_said, check_said, AdviseSays, GuardsSay, FurtherSay, AuditSays, ExplainSays, OnTree, ReportsOnTree, SettlesOnTree, ArePairs, ReportsOnPairs, OnPairs, replay_said, ReplaysOver, ReplaysOnTree, CarriesOut};
 
 use crate::pairs::{line_at, read_pairs};
 use arguments::named_pair::NamedPair;
 use arguments::named_user::NamedUser;
 use arguments::request::{
-    Advise, AdvisePairs, Audit, Check, May, Replay, Request, Sources, Upgrade,
+    Advise, AdvisePairs, Audit, Check, Explain, May, Replay, Request, Sources, Upgrade,
 };
 use cg_cli::advise::advise_bytes;
 use cg_cli::advise_pairs::{PairIds, advise_pairs_bytes};
@@ -23,7 +21,9 @@ use cg_cli::advise_settle::advise_settled_bytes;
 use cg_cli::arguments::UserIds;
 use cg_cli::audit::audit_bytes;
 use cg_cli::audit_all::audit_all_bytes;
+use cg_cli::audit_settle::{audit_all_settled_bytes, audit_settled_bytes};
 use cg_cli::check::check_bytes;
+use cg_cli::explain::explain_bytes;
 use cg_cli::may::may_bytes;
 use cg_cli::replay::replay_from;
 use cg_cli::settle::settle_bytes;
@@ -55,6 +55,7 @@ pub(crate) fn carried_out<F: Files, I: Read + Drop, W: Write>(
         Request::Check(request) => check(alloc, request, files, input, out),
         Request::Settle(request) => settle(alloc, request, files, input, out),
         Request::Audit(request) => audit(alloc, request, files, input, out),
+        Request::Explain(request) => explain(alloc, request, files, input, out),
         Request::Advise(request) => advise(alloc, request, files, input, out),
         Request::AdvisePairs(asked) => advise_pairs(alloc, *asked, files, input, line, out),
         Request::Replay(asked) => replay(alloc, Replaying { asked, line }, files, input, out),
@@ -270,7 +271,7 @@ fn audit<F: Files, I: Read + Drop, W: Write>(
     audited(alloc, tree.as_slice(), users.as_slice(), asked, out)
 }
 
-/// Audits a tree, of which the first pair that isn't contained is asked for, or each.
+/// Audits a tree, by its guards alone or looking further.
 fn audited<W: Write>(
     alloc: Global,
     tree: &[u8],
@@ -278,17 +279,72 @@ fn audited<W: Write>(
     request: &Audit<'_>,
     out: &mut W,
 ) -> Result<u8, CliFault>
-    ensures { OnText tree.now (λ read. MatchBool request.now.all
-        (ReportsPairs (all_report read (map (λ user. (user.uid, user.gids.now)) users.now) (map (λ subtree. subtree.now) request.now.subtrees.items))
-        (W.contents out.old) (W.contents out.new) result)
-        (Reports (audit_report read (map (λ user. (user.uid, user.gids.now)) users.now) (map (λ subtree. subtree.now) request.now.subtrees.items))
-        (W.contents out.old) (W.contents out.new) result)) }
+    ensures { OnText tree.now (λ read. MatchBool request.now.settle
+        (FurtherSay request.now.all (map (λ user. (user.uid, user.gids.now)) users.now) (map (λ subtree. subtree.now) request.now.subtrees.items)
+        (W.contents out.old) (W.contents out.new) result read)
+        (GuardsSay request.now.all (map (λ user. (user.uid, user.gids.now)) users.now) (map (λ subtree. subtree.now) request.now.subtrees.items)
+        (W.contents out.old) (W.contents out.new) result read)) }
 {
     let subtrees = request.subtrees.as_slice();
-    if request.all {
+    if request.settle {
+        audited_further(alloc, tree, users, subtrees, request.all, out)
+    } else {
+        audited_by_guards(alloc, tree, users, subtrees, request.all, out)
+    }
+}
+
+/// Audits a tree by its guards, of which each pair that isn't contained is asked for, or the first.
+fn audited_by_guards<W: Write>(
+    alloc: Global,
+    tree: &[u8],
+    users: &[UserIds<'_>],
+    subtrees: &[&str],
+    all: bool,
+    out: &mut W,
+) -> Result<u8, CliFault>
+    ensures { OnText tree.now (GuardsSay all (map (λ user. (user.uid, user.gids.now)) users.now) (map (λ subtree. subtree.now) subtrees.now)
+        (W.contents out.old) (W.contents out.new) result) }
+{
+    if all {
         audit_all_bytes(alloc, tree, users, subtrees, out)
     } else {
         audit_bytes(alloc, tree, users, subtrees, out)
+    }
+}
+
+fn explain<F: Files, I: Read + Drop, W: Write>(
+    alloc: Global,
+    asked: &Explain<'_>,
+    files: &F,
+    input: I,
+    out: &mut W,
+) -> Result<u8, CliFault>
+    ensures { OnTree (source (F.given files.now) (name_of asked.now.tree) (I.remaining input))
+        (ExplainSays asked.now (W.contents out.old) (W.contents out.new) result)
+        (W.contents out.old) (W.contents out.new) result }
+{
+    let tree = tree_text(alloc, files, asked.tree, input)?;
+    let users = all_ids(alloc, asked.users.as_slice())?;
+    let subtrees = asked.subtrees.as_slice();
+    explain_bytes(alloc, tree.as_slice(), users.as_slice(), subtrees, out)
+}
+
+/// Audits a tree looking further, of which each pair that isn't settled is asked for, or the first.
+fn audited_further<W: Write>(
+    alloc: Global,
+    tree: &[u8],
+    users: &[UserIds<'_>],
+    subtrees: &[&str],
+    all: bool,
+    out: &mut W,
+) -> Result<u8, CliFault>
+    ensures { OnText tree.now (FurtherSay all (map (λ user. (user.uid, user.gids.now)) users.now) (map (λ subtree. subtree.now) subtrees.now)
+        (W.contents out.old) (W.contents out.new) result) }
+{
+    if all {
+        audit_all_settled_bytes(alloc, tree, users, subtrees, out)
+    } else {
+        audit_settled_bytes(alloc, tree, users, subtrees, out)
     }
 }
 

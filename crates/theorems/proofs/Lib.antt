@@ -5,6 +5,7 @@ mod AdviceLaws
 mod PairedLaws
 mod ReplayedLaws
 mod SettledLaws
+mod NoneListed
 mod FurtherLaws
 mod MayLaws
 mod ProgramLaws

@@ -3,12 +3,13 @@ use Rattle.std.proofs.Common.{◌≡◌, ◌≢◌, ℕ, Bool, true, false, List
 use Rattle.std.specs.Prelude.{◌⊎◌, None, IsOk, IfSome, MatchBool, codes}
 use Rattle.std.specs.Io.KnownBytes.{Keeps}
 use Rattle.std.proofs.lemmas.List.{take_all}
-use Rattle.cg_cgroup.specs.Paths.{Names, path_at}
+use Rattle.cg_cgroup.specs.Paths.{Names, path_at, same_path}
 use Rattle.cg_cgroup.specs.Users.{user_of}
 use Rattle.cg_cgroup.specs.Identity.{Identity}
 use Rattle.cg_model.specs.States.{State}
 use Rattle.cg_model.specs.Held.{IsHeld, by_user, IsContained}
 use Rattle.cg_model.specs.Answers.{answer}
+use Rattle.cg_model.specs.Once.{once}
 use Rattle.cg_model.specs.declared.answer.Answer.{Answer}
 use Rattle.cg_model.specs.declared.answer.Answer.TheVariants.{Contained, Escapes}
 use Rattle.cg_model.specs.declared.operation.Op.{Op}
@@ -18,10 +19,13 @@ use Rattle.cg_format.specs.TextOf.{IsTextOf}
 use Rattle.cg_format.proofs.ReadingLaws.{one_reading}
 use Rattle.cg_cli.specs.Advising.{advise_report}
 use Rattle.cg_cli.specs.FurtherAdvice.{AreHeld}
+use Rattle.cg_cli.specs.FurtherPairs.{listed_from, AreFurther, first_pair_report}
 use Rattle.cg_cli.specs.AllPairs.{all_report, ReportsPairs}
 use Rattle.cg_cli.specs.Containment.{answer_report}
+use Rattle.cg_cli.specs.Explaining.{explain_asked, ReportsTold}
 use Rattle.cg_cli.specs.Settling.{IsFurther}
 use Rattle.cg_cli.specs.Audits.{users_read, paths_read, audit_report}
+use Rattle.cg_cli.specs.Once.{same_user}
 use Rattle.cg_cli.specs.Replays.{closed, replay_report}
 use Rattle.cg_cli.specs.Replaying.{Reporting, Replays}
 use Rattle.cg_cli.specs.Reports.{Reports}
@@ -33,6 +37,7 @@ use Rattle.arguments.specs.Given.{ids_of, tree_file, other_file}
 use Rattle.arguments.specs.declared.request.May.{May}
 use Rattle.arguments.specs.declared.request.Check.{Check}
 use Rattle.arguments.specs.declared.request.Audit.{Audit}
+use Rattle.arguments.specs.declared.request.Explain.{Explain}
 use Rattle.arguments.specs.declared.request.Advise.{Advise}
 use Rattle.arguments.specs.declared.request.AdvisePairs.{AdvisePairs}
 use Rattle.arguments.specs.declared.request.Upgrade.{Upgrade}
@@ -40,14 +45,14 @@ use Rattle.arguments.specs.declared.request.Replay.{Replay}
 use Rattle.arguments.specs.declared.request.Request.{Request}
 use Rattle.arguments.specs.declared.request.Request.TheVariants as request
 use Rattle.streams.specs.declared.write.WriteFailed.{WriteFailed}
-use Rattle.commands.specs.Requests.{Files, IsUnread, source, name_of, may_said, check_said, SettlesAs, AdviseSays, pairs_said, AuditSays, replay_said, OnTree, OnPairs, ReplaysOver, CarriesOut}
+use Rattle.commands.specs.Requests.{Files, IsUnread, source, name_of, may_said, check_said, SettlesAs, AdviseSays, pairs_said, GuardsSay, FurtherSay, AuditSays, ExplainSays, replay_said, OnTree, OnPairs, ReplaysOver, CarriesOut}
 use Rattle.commands.specs.Runs.{IsFlushed, CarriesOutBuffered, LeadsTo, LiesBelow, RunsTo}
 use Rattle.commands.specs.declared.fault.Fault.{Fault}
 use Rattle.commands.specs.declared.fault.Fault.TheVariants.{Usage, Cli}
 use Rattle.commands.proofs.BufferedLaws.{CarriesOut-Keeps}
 use Rattle.theorems.proofs.GuardedLaws.{contained_by_status}
 use Rattle.theorems.proofs.SettledLaws.{settled_as}
-use Rattle.theorems.proofs.FurtherLaws.{further_told}
+use Rattle.theorems.proofs.FurtherLaws.{further_told, all_told, first_told}
 use Rattle.theorems.proofs.StatusLaws.{all_contained_by_status}
 
 -- ---- what lies in the first writer
@@ -239,6 +244,14 @@ module _ (files : Files) (given old new : Option (List ℕ)) (status : ℕ) wher
           further_told st who paths users subtrees of_text.says.formed of_users of_paths some old new status
           (each_alone _ _ advise.settle further told)
 
+    pub explain_ended : (explain : Explain) → CarriesOut (request.Explain explain) files given old new (Ok status)
+        → source files (name_of explain.tree) given ≡ Some text → IsTextOf st text
+        → ReportsTold (explain_asked (Ok st) (map ids_of explain.users.items) (map (λ subtree. subtree.now) explain.subtrees.items)) old new
+        (Ok status)
+    explain_ended explain carried of_known of_text =
+        on_state (ExplainSays explain old new (Ok status)) (source files (name_of explain.tree) given) old new status text st of_known
+        of_text carried
+
     module _ (audit : Audit) (carried : CarriesOut (request.Audit audit) files given old new (Ok status))
         (of_known : source files (name_of audit.tree) given ≡ Some text) (of_text : IsTextOf st text) where
       abbrev users : List (ℕ × List ℕ)
@@ -252,15 +265,38 @@ module _ (files : Files) (given old new : Option (List ℕ)) (status : ℕ) wher
           on_state (AuditSays audit old new (Ok status)) (source files (name_of audit.tree) given) old new status text st of_known of_text
           carried
 
-      pub all_ended : audit.all ≡ true → ReportsPairs (all_report (Ok st) users subtrees) old new (Ok status)
-      all_ended each = each_alone _ _ audit.all each audited
+      by_guards : audit.settle ≡ false → GuardsSay audit.all users subtrees old new (Ok status) (Ok st)
+      by_guards guards = first_alone _ _ audit.settle guards audited
 
-      pub audit_ended : audit.all ≡ false → Reports (audit_report (Ok st) users subtrees) old new (Ok status)
+      pub all_ended : audit.settle ≡ false → audit.all ≡ true → ReportsPairs (all_report (Ok st) users subtrees) old new (Ok status)
+      all_ended guards each = each_alone _ _ audit.all each (by_guards guards)
+
+      pub audit_ended : audit.settle ≡ false → audit.all ≡ false → Reports (audit_report (Ok st) users subtrees) old new (Ok status)
           × (status ≡ 0 → (who : List Identity) (paths : List Names) → users_read users ≡ Ok who → paths_read subtrees ≡ Ok paths
           → who ≢ [] → AreContained st who paths)
-      audit_ended first =
-          let report = first_alone _ _ audit.all first audited in (
+      audit_ended guards first =
+          let report = first_alone _ _ audit.all first (by_guards guards) in (
             report,
             λ zero who paths of_users of_paths some.
                 all_contained_by_status st users subtrees who paths of_text.says.formed of_users of_paths some (report.0 ∙ ap Ok zero),
           )
+
+      -- where more is known
+      module _ (who : List Identity) (paths : List Names) (further : audit.settle ≡ true) (of_users : users_read users ≡ Ok who)
+          (of_paths : paths_read subtrees ≡ Ok paths) where
+        by_more : FurtherSay audit.all users subtrees old new (Ok status) (Ok st)
+        by_more = each_alone _ _ audit.settle further audited
+
+        pub all_settled_ended : audit.all ≡ true
+            → (found : ℕ → ℕ → Answer) × AreFurther st (once same_user who) (once same_path paths) found
+            × ReportsPairs (Ok (listed_from found 0 (once same_user who) (once same_path paths))) old new (Ok status)
+            × (status ≡ 0 → who ≢ [] → AreHeld st who paths)
+        all_settled_ended each =
+            all_told st users subtrees who paths of_users of_paths old new status (each_alone _ _ audit.all each by_more)
+
+        pub settled_ended : audit.all ≡ false
+            → (found : ℕ → ℕ → Answer) × AreFurther st (once same_user who) (once same_path paths) found
+            × Reports (first_pair_report (listed_from found 0 (once same_user who) (once same_path paths))) old new (Ok status)
+            × (status ≡ 0 → who ≢ [] → AreHeld st who paths)
+        settled_ended first =
+            first_told st users subtrees who paths of_users of_paths old new status (first_alone _ _ audit.all first by_more)

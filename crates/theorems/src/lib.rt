@@ -52,8 +52,10 @@ ghost use Rattle.cg_cli.specs.Settling.{IsFurther};
 ghost use Rattle.cg_cli.specs.Audits.{users_read, paths_read, audit_report};
 ghost use Rattle.cg_cli.specs.Once.{same_user};
 ghost use Rattle.cg_cli.specs.AllPairs.{all_report, ReportsPairs, UnlistedAreContained};
+ghost use Rattle.cg_cli.specs.Explaining.{explain_asked, ReportsTold};
 ghost use Rattle.cg_cli.specs.Upgrades.{upgrade_report, IsNewText};
 ghost use Rattle.cg_cli.specs.FurtherAdvice.{AreHeld};
+ghost use Rattle.cg_cli.specs.FurtherPairs.{listed_from, AreFurther, first_pair_report};
 ghost use Rattle.cg_cli.specs.Advising.{all_pairs, paired, advise_report, advise_pairs_report, IsAdvisable, AreNamed, AreContainedAsNamed};
 ghost use Rattle.cg_faults.specs.declared.fault.CliFault.{CliFault};
 ghost use Rattle.cg_faults.specs.declared.fault.CliFault.TheVariants.{Line};
@@ -67,6 +69,7 @@ ghost use Rattle.arguments.specs.Given.{ids_of, tree_file, other_file};
 ghost use Rattle.arguments.specs.declared.request.May.{May};
 ghost use Rattle.arguments.specs.declared.request.Check.{Check};
 ghost use Rattle.arguments.specs.declared.request.Audit.{Audit};
+ghost use Rattle.arguments.specs.declared.request.Explain.{Explain};
 ghost use Rattle.arguments.specs.declared.request.Advise.{Advise};
 ghost use Rattle.arguments.specs.declared.request.AdvisePairs.{AdvisePairs};
 ghost use Rattle.arguments.specs.declared.request.Upgrade.{Upgrade};
@@ -264,15 +267,33 @@ pub fn the_program()
         × (found ≡ Contained → IsContained st user subtree)
         × ((ops : List Op) → found ≡ Escapes ops → ¬ (IsHeld st (by_user user ops) subtree)) }
     ensures audit { (audit : Audit) (files : Files) (given old new : Option (List ℕ)) (status : ℕ) (text : List ℕ) (st : State)
-        → CarriesOut (request.Audit audit) files given old new (Ok status) → audit.all ≡ false
+        → CarriesOut (request.Audit audit) files given old new (Ok status) → audit.settle ≡ false → audit.all ≡ false
         → source files (name_of audit.tree) given ≡ Some text → IsTextOf st text
         → Reports (audit_report (Ok st) (map ids_of audit.users.items) (map (λ subtree. subtree.now) audit.subtrees.items)) old new (Ok status)
         × (status ≡ 0 → (users : List Identity) (subtrees : List Names) → users_read (map ids_of audit.users.items) ≡ Ok users
         → paths_read (map (λ subtree. subtree.now) audit.subtrees.items) ≡ Ok subtrees → users ≢ [] → AreContained st users subtrees) }
     ensures audit_all { (audit : Audit) (files : Files) (given old new : Option (List ℕ)) (status : ℕ) (text : List ℕ) (st : State)
-        → CarriesOut (request.Audit audit) files given old new (Ok status) → audit.all ≡ true
+        → CarriesOut (request.Audit audit) files given old new (Ok status) → audit.settle ≡ false → audit.all ≡ true
         → source files (name_of audit.tree) given ≡ Some text → IsTextOf st text
         → ReportsPairs (all_report (Ok st) (map ids_of audit.users.items) (map (λ subtree. subtree.now) audit.subtrees.items)) old new (Ok status) }
+    ensures audit_settled { (audit : Audit) (files : Files) (given old new : Option (List ℕ)) (status : ℕ) (text : List ℕ) (st : State) (users : List Identity) (subtrees : List Names)
+        → CarriesOut (request.Audit audit) files given old new (Ok status) → audit.settle ≡ true → audit.all ≡ false
+        → source files (name_of audit.tree) given ≡ Some text → IsTextOf st text → users_read (map ids_of audit.users.items) ≡ Ok users
+        → paths_read (map (λ subtree. subtree.now) audit.subtrees.items) ≡ Ok subtrees
+        → (found : ℕ → ℕ → Answer) × AreFurther st (once same_user users) (once same_path subtrees) found
+        × Reports (first_pair_report (listed_from found 0 (once same_user users) (once same_path subtrees))) old new (Ok status)
+        × (status ≡ 0 → users ≢ [] → AreHeld st users subtrees) }
+    ensures audit_all_settled { (audit : Audit) (files : Files) (given old new : Option (List ℕ)) (status : ℕ) (text : List ℕ) (st : State) (users : List Identity) (subtrees : List Names)
+        → CarriesOut (request.Audit audit) files given old new (Ok status) → audit.settle ≡ true → audit.all ≡ true
+        → source files (name_of audit.tree) given ≡ Some text → IsTextOf st text → users_read (map ids_of audit.users.items) ≡ Ok users
+        → paths_read (map (λ subtree. subtree.now) audit.subtrees.items) ≡ Ok subtrees
+        → (found : ℕ → ℕ → Answer) × AreFurther st (once same_user users) (once same_path subtrees) found
+        × ReportsPairs (Ok (listed_from found 0 (once same_user users) (once same_path subtrees))) old new (Ok status)
+        × (status ≡ 0 → users ≢ [] → AreHeld st users subtrees) }
+    ensures explain { (explain : Explain) (files : Files) (given old new : Option (List ℕ)) (status : ℕ) (text : List ℕ) (st : State)
+        → CarriesOut (request.Explain explain) files given old new (Ok status)
+        → source files (name_of explain.tree) given ≡ Some text → IsTextOf st text
+        → ReportsTold (explain_asked (Ok st) (map ids_of explain.users.items) (map (λ subtree. subtree.now) explain.subtrees.items)) old new (Ok status) }
     ensures advise { (advise : Advise) (files : Files) (given old new : Option (List ℕ)) (status : ℕ) (text : List ℕ) (st : State)
         → CarriesOut (request.Advise advise) files given old new (Ok status) → advise.settle ≡ false
         → source files (name_of advise.tree) given ≡ Some text → IsTextOf st text

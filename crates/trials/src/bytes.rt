@@ -10,7 +10,9 @@ use cg_cli::advise_settle::advise_settled_bytes;
 use cg_cli::arguments::UserIds;
 use cg_cli::audit::audit_bytes;
 use cg_cli::audit_all::audit_all_bytes;
+use cg_cli::audit_settle::{audit_all_settled_bytes, audit_settled_bytes};
 use cg_cli::check::check_bytes;
+use cg_cli::explain::explain_bytes;
 use cg_cli::may::may_bytes;
 use cg_cli::replay::{replay_bytes, replay_from};
 use cg_cli::settle::settle_bytes;
@@ -30,9 +32,12 @@ enum Call<'a> {
     Advise(UserIds<'a>, &'a str),
     AdvisePairs(Vec<PairIds<'a>>),
     AdviseSettled(UserIds<'a>, &'a str),
+    Explain(UserIds<'a>, &'a str),
     Upgrade,
     Audit(Vec<UserIds<'a>>, Vec<&'a str>),
     AuditAll(Vec<UserIds<'a>>, Vec<&'a str>),
+    AuditSettled(Vec<UserIds<'a>>, Vec<&'a str>),
+    AuditAllSettled(Vec<UserIds<'a>>, Vec<&'a str>),
     ReplayBytes(UserIds<'a>, Option<&'a str>, Vec<u8>),
     ReplayFrom(UserIds<'a>, Option<&'a str>, Vec<u8>),
 }
@@ -48,9 +53,16 @@ impl Call<'_> {
             Call::AdviseSettled(user, subtree) => {
                 advise_settled_bytes(alloc, tree, &[*user], &[*subtree], out)
             }
+            Call::Explain(user, subtree) => explain_bytes(alloc, tree, &[*user], &[*subtree], out),
             Call::Upgrade => upgrade_bytes(alloc, tree, out),
             Call::AuditAll(users, subtrees) => {
                 audit_all_bytes(alloc, tree, users.as_slice(), subtrees.as_slice(), out)
+            }
+            Call::AuditSettled(users, subtrees) => {
+                audit_settled_bytes(alloc, tree, users.as_slice(), subtrees.as_slice(), out)
+            }
+            Call::AuditAllSettled(users, subtrees) => {
+                audit_all_settled_bytes(alloc, tree, users.as_slice(), subtrees.as_slice(), out)
             }
             Call::Audit(users, subtrees) => {
                 audit_bytes(alloc, tree, users.as_slice(), subtrees.as_slice(), out)
@@ -127,6 +139,7 @@ fn call_told<'a>(alloc: Global, words: &mut Words<'a>) -> Result<Call<'a>, Stopp
         "advise" => Ok(Call::Advise(user(words.id()?), words.next()?)),
         "advise_pairs" => Ok(Call::AdvisePairs(paired(alloc, words)?)),
         "advise_settled" => Ok(Call::AdviseSettled(user(words.id()?), words.next()?)),
+        "explain" => Ok(Call::Explain(user(words.id()?), words.next()?)),
         "upgrade" => Ok(Call::Upgrade),
         "audit" => {
             let (users, subtrees) = audited(alloc, words.rest())?;
@@ -135,6 +148,14 @@ fn call_told<'a>(alloc: Global, words: &mut Words<'a>) -> Result<Call<'a>, Stopp
         "audit_all" => {
             let (users, subtrees) = audited(alloc, words.rest())?;
             Ok(Call::AuditAll(users, subtrees))
+        }
+        "audit_settled" => {
+            let (users, subtrees) = audited(alloc, words.rest())?;
+            Ok(Call::AuditSettled(users, subtrees))
+        }
+        "audit_all_settled" => {
+            let (users, subtrees) = audited(alloc, words.rest())?;
+            Ok(Call::AuditAllSettled(users, subtrees))
         }
         "replay" => {
             let user = user(words.id()?);

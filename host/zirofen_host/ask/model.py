@@ -81,6 +81,7 @@ class Abilities:
     has_advise: bool
     version: Optional[str]
     has_settle: bool = False
+    has_explain: bool = False
 
 
 @dataclass(frozen=True)

@@ -216,7 +216,8 @@ def abilities_of(path: str) -> Abilities:
     """What the program can do, by what it says of itself."""
     program = Program(path, "")
     audit, advise = help_of(program, "audit"), help_of(program, "advise")
-    return Abilities("--all" in audit.split(), "--pairs" in advise.split(), version_of(program), "--settle" in audit.split())
+    return Abilities("--all" in audit.split(), "--pairs" in advise.split(), version_of(program), "--settle" in audit.split(),
+                     "--subtree" in help_of(program, "explain").split())
 
 
 def help_of(program: Program, *words: str) -> str:

@@ -1,7 +1,8 @@
 """The one line of each finding, as a report and a comparison of two have it."""
-from typing import Iterable, Sequence
+import shlex
+from typing import Iterable, Optional, Sequence
 
-from zirofen_host.collect.model import GROUP, OTHERS
+from zirofen_host.collect.model import GROUP, OTHERS, OWNER
 from zirofen_host.judge.model import (AboveFinding, Acceptance, DiffersFinding, EntryFinding, FaultFinding, OpenedFinding, Owner,
                                       RootInside, Whom)
 
@@ -34,6 +35,20 @@ def entry_line(entries: Sequence[EntryFinding]) -> str:
     entry = entries[0]
     what = " ".join(f"{each.entry} ({owner_text(each.owner)})" if each.owner else each.entry for each in entries)
     return f"{entry.path} {what}: {entry.answer}, by {whom_text(entry.whom)}, of {some(entry.subtrees)}"
+
+
+def explaining(user: int, subtree: str) -> str:
+    """The command that says of a user and a subtree what each guard asks; with the tree's text, where it was asked of one."""
+    return f"zirofen-host ask {user} --explain {shlex.quote(subtree)}"
+
+
+def why_command(each: EntryFinding) -> Optional[str]:
+    """The command that says why, of the user and the subtree that it is shown of, or else of the first whom the entry lets in as its
+    owner."""
+    if each.example:
+        return explaining(each.example.uid, each.example.subtree)
+    owner = next((whom.id for whom in each.whom if whom.by == OWNER and whom.id is not None), None)
+    return None if owner is None else explaining(owner, each.subtrees[0])
 
 
 def opened_line(each: OpenedFinding) -> str:

@@ -14,7 +14,7 @@ from zirofen_host.judge.one import Warn, is_known, users_of
 from zirofen_host.options import AskOptions
 from zirofen_host.profile import HANDED_OVER, CgroupPath, ancestors, is_inside, path_of, shown, text_of
 
-# what an entry lets its user do where it is of the subtree, and where a guard stands on it above
+# what an entry lets its user do where it is of the subtree, and where a guard stands on it
 HERE = {"dir": "makes and removes cgroups here", "cgroup.procs": "moves processes into it",
         "cgroup.subtree_control": "enables and disables controllers here, and so limit files below"}
 ABOVE = {"common-ancestor": "moves processes over the subtree's edge, into what else they write cgroup.procs of",

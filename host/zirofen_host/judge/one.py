@@ -1,8 +1,9 @@
 """One user and one subtree, by name."""
+import contextlib
 import os
 import pwd
 from dataclasses import dataclass
-from typing import AbstractSet, Callable, Dict, Iterable, Iterator, List, Optional, Tuple
+from typing import AbstractSet, Callable, Dict, Iterable, Iterator, List, Mapping, Optional, Tuple
 
 from zirofen_host import output
 from zirofen_host.ask.asking import has_all_cgroups
@@ -142,8 +143,28 @@ def lines_of(one: One, answers: Dict[User, Answer]) -> Iterator[str]:
         yield f"# subtree {text_of(one.path)}"
 
 
-def ask(snapshot: Snapshot, options: AskOptions, warn: Warn) -> Tuple[List[str], int]:
-    """The report of one user and one subtree, and its status."""
+@dataclass(frozen=True)
+class Standing:
+    """Who is asked of what, and whether the text has every cgroup of the host."""
+    one: One
+    accounts: Accounts
+    # each list of groups, with how many of them matter where these are too many
+    users: Dict[User, int]
+    is_whole: bool
+    # statuses besides those of answers
+    statuses: AbstractSet[int]
+
+    def told(self, answers: Mapping[User, Answer], lines: Iterable[str]) -> Tuple[List[str], int]:
+        """The lines and the worst status; a fault where nobody has an answer."""
+        if all(each.status == FAULT for each in answers.values()):
+            line, *help_lines = next(iter(answers.values())).lines
+            raise Fault(line, help_lines)
+        return list(lines), worst({each.status for each in answers.values()} | self.statuses)
+
+
+@contextlib.contextmanager
+def standing(snapshot: Snapshot, options: AskOptions, warn: Warn) -> Iterator[Standing]:
+    """One user and one subtree, by name, and the program with a text, as long as that stands."""
     accounts = accounts_of(options.accounts, snapshot)
     users = users_of(options.user, accounts, not options.accounts and snapshot.source.file is None)
     if not any(is_known(user, snapshot.tree, accounts) for user in users):
@@ -153,11 +174,15 @@ def ask(snapshot: Snapshot, options: AskOptions, warn: Warn) -> Tuple[List[str],
         programs = program_for(snapshot, options, folder, delegations, {user.uid for user in users})
         for note in programs.failed:
             warn(note.detail)
-        is_settled = has_all_cgroups(snapshot, options, programs.texts) and abilities_of(options.program).has_settle
+        is_whole = has_all_cgroups(snapshot, options, programs.texts)
         one = One(path_of(options.path), snapshot.mount, delegations, programs.of[path_of(options.path)],
-                  "settle" if is_settled else "check")
-        answers = {user: answer(one, user, count) for user, count in sorted(as_asked(one, users, warn).items())}
-        if all(each.status == FAULT for each in answers.values()):
-            line, *help_lines = next(iter(answers.values())).lines
-            raise Fault(line, help_lines)
-        return list(lines_of(one, answers)), worst({each.status for each in answers.values()} | ({FAULT} if programs.failed else set()))
+                  "settle" if is_whole and abilities_of(options.program).has_settle else "check")
+        asked = dict(sorted(as_asked(one, users, warn).items()))
+        yield Standing(one, accounts, asked, is_whole, {FAULT} if programs.failed else set())
+
+
+def ask(snapshot: Snapshot, options: AskOptions, warn: Warn) -> Tuple[List[str], int]:
+    """The report of one user and one subtree, and its status."""
+    with standing(snapshot, options, warn) as at:
+        answers = {user: answer(at.one, user, count) for user, count in at.users.items()}
+        return at.told(answers, lines_of(at.one, answers))

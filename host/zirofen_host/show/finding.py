@@ -5,7 +5,7 @@ from typing import Dict, Iterable, Iterator, List, Optional
 from zirofen_host.collect.model import User
 from zirofen_host.fault import Fault
 from zirofen_host.judge import long_lists, shell
-from zirofen_host.judge.finding_lines import inside_count, owner_text
+from zirofen_host.judge.finding_lines import explaining, inside_count, owner_text
 from zirofen_host.judge.model import DiffersFinding, EntryFinding, FaultFinding, OpenedFinding, RootInside
 from zirofen_host.show import picture, words
 from zirofen_host.show.lines import together
@@ -62,8 +62,8 @@ class Article:
 
     def html(self) -> str:
         """All that is told of it, but for its title."""
-        return filled("finding.html", what=self.accepted() + self.what(), of=self.of(), picture=self.picture(), steps=self.told_steps(),
-                      change=self.change(), try_it=self.try_it())
+        return filled("finding.html", what=self.accepted() + self.what(), of=self.of() + self.why(), picture=self.picture(),
+                      steps=self.told_steps(), change=self.change(), try_it=self.try_it())
 
     def accepted(self) -> str:
         """Why it isn't counted, where somebody accepted it."""
@@ -137,6 +137,13 @@ class Article:
             guard = text(words.guard(self.broken.escape.lines[0]))
             told += f"<p>No operations were found that break it, and it isn't shown to hold: {guard}.</p>"
         return told
+
+    def why(self) -> str:
+        """The command that says what each guard asks of who breaks it."""
+        escape = self.broken.escape if self.broken else None
+        if not escape or escape.uid is None:
+            return ""
+        return f"<p>What each guard asks, and by what it holds or fails: {code(explaining(escape.uid, escape.subtree))}.</p>"
 
     def picture(self) -> str:
         """The escape as it was told already, or its picture."""

@@ -9,7 +9,7 @@ from zirofen_host.judge import long_lists
 from zirofen_host.judge.acceptances import accepted_subtrees
 from zirofen_host.judge.baseline import KINDS
 from zirofen_host.judge.finding_lines import (INSIDE_MEANS, NOTHING_ASKED, SHOWN, above_line, acceptance_line, differs_line, entry_line,
-                                              fault_line, inside_count, inside_line, opened_line, version_1_line, whom_text)
+                                              fault_line, inside_count, inside_line, opened_line, version_1_line, whom_text, why_command)
 from zirofen_host.judge.gravity import is_empty
 from zirofen_host.judge.model import (ABSENT, AboveFinding, Absent, Comparison, Difference, DiffersFinding, EntryFinding,
                                       HolderAnswer, NamedScope, OpenedFinding, Report, RootInside, Subtree, Told)
@@ -108,6 +108,9 @@ def entry_lines(entries: Sequence[EntryFinding]) -> Iterator[str]:
     if example:
         yield f"    by {example.who} of {example.subtree}: {example.lines[0]}"
         yield from (f"    {line}" for line in long_lists.shown(example.lines))
+    why = why_command(entries[0])
+    if why:
+        yield f"    why: {why}"
     yield from what_to_change(entries)
 
 

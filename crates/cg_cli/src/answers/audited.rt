@@ -7,7 +7,7 @@ ghost use Rattle.cg_model.specs.Clauses.{first};
 ghost use Rattle.cg_model.specs.WellFormed.{IsWellFormed};
 ghost use Rattle.cg_model.specs.Answers.{answer};
 ghost use Rattle.cg_model.specs.Checks.{subtree_faults};
-ghost use Rattle.cg_settle.specs.Judged.{second_row};
+ghost use Rattle.cg_second.specs.Judged.{second_row};
 ghost use Rattle.cg_model.specs.declared.answer.Answer.{Answer};
 ghost use Rattle.cg_check.specs.Listed.{is_guarded_of_all};
 ghost use Rattle.cg_guards.specs.Reach.{AreCovered};

@@ -7,8 +7,9 @@ ghost use Rattle.cg_model.specs.States.{State};
 ghost use Rattle.cg_model.specs.WellFormed.{IsWellFormed};
 ghost use Rattle.cg_model.specs.Guards.{IsSubtree};
 ghost use Rattle.cg_model.specs.declared.answer.Answer.{Answer};
-ghost use Rattle.cg_settle.specs.SecondRow.{AreSettled};
-ghost use Rattle.cg_cli.specs.Audited.{not_listed, AreKnown};
+ghost use Rattle.cg_second.specs.SecondRow.{AreSettled};
+ghost use Rattle.cg_cli.specs.Audited.{AreKnown};
+ghost use Rattle.cg_cli.specs.FurtherPairs.{not_listed};
 
 /// Whatever is known of some users with a subtree: against those with whom it isn't listed it is held over every run of theirs,
 /// in whatever order they act, and in every state on the way their second row holds again.

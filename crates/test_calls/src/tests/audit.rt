@@ -1,4 +1,4 @@
-//! `audit_bytes` on rows worked out by hand, and on faults, of which those of `audit_all_bytes` are the same.
+//! `audit_bytes` on rows worked out by hand, and on faults, of which those of the other audits are the same.
 use super::calls::{Call, expect, expect_fault};
 use super::changed::{FORMAT_2, GROUP_WRITES, SECOND_USER, delegation_with};
 use crate::tests::users::{MANY_GROUPS, USER, user};
@@ -120,6 +120,8 @@ fn the_first_fault_is_said_and_nothing_written(rt: HostRuntime) {
         for call in [
             Call::Audit(users, subtrees),
             Call::AuditAll(users, subtrees),
+            Call::AuditSettled(users, subtrees),
+            Call::AuditAllSettled(users, subtrees),
         ] {
             expect_fault(&rt, rt.alloc(), tree, call, fault);
         }

@@ -6,7 +6,9 @@ use cg_cli::advise_settle::advise_settled_bytes;
 use cg_cli::arguments::UserIds;
 use cg_cli::audit::audit_bytes;
 use cg_cli::audit_all::audit_all_bytes;
+use cg_cli::audit_settle::{audit_all_settled_bytes, audit_settled_bytes};
 use cg_cli::check::check_bytes;
+use cg_cli::explain::explain_bytes;
 use cg_cli::may::may_bytes;
 use cg_cli::replay::{replay_bytes, replay_from};
 use cg_cli::upgrade::upgrade_bytes;
@@ -22,6 +24,9 @@ pub enum Call<'a> {
     Check(UserIds<'a>, &'a str),
     Audit(&'a [UserIds<'a>], &'a [&'a str]),
     AuditAll(&'a [UserIds<'a>], &'a [&'a str]),
+    Explain(&'a [UserIds<'a>], &'a [&'a str]),
+    AuditSettled(&'a [UserIds<'a>], &'a [&'a str]),
+    AuditAllSettled(&'a [UserIds<'a>], &'a [&'a str]),
     Advise(&'a [UserIds<'a>], &'a [&'a str]),
     AdvisePairs(&'a [PairIds<'a>]),
     AdviseSettled(&'a [UserIds<'a>], &'a [&'a str]),
@@ -37,6 +42,13 @@ impl Call<'_> {
             Call::Check(user, subtree) => check_bytes(alloc, tree, user, subtree, out),
             Call::Audit(users, subtrees) => audit_bytes(alloc, tree, users, subtrees, out),
             Call::AuditAll(users, subtrees) => audit_all_bytes(alloc, tree, users, subtrees, out),
+            Call::Explain(users, subtrees) => explain_bytes(alloc, tree, users, subtrees, out),
+            Call::AuditSettled(users, subtrees) => {
+                audit_settled_bytes(alloc, tree, users, subtrees, out)
+            }
+            Call::AuditAllSettled(users, subtrees) => {
+                audit_all_settled_bytes(alloc, tree, users, subtrees, out)
+            }
             Call::Advise(users, subtrees) => advise_bytes(alloc, tree, users, subtrees, out),
             Call::AdvisePairs(pairs) => advise_pairs_bytes(alloc, tree, pairs, out),
             Call::AdviseSettled(users, subtrees) => {

@@ -1,4 +1,4 @@
-use Rattle.theorems.proofs.ProgramLaws.{carried_by_status, led_to_fault, help_ended, may_ended, check_ended, settle_ended, audit_ended, all_ended, advise_ended, advise_settled_ended, advise_pairs_ended, upgrade_ended, replay_ended}
+use Rattle.theorems.proofs.ProgramLaws.{carried_by_status, led_to_fault, help_ended, may_ended, check_ended, settle_ended, audit_ended, all_ended, explain_ended, settled_ended, all_settled_ended, advise_ended, advise_settled_ended, advise_pairs_ended, upgrade_ended, replay_ended}
 use Rattle.theorems.proofs.the_program.Goals as goal
 
 pub returns : goal.returns
@@ -10,10 +10,15 @@ returns c = record {
   check = λ check files given old new status text st. check_ended files given old new status text st check;
   settle = λ check files given old new status text st user subtree.
       settle_ended files given old new status text st check user subtree;
-  audit = λ audit files given old new status text st carried first of_known of_text.
-      audit_ended files given old new status text st audit carried of_known of_text first;
-  audit_all = λ audit files given old new status text st carried each of_known of_text.
-      all_ended files given old new status text st audit carried of_known of_text each;
+  audit = λ audit files given old new status text st carried guards first of_known of_text.
+      audit_ended files given old new status text st audit carried of_known of_text guards first;
+  audit_all = λ audit files given old new status text st carried guards each of_known of_text.
+      all_ended files given old new status text st audit carried of_known of_text guards each;
+  audit_settled = λ audit files given old new status text st users subtrees carried further first of_known of_text of_users of_paths.
+      settled_ended files given old new status text st audit carried of_known of_text users subtrees further of_users of_paths first;
+  audit_all_settled = λ audit files given old new status text st users subtrees carried further each of_known of_text of_users of_paths.
+      all_settled_ended files given old new status text st audit carried of_known of_text users subtrees further of_users of_paths each;
+  explain = λ explain files given old new status text st. explain_ended files given old new status text st explain;
   advise = λ advise files given old new status text st carried guards of_known of_text.
       advise_ended files given old new status text st advise carried of_known of_text guards;
   advise_settled = λ advise files given old new status text st users subtrees carried further of_known of_text.

@@ -2,7 +2,7 @@ use Rattle.std.proofs.Common.{rules, codes}
 use Rattle.std.proofs.lemmas.Result.{IfOk-weaker}
 use Rattle.clap.specs.Simple.{new_shape}
 use Rattle.arguments.specs.Building.{IsOption, IsCommand}
-use Rattle.arguments.specs.CommandLine.{word_option, flag, needed, repeated}
+use Rattle.arguments.specs.CommandLine.{word_option, needed, repeated}
 use Rattle.arguments.proofs.CommandLaws.{option_added}
 use Rattle.arguments.proofs.command.audit_command.Goals as goal
 
@@ -16,5 +16,5 @@ returns c =
     let subtree : IsOption (repeated (needed (word_option (codes "subtree")))) c.help-2.result =
     record { rule_is = search rules; local = search rules } in
     let of_subtree = option_added _ _ _ _ _ of_uid subtree c.in_ok-arg-3.ensures in
-    let all : IsOption (flag (codes "all")) c.help-3.result = record { rule_is = search rules; local = search rules } in
-    IfOk-weaker c.arg-4.result _ _ (λ new added. option_added _ _ _ _ _ of_subtree all added) c.arg-4.ensures
+    let of_all = option_added _ _ _ _ _ of_subtree c.all_argument.ensures c.in_ok-arg-4.ensures in
+    IfOk-weaker c.arg-5.result _ _ (λ new added. option_added _ _ _ _ _ of_all c.settle_argument.ensures added) c.arg-5.ensures

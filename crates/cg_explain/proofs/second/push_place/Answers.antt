@@ -1,6 +1,6 @@
 use Rattle.std.proofs.Common.{ap, sym, ◌∙◌, ◌≡◌, ◌∷◌, ◌++◌, [], Bool, true, false, cond, get_or, append-nil}
-use Rattle.cg_settle.specs.Greatest.{greatest}
-use Rattle.cg_settle.specs.Judged.{grows_none}
+use Rattle.cg_second.specs.Greatest.{greatest}
+use Rattle.cg_second.specs.Judged.{grows_none}
 use Rattle.cg_second.specs.Exposed.{is_exposed}
 use Rattle.cg_second.proofs.Staying.{same_default}
 use Rattle.cg_explain.specs.declared.second.Place.{Place}

@@ -1,8 +1,8 @@
 use Rattle.std.proofs.Common.{ap, sym, ◌∙◌, ◌≡◌, ◌<◌, ◌≤◌, ◌&&◌, ◌||◌, not, true, false, [], get_or, length, arith, refl}
 use Rattle.std.specs.List.{list_all}
 use Rattle.std.proofs.lemmas.Bool.{or_left, or_right, not_from_false}
-use Rattle.cg_settle.specs.Judged.{takes_none, grows_none}
-use Rattle.cg_settle.specs.Greatest.{greatest}
+use Rattle.cg_second.specs.Judged.{takes_none, grows_none}
+use Rattle.cg_second.specs.Greatest.{greatest}
 use Rattle.cg_second.specs.Exposed.{is_exposed, is_shut_or_apart}
 use Rattle.cg_second.proofs.Staying.{same_default}
 use Rattle.cg_second.proofs.Closing.{room-first, shut-more, open-found, all-of}

@@ -2,7 +2,7 @@ use Rattle.std.proofs.Common.{ap, sym, ◌∙◌, ◌≡◌, take, cond, length}
 use Rattle.cg_cgroup.specs.Paths.{common}
 use Rattle.cg_cgroup.specs.declared.files.EntryName.TheVariants.{Procs}
 use Rattle.cg_cgroup.proofs.PathLaws.{common_comm}
-use Rattle.cg_settle.specs.Lasting.{is_reached}
+use Rattle.cg_second.specs.Lasting.{is_reached}
 use Rattle.cg_model.proofs.Prefixes.{take_common}
 use Rattle.cg_second.specs.Exposed.{is_passed_to}
 use Rattle.cg_second.proofs.closed.is_exposed.Goals as goal

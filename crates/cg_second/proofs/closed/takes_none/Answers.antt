@@ -4,7 +4,7 @@ use Rattle.cg_cgroup.specs.Paths.{is_root}
 use Rattle.cg_cgroup.specs.declared.files.Controller.TheVariants.{Memory}
 use Rattle.cg_cgroup.specs.declared.files.EntryName.TheVariants.{Procs, SubtreeControl}
 use Rattle.cg_model.specs.WellFormed.{enabled_at}
-use Rattle.cg_settle.specs.Lasting.{is_reached}
+use Rattle.cg_second.specs.Lasting.{is_reached}
 use Rattle.cg_model.proofs.Prefixes.{no_root_of_length}
 use Rattle.cg_second.proofs.Staying.{takes-is, same_default}
 use Rattle.cg_second.proofs.closed.takes_none.Goals as goal

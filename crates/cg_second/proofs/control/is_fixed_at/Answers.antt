@@ -2,7 +2,7 @@ use Rattle.std.proofs.Common.{sym, ap, ◌∙◌, ◌&&◌, [], get_or, refl, no
 use Rattle.cg_cgroup.specs.Files.{enables}
 use Rattle.cg_cgroup.specs.declared.files.EntryName.TheVariants.{SubtreeControl}
 use Rattle.cg_model.specs.WellFormed.{enabled_at}
-use Rattle.cg_settle.specs.Lasting.{is_reached}
+use Rattle.cg_second.specs.Lasting.{is_reached}
 use Rattle.cg_second.proofs.Staying.{read-fixed, same_default}
 use Rattle.cg_second.proofs.control.is_fixed_at.Goals as goal
 

@@ -1,6 +1,6 @@
 use Rattle.std.proofs.Common.{ap, sym, ◌∙◌, ◌≡◌, ◌-◌, ◌||◌, false, take, length}
 use Rattle.cg_cgroup.specs.Paths.{parent}
-use Rattle.cg_settle.specs.Greatest.{greatest}
+use Rattle.cg_second.specs.Greatest.{greatest}
 use Rattle.cg_second.proofs.Staying.{off-above}
 use Rattle.cg_second.proofs.control.is_held.Goals as goal
 

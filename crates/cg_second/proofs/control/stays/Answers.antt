@@ -2,7 +2,7 @@ use Rattle.std.proofs.Common.{ap, sym, ◌∙◌, ◌≡◌, ◌<◌, ◌≤◌,
 use Rattle.std.specs.List.{list_any}
 use Rattle.cg_cgroup.specs.Paths.{same_path}
 use Rattle.cg_cgroup.proofs.PathOrder.{same_path-is, same_path_comm}
-use Rattle.cg_settle.specs.Greatest.{greatest}
+use Rattle.cg_second.specs.Greatest.{greatest}
 use Rattle.cg_second.proofs.Staying.{same_default, none-more, none-of, stays-absent}
 use Rattle.cg_second.proofs.control.stays.Goals as goal
 

@@ -5,8 +5,8 @@ use Rattle.cg_cgroup.specs.Paths.{Names}
 use Rattle.cg_cgroup.specs.declared.files.EntryName.TheVariants.{SubtreeControl}
 use Rattle.cg_model.specs.WellFormed.{enabled_at}
 use Rattle.cg_model.specs.States.{paths_of}
-use Rattle.cg_settle.specs.Lasting.{is_reached}
-use Rattle.cg_settle.specs.Greatest.{greatest}
+use Rattle.cg_second.specs.Lasting.{is_reached}
+use Rattle.cg_second.specs.Greatest.{greatest}
 use Rattle.cg_second.specs.Anchors.{is_anchored, is_fixed}
 use Rattle.cg_second.proofs.Staying.{end-in, kept-mark, fixed-mark, place-is}
 use Rattle.cg_second.proofs.Tallies.{tally-more}

@@ -1,5 +1,5 @@
 use Rattle.cg_cgroup.specs.declared.files.Controller.TheVariants.{Memory}
-use Rattle.cg_settle.specs.Greatest.{greatest}
+use Rattle.cg_second.specs.Greatest.{greatest}
 use Rattle.cg_second.specs.Anchors.{is_fixed}
 use Rattle.cg_second.specs.Counts.{IsTally}
 use Rattle.cg_second.proofs.counts.lasting_counts.Given as goal

@@ -26,3 +26,6 @@ returns-in-Upgrade g c = rw c.in-Upgrade.is c.upgrade.ensures
 
 pub returns-in-AdvisePairs : goal.returns-in-AdvisePairs
 returns-in-AdvisePairs g c = rw c.in-AdvisePairs.is c.advise_pairs.ensures
+
+pub returns-in-Explain : goal.returns-in-Explain
+returns-in-Explain g c = rw c.in-Explain.is c.explain.ensures

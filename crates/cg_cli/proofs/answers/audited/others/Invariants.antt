@@ -1,5 +1,6 @@
 use Rattle.std.proofs.Common.{◌≡◌, not, take}
-use Rattle.cg_cli.specs.Audited.{picked, has_list}
+use Rattle.cg_cli.specs.Audited.{has_list}
+use Rattle.cg_cli.specs.FurtherPairs.{picked}
 use Rattle.cg_cli.specs.FoundPlaces.{found_at}
 use Rattle.cg_cli.proofs.answers.audited.others.Given as goal
 

@@ -1,5 +1,5 @@
 use Rattle.std.proofs.Common.{List, sym, ap, ◌∙◌, subst}
-use Rattle.cg_settle.specs.Judged.{second_row}
+use Rattle.cg_second.specs.Judged.{second_row}
 use Rattle.cg_cli.specs.declared.answers.audited.Found.{Found}
 use Rattle.cg_cli.specs.Audited.{without_list}
 use Rattle.cg_cli.specs.FoundPlaces.{found_at, AreApart}

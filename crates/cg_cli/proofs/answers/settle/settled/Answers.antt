@@ -1,5 +1,5 @@
 use Rattle.std.proofs.Common.{◌≡◌, true, [], ◌∷◌, rules}
-use Rattle.cg_settle.specs.Judged.{second_row}
+use Rattle.cg_second.specs.Judged.{second_row}
 use Rattle.cg_cli.proofs.Settled.{contained-row}
 use Rattle.cg_cli.proofs.answers.settle.settled.Goals as goal
 

@@ -1,5 +1,5 @@
 use Rattle.std.proofs.Common.{arith}
-use Rattle.cg_settle.specs.Greatest.{greatest}
+use Rattle.cg_second.specs.Greatest.{greatest}
 use Rattle.cg_second.proofs.Staying.{end-read-fits, read-below}
 use Rattle.cg_second.proofs.survey.Survey.kept_below.Goals as goal
 

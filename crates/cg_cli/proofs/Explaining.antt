@@ -1,0 +1,261 @@
+-- Pairs told one after another, and what the report on them is where it ends early.
+use Rattle.std.proofs.Common.{◌≡◌, ◌≢◌, ℕ, ◌+◌, ◌<◌, ◌⊎◌, inl, inr, ◌||◌, Bool, true, false, cond, List, [], ◌∷◌, ◌++◌, length, get_or, take, drop, map, take_all, ◌≤◌, not}
+use Rattle.std.proofs.Common.{Option, Some, None, Result, Ok, Err, IsErrAnd, refl, sym, ap, ◌∙◌, subst, append_assoc, append-nil}
+use Rattle.std.specs.List.{All, list_any, flat_map}
+use Rattle.std.specs.Io.KnownBytes.{Appends}
+use Rattle.std.proofs.KnownBytes.{Appends-nil, Appends-trans, Appends-kept, Keeps-refl}
+use Rattle.std.proofs.lemmas.List.{take-append-drop}
+use Rattle.std.proofs.lemmas.List.Concat.{flat_map-append}
+use Rattle.std.proofs.lemmas.List.Elements.{All-nil, All-push}
+use Rattle.cg_cgroup.specs.Paths.{Names, same_path}
+use Rattle.cg_cgroup.specs.Identity.{Identity}
+use Rattle.cg_model.specs.States.{State}
+use Rattle.cg_model.specs.Clauses.{first, unless}
+use Rattle.cg_model.specs.Guards.{IsSubtree}
+use Rattle.cg_model.specs.Checks.{subtree_faults, unless_fault}
+use Rattle.cg_model.specs.Listed.{Listed}
+use Rattle.cg_model.specs.Mends.{Pair}
+use Rattle.cg_model.specs.Once.{once}
+use Rattle.cg_model.specs.declared.answer.Answer.{Answer}
+use Rattle.cg_model.specs.declared.answer.Answer.TheVariants.{Contained, Escapes, Unsettled}
+use Rattle.cg_model.specs.declared.fault.CheckFault.{CheckFault}
+use Rattle.cg_model.specs.declared.fault.CheckFault.TheVariants.{RootSubtree, NoSuchSubtree, NoMemory as CheckNoMemory}
+use Rattle.cg_advice.specs.Ways.{pair_of}
+use Rattle.cg_advice.specs.declared.pair.Pair.{Pair as PairOfBoth}
+use Rattle.cg_advice.proofs.Gathering.{one_more, map-append}
+use Rattle.cg_explain.specs.PairExplained.{pair_lines}
+use Rattle.cg_format.specs.Readings.{Reading}
+use Rattle.cg_cli.specs.Advising.{pair_with, all_pairs}
+use Rattle.cg_cli.specs.AllPairs.{is_escape, worse, read_then}
+use Rattle.cg_cli.specs.Asking.{read_in_turn, named_read, read_takes_memory, IsMet, IsKeptOnce}
+use Rattle.cg_cli.specs.Audits.{users_read, paths_read}
+use Rattle.cg_cli.specs.Containment.{in_call, answer_status}
+use Rattle.cg_cli.specs.May.{tree_read}
+use Rattle.cg_cli.specs.Once.{same_user}
+use Rattle.cg_cli.specs.Reports.{takes_memory}
+use Rattle.cg_cli.specs.Settled.{IsSettledFault}
+use Rattle.cg_cli.specs.Explaining.{is_unsettled, told_status, told_text, pair_told, IsTold, AreTold, AreFrontTold, TellsPair, TellsPairs, pairs_asked, explain_asked, ReportsTold}
+use Rattle.streams.specs.Written.{AppendsPart}
+use Rattle.cg_faults.specs.Faults.{lifted_check}
+use Rattle.cg_faults.specs.declared.fault.CliFault.{CliFault}
+use Rattle.cg_faults.specs.declared.fault.CliFault.TheVariants.{Write, NoMemory}
+use Rattle.cg_cli.proofs.NamedReads.{regrouped}
+use Rattle.cg_cli.proofs.ReplayEnds.{part_behind}
+use Rattle.cg_cli.proofs.ReportLaws.{handed_on, call_takes}
+
+-- ---- statuses
+
+any_behind : {A : Type 0} (test : A → Bool) (xs : List A) (y : A) → list_any test (xs ++ (y ∷ [])) ≡ list_any test xs || test y
+any_behind test [] y = last (test y)
+  where
+    last : (b : Bool) → b || false ≡ b
+    last true = refl
+    last false = refl
+any_behind test (x ∷ xs) y = ap (λ b. test x || b) (any_behind test xs y) ∙ either_way (test x) (list_any test xs) (test y)
+  where
+    either_way : (a b c : Bool) → a || (b || c) ≡ (a || b) || c
+    either_way true b c = refl
+    either_way false b c = refl
+
+-- with one more, the worse of theirs
+one_more_status : (told : List Listed) (each : Listed) → told_status (told ++ (each ∷ [])) ≡ worse (told_status told) (answer_status each.found)
+one_more_status told each =
+    (λ i. cond (any_behind (λ (one : Listed). is_escape one.found) told each i) 1
+    (cond (any_behind (λ (one : Listed). is_unsettled one.found) told each i) 2 0))
+    ∙ by_answer each.found (list_any (λ (one : Listed). is_escape one.found) told) (list_any (λ (one : Listed). is_unsettled one.found) told)
+  where
+    by_answer : (found : Answer) (escapes unsettled : Bool)
+        → cond (escapes || is_escape found) 1 (cond (unsettled || is_unsettled found) 2 0)
+        ≡ worse (cond escapes 1 (cond unsettled 2 0)) (answer_status found)
+    by_answer Contained true unsettled = refl
+    by_answer Contained false true = refl
+    by_answer Contained false false = refl
+    by_answer (Escapes ops) true unsettled = refl
+    by_answer (Escapes ops) false true = refl
+    by_answer (Escapes ops) false false = refl
+    by_answer (Unsettled failed) true unsettled = refl
+    by_answer (Unsettled failed) false true = refl
+    by_answer (Unsettled failed) false false = refl
+
+-- ---- one after another
+
+-- some pairs are told
+pub record Told (st : State) (pairs : List Pair) (old new : Option (List ℕ)) (worst : ℕ) : Type 0 where
+  pub told : List Listed
+  pub named : map pair_told told ≡ pairs
+  pub settled : All (IsTold st) told
+  pub status : told_status told ≡ worst
+  pub text : Appends old new (told_text st told)
+
+abbrev pub listed_with : Pair → Answer → Listed
+listed_with pair found = record { user = pair.user; subtree = pair.subtree; found = found }
+
+pub begins : (st : State) (known : Option (List ℕ)) → Told st [] known known 0
+begins st known = record { told = []; named = refl; settled = All-nil (IsTold st); status = refl; text = Appends-nil known }
+
+named_more : (told : List Listed) (each : Listed) → map pair_told (told ++ (each ∷ [])) ≡ map pair_told told ++ (pair_told each ∷ [])
+named_more [] each = refl
+named_more (x ∷ told) each = ap (λ l. pair_told x ∷ l) (named_more told each)
+
+text_more : (st : State) (told : List Listed) (each : Listed) → told_text st (told ++ (each ∷ [])) ≡ told_text st told ++ pair_lines st each
+text_more st told each =
+    flat_map-append (pair_lines st) told (each ∷ []) ∙ ap (λ l. told_text st told ++ l) (append-nil (pair_lines st each))
+
+module _ (st : State) (begun : List Pair) (pair : Pair) (old mid new : Option (List ℕ)) (worst : ℕ) (far : Told st begun old mid worst) where
+  pub goes_on : (status : ℕ) → TellsPair st pair mid new (Ok status) → Told st (begun ++ (pair ∷ [])) old new (worse worst status)
+  goes_on status written =
+      let each = listed_with pair written.0 in record {
+        told = far.told ++ (each ∷ []);
+        named = named_more far.told each ∙ ap (λ l. l ++ (pair ∷ [])) far.named;
+        settled = All-push (IsTold st) far.told each far.settled written.1;
+        status = one_more_status far.told each ∙ (λ i. worse (far.status i) (written.2 i));
+        text =
+            subst (Appends old new) (sym (text_more st far.told each))
+            (Appends-trans old mid new _ _ far.text written.3);
+      }
+
+  pub stops : (back : List Pair) (fault : CliFault) → TellsPair st pair mid new (Err fault)
+      → TellsPairs st ((begun ++ (pair ∷ [])) ++ back) old new (Err fault)
+  stops back Write part =
+      let each = listed_with pair part.0 in (
+        far.told ++ (each ∷ []),
+        (
+          begun ++ (pair ∷ []),
+          back,
+          refl,
+          (
+            named_more far.told each ∙ ap (λ l. l ++ (pair ∷ [])) far.named,
+            All-push (IsTold st) far.told each far.settled part.1,
+          ),
+        ),
+        subst (AppendsPart old new) (sym (text_more st far.told each)) (part_behind old mid new _ _ far.text part.2),
+      )
+  stops back NoMemory kept = (
+    far.told,
+    (begun, (pair ∷ []) ++ back, sym (append_assoc begun (pair ∷ []) back), (far.named, far.settled)),
+    Appends-kept old mid new (told_text st far.told) far.text kept,
+  )
+  stops back fault never = absurd never
+
+pub ends : (st : State) (pairs : List Pair) (old new : Option (List ℕ)) (status : ℕ) → Told st pairs old new status
+    → TellsPairs st pairs old new (Ok status)
+ends st pairs old new status far = (far.told, (far.named, far.settled), far.status, far.text)
+
+-- ---- pairs as they are kept
+
+module _ (st : State) (pairs : List PairOfBoth) (i : ℕ) (pair : PairOfBoth) (within : i < length pairs) (is : pair ≡ get_or pairs i pair)
+    (old mid new : Option (List ℕ)) (worst : ℕ) (far : Told st (map pair_of (take i pairs)) old mid worst) where
+  pub pair_told_more : (status more : ℕ) → more ≡ worse worst status → TellsPair st (pair_of pair) mid new (Ok status)
+      → Told st (map pair_of (take (i + 1) pairs)) old new more
+  pair_told_more status more is_worse written =
+      subst (λ (l : List Pair). Told st l old new more) (sym (one_more pair_of pairs i pair within is))
+      (subst (λ (n : ℕ). Told st (map pair_of (take i pairs) ++ (pair_of pair ∷ [])) old new n) (sym is_worse)
+      (goes_on st (map pair_of (take i pairs)) (pair_of pair) old mid new worst far status written))
+
+  pub pair_stops : (fault : CliFault) → TellsPair st (pair_of pair) mid new (Err fault)
+      → TellsPairs st (map pair_of pairs) old new (Err fault)
+  pair_stops fault written =
+      subst (λ (l : List Pair). TellsPairs st l old new (Err fault))
+      (ap (λ l. l ++ map pair_of (drop (i + 1) pairs)) (sym (one_more pair_of pairs i pair within is))
+      ∙ sym (map-append pair_of (take (i + 1) pairs) (drop (i + 1) pairs)) ∙ ap (map pair_of) (take-append-drop (i + 1) pairs))
+      (stops st (map pair_of (take i pairs)) (pair_of pair) old mid new worst far (map pair_of (drop (i + 1) pairs)) fault written)
+
+pub all_told : (st : State) (pairs : List PairOfBoth) (i : ℕ) → length pairs ≤ i → (old new : Option (List ℕ)) (status : ℕ)
+    → Told st (map pair_of (take i pairs)) old new status → TellsPairs st (map pair_of pairs) old new (Ok status)
+all_told st pairs i all old new status far =
+    ends st (map pair_of pairs) old new status
+    (subst (λ (l : List PairOfBoth). Told st (map pair_of l) old new status) (take_all i pairs all) far)
+
+-- where there are pairs there are subtrees
+pub some_subtree : (users : List Identity) (subtrees : List Names) (pairs : List PairOfBoth) → map pair_of pairs ≡ all_pairs users subtrees
+    → pairs ≢ [] → subtrees ≢ []
+some_subtree users subtrees pairs are some none = some (unmapped pairs (are ∙ ap (all_pairs users) none ∙ of_none users))
+  where
+    of_none : (users : List Identity) → all_pairs users [] ≡ []
+    of_none [] = refl
+    of_none (user ∷ users) = of_none users
+
+    unmapped : (ps : List PairOfBoth) → map pair_of ps ≡ [] → ps ≡ []
+    unmapped [] h = refl
+    unmapped (p ∷ ps) h = let never : ⊥ = cc in absurd never
+
+-- ---- one pair
+
+-- one that is there has no fault
+pub faultless : (st : State) (subtree : Names) → IsSubtree st subtree → first (subtree_faults st subtree) ≡ None
+faultless st subtree sub = λ i. first (unless (not (sub.1 i)) RootSubtree ++ unless (sub.0 i) NoSuchSubtree)
+
+pub settle_wants : (st : State) (pair : Pair) → IsSubtree st pair.subtree → (fault : CheckFault) → IsSettledFault st pair.subtree fault → (known : Option (List ℕ))
+    → TellsPair st pair known known (Err (lifted_check fault))
+settle_wants st pair sub fault (inl memory) known =
+    subst (λ (f : CheckFault). TellsPair st pair known known (Err (lifted_check f))) (sym memory) (Keeps-refl known)
+settle_wants st pair sub fault (inr is) known =
+    let never : ⊥ = let e = sym (faultless st pair.subtree sub) ∙ is in cc in absurd never
+
+-- ---- all pairs
+
+fault_said : (fault : CliFault) (known : Option (List ℕ)) → ReportsTold (Err fault) known known (Err fault)
+fault_said NoMemory known = (refl, Keeps-refl known)
+fault_said fault known = (refl, Keeps-refl known)
+
+pub none_told : (st : State) (pairs : List Pair) (known : Option (List ℕ)) → TellsPairs st pairs known known (Err NoMemory)
+none_told st pairs known = ([], ([], pairs, refl, (refl, All-nil (IsTold st))), Appends-nil known)
+
+module _ (st : State) (users : List Identity) (subtrees : List Names) where
+  pub subtree_said : (fault : CheckFault) (known : Option (List ℕ)) → Some fault ≡ first (flat_map (subtree_faults st) subtrees)
+      → ReportsTold (pairs_asked st users subtrees) known known (Err (lifted_check fault))
+  subtree_said fault known is =
+      subst (λ o. ReportsTold (in_call (unless_fault o (st, all_pairs users subtrees))) known known (Err (lifted_check fault))) is
+      (fault_said (lifted_check fault) known)
+
+  pub pairs_said : None ≡ first (flat_map (subtree_faults st) subtrees) → (old new : Option (List ℕ)) (result : Result ℕ CliFault)
+      → TellsPairs st (all_pairs users subtrees) old new result → ReportsTold (pairs_asked st users subtrees) old new result
+  pairs_said none old new result =
+      subst (λ o. ReportsTold (in_call (unless_fault o (st, all_pairs users subtrees))) old new result) none
+
+-- ---- what is read before
+
+wanted : (asked : Result (State × List Pair) CliFault) (known : Option (List ℕ)) → read_takes_memory asked ≡ true
+    → ReportsTold asked known known (Err NoMemory)
+wanted (Ok found) known some = none_told found.0 found.1 known
+wanted (Err fault) known some = (some, Keeps-refl known)
+
+met_asked : {A : Type 0} (read : Result A CliFault) (next : A → Result (State × List Pair) CliFault)
+    → ((x : A) → read_takes_memory (next x) ≡ true)
+    → (fault : CliFault) → IsMet read fault → (known : Option (List ℕ)) → ReportsTold (read_then read next) known known (Err fault)
+met_asked read next needs Write met known = absurd met
+met_asked (Ok x) next needs NoMemory met known = wanted (next x) known (needs x)
+met_asked (Err fault) next needs NoMemory met known = (met, Keeps-refl known)
+met_asked read next needs fault met known =
+    subst (λ found. ReportsTold (read_then found next) known known (Err fault)) (sym met) (refl, Keeps-refl known)
+
+module _ (tree : Reading) (given : List (ℕ × List ℕ)) (texts : List (List ℕ)) where
+  abbrev read : Result (List Identity × List Names × State) CliFault
+  read = named_read given texts tree
+
+  abbrev next : List Identity × List Names × State → Result (State × List Pair) CliFault
+  next all = pairs_asked all.2 (once same_user all.0) (once same_path all.1)
+
+  by_all : explain_asked tree given texts ≡ read_then read next
+  by_all =
+      regrouped (λ X found next. read_then found next) (λ fault. Err fault) (λ X x next. refl) (λ X fault next. refl)
+      (λ users subtrees st. pairs_asked st (once same_user users) (once same_path subtrees)) (users_read given) (paths_read texts)
+      (tree_read tree)
+
+  pub fault_reports : (fault : CliFault) → IsMet read fault → (known : Option (List ℕ)) (result : Result ℕ CliFault)
+      → IsErrAnd result (λ found. found ≡ fault) → ReportsTold (explain_asked tree given texts) known known result
+  fault_reports fault met known result is =
+      handed_on (ReportsTold (explain_asked tree given texts) known known) fault result is
+      (subst (λ asked. ReportsTold asked known known (Err fault)) (sym by_all)
+      (met_asked read next
+      (λ all. call_takes
+      (unless_fault (first (flat_map (subtree_faults all.2) (once same_path all.1)))
+      (all.2, all_pairs (once same_user all.0) (once same_path all.1))))
+      fault met known))
+
+  pub told_reports : (users : List Identity) (subtrees : List Names) (st : State) → IsKeptOnce read users subtrees st
+      → (old new : Option (List ℕ)) (result : Result ℕ CliFault)
+      → ReportsTold (pairs_asked st users subtrees) old new result → ReportsTold (explain_asked tree given texts) old new result
+  told_reports users subtrees st kept old new result =
+      subst (λ asked. ReportsTold asked old new result)
+      (sym (by_all ∙ ap (λ found. read_then found next) kept.is ∙ sym (λ i. pairs_asked st (kept.of_users i) (kept.of_subtrees i))))

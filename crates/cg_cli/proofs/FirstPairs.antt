@@ -1,0 +1,88 @@
+-- The first of the pairs that are listed, and what is said of it.
+use Rattle.std.proofs.Common.{◌≡◌, ℕ, ◌+◌, ◌<◌, ◌≤◌, false, List, [], ◌∷◌, ◌++◌, length, get_or, drop, drop-cons, add-one, Option, Some, None, Ok, refl, sym, ap, ◌∙◌, subst, arith}
+use Rattle.std.specs.Prelude.{slice_get}
+use Rattle.std.specs.List.{All, flat_map}
+use Rattle.std.proofs.lemmas.List.{drop_all}
+use Rattle.cg_cgroup.specs.Paths.{Names}
+use Rattle.cg_cgroup.specs.Identity.{Identity}
+use Rattle.cg_model.specs.States.{State}
+use Rattle.cg_model.specs.Clauses.{first}
+use Rattle.cg_model.specs.Checks.{subtree_faults}
+use Rattle.cg_model.specs.Listed.{Listed, listed_unless_contained, is_contained}
+use Rattle.cg_model.specs.declared.answer.Answer.{Answer}
+use Rattle.cg_model.specs.declared.answer.Answer.TheVariants.{Contained, Escapes, Unsettled}
+use Rattle.cg_report.specs.AnswerLines.{answer_text, IsShown}
+use Rattle.cg_report.specs.AuditLines.{pair_line}
+use Rattle.cg_cli.specs.declared.answers.audited.Found.{Found}
+use Rattle.cg_cli.specs.Containment.{answer_status}
+use Rattle.cg_cli.specs.FurtherPairs.{first_pair_report}
+use Rattle.cg_cli.specs.ListedRows.{AreListed}
+use Rattle.cg_cli.specs.Reports.{Report}
+use Rattle.cg_cli.specs.SettledPairs.{SaysFirst}
+use Rattle.cg_cli.specs.SettledRows.{pair_found, row_pairs, rows_pairs, IsPairLine, IsRowOfLines}
+use Rattle.cg_cli.proofs.SettledPairs.{may_list}
+
+none_first : (row : List Found) → slice_get row 0 ≡ None → row ≡ []
+none_first [] none = refl
+none_first (found ∷ others) none = let never : ⊥ = cc in absurd never
+
+some_first : (row : List Found) (found : Found) → slice_get row 0 ≡ Some found → row ≡ found ∷ drop 1 row
+some_first [] found some = let never : ⊥ = cc in absurd never
+some_first (x ∷ xs) found some = let same : x ≡ found = cc in (λ i. same i ∷ xs)
+
+module _ (users : List Identity) (subtrees : List Names) (rows : List (List Found)) (i : ℕ) (user : Identity) (row : List Found)
+    (within : i < length users) (all : length rows ≡ length users) (at : user ≡ get_or users i user) (row_at : row ≡ get_or rows i row)
+    (far : rows_pairs (drop i users) subtrees (drop i rows) ≡ rows_pairs users subtrees rows) where
+  abbrev rest : List Listed
+  rest = rows_pairs (drop (i + 1) users) subtrees (drop (i + 1) rows)
+
+  behind : row_pairs user subtrees row ++ rest ≡ rows_pairs users subtrees rows
+  behind =
+      let of_users : drop i users ≡ user ∷ drop (i + 1) users =
+      drop-cons users i user within ∙ (λ j. sym at j ∷ drop (sym (add-one i) j) users) in
+      let of_rows : drop i rows ≡ row ∷ drop (i + 1) rows =
+      drop-cons rows i row (omega (arith, within, all)) ∙ (λ j. sym row_at j ∷ drop (sym (add-one i) j) rows) in
+      (λ j. rows_pairs (sym of_users j) subtrees (sym of_rows j)) ∙ far
+
+  -- nothing is listed of this user
+  pub first_later : slice_get row 0 ≡ None → rest ≡ rows_pairs users subtrees rows
+  first_later none = (λ j. row_pairs user subtrees (sym (none_first row none) j) ++ rest) ∙ behind
+
+  -- the first that is listed of this user is the first of all
+  pub first_here : (found : Found) → slice_get row 0 ≡ Some found → rows_pairs users subtrees rows
+      ≡ (pair_found user subtrees found ++ row_pairs user subtrees (drop 1 row)) ++ rest
+  first_here found some = sym behind ∙ (λ j. row_pairs user subtrees (some_first row found some j) ++ rest)
+
+  pub line_first : (found : Found) → slice_get row 0 ≡ Some found → All (IsRowOfLines subtrees) rows → IsPairLine subtrees found
+  line_first found some lines =
+      let own : IsRowOfLines subtrees row =
+      subst (IsRowOfLines subtrees) (sym row_at) (lines i row (omega (arith, within, all))) in
+      let same : get_or row 0 found ≡ found = (λ j. get_or (some_first row found some j) 0 found) in
+      subst (IsPairLine subtrees) same (own 0 found (some_within row some))
+    where
+      some_within : (l : List Found) → slice_get l 0 ≡ Some found → 0 < length l
+      some_within [] none = let never : ⊥ = cc in absurd never
+      some_within (x ∷ xs) is = omega arith
+
+-- what is said of a pair that comes first
+pub one_said : (user : Identity) (subtree : Names) (a : Answer) (more rest : List Listed) (text : List ℕ) (status : ℕ)
+    → is_contained a ≡ false → text ≡ pair_line user.uid subtree ++ answer_text subtree a → status ≡ answer_status a
+    → first_pair_report ((listed_unless_contained user subtree a ++ more) ++ rest) ≡ record { text = text; ending = Ok status }
+one_said user subtree Contained more rest text status listed is status_is = cc
+one_said user subtree (Escapes ops) more rest text status listed is status_is =
+    (λ i. record { text = sym is i; ending = Ok (sym status_is i) })
+one_said user subtree (Unsettled failed) more rest text status listed is status_is =
+    (λ i. record { text = sym is i; ending = Ok (sym status_is i) })
+
+-- nothing is listed of anybody
+pub none_said : (users : List Identity) (subtrees : List Names) (rows : List (List Found)) (i : ℕ) → length users ≤ i
+    → rows_pairs (drop i users) subtrees (drop i rows) ≡ rows_pairs users subtrees rows
+    → first_pair_report (rows_pairs users subtrees rows) ≡ first_pair_report []
+none_said users subtrees rows i all far =
+    ap first_pair_report (sym far ∙ (λ j. rows_pairs (drop_all i users all j) subtrees (drop i rows)))
+
+pub first_says : (st : State) (users : List Identity) (subtrees : List Names) (rows : List (List Found))
+    → AreListed st users subtrees rows → first (flat_map (subtree_faults st) subtrees) ≡ None → (said : Report)
+    → first_pair_report (rows_pairs users subtrees rows) ≡ said → SaysFirst st users subtrees said
+first_says st users subtrees rows are none said same =
+    (Ok (rows_pairs users subtrees rows), may_list st users subtrees rows are none, same)

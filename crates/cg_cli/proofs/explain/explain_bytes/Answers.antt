@@ -1,0 +1,18 @@
+use Rattle.std.proofs.Common.{map}
+use Rattle.cg_cli.proofs.Explaining.{fault_reports, told_reports}
+use Rattle.cg_cli.proofs.NamedReads.{kept_as}
+use Rattle.cg_cli.proofs.ReadingOf.{on_text}
+use Rattle.cg_cli.proofs.explain.explain_bytes.Goals as goal
+
+pub returns-in_err-named : goal.returns-in_err-named
+returns-in_err-named g c = on_text c.args.tree.now (λ read is.
+    fault_reports read (map (λ user. (user.uid, user.gids.now)) c.args.users.now) (map (λ subtree. subtree.now) c.args.subtrees.now)
+    c.in_err-named.field-0.0 (c.in_err-named.ensures read is) (g.W.Write.contents c.args.out.now)
+    c.from_residual.result c.from_residual.ensures.1)
+
+pub returns : goal.returns
+returns g c = on_text c.args.tree.now (λ read is.
+    told_reports read (map (λ user. (user.uid, user.gids.now)) c.args.users.now) (map (λ subtree. subtree.now) c.args.subtrees.now)
+    c.as_slice.result.now c.as_slice-2.result.now c.in_ok-named.named.tree
+    (kept_as (c.in_ok-named.ensures read is) c.as_slice.ensures.value c.as_slice-2.ensures.value)
+    (g.W.Write.contents c.args.out.now) (g.W.Write.contents c.write_told.new.out) c.write_told.result c.write_told.ensures)

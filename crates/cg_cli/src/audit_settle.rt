@@ -1,0 +1,276 @@
+//! All pairs of some users and some subtrees that aren't settled.
+ghost use Rattle.std.specs.Prelude.{◌≡◌, ◌≢◌, ◌++◌, false, List, [], map, length, Some, None, Ok, IfOk, MatchResult};
+ghost use Rattle.std.specs.List.{All, flat_map};
+ghost use Rattle.cg_cgroup.specs.Identity.{Identity};
+ghost use Rattle.cg_cgroup.specs.Paths.{Names, same_path};
+ghost use Rattle.cg_model.specs.States.{State};
+ghost use Rattle.cg_model.specs.WellFormed.{IsWellFormed};
+ghost use Rattle.cg_model.specs.Clauses.{first};
+ghost use Rattle.cg_model.specs.Checks.{subtree_faults};
+ghost use Rattle.cg_model.specs.Once.{once};
+ghost use Rattle.cg_model.specs.Listed.{listed_unless_contained, is_contained};
+ghost use Rattle.cg_format.specs.Readings.{OnText};
+ghost use Rattle.cg_format.specs.TextOf.{IsTextOf};
+ghost use Rattle.cg_cli.specs.Audits.{users_read, paths_read};
+ghost use Rattle.cg_cli.specs.Once.{same_user};
+ghost use Rattle.cg_cli.specs.AllPairs.{WritesPairs, ReportsPairs};
+ghost use Rattle.cg_cli.specs.Containment.{answer_status};
+ghost use Rattle.cg_cli.specs.FurtherPairs.{first_pair_report, ReportsFirst, ReportsFurther};
+ghost use Rattle.cg_cli.specs.SettledPairs.{ReportsFound, ReportsSettled, SaysFirst, TellsUnsettled};
+ghost use Rattle.cg_cli.specs.SettledRows.{row_pairs, rows_pairs, IsPairLine, IsRowOfLines};
+ghost use Rattle.cg_report.specs.AnswerLines.{answer_text, IsShown};
+ghost use Rattle.cg_report.specs.AuditLines.{pair_line};
+
+use crate::answers::audited::Found;
+use crate::answers::listing::{Row, listed_rows};
+use crate::arguments::UserIds;
+use crate::audit_all::worse;
+use crate::check::status;
+use crate::named::read_named;
+use crate::report::write_said;
+use cg_cgroup::memory::NoMemory;
+use cg_cgroup::path::Path;
+use cg_cgroup::user::User;
+use cg_check::first_fault;
+use cg_faults::fault::CliFault;
+use cg_model::answer::Answer;
+use cg_model::fault::CheckFault;
+use cg_model::hierarchy::Hierarchy;
+use cg_report::audit::uid_pair_text;
+use cg_report::pair::pair_text;
+use std::alloc::Global;
+use std::io::Write;
+use streams::write::write_whole;
+
+/// Writes every pair of a user and a subtree that isn't settled, by user and then subtree: the line that names it, and what
+/// `check_bytes` writes of such an answer; or `contained` where there is none. A user against whom no list is known isn't listed
+/// where the second row of guards holds for all of these together. The status is 1 where one escapes, else 2 where one is
+/// unsettled, else 0. A user or a subtree that is named again counts once.
+///
+/// # Errors
+/// Those of `audit_all_bytes`.
+pub fn audit_all_settled_bytes<W: Write>(
+    alloc: Global,
+    tree: &[u8],
+    users: &[UserIds<'_>],
+    subtrees: &[&str],
+    out: &mut W,
+) -> Result<u8, CliFault>
+    ensures report { OnText tree.now (λ read. ReportsSettled ReportsPairs read
+        (map (λ user. (user.uid, user.gids.now)) users.now) (map (λ subtree. subtree.now) subtrees.now)
+        (W.contents out.old) (W.contents out.new) result) }
+    ensures further { OnText tree.now (λ read. ReportsFurther ReportsPairs read
+        (map (λ user. (user.uid, user.gids.now)) users.now) (map (λ subtree. subtree.now) subtrees.now)
+        (W.contents out.old) (W.contents out.new) result) }
+    ensures unlisted { IfOk result (λ status. (st : State) (who : List Identity) (paths : List Names)
+        → IsTextOf st tree.now → users_read (map (λ user. (user.uid, user.gids.now)) users.now) ≡ Ok who
+        → paths_read (map (λ subtree. subtree.now) subtrees.now) ≡ Ok paths
+        → TellsUnsettled st (once same_user who) (once same_path paths) (W.contents out.old) (W.contents out.new)) }
+{
+    let named = read_named(alloc, tree, users, subtrees)?;
+    write_found(
+        alloc,
+        &named.tree,
+        named.users.as_slice(),
+        named.subtrees.as_slice(),
+        out,
+    )
+}
+
+/// Writes the first of these pairs alone, as `audit_bytes` writes one, with its status.
+///
+/// # Errors
+/// Those of `audit_bytes`.
+pub fn audit_settled_bytes<W: Write>(
+    alloc: Global,
+    tree: &[u8],
+    users: &[UserIds<'_>],
+    subtrees: &[&str],
+    out: &mut W,
+) -> Result<u8, CliFault>
+    ensures report { OnText tree.now (λ read. ReportsSettled ReportsFirst read
+        (map (λ user. (user.uid, user.gids.now)) users.now) (map (λ subtree. subtree.now) subtrees.now)
+        (W.contents out.old) (W.contents out.new) result) }
+    ensures further { OnText tree.now (λ read. ReportsFurther ReportsFirst read
+        (map (λ user. (user.uid, user.gids.now)) users.now) (map (λ subtree. subtree.now) subtrees.now)
+        (W.contents out.old) (W.contents out.new) result) }
+{
+    let named = read_named(alloc, tree, users, subtrees)?;
+    let said = first_said(
+        alloc,
+        &named.tree,
+        named.users.as_slice(),
+        named.subtrees.as_slice(),
+    )?;
+    write_said(out, said)
+}
+
+/// What is said of the first pair that isn't settled, and the status.
+fn first_said<H: Hierarchy + Drop>(
+    alloc: Global,
+    tree: &H,
+    users: &[User],
+    subtrees: &[Path],
+) -> Result<(Vec<u8>, u8), CheckFault>
+    ensures { MatchResult result
+        (λ said. SaysFirst (H.state tree.now) users.now subtrees.now (record { text = said.0.items; ending = Ok said.1 }))
+        (λ fault. fault ≢ CheckFault.NoMemory
+        → Some fault ≡ first (flat_map (subtree_faults (H.state tree.now)) subtrees.now)) }
+{
+    if let Some(fault) = first_fault(tree, subtrees) {
+        return Err(fault);
+    }
+    match first_listed(alloc, tree, users, subtrees) {
+        Err(NoMemory) => Err(CheckFault::NoMemory),
+        Ok(said) => Ok(said),
+    }
+}
+
+/// The same of subtrees without a fault.
+fn first_listed<H: Hierarchy + Drop>(
+    alloc: Global,
+    tree: &H,
+    users: &[User],
+    subtrees: &[Path],
+) -> Result<(Vec<u8>, u8), NoMemory>
+    requires formed { subtrees.now ≢ [] → IsWellFormed (H.state tree.now) }
+    requires there { first (flat_map (subtree_faults (H.state tree.now)) subtrees.now) ≡ None }
+    ensures { IfOk result (λ said. SaysFirst (H.state tree.now) users.now subtrees.now (record { text = said.0.items; ending = Ok said.1 })) }
+{
+    let rows = listed_rows(alloc, tree, users, subtrees)?;
+    first_of_rows(alloc, users, subtrees, rows.as_slice())
+}
+
+/// What is said of the first pair of users' rows, and the status.
+fn first_of_rows(
+    alloc: Global,
+    users: &[User],
+    subtrees: &[Path],
+    rows: &[Row],
+) -> Result<(Vec<u8>, u8), NoMemory>
+    requires all { length rows.now ≡ length users.now }
+    requires lines { All (IsRowOfLines subtrees.now) rows.now }
+    ensures { IfOk result (λ said. first_pair_report (rows_pairs users.now subtrees.now rows.now)
+        ≡ record { text = said.0.items; ending = Ok said.1 }) }
+{
+    for (place, user) in users.iter().enumerate() {
+        match rows[place].as_slice().first() {
+            None => {}
+            Some(found) => {
+                return pair_said(alloc, user, &subtrees[found.place], &found.answer);
+            }
+        }
+    }
+    Ok((b"contained\n".to_vec(alloc)?, 0))
+}
+
+/// What is said of a pair that isn't contained, and its status.
+fn pair_said(
+    alloc: Global,
+    user: &User,
+    subtree: &Path,
+    answer: &Answer,
+) -> Result<(Vec<u8>, u8), NoMemory>
+    requires shown { IsShown subtree.now answer.now }
+    ensures text { IfOk result (λ said. said.0.items ≡ pair_line user.now.uid subtree.now ++ answer_text subtree.now answer.now) }
+    ensures status { IfOk result (λ said. said.1 ≡ answer_status answer.now) }
+{
+    let text = uid_pair_text(alloc, user, subtree, answer)?;
+    Ok((text, status(answer)))
+}
+
+/// Writes all pairs that aren't settled, or that there is none.
+fn write_found<H: Hierarchy + Drop, W: Write>(
+    alloc: Global,
+    tree: &H,
+    users: &[User],
+    subtrees: &[Path],
+    out: &mut W,
+) -> Result<u8, CliFault>
+    ensures report { ReportsFound (H.state tree.now) users.now subtrees.now (W.contents out.old) (W.contents out.new) result }
+    ensures unlisted { IfOk result (λ status. TellsUnsettled (H.state tree.now) users.now subtrees.now
+        (W.contents out.old) (W.contents out.new)) }
+{
+    if let Some(fault) = first_fault(tree, subtrees) {
+        return Err(CliFault::from(fault));
+    }
+    let rows = listed_rows(alloc, tree, users, subtrees)?;
+    write_listing(alloc, users, subtrees, rows.as_slice(), out)
+}
+
+/// Writes the pairs of each user, or that there is none.
+fn write_listing<W: Write>(
+    alloc: Global,
+    users: &[User],
+    subtrees: &[Path],
+    rows: &[Row],
+    out: &mut W,
+) -> Result<u8, CliFault>
+    requires all { length rows.now ≡ length users.now }
+    requires lines { All (IsRowOfLines subtrees.now) rows.now }
+    ensures { ReportsPairs (Ok (rows_pairs users.now subtrees.now rows.now)) (W.contents out.old) (W.contents out.new) result }
+{
+    let status = write_rows(alloc, users, subtrees, rows, out)?;
+    if status == 0 {
+        write_whole(out, b"contained\n")?;
+    }
+    Ok(status)
+}
+
+/// Writes the pairs of each user.
+fn write_rows<W: Write>(
+    alloc: Global,
+    users: &[User],
+    subtrees: &[Path],
+    rows: &[Row],
+    out: &mut W,
+) -> Result<u8, CliFault>
+    requires all { length rows.now ≡ length users.now }
+    requires lines { All (IsRowOfLines subtrees.now) rows.now }
+    ensures { WritesPairs (rows_pairs users.now subtrees.now rows.now) (W.contents out.old) (W.contents out.new) result }
+{
+    let mut worst = 0;
+    for (place, user) in users.iter().enumerate() {
+        worst = worse(
+            worst,
+            write_row(alloc, user, subtrees, rows[place].as_slice(), out)?,
+        );
+    }
+    Ok(worst)
+}
+
+/// Writes the pairs of a user.
+fn write_row<W: Write>(
+    alloc: Global,
+    user: &User,
+    subtrees: &[Path],
+    row: &[Found],
+    out: &mut W,
+) -> Result<u8, CliFault>
+    requires lines { All (IsPairLine subtrees.now) row.now }
+    ensures { WritesPairs (row_pairs user.now subtrees.now row.now) (W.contents out.old) (W.contents out.new) result }
+{
+    let mut worst = 0;
+    for found in row {
+        let subtree = &subtrees[found.place];
+        worst = worse(worst, write_pair(alloc, user, subtree, &found.answer, out)?);
+    }
+    Ok(worst)
+}
+
+/// Writes a pair that isn't contained.
+fn write_pair<W: Write>(
+    alloc: Global,
+    user: &User,
+    subtree: &Path,
+    answer: &Answer,
+    out: &mut W,
+) -> Result<u8, CliFault>
+    requires shown { IsShown subtree.now answer.now }
+    requires listed { is_contained answer.now ≡ false }
+    ensures { WritesPairs (listed_unless_contained user.now subtree.now answer.now) (W.contents out.old) (W.contents out.new) result }
+{
+    let text = pair_text(alloc, user, subtree, answer)?;
+    write_whole(out, text.as_slice())?;
+    Ok(status(answer))
+}

@@ -1,0 +1,109 @@
+//! Why every subtree is contained against every user, or why that isn't told.
+ghost use Rattle.std.specs.Prelude.{◌≡◌, ◌≢◌, [], map, None};
+ghost use Rattle.std.specs.List.{All};
+ghost use Rattle.cg_model.specs.Clauses.{first};
+ghost use Rattle.cg_model.specs.Checks.{subtree_faults};
+ghost use Rattle.cg_model.specs.Guards.{IsSubtree};
+ghost use Rattle.cg_model.specs.WellFormed.{IsWellFormed};
+ghost use Rattle.cg_advice.specs.Ways.{pair_of};
+ghost use Rattle.cg_format.specs.Readings.{OnText};
+ghost use Rattle.cg_cli.specs.Explaining.{TellsPair, TellsPairs, pairs_asked, explain_asked, ReportsTold};
+
+use crate::advise::all_pairs;
+use crate::answers::settle::settle;
+use crate::arguments::UserIds;
+use crate::audit_all::worse;
+use crate::check::status;
+use crate::named::read_named;
+use cg_advice::pair::Pair;
+use cg_cgroup::path::Path;
+use cg_cgroup::user::User;
+use cg_check::first_fault;
+use cg_explain::pair::pair_lines;
+use cg_faults::fault::CliFault;
+use cg_model::hierarchy::Hierarchy;
+use std::alloc::Global;
+use std::io::Write;
+use streams::write::write_whole;
+
+/// Writes of every pair of a user and a subtree, by user and then subtree, why it is contained, or why that isn't told: the line
+/// that names it; each entry on which a guard stands, and whether it holds; where one doesn't, what the second row of guards asks,
+/// and whether that is so; what the two limits of the subtree count; and the first line of what `settle_bytes` writes. The status is
+/// 1 where one escapes, else 2 where one is unsettled, else 0. A user or a subtree that is named again counts once.
+///
+/// # Errors
+/// The first that holds of `Uid` and `Gids` for each user in turn, `BadPath`, `Tree` and `Subtree`, and then nothing is
+/// written; `Write` where a write failed or took nothing; `NoMemory` where an allocation was refused, and then a front of
+/// the pairs is written, each of them whole.
+pub fn explain_bytes<W: Write>(
+    alloc: Global,
+    tree: &[u8],
+    users: &[UserIds<'_>],
+    subtrees: &[&str],
+    out: &mut W,
+) -> Result<u8, CliFault>
+    ensures { OnText tree.now (λ read. ReportsTold
+        (explain_asked read (map (λ user. (user.uid, user.gids.now)) users.now) (map (λ subtree. subtree.now) subtrees.now))
+        (W.contents out.old) (W.contents out.new) result) }
+{
+    let named = read_named(alloc, tree, users, subtrees)?;
+    write_told(
+        alloc,
+        &named.tree,
+        named.users.as_slice(),
+        named.subtrees.as_slice(),
+        out,
+    )
+}
+
+/// Writes every user with every subtree.
+fn write_told<H: Hierarchy + Drop, W: Write>(
+    alloc: Global,
+    tree: &H,
+    users: &[User],
+    subtrees: &[Path],
+    out: &mut W,
+) -> Result<u8, CliFault>
+    ensures { ReportsTold (pairs_asked (H.state tree.now) users.now subtrees.now) (W.contents out.old) (W.contents out.new) result }
+{
+    if let Some(fault) = first_fault(tree, subtrees) {
+        return Err(CliFault::from(fault));
+    }
+    let pairs = all_pairs(alloc, users, subtrees)?;
+    write_pairs(alloc, tree, pairs.as_slice(), out)
+}
+
+/// Writes pairs, one after another.
+fn write_pairs<H: Hierarchy + Drop, W: Write>(
+    alloc: Global,
+    tree: &H,
+    pairs: &[Pair<'_>],
+    out: &mut W,
+) -> Result<u8, CliFault>
+    requires formed { pairs.now ≢ [] → IsWellFormed (H.state tree.now) }
+    requires there { All (λ pair. IsSubtree (H.state tree.now) pair.subtree.now) pairs.now }
+    ensures { TellsPairs (H.state tree.now) (map pair_of pairs.now) (W.contents out.old) (W.contents out.new) result }
+{
+    let mut worst = 0;
+    for pair in pairs {
+        worst = worse(worst, write_pair(alloc, tree, pair, out)?);
+    }
+    Ok(worst)
+}
+
+/// Writes a pair.
+fn write_pair<H: Hierarchy + Drop, W: Write>(
+    alloc: Global,
+    tree: &H,
+    pair: &Pair<'_>,
+    out: &mut W,
+) -> Result<u8, CliFault>
+    requires formed { IsWellFormed (H.state tree.now) }
+    requires there { IsSubtree (H.state tree.now) pair.now.subtree.now }
+    ensures { TellsPair (H.state tree.now) (pair_of pair.now) (W.contents out.old) (W.contents out.new) result }
+{
+    let answer = settle(alloc, tree, pair.user, pair.subtree)?;
+    let text = pair_lines(alloc, tree, pair.user, pair.subtree, &answer)?;
+    write_whole(out, text.as_slice())?;
+    Ok(status(&answer))
+}

@@ -1,5 +1,0 @@
-use Rattle.cg_settle.proofs.Runs.{are_settled}
-use Rattle.cg_settle.proofs.laws.second_row_for_several.Goals as goal
-
-pub returns : goal.returns
-returns c = are_settled

@@ -1,5 +1,0 @@
-use Rattle.cg_settle.proofs.Judged.{judged}
-use Rattle.cg_settle.proofs.laws.second_row_is_a_test.Goals as goal
-
-pub returns : goal.returns
-returns c = judged

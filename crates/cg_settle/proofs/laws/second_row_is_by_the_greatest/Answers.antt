@@ -1,5 +1,0 @@
-use Rattle.cg_settle.proofs.Greatest.{by-greatest}
-use Rattle.cg_settle.proofs.laws.second_row_is_by_the_greatest.Goals as goal
-
-pub returns : goal.returns
-returns c = by-greatest

@@ -1,4 +1,0 @@
-pub mod Lasting
-pub mod SecondRow
-pub mod Greatest
-pub mod Judged

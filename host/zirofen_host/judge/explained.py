@@ -1,0 +1,114 @@
+"""Why one user and one subtree are answered so: what each guard asks, and by what it holds or fails, in words and with names.
+
+All of it is what the program's `explain` prints. Its second row of guards, and the answer that may stand on it, rest on every cgroup of
+the host: where the text hasn't all of them they are left out.
+"""
+from typing import Dict, Iterator, List, Sequence, Tuple
+
+from zirofen_host.ask.model import Answer
+from zirofen_host.ask.program import CONTAINED, UNSETTLED, WORDS, Refused, abilities_of, answer_of, user_word
+from zirofen_host.collect.model import Snapshot, User
+from zirofen_host.fault import FAULT, Fault
+from zirofen_host.judge.may import ABOVE
+from zirofen_host.judge.names import Names, names_of
+from zirofen_host.judge.one import One, Standing, Warn, standing
+from zirofen_host.options import AskOptions
+from zirofen_host.profile import MOST_GROUPS, text_of
+
+# what whoever writes an entry does by it
+LETS = {**ABOVE, "limit-file": "sets this limit"}
+BY = {"owner": "as its owner", "group": "through its group", "others": "as one of all others"}
+STAYS = {"spared": "the subtree stays: they don't write the directory where it would be removed",
+         "upheld": "the subtree stays: a cgroup below it does", "removed": "the subtree may be removed"}
+CONTROL = {"on": "stays enabled", "off": "stays off", "turned": "may be enabled or disabled"}
+FILES = {"spared": "they reach no limit file of the subtree", "reached": "they reach a limit file of the subtree"}
+TAKES = {"spared": "they move no process there", "enabling": "no process goes there, since it goes on enabling memory",
+         "takes": "they may move a process there"}
+GROWS = {"spared": "they make no cgroup in it", "full": "a limit leaves no room for a cgroup in it",
+         "grows": "they may make a cgroup in it"}
+BELOW = {"cgroup.max.descendants": "cgroups", "cgroup.max.depth": "levels"}
+# lines of the second row of guards
+FURTHER = ("stays", "control", "files", "shut")
+
+
+def entry_text(names: Names, words: Sequence[str]) -> str:
+    """An entry on which a guard stands, its owner, group and mode, and who reaches it."""
+    guard, path, entry, owner, mode, *by = words
+    uid, _, gid = owner.partition(":")
+    whose = f"{'the directory' if entry == 'dir' else entry} of {path} ({names.user(int(uid))}, {names.group(int(gid))}, {mode})"
+    return f"{whose} {f'is theirs {BY[by[0]]}' if by else 'is out of their reach'}: whoever writes it {LETS[guard]}"
+
+
+def text_of_words(names: Names, words: Sequence[str]) -> str:
+    """What a guard asks, and by what that is so."""
+    kind, path, *rest = words
+    if kind == "already-over":
+        file, number, most = rest
+        return f"{number} {BELOW[file]} below {path}, and {'no limit' if most == 'max' else f'{most} at most'}"
+    if kind == "stays":
+        return STAYS[rest[0]]
+    if kind == "control":
+        return f"{rest[0]} {CONTROL[rest[1]]} in {path}"
+    if kind == "files":
+        return FILES[rest[0]]
+    if kind == "shut":
+        return f"{path}: {TAKES[rest[0]]}; {GROWS[rest[1]]}"
+    return entry_text(names, words)
+
+
+def line_of(names: Names, line: str) -> str:
+    """A line in words; one that isn't understood stands as it is."""
+    verdict, *words = line.split(" ")
+    try:
+        return f"{verdict}: {text_of_words(names, words)}"
+    except (KeyError, IndexError, ValueError):
+        return line
+
+
+def is_further(line: str) -> bool:
+    return line.split(" ")[1:2] in [[kind] for kind in FURTHER]
+
+
+def told_of(at: Standing, lines: Sequence[str]) -> Answer:
+    """What is told of a pair, behind the line that names it: the last line is the answer."""
+    if at.is_whole:
+        return Answer(WORDS[lines[-1].split(" ")[0]], tuple(lines))
+    first = [line for line in lines[:-1] if not is_further(line)]
+    held = all(line.startswith("holds ") for line in first)
+    return Answer(CONTAINED if held else UNSETTLED, (*first, "contained" if held else "unsettled"))
+
+
+def answer(at: Standing, user: User, too_many: int) -> Answer:
+    if too_many:
+        return Answer(FAULT, (f"{too_many} of their groups matter here, and the program takes {MOST_GROUPS}",))
+    one: One = at.one
+    try:
+        ended = one.program.run("explain", "--tree", one.program.tree, "--uid", user_word(user), "--subtree", text_of(one.path))
+        if len(ended.lines) < 2 or ended.lines[0] != f"pair {user_word(user)} {text_of(one.path)}":
+            raise Refused(f"an answer that wasn't asked for: {ended.lines[0]!r}", False)
+        answer_of(ended.status, ended.lines[-1:])
+        return told_of(at, ended.lines[1:])
+    except Refused as refused:
+        return Answer(FAULT, (str(refused), *refused.help_lines))
+
+
+def lines_of(at: Standing, answers: Dict[User, Answer]) -> Iterator[str]:
+    """What is told of each list of groups that somebody was seen with."""
+    names = names_of(at.accounts)
+    for user, each in answers.items():
+        groups = f", groups {','.join(map(str, user.gids))}" if user.gids else ""
+        yield f"{names.who(user)}{groups} in {text_of(at.one.path)}:"
+        *told, last = each.lines if each.status != FAULT else (each.lines[0],)
+        yield from (f"    {line_of(names, line)}" for line in told)
+        yield last
+    if not at.is_whole:
+        yield "# the text hasn't every cgroup of this host: what else may keep a subtree, where a guard fails, isn't told"
+
+
+def explain(snapshot: Snapshot, options: AskOptions, warn: Warn) -> Tuple[List[str], int]:
+    """Why one user and one subtree are answered so, and the status."""
+    if not abilities_of(options.program).has_explain:
+        raise Fault("this zirofen has no explain")
+    with standing(snapshot, options, warn) as at:
+        answers = {user: answer(at, user, count) for user, count in at.users.items()}
+        return at.told(answers, lines_of(at, answers))
