@@ -201,8 +201,10 @@ def settled_audit_words(rng, tree, state):
 def settled_pairs(rng, tree, state):
     users = rng.sample([tree.user, *small.USERS, trees.user_of(rng), other_user(rng, tree)], rng.choice([1, 2, 2, 3]))
     words = [word for user in users for word in ("--uid", listed_user(rng, *user))]
-    for _ in range(rng.choice([1, 1, 2, 3])):
-        words += ["--subtree", subtree_word(rng, tree, state)]
+    below = [path for path in tree.rows if path] or [()]
+    words += ["--subtree", subtree_word(rng, tree, state)]
+    for _ in range(rng.choice([0, 0, 1, 2])):
+        words += ["--subtree", text_of(rng.choice(below)) if rng.random() < 0.7 else subtree_word(rng, tree, state)]
     return words
 
 

@@ -266,6 +266,14 @@ def able(known):
     return [name for _, command, turns in KINDS if command in known for name in turns]
 
 
+def shows(name, words):
+    """Whether a mutant can differ on a command line."""
+    needed = next(command for _, command, turns in KINDS if name in turns)
+    if needed == "settle":
+        return not {"settle", "--settle", "explain"}.isdisjoint(words)
+    return needed == "may" or words[:1] == needed.split(" ")[:1] and {*needed.split(" ")} <= {*words}
+
+
 @functools.lru_cache(maxsize=None)
 def respond_of(name):
     """The answers of a mutant."""
