@@ -5,7 +5,7 @@ import functools
 import itertools
 import re
 
-from . import rules, settled
+from . import explained, rules, settled
 from .documents import Fault
 from .rules import text_of
 from .texts import LAST_ID, tree_of
@@ -20,6 +20,7 @@ OPTIONS = {
     "check": {"--tree": "", "--uid": "must", "--gid": "again", "--subtree": "must"},
     "settle": {"--tree": "", "--uid": "must", "--gid": "again", "--subtree": "must"},
     "audit": {"--tree": "", "--uid": "must again", "--subtree": "must again", "--all": "flag", "--settle": "flag"},
+    "explain": {"--tree": "", "--uid": "must again", "--subtree": "must again"},
     "replay": {"--tree": "", "--uid": "must", "--gid": "again", "--ops": "must", "--subtree": ""},
     "upgrade": {"--tree": ""},
     "advise": {"--tree": "", "--uid": "again", "--gid": "again", "--subtree": "again", "--pairs": "",
@@ -141,8 +142,6 @@ class Call:
             given = self.given.get(option, [])
             if "must" in kind and not given or "again" not in kind and len(given) > 1:
                 raise Fault("usage")
-        if self.command == "advise" and ("--pairs" in self.given) == ("--uid" in self.given or "--subtree" in self.given):
-            raise Fault("usage")
         self.users = self.read_users()
         self.pid = plain_number(self.given["--pid"][0]) if self.command == "may" else None
 
@@ -158,21 +157,31 @@ class Call:
         self.given.setdefault(option, []).append(value)
 
     def read_users(self):
-        if self.command == "audit":
-            return [listed_user(word) for word in self.given["--uid"]]
+        if self.command in ("audit", "explain"):
+            return self.listed_users()
         if self.command == "upgrade":
             return []
-        if self.command == "advise" and "--pairs" in self.given:
-            if "--gid" in self.given or "--settle" in self.given:
+        return self.advised_users() if self.command == "advise" else self.one_user()
+
+    def advised_users(self):
+        """None where pairs name them; else one user and their groups, or such as an audit's."""
+        if "--pairs" in self.given:
+            if self.given.keys() & {"--uid", "--gid", "--subtree", "--settle"}:
                 raise Fault("usage")
             return []
-        if self.command == "advise" and not ("--uid" in self.given and "--subtree" in self.given):
+        if not {"--uid", "--subtree"} <= self.given.keys():
             raise Fault("usage")
-        if self.command == "advise" and not (len(self.given["--uid"]) == 1 and re.fullmatch(PLAIN, self.given["--uid"][0])):
-            if "--gid" in self.given:
-                raise Fault("usage")
-            return [listed_user(word) for word in self.given["--uid"]]
+        if len(self.given["--uid"]) == 1 and re.fullmatch(PLAIN, self.given["--uid"][0]):
+            return self.one_user()
+        if "--gid" in self.given:
+            raise Fault("usage")
+        return self.listed_users()
+
+    def one_user(self):
         return [(plain_number(self.given["--uid"][0]), tuple(map(plain_number, self.given.get("--gid", []))))]
+
+    def listed_users(self):
+        return [listed_user(word) for word in self.given["--uid"]]
 
     def one(self, option):
         return self.given.get(option, [None])[0]
@@ -279,6 +288,11 @@ def answer_lines(answer):
 STATUS = {"contained": 0, "escapes": 1, "unsettled": 2}
 
 
+def worst(kinds):
+    """The status of several answers."""
+    return STATUS[next((kind for kind in ("escapes", "unsettled") if kind in kinds), "contained")]
+
+
 def check(call, state, tops, _files, lines):
     answer = rules.answer(state, call.users[0], tops[0])
     lines += answer_lines(answer)
@@ -324,7 +338,7 @@ def is_first_said(state, users, tops, said, status):
         return status == 0 and settled.are_listed(state, users, tops, {})
     pairs = list(itertools.product(users, tops))
     named = [at for at, (user, top) in enumerate(pairs) if said[:1] == [head_of(user[:1], top)]]
-    return is_said(said[1:], status, lambda answer: any(settled.is_first(state, pairs[:at], pairs[at], answer) for at in named))
+    return is_said(said[1:], status, lambda answer: any(settled.is_first(state, users, pairs[:at], pairs[at], answer) for at in named))
 
 
 def is_list_said(state, users, tops, said, status):
@@ -334,7 +348,7 @@ def is_list_said(state, users, tops, said, status):
     if not starts:
         return said == ["contained"] and status == 0 and settled.are_listed(state, users, tops, {})
     in_order = starts[0] == 0 and [said[start] for start in starts] == [head for head, pair in heads.items() if pair in listed]
-    return in_order and None not in listed.values() and status == min(STATUS[answer[0]] for answer in listed.values()) \
+    return in_order and None not in listed.values() and status == worst({answer[0] for answer in listed.values()}) \
         and settled.are_listed(state, users, tops, listed)
 
 
@@ -344,12 +358,17 @@ def head_of(user, top):
     return f"pair {user[0]}{gids} {text_of(top)}"
 
 
+def asked(call, tops):
+    """Each user with each subtree; who or what is named again counts once."""
+    return list(itertools.product(dict.fromkeys(call.users), dict.fromkeys(tops)))
+
+
 def audit(call, state, tops, _files, lines):
     if "--settle" in call.given:
         return settled_audit(call, state, tops, lines)
     listed = "--all" in call.given
     kinds = set()
-    for user, top in itertools.product(dict.fromkeys(call.users), dict.fromkeys(tops)):
+    for user, top in asked(call, tops):
         answer = rules.answer(state, user, top)
         if answer[0] != "contained":
             lines += [head_of(user if listed else user[:1], top), *answer_lines(answer)]
@@ -358,7 +377,7 @@ def audit(call, state, tops, _files, lines):
                 return STATUS[answer[0]]
     if not kinds:
         lines.append("contained")
-    return STATUS[min(kinds, key=["escapes", "unsettled"].index, default="contained")]
+    return worst(kinds)
 
 
 def replay(call, state, tops, files, lines):
@@ -375,10 +394,35 @@ def replay(call, state, tops, files, lines):
     return 0 if lines[-1] == "kept" else 1
 
 
+def explain(call, state, tops, _files, lines):
+    told = [(user, top, [head_of(user, top), *explained.lines_of(state, user, top)]) for user, top in asked(call, tops)]
+    ends = [settled.known(state, user, top) for user, top, _ in told]
+    if None in ends:
+        lines.append(Open(lambda said, status: is_told(state, told, said, status)))
+        return None
+    for (_, _, some), end in zip(told, ends):
+        lines += [*some, *answer_lines(end)[:1]]
+    return worst({end[0] for end in ends})
+
+
+def is_told(state, told, said, status):
+    """Whether lines tell of each pair what they should, and then the first line of an answer that settle may give."""
+    kinds = set()
+    for user, top, lines in told:
+        known, end = settled.known(state, user, top), said[len(lines):][:1]
+        right = [known] if known else [("escapes", []), rules.answer(state, user, top)]
+        if said[:len(lines)] != lines or end not in [answer_lines(answer)[:1] for answer in right]:
+            return False
+        kinds.add(end[0].split(" ")[0])
+        said = said[len(lines) + 1:]
+    return not said and status == worst(kinds)
+
+
 def advise(call, state, tops, _files, lines):
-    pairs = list(dict.fromkeys(zip(call.users, tops) if "--pairs" in call.given else itertools.product(call.users, tops)))
-    if not ("--settle" in call.given and all(settled.is_contained(state, call.users, top) for top in tops)):
-        lines += rules.advice(state, pairs)
+    """With --settle nothing is to be changed where of each subtree the second row holds for all users together."""
+    if "--settle" not in call.given or not all(settled.is_contained(state, call.users, top) for top in tops):
+        pairs = zip(call.users, tops) if "--pairs" in call.given else itertools.product(call.users, tops)
+        lines += rules.advice(state, list(dict.fromkeys(pairs)))
     if lines:
         return 1
     lines.append("contained")
@@ -405,4 +449,5 @@ def full_row(path, cgroup):
     return {"path": text_of(path), "enabled": enabled, "dir": files.pop(rules.DIR), "files": files}
 
 
-REPORTS = {"may": may, "check": check, "settle": settle, "audit": audit, "replay": replay, "advise": advise, "upgrade": upgrade}
+REPORTS = {"may": may, "check": check, "settle": settle, "audit": audit, "explain": explain, "replay": replay, "advise": advise,
+           "upgrade": upgrade}

@@ -54,8 +54,30 @@ def is_listed(state, users, top, listed):
                listed[user] == (None if holds or answers[user][0] == "contained" else answers[user]) for user in users)
 
 
-def is_first(state, before, pair, answer):
+def is_first(state, users, before, pair, answer):
     """Whether an answer may be that of a pair which is the first to be listed, behind some that aren't."""
-    found = rules.answer(state, *pair)
-    right = found == answer if found[0] != "unsettled" or answer[0] != "escapes" else is_escape(state, *pair, answer[1])
-    return right and answer[0] != "contained" and not any(rules.answer(state, *each)[0] == "escapes" for each in before)
+    user, top = pair
+    unlisted = {each: [one for one, other in before if other == each] for _, each in before}
+    if not all(may_be_unlisted(state, users, those, each) for each, those in unlisted.items()):
+        return False
+    found = rules.answer(state, user, top)
+    if found[0] == "unsettled" and answer[0] == "escapes":
+        return is_escape(state, user, top, answer[1])
+    if answer != found or found[0] != "unsettled":
+        return answer == found and found[0] == "escapes"
+    settled_so = [one for one in unlisted.get(top, []) if rules.answer(state, one, top)[0] == "unsettled"]
+    return not settled_so and not is_contained(state, without_escapes(state, users, top), top)
+
+
+def without_escapes(state, users, top):
+    return [user for user in users if rules.answer(state, user, top)[0] != "escapes"]
+
+
+def may_be_unlisted(state, users, those, top):
+    """Whether some of a subtree's users may have no answer in a list: the second row holds for all without one, where as many of the
+    other users have a list as may."""
+    answers = {user: rules.answer(state, user, top)[0] for user in users}
+    others = [user for user in users if user in those or answers[user] == "contained"
+              or answers[user] == "unsettled" and is_contained(state, [user], top)]
+    kinds = {answers[user] for user in those}
+    return "escapes" not in kinds and ("unsettled" not in kinds or is_contained(state, others, top))

@@ -103,9 +103,44 @@ class SettledTest(unittest.TestCase):
         self.assert_right(words, tree, ["contained"], 0, False)
         self.assert_right(words, tree, ["pair 1000 /c0", "escapes", *LIST], 2, False)
 
+    def test_the_first_pair_is_one_that_a_list_may_begin_with(self):
+        state = commands.tree_of(TOGETHER.encode())
+        first, other, top = (1000, ()), (1001, ()), ("a", "s")
+        unsettled = ("unsettled", "common-ancestor", ("a",))
+        for users, before, user, answer, right in (
+                ([first, other], [], first, unsettled, True), ([first], [], first, unsettled, False),
+                ([other, first], [(other, top)], first, unsettled, True), ([first, other], [(first, top)], other, unsettled, False),
+                ([first, other], [], first, ("contained",), False), ([first, other], [], first, ("escapes", []), False)):
+            self.assertEqual(commands.settled.is_first(state, users, before, (user, top), answer), right)
+
+    def test_a_pair_before_the_first_isnt_one_that_is_listed(self):
+        state = commands.tree_of(example("delegation-parent-directory.toml"))
+        user, other, top = (1000, ()), (1001, ()), ("c0",)
+        answer = ("escapes", [commands.operation_of(line.encode()) for line in LIST])
+        self.assertTrue(commands.settled.is_first(state, [user, other], [(other, top)], (user, top), answer))
+        self.assertFalse(commands.settled.is_first(state, [user, (1000, (7,))], [(user, top)], ((1000, (7,)), top), answer))
+
     def test_advice_is_none_where_the_second_row_holds(self):
         self.assert_right("advise --uid 1000 --subtree /a --settle", KEPT, ["contained"], 0)
         self.assert_right("advise --uid 1000 --subtree /a", KEPT, ["fails parent-dir / dir 0:0 757 others", "chmod / dir 755"], 1)
+
+    def test_advice_asks_of_all_users_together_and_then_changes_all(self):
+        mended = ["fails common-ancestor /a cgroup.procs 1000:0 644 owner", "chown /a cgroup.procs 0:0"]
+        for users in ("--uid 1000", "--uid 1001", "--uid 1001 --uid 1001:0"):
+            self.assert_right(f"advise {users} --subtree /a/s --settle", TOGETHER, ["contained"], 0)
+        self.assert_right("advise --uid 1000 --uid 1001 --subtree /a/s --settle", TOGETHER, mended, 1)
+        # of /a/z the second row holds for both, and of /a/s it doesn't
+        tree = TOGETHER.replace('path = "/a/z"', 'path = "/a/z"\nfiles = { "cgroup.max.depth" = { uid = 1001 } }')
+        self.assert_right("advise --uid 1000 --uid 1001 --subtree /a/s --subtree /a --settle", TOGETHER, mended, 1)
+        self.assert_right("advise --uid 1000 --uid 1001 --subtree /a --subtree /a/z --settle", tree, [
+            *mended, "fails limit-file /a/z cgroup.max.depth 1001:0 644 owner", "chown /a/z cgroup.max.depth 0:0"], 1)
+
+    def test_advice_of_pairs_looks_no_further(self):
+        asked = "advise --uid 1000 --subtree /a --settle"
+        for words in ("advise --pairs pairs --settle", f"{asked}=x", f"{asked} --settle", "advise --uid 1000 --settle",
+                      "advise --settle --subtree /a"):
+            self.assertEqual(commands.respond(words.split(" "), KEPT.encode(), {"pairs": b""}), ([], 3, "fault: usage"))
+        self.assert_right("advise --uid 1000 --gid 5 --settle --subtree /a", KEPT, ["contained"], 0)
 
 
 if __name__ == "__main__":

@@ -46,7 +46,7 @@ class ModelTest(unittest.TestCase):
 
 class TrialsTest(unittest.TestCase):
     def test_each_wrong_model_differs_by_a_text_that_stands_once(self):
-        self.assertGreaterEqual(len(mutants.MUTANTS), 70)
+        self.assertGreaterEqual(len(mutants.MUTANTS), 130)
         for name in mutants.MUTANTS:
             self.assertIsNot(mutants.respond_of(name), commands.respond)
             self.assertIsNone(programs.expected_of(cases.Case(["upgrade"], b"x = 07:32"), mutants.respond_of(name)), name)

@@ -49,7 +49,7 @@ def random_case(seed, number, known):
         data += b"#" * (documents.MOST_BYTES + rng.choice([0, 0, 1]) - len(data))
     able = [name for name in MAKERS if name.removesuffix(" alone") in known]
     command = rng.choices(able, [WEIGHTS[name] for name in able])[0]
-    if "settle" in command and rng.random() < 0.75:
+    if "settle" in command and rng.random() < 0.75 or command == "explain" and rng.random() < 0.5:
         tree = trees.tree_of_state(rng)
         data = spelling.document(rng, tree.document(rng))
     case = Case(MAKERS[command](rng, tree, state_of(data)))
@@ -201,9 +201,15 @@ def settled_audit_words(rng, tree, state):
 def settled_pairs(rng, tree, state):
     users = rng.sample([tree.user, *small.USERS, trees.user_of(rng), other_user(rng, tree)], rng.choice([1, 2, 2, 3]))
     words = [word for user in users for word in ("--uid", listed_user(rng, *user))]
-    for _ in range(rng.choice([1, 1, 2, 3])):
-        words += ["--subtree", subtree_word(rng, tree, state)]
+    below = [path for path in tree.rows if path] or [()]
+    words += ["--subtree", subtree_word(rng, tree, state)]
+    for _ in range(rng.choice([0, 0, 1, 2])):
+        words += ["--subtree", text_of(rng.choice(below)) if rng.random() < 0.7 else subtree_word(rng, tree, state)]
     return words
+
+
+def explain_words(rng, tree, state):
+    return ["explain", *settled_pairs(rng, tree, state)]
 
 
 def settled_advice_words(rng, tree, state):
@@ -226,10 +232,10 @@ def upgrade_words(_rng, _tree, _state):
 
 MAKERS = {"may": may_words, "check": check_words, "audit": audit_words, "audit --all": all_words, "advise": advise_words,
           "advise --pairs": pairs_words, "settle": settle_words, "audit --settle": settled_audit_words,
-          "advise --settle": settled_advice_words,
-          "replay": replay_words, "replay alone": replay_alone_words, "upgrade": upgrade_words}
+          "advise --settle": settled_advice_words, "explain": explain_words, "replay": replay_words,
+          "replay alone": replay_alone_words, "upgrade": upgrade_words}
 WEIGHTS = {"may": 14, "check": 30, "audit": 12, "audit --all": 12, "advise": 14, "advise --pairs": 12, "settle": 24,
-           "audit --settle": 14, "advise --settle": 8, "replay": 28, "replay alone": 6, "upgrade": 7}
+           "audit --settle": 14, "advise --settle": 8, "explain": 18, "replay": 28, "replay alone": 6, "upgrade": 7}
 
 
 # Operations
@@ -374,6 +380,9 @@ def bad_line(rng, lines):
 
 # Command lines that are turned
 
+# whose users are named with their groups in one word
+OF_SEVERAL = (["audit"], ["explain"])
+
 
 def turn_words(rng, case):
     TURNS[rng.randrange(len(TURNS))](rng, case)
@@ -397,7 +406,7 @@ def spell_number(rng, case):
 
 
 def many_groups(rng, case):
-    if case.words[:1] == ["audit"]:
+    if case.words[:1] in OF_SEVERAL:
         replace_after(rng, case, "--uid", "1000:" + ",".join(map(str, range(rng.choice([32, 33])))))
     else:
         case.words += [word for gid in range(rng.choice([32, 33])) for word in ("--gid", str(gid))]
@@ -422,7 +431,7 @@ def odd_path(rng, case):
 
 
 def odd_subtree(rng, case):
-    if case.words[:1] == ["audit"] and rng.random() < 0.6:
+    if case.words[:1] in OF_SEVERAL and rng.random() < 0.6:
         case.words += rng.sample(["--subtree=/", "--subtree=/nowhere"], 2)
     replace_after(rng, case, "--subtree", rng.choice(["/", "/nowhere"]))
 
@@ -457,7 +466,7 @@ def no_file(rng, case):
 
 def odd_users(rng, case):
     """Two users of an audit, each with a fault of their own."""
-    if case.words[:1] == ["audit"]:
+    if case.words[:1] in OF_SEVERAL:
         case.words += rng.sample(["--uid=0", "--uid=5:" + ",".join(map(str, range(33)))], 2)
 
 

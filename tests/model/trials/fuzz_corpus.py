@@ -101,6 +101,16 @@ def operation_texts():
             yield part * min(count, 1 + 2 ** 21 // len(part))
 
 
+def large_trees():
+    """A tree as deep, and one with as many cgroups, as may be. Who is asked moves what is below /a, and of no subtree there more is shown
+    by the guards."""
+    opened = b"files = { 'cgroup.procs' = { uid = 1000 } }\n"
+    names = [b"/a/n%d" % number for number in range(4093)]
+    for paths in ([b"/a" * levels for levels in range(2, 2048)], [b"/a/a", *names]):
+        rows = b"".join(b"[[cgroup]]\npath = '%s'\n" % path for path in paths)
+        yield ROOT + b"[[cgroup]]\npath = '/a'\n" + opened + rows
+
+
 def growing(size):
     """Texts of one kind, as long as is said, by the name of the kind."""
     deep = b".".join([b"a"] * 77)

@@ -24,7 +24,12 @@ no-such-file cgroup, bad-pid process, bad-entry process, duplicate-pid process, 
 FAULTS = ["usage", "uid", "gid", "pid", "path", "subtree root", "subtree missing", "line too-long", "line cut", "line bad-word",
           "too-many-steps", "read", "write", *("tree " + name for name in re.split(r",\s+", TREE_FAULTS))]
 STATUSES = {"may": 2, "check": 3, "audit": 3, "audit --all": 3, "replay": 2, "upgrade": 1, "advise": 2, "advise --pairs": 2, "settle": 3,
-            "audit --settle": 3, "audit --all --settle": 3, "advise --settle": 2}
+            "audit --settle": 3, "audit --all --settle": 3, "advise --settle": 2, "explain": 3}
+# what is told of a guarded entry, and of the second row
+BY = ["owner", "group", "others"]
+TOLD = ["holds stays spared", "holds stays upheld", "fails stays removed", "holds control on", "holds control off", "fails control turned",
+        "holds files spared", "fails files reached"]
+TAKES, GROWS = ["spared", "enabling", "takes"], ["spared", "full", "grows"]
 
 
 def wanted(known):
@@ -43,7 +48,16 @@ def wanted(known):
         labels += ["advise: already-over", "advise: two classes of one entry"] + [f"advise: change {change}" for change in ("chown", "chmod", "chown chmod", "set")]
     if "settle" in known:
         labels += [f"settle: {guard} fails first, then {kind}" for guard in SETTLED for kind in commands.STATUS]
+    if "explain" in known:
+        labels += [f"explain: {told}" for told in wanted_of_explain()]
     return labels + [f"fault: {name}" for name in FAULTS]
+
+
+def wanted_of_explain():
+    told = [f"holds {guard}" for guard in GUARDS[:4]] + [f"fails {guard} {name}" for guard in GUARDS[:4] for name in BY] + TOLD
+    told += [f"{'fails' if takes == 'takes' or grows == 'grows' else 'holds'} shut {takes} {grows}" for takes in TAKES for grows in GROWS]
+    told += [f"{word} already-over {file}" for word in ("holds", "fails") for file in (rules.DESCENDANTS, rules.DEPTH)]
+    return told + [*commands.STATUS, "contained by the second row"]
 
 
 def labels_of(case, expected):
@@ -123,4 +137,24 @@ def advise_labels(_case, lines):
     return sorted(found)
 
 
-LABELS = {"may": may_labels, "check": check_labels, "advise": advise_labels, "advise --pairs": advise_labels, "settle": settle_labels}
+def explain_labels(_case, lines):
+    found, further = set(), False
+    for line in lines:
+        word, *words = line.split(" ")
+        if word == "pair":
+            further = False
+        elif word in commands.STATUS:
+            found |= {word, *["contained by the second row"] * (further and word == "contained")}
+        else:
+            further = further or words[0] == "stays"
+            found.add(" ".join([word, words[0], *told_words(*words)]))
+    return sorted(f"explain: {told}" for told in found)
+
+
+def told_words(kind, _path, *words):
+    """What of a line is its label's: by what it is so, or of a limit the file."""
+    return words[:1] if kind == "already-over" else words[3:] if kind in GUARDS else words[-2:] if kind == "shut" else words[-1:]
+
+
+LABELS = {"may": may_labels, "check": check_labels, "advise": advise_labels, "advise --pairs": advise_labels, "settle": settle_labels,
+          "explain": explain_labels}

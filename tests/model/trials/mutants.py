@@ -3,11 +3,12 @@ import functools
 import sys
 import types
 
-from second import commands, documents, lasting, rules, settled, texts
+from second import commands, documents, explained, lasting, rules, settled, texts
 
 # in the order in which one takes from another: those before the one that is changed are the right model's own
-MODULES = {"documents": documents, "rules": rules, "lasting": lasting, "settled": settled, "texts": texts, "commands": commands}
-USERS = "itertools.product(dict.fromkeys(call.users), dict.fromkeys(tops))"
+MODULES = {"documents": documents, "rules": rules, "lasting": lasting, "settled": settled, "explained": explained, "texts": texts,
+           "commands": commands}
+USERS = "return list(itertools.product(dict.fromkeys(call.users), dict.fromkeys(tops)))"
 MEMBER = 'return "group" if entry.gid in user[1] else "others"'
 LIVE_ITEMS = "for other, process in state.live.items() if other != pid}"
 PID_BOUND = "if call.pid is not None and not 1 <= call.pid <= rules.LAST_PID"
@@ -124,14 +125,14 @@ OF_COMMANDS = {
         '    if end:\n        raise Fault(f"line {len(lines) + 1} cut")\n    return pairs', "    return pairs"),
     "16777216 bytes of pairs are too many": ("    if len(data) > LONGEST_PAIRS:", "    if len(data) >= LONGEST_PAIRS:"),
     "audit goes by subtree first": (
-        f"user, top in {USERS}", "top, user in itertools.product(dict.fromkeys(tops), dict.fromkeys(call.users))"),
+        "in asked(call, tops):", "in sorted(asked(call, tops), key=lambda pair: tops.index(pair[1])):"),
     "audit asks who is named again": (USERS, USERS.replace("dict.fromkeys(call.users)", "call.users")),
     "audit takes users of one uid for one": (USERS, asked_once("(lambda user: user[0])")),
     "audit takes groups in another order for the same": (USERS, asked_once("(lambda user: (user[0], set(user[1])))")),
     "audit asks of the first 16 users": (USERS, USERS.replace("call.users", "call.users[:16]")),
     "audit asks of the first 8 subtrees": (USERS, USERS.replace("(tops)", "(tops[:8])")),
     "audit --all stops behind 24 lines": ("    if not kinds:\n", "    del lines[24:]\n    if not kinds:\n"),
-    "audit --all has the status of the least": ("STATUS[min(kinds", "STATUS[max(kinds"),
+    "audit --all has the status of the least": ('("escapes", "unsettled") if', '("unsettled", "escapes") if'),
     "upgrade writes cgroups in the order of their texts": (
         "for path in sorted(state.cgroups)]", "for path in sorted(state.cgroups, key=text_of)]"),
     "upgrade writes processes in the order of their digits": (
@@ -163,15 +164,78 @@ OF_LASTING = {
                                             "if False:"),
     "places beside the subtree go unasked": ("or rules.common(path, top) in edges]", "]"),
 }
+LISTED = "else answers[user]) for"
 OF_SETTLED = {
     "the first user's reach for that of all": ("holds = is_contained(state, others, top)", "holds = is_contained(state, others[:1], top)"),
     "all but those for whom the guards hold are asked together": (
         "holds = is_contained(state, others, top)",
         'holds = is_contained(state, [user for user in others if answers[user][0] != "contained"], top)'),
     "who has a list is asked with all others": ("holds = is_contained(state, others, top)", "holds = is_contained(state, users, top)"),
-    "who is contained alone isn't listed": (
+    "the second row is asked of one user at a time": (
         "(None if holds or answers[user][0] ==", "(None if is_contained(state, [user], top) or answers[user][0] =="),
+    "who is left unsettled is listed though the second row holds": ("(None if holds or answers", "(None if answers"),
+    "who is listed is named by the last guard that fails": (LISTED, "else (answers[user][0], *rules.failures(state, user, top)[-1][:2])) for"),
+    "who is listed is named by the first guard that fails for one of all": (
+        LISTED, "else (answers[user][0], *[each[:2] for each in rules.guarded(state, top) if lasting.is_reached(state, others, *each[1:])][0])) for"),
     "a list goes on behind what it breaks": ('startswith(f"broken {len(operations)} ")', 'startswith(f"broken {len(operations) - 1} ")'),
+}
+# of advise --settle
+OF_SETTLED_ADVICE = {
+    "advise --settle asks of one user at a time": (
+        "all(settled.is_contained(state, call.users, top) for top in tops)",
+        "all(settled.is_contained(state, [user], top) for user in call.users for top in tops)"),
+    "advise --settle asks of the first subtree alone": (
+        "all(settled.is_contained(state, call.users, top) for top in tops)", "settled.is_contained(state, call.users, tops[0])"),
+    "advise --settle leaves out subtrees of which the second row holds": (
+        "rules.advice(state, list(dict.fromkeys(pairs)))", "rules.advice(state, [pair for pair in dict.fromkeys(pairs) if not ("
+        '"--settle" in call.given and settled.is_contained(state, call.users, pair[1]))])'),
+}
+PAIRS_OF = "for user, top in asked(call, tops)]"
+OF_EXPLAIN = {
+    "explain goes by subtree first": (
+        PAIRS_OF, "for user, top in sorted(asked(call, tops), key=lambda pair: tops.index(pair[1]))]"),
+    "explain has the status of its last pair": ("return worst({end[0] for end in ends})", "return STATUS[ends[-1][0]]"),
+    "explain prints the operations of an escape": ("[*some, *answer_lines(end)[:1]]", "[*some, *answer_lines(end)]"),
+    "explain names a user by their uid": ("[head_of(user, top), *explained", "[head_of(user[:1], top), *explained"),
+}
+FURTHER = "second_row(state, [user], top) if rules.failures(state, user, top) else []"
+HOLDS_SHUT = 'line_of(takes != "takes" and grows != "grows", "shut"'
+OF_EXPLAINED = {
+    "an owner is told as one of the group or of all others": (
+        "rules.class_of(user, entry)", "rules.class_of((-1, user[1]), entry)"),
+    "an entry is told by what lets somebody write it": (
+        "rules.class_of(user, entry)", 'next((name for name, bit in (("owner", 0o200), ("group", 0o020)) if entry.mode & bit '
+        'and name in (rules.class_of(user, entry), rules.class_of((-1, user[1]), entry))), "others")'),
+    "an entry that a user owns and doesn't write is told to hold": (
+        "reached = rules.reaches(user, entry)", "reached = rules.writes(user, entry)"),
+    "a mode is told without zeros before it": ('f"{entry.mode:03o}"', 'f"{entry.mode:o}"'),
+    "the second row is told where no guard fails": (FURTHER, "second_row(state, [user], top)"),
+    "the second row isn't told where a limit alone is passed": (
+        "if rules.failures(state, user, top) else []", "if any(name for *_, name in rules.failures(state, user, top)) else []"),
+    "a subtree stays by a cgroup below it before its parent's directory": (
+        '    if not lasting.is_reached(state, users, top[:-1], DIR):\n        return "spared"\n    return "upheld" if',
+        '    return "spared" if not lasting.is_reached(state, users, top[:-1], DIR) and not rules.children(state, top) else "upheld" if'),
+    "a subtree with a cgroup in it stays": ("if any(child in found.stays for", "if any(True for"),
+    "a controller is off where the parent stays alone": (
+        '"off" if would_stay_off(state, users, parent, controller)', '"off" if (parent, controller) in found.off'),
+    "a controller is on by itself alone": ("if (parent, controller) in found.on:", "if controller in state.cgroups[parent].enabled "
+                                           "and not lasting.is_reached(state, users, parent, CONTROL):"),
+    "a controller is off by itself alone": (
+        "return would_stay_off(state, users, path[:-1], controller) if path else", "return False if path else"),
+    "a move into the subtree goes by the parent alone": ("if (doors if", "if (top[:-1] in doors if"),
+    "a move out of the subtree goes by any cgroup above": ("else rules.common(path, top) in doors)", "else doors)"),
+    "a move leads to what is below the subtree, and not to itself": ("rules.inside(path, top) else", "rules.inside(path, top) and path != top else"),
+    "cgroups of moves in the order of their texts": ("in sorted(state.cgroups) if (doors", "in sorted(state.cgroups, key=text_of) if (doors"),
+    "a move is kept out by whatever a cgroup enables": (
+        "lasting.takes_none(state, users, found, path)", "state.cgroups[path].enabled"),
+    "enabling is told before what is spared": ('return "enabling" if lasting', 'return "enabling" if "memory" in state.cgroups[path].enabled or lasting'),
+    "a cgroup is full by what is there": ("lasting.is_full(state, users, found, path)", "rules.limit_bars(state, path)"),
+    "a cgroup is shut by one of two": (HOLDS_SHUT, HOLDS_SHUT.replace(" and ", " or ")),
+    "counts the subtree among its descendants": ("DESCENDANTS: len(rules.below(state, top)),", "DESCENDANTS: len(rules.below(state, top)) + 1,"),
+    "counts levels from the subtree's own": ("DEPTH: rules.depth_below(state, top)}", "DEPTH: rules.depth_below(state, top) + 1}"),
+    "counts children for descendants": ("len(rules.below(state, top)),", "len(rules.children(state, top)),"),
+    "a limit that is reached is passed": (
+        "line_of(file not in rules.over(state, top),", "line_of(state.cgroups[top].values[file] != count,"),
 }
 OF_TEXTS = {
     "format 1 has the group's bit": ("0 <= mode <= 0o777) or form == 1 and mode & 0o020 != 0", "0 <= mode <= 0o777)"),
@@ -190,17 +254,24 @@ OF_DOCUMENTS = {
     "a byte order mark is no TOML": ('.removeprefix("\\ufeff")', ""),
     "16777216 bytes are too many": ("len(data) > MOST_BYTES", "len(data) >= MOST_BYTES"),
 }
-MUTANTS = {name: (module, *turn) for module, turns in zip(MODULES, (OF_DOCUMENTS, OF_RULES, OF_LASTING, OF_SETTLED, OF_TEXTS, OF_COMMANDS))
-          for name, turn in turns.items()}
-
-
-# of a module the command without which a program isn't told from what is turned there
-NEEDS = {"lasting": "settle", "settled": "audit --settle"}
+# of each kind the module, and the command without which a program isn't told from what is turned there
+KINDS = [("documents", "may", OF_DOCUMENTS), ("rules", "may", OF_RULES), ("lasting", "settle", OF_LASTING),
+         ("settled", "audit --settle", OF_SETTLED), ("explained", "explain", OF_EXPLAINED), ("texts", "may", OF_TEXTS),
+         ("commands", "may", OF_COMMANDS), ("commands", "advise --settle", OF_SETTLED_ADVICE), ("commands", "explain", OF_EXPLAIN)]
+MUTANTS = {name: (module, *turn) for module, _, turns in KINDS for name, turn in turns.items()}
 
 
 def able(known):
     """The wrong models of which something shows in the commands that a program has."""
-    return [name for name, (module, *_) in MUTANTS.items() if NEEDS.get(module, "may") in known]
+    return [name for _, command, turns in KINDS if command in known for name in turns]
+
+
+def shows(name, words):
+    """Whether a mutant can differ on a command line."""
+    needed = next(command for _, command, turns in KINDS if name in turns)
+    if needed == "settle":
+        return not {"settle", "--settle", "explain"}.isdisjoint(words)
+    return needed == "may" or words[:1] == needed.split(" ")[:1] and {*needed.split(" ")} <= {*words}
 
 
 @functools.lru_cache(maxsize=None)

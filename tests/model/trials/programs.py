@@ -8,7 +8,7 @@ import subprocess
 import tempfile
 import tomllib
 
-from second import commands, documents
+from second import commands, documents, rules
 
 SECONDS = 60
 
@@ -66,14 +66,33 @@ class Room:
         return ended.stdout or b"", ended.returncode, ended.stderr
 
     def further(self, case, written):
-        """What a text that was written again should give: itself; and an audit of all pairs: first what one of the first gave."""
-        if case.words[:1] == ["audit"] and "--settle" in case.words and "--all" not in case.words and written[1] in (1, 2):
-            every = self.run(dataclasses.replace(case, words=[*case.words, "--all"]))
-            return "" if of_first(every[0]) == of_first(written[0]) else "audit --all of the same begins otherwise"
-        if case.words[:1] != ["upgrade"] or written[1] != 0:
+        """What of a case's answer another run says otherwise, or ''."""
+        if case.full or written[1] == 3:
             return ""
-        again = subprocess.run([self.program, "upgrade"], input=written[0], capture_output=True, timeout=SECONDS)
-        return "" if again.stdout == written[0] else "the upgrade of what was written is another text"
+        if case.words[:1] == ["upgrade"]:
+            again = subprocess.run([self.program, "upgrade"], input=written[0], capture_output=True, timeout=SECONDS)
+            return "" if again.stdout == written[0] else "the upgrade of what was written is another text"
+        if case.words[:1] == ["explain"]:
+            return self.told_otherwise(case, written[0], lambda said, alone: said[-1] == alone[0])
+        if case.words[:1] != ["audit"] or "--settle" not in case.words:
+            return ""
+        if "--all" in case.words:
+            return self.told_otherwise(case, written[0], lambda said, alone: said == alone or "escapes" not in (*said[:1], alone[0]))
+        every = self.run(dataclasses.replace(case, words=[*case.words, "--all"]))
+        return "" if written[1] == 0 or of_first(every[0]) == of_first(written[0]) else "audit --all of the same begins otherwise"
+
+    def told_otherwise(self, case, report, agrees):
+        """Which pair of a report has lines, without its first, that don't agree with what settle says of it, or ''."""
+        call = commands.Call(case.words)
+        told = {head: lines for head, *lines in (part.splitlines() for part in re.split(r"(?m)^(?=pair )", report.decode("ascii")) if part)}
+        for (uid, gids), top in commands.asked(call, call.subtrees()):
+            words = ["settle", "--uid", str(uid), *(word for gid in gids for word in ("--gid", str(gid))), "--subtree", top]
+            tree = [] if call.one("--tree") is None else ["--tree", call.one("--tree")]
+            alone = self.run(dataclasses.replace(case, words=words + tree))[0].decode("ascii").splitlines()
+            head = commands.head_of((uid, gids), rules.path_of(top))
+            if not agrees(told.get(head, []), alone):
+                return f"of {head} settle says {alone}"
+        return ""
 
 
 def expected_of(case, respond=commands.respond):

@@ -52,6 +52,23 @@ def state_of_site(rng):
     return state
 
 
+def state_of_two(rng):
+    """One user moves processes past a cgroup, to nowhere; another lets them into one cgroup there, or makes one there. At times these
+    move processes past the root."""
+    paths = [(), ("a",), ("a", "b"), ("a", "c")] + [path for path in random_paths(rng, rng.randint(1, 3)) if path]
+    memory = frozenset(["memory"])
+    enabled = {path: memory if any(other[:-1] == path for other in paths if other) else frozenset() for path in paths}
+    cgroups = cgroups_of(rng, memory, enabled, {name: 0 for name in rules.STANDING})
+    for path in (("a", "b"), ("a", "c")):
+        cgroups[path].entries.update((file, Entry()) for file in cgroups[path].values)
+    one, other = rng.sample(USERS, 2)
+    cgroups[("a",)].entries[rules.PROCS] = Entry(one[0], 0, rng.choice([0o644, 0o444]))
+    cgroups[rng.choice([("a", "b"), ("a", "c")])].entries[rng.choice([rules.PROCS, DIR])] = Entry(other[0], 0, 0o644)
+    if rng.random() < 0.35:
+        cgroups[()].entries[rules.PROCS] = Entry(other[0])
+    return with_processes(rng, memory, cgroups)
+
+
 def cgroups_of(rng, controllers, enabled, chances):
     cgroups = {}
     for path, those in enabled.items():

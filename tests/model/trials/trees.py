@@ -87,7 +87,7 @@ def random_tree(rng):
 
 def tree_of_state(rng):
     """A small state of a search, most of whose subtrees fail a guard and break by no try."""
-    state = small.random_state(rng) if rng.random() < 0.88 else small.state_of_site(rng)
+    state = rng.choices([small.random_state, small.state_of_site, small.state_of_two], [80, 11, 9])[0](rng)
     parts = commands.document_of(state)
     rows = {path: row for path, row in zip(sorted(state.cgroups), parts["cgroup"])}
     pairs = list(itertools.product(small.USERS, [path for path in rows if path]))
