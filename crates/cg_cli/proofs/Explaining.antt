@@ -26,7 +26,7 @@ use Rattle.cg_advice.proofs.Gathering.{one_more, map-append}
 use Rattle.cg_explain.specs.PairExplained.{pair_lines}
 use Rattle.cg_format.specs.Readings.{Reading}
 use Rattle.cg_cli.specs.Advising.{pair_with, all_pairs}
-use Rattle.cg_cli.specs.AllPairs.{is_escape, worse, read_then}
+use Rattle.cg_cli.specs.AllPairs.{is_escape, is_unsettled, worse, read_then}
 use Rattle.cg_cli.specs.Asking.{read_in_turn, named_read, read_takes_memory, IsMet, IsKeptOnce}
 use Rattle.cg_cli.specs.Audits.{users_read, paths_read}
 use Rattle.cg_cli.specs.Containment.{in_call, answer_status}
@@ -34,7 +34,7 @@ use Rattle.cg_cli.specs.May.{tree_read}
 use Rattle.cg_cli.specs.Once.{same_user}
 use Rattle.cg_cli.specs.Reports.{takes_memory}
 use Rattle.cg_cli.specs.Settled.{IsSettledFault}
-use Rattle.cg_cli.specs.Explaining.{is_unsettled, told_status, told_text, pair_told, IsTold, AreTold, AreFrontTold, TellsPair, TellsPairs, pairs_asked, explain_asked, ReportsTold}
+use Rattle.cg_cli.specs.Explaining.{told_status, told_text, pair_told, IsTold, AreTold, AreFrontTold, TellsPair, TellsPairs, pairs_asked, explain_asked, ReportsTold}
 use Rattle.streams.specs.Written.{AppendsPart}
 use Rattle.cg_faults.specs.Faults.{lifted_check}
 use Rattle.cg_faults.specs.declared.fault.CliFault.{CliFault}
@@ -58,11 +58,13 @@ any_behind test (x ∷ xs) y = ap (λ b. test x || b) (any_behind test xs y) ∙
     either_way false b c = refl
 
 -- with one more, the worse of theirs
-one_more_status : (told : List Listed) (each : Listed) → told_status (told ++ (each ∷ [])) ≡ worse (told_status told) (answer_status each.found)
+one_more_status : (told : List Listed) (each : Listed)
+    → told_status (told ++ (each ∷ [])) ≡ worse (told_status told) (answer_status each.found)
 one_more_status told each =
     (λ i. cond (any_behind (λ (one : Listed). is_escape one.found) told each i) 1
     (cond (any_behind (λ (one : Listed). is_unsettled one.found) told each i) 2 0))
-    ∙ by_answer each.found (list_any (λ (one : Listed). is_escape one.found) told) (list_any (λ (one : Listed). is_unsettled one.found) told)
+    ∙ by_answer each.found (list_any (λ (one : Listed). is_escape one.found) told)
+        (list_any (λ (one : Listed). is_unsettled one.found) told)
   where
     by_answer : (found : Answer) (escapes unsettled : Bool)
         → cond (escapes || is_escape found) 1 (cond (unsettled || is_unsettled found) 2 0)
@@ -101,7 +103,8 @@ text_more : (st : State) (told : List Listed) (each : Listed) → told_text st (
 text_more st told each =
     flat_map-append (pair_lines st) told (each ∷ []) ∙ ap (λ l. told_text st told ++ l) (append-nil (pair_lines st each))
 
-module _ (st : State) (begun : List Pair) (pair : Pair) (old mid new : Option (List ℕ)) (worst : ℕ) (far : Told st begun old mid worst) where
+module _ (st : State) (begun : List Pair) (pair : Pair) (old mid new : Option (List ℕ)) (worst : ℕ)
+    (far : Told st begun old mid worst) where
   pub goes_on : (status : ℕ) → TellsPair st pair mid new (Ok status) → Told st (begun ++ (pair ∷ [])) old new (worse worst status)
   goes_on status written =
       let each = listed_with pair written.0 in record {
@@ -185,7 +188,8 @@ some_subtree users subtrees pairs are some none = some (unmapped pairs (are ∙ 
 pub faultless : (st : State) (subtree : Names) → IsSubtree st subtree → first (subtree_faults st subtree) ≡ None
 faultless st subtree sub = λ i. first (unless (not (sub.1 i)) RootSubtree ++ unless (sub.0 i) NoSuchSubtree)
 
-pub settle_wants : (st : State) (pair : Pair) → IsSubtree st pair.subtree → (fault : CheckFault) → IsSettledFault st pair.subtree fault → (known : Option (List ℕ))
+pub settle_wants : (st : State) (pair : Pair) → IsSubtree st pair.subtree
+    → (fault : CheckFault) → IsSettledFault st pair.subtree fault → (known : Option (List ℕ))
     → TellsPair st pair known known (Err (lifted_check fault))
 settle_wants st pair sub fault (inl memory) known =
     subst (λ (f : CheckFault). TellsPair st pair known known (Err (lifted_check f))) (sym memory) (Keeps-refl known)

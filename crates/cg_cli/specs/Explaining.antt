@@ -11,11 +11,10 @@ use Rattle.cg_model.specs.Listed.{Listed}
 use Rattle.cg_model.specs.Mends.{Pair}
 use Rattle.cg_model.specs.Once.{once}
 use Rattle.cg_model.specs.declared.answer.Answer.{Answer}
-use Rattle.cg_model.specs.declared.answer.Answer.TheVariants.{Contained, Escapes, Unsettled}
 use Rattle.cg_explain.specs.PairExplained.{pair_lines}
 use Rattle.cg_format.specs.Readings.{Reading}
 use Rattle.cg_cli.specs.Advising.{pair_with, all_pairs}
-use Rattle.cg_cli.specs.AllPairs.{is_escape, read_then}
+use Rattle.cg_cli.specs.AllPairs.{is_escape, is_unsettled, read_then}
 use Rattle.cg_cli.specs.Audits.{users_read, paths_read}
 use Rattle.cg_cli.specs.Containment.{in_call, answer_status}
 use Rattle.cg_cli.specs.May.{tree_read}
@@ -25,11 +24,6 @@ use Rattle.cg_cli.specs.Settled.{IsSettled}
 use Rattle.streams.specs.Written.{AppendsPart}
 use Rattle.cg_faults.specs.declared.fault.CliFault.{CliFault}
 use Rattle.cg_faults.specs.declared.fault.CliFault.TheVariants.{Write, NoMemory}
-
-abbrev pub is_unsettled : Answer → Bool
-is_unsettled Contained = false
-is_unsettled (Escapes ops) = false
-is_unsettled (Unsettled failed) = true
 
 -- 1 where one escapes, else 2 where one is unsettled, else 0
 abbrev pub told_status : List Listed → ℕ

@@ -1,4 +1,3 @@
--- How an answer is found: nobody has to believe it.
 -- What is answered where check is asked first, then the second row of guards, then the planner.
 use Rattle.std.specs.Prelude.{◌≡◌, ◌⊎◌, true, false, [], ◌∷◌, Some}
 use Rattle.cg_cgroup.specs.Paths.{Names}

@@ -1,4 +1,3 @@
--- How an answer is found: nobody has to believe it.
 -- What of a subtree its own limits count.
 use Rattle.std.specs.Prelude.{Bool, ◌&&◌}
 use Rattle.cg_cgroup.specs.Paths.{Names}

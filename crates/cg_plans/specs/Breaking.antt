@@ -1,4 +1,3 @@
--- What laws beside the theorems speak of: nobody has to believe it.
 -- What is known of a list that was replayed.
 use Rattle.std.specs.Prelude.{◌≡◌, List, [], ◌∷◌, length}
 use Rattle.cg_cgroup.specs.Paths.{Names}

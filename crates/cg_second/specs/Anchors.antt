@@ -1,4 +1,3 @@
--- How an answer is found: nobody has to believe it.
 -- What lasts of a tree, by single cgroups: whatever a chain of children hangs on is below the first of them.
 use Rattle.std.specs.Prelude.{Bool, ◌&&◌, ◌||◌, not, List}
 use Rattle.std.specs.List.{list_any}

@@ -1,4 +1,3 @@
--- How an answer is found: nobody has to believe it.
 -- The tests of the second row, as they are made of one cgroup after another.
 use Rattle.std.specs.Prelude.{ℕ, zero, suc, ◌-◌, Bool, false, ◌&&◌, ◌||◌, not, cond, List, length, take}
 use Rattle.cg_cgroup.specs.Paths.{Names, inside, common}

@@ -1,4 +1,3 @@
--- What laws beside the theorems speak of: nobody has to believe it.
 -- The greatest of what lasts of a tree, level by level: upwards from the deepest cgroups, and downwards from the root.
 use Rattle.std.specs.Prelude.{ℕ, zero, suc, ◌+◌, ◌-◌, max, Bool, false, ◌&&◌, ◌||◌, not, List, [], ◌∷◌, length, take}
 use Rattle.std.specs.List.{list_any}

@@ -1,4 +1,3 @@
--- What laws beside the theorems speak of: nobody has to believe it.
 -- The second row as a test.
 use Rattle.std.specs.Prelude.{ℕ, zero, suc, ◌-◌, Bool, true, false, ◌&&◌, ◌||◌, not, nat_le, List, length, take, Option, Some}
 use Rattle.std.specs.List.{list_all}

@@ -1,4 +1,3 @@
--- What laws beside the theorems speak of: nobody has to believe it.
 -- What some users can't change of a tree, whatever they do and wherever processes are.
 use Rattle.std.specs.Prelude.{◌≡◌, ◌⊎◌, ◌≤◌, ℕ, ◌-◌, Bool, true, false, ◌&&◌, List, length, take, count_by, Some, None}
 use Rattle.std.specs.List.{list_any}
