@@ -1,6 +1,6 @@
 //! Holds: places to which a process may come over the edge of a subtree.
 use crate::planner::Planner;
-use cg_cgroup::files::EntryName;
+use cg_cgroup::files::{EntryName, Limit};
 use cg_cgroup::memory::NoMemory;
 use cg_cgroup::path::Path;
 use cg_model::hierarchy::Hierarchy;
@@ -45,11 +45,13 @@ impl<'a, H: Hierarchy> Planner<'a, H> {
     /// Adds those of one kind.
     fn add_holds(&self, side: Side, kind: Kind, holds: &mut Vec<Path>) -> Result<(), NoMemory> {
         let mut left = MOST_HOLDS;
+        let mut levels = Vec::new(self.alloc);
         for path in &self.paths {
             if left == 0 {
                 return Ok(());
             }
-            if !self.is_beside(side, path) || !self.is_of_kind(kind, path) {
+            let is_full = self.is_full_at(path, &mut levels)?;
+            if !self.is_beside(side, path) || !self.is_of_kind(kind, path, is_full) {
                 continue;
             }
             if let Some(hold) = self.hold_at(kind, path)? {
@@ -71,7 +73,7 @@ impl<'a, H: Hierarchy> Planner<'a, H> {
     }
 
     /// Whether a cgroup is a hold, or may get a child that is one, in a way.
-    fn is_of_kind(&self, kind: Kind, path: &Path) -> bool {
+    fn is_of_kind(&self, kind: Kind, path: &Path, is_full: bool) -> bool {
         let len = path.depth();
         match kind {
             Kind::Open => {
@@ -82,13 +84,23 @@ impl<'a, H: Hierarchy> Planner<'a, H> {
                 self.reaches(self.tree, path, len, EntryName::Procs)
                     && !self.is_open(self.tree, path)
             }
-            Kind::New => {
-                self.reaches(self.tree, path, len, EntryName::Dir) && !is_full(self.tree, path)
-            }
-            Kind::Full => {
-                self.reaches(self.tree, path, len, EntryName::Dir) && is_full(self.tree, path)
-            }
+            Kind::New => { self.reaches(self.tree, path, len, EntryName::Dir) && !is_full }
+            Kind::Full => { self.reaches(self.tree, path, len, EntryName::Dir) && is_full }
         }
+    }
+
+    /// Whether a limit bars a new child of a cgroup. All above it were asked before, and none beside these since: of each the
+    /// least level is kept at which a limit bars a child.
+    fn is_full_at(&self, path: &Path, levels: &mut Vec<u64>) -> Result<bool, NoMemory> {
+        let depth = path.depth();
+        levels.truncate(depth);
+        let above = match levels.as_slice().last() {
+            Some(level) => *level,
+            None => u64::MAX,
+        };
+        let level = barred_level(self.tree, path).min(above);
+        levels.push(level)?;
+        Ok(level <= depth as u64)
     }
 
     /// The hold at a cgroup: itself, or a new child.
@@ -97,6 +109,23 @@ impl<'a, H: Hierarchy> Planner<'a, H> {
             Kind::Open | Kind::Enabling => Ok(Some(path.try_clone(self.alloc)?)),
             Kind::New | Kind::Full => self.new_child(self.tree, path),
         }
+    }
+}
+
+/// The least level at which a cgroup's own limits bar a child of it or of one below.
+fn barred_level<H: Hierarchy>(tree: &H, path: &Path) -> u64 {
+    let depth = path.depth();
+    let Some(cgroup) = tree.get(path, depth) else {
+        return 0;
+    };
+    if let Limit::At(most) = cgroup.max_descendants.value {
+        if most <= tree.count_below(path, depth) {
+            return 0;
+        }
+    }
+    match cgroup.max_depth.value {
+        Limit::Max => u64::MAX,
+        Limit::At(most) => most.saturating_add(depth as u64),
     }
 }
 
