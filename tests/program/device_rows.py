@@ -145,8 +145,11 @@ ASKED = (
     ("parent-procs-owned", "audit --settle --uid 1000 --uid 1001 --subtree /p/s", 0),
     ("delegation-parent-directory", "audit --settle --all --uid 1000 --uid 1001 --subtree /c0", 1),
     ("parent-procs-no-process", "audit --settle --all --uid 1000 --uid 1001 --subtree /p/s", 2),
+    ("delegation", "explain --uid 1000 --subtree /c0", 0),
+    ("delegation-second-user", "explain --tree {tree} --uid 1000 --uid 1001 --subtree /c0 --subtree /c1", 1),
+    ("parent-procs-no-process", "explain --uid 1000 --subtree /p/s", 2),
 )
-COMMANDS = ("may", "check", "settle", "audit", "replay", "upgrade", "advise")
+COMMANDS = ("may", "check", "settle", "audit", "explain", "replay", "upgrade", "advise")
 HELP = ("--help", "--version", "may --help", "replay --help")
 
 

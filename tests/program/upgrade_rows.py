@@ -147,6 +147,7 @@ def asked_of_all(tree):
     yield Asked(["audit", "--all", *listed, *subtrees], "")
     yield Asked(["audit", "--settle", *listed, *subtrees], "")
     yield Asked(["audit", "--settle", "--all", *listed, *subtrees], "")
+    yield Asked(["explain", *listed, *subtrees], "")
 
 
 def asked_of(example, files):

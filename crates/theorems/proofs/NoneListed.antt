@@ -30,14 +30,17 @@ first_with : (found : ℕ → Answer) (user : Identity) (place : ℕ) (subtrees 
     → first_pair_status (listed_with found user place subtrees ++ more) ≡ 0
     → (listed_with found user place subtrees ≡ []) × (first_pair_status more ≡ 0)
 first_with found user place [] more none = (refl, none)
-first_with found user place (subtree ∷ subtrees) more none = by_answer (found place) none
+first_with found user place (subtree ∷ subtrees) more none =
+    by_answer (found place) (first_with found user (suc place) subtrees more) none
   where
     by_answer : (a : Answer)
+        → (first_pair_status (listed_with found user (suc place) subtrees ++ more) ≡ 0
+        → (listed_with found user (suc place) subtrees ≡ []) × (first_pair_status more ≡ 0))
         → first_pair_status ((listed_unless_contained user subtree a ++ listed_with found user (suc place) subtrees) ++ more) ≡ 0
         → (listed_unless_contained user subtree a ++ listed_with found user (suc place) subtrees ≡ []) × (first_pair_status more ≡ 0)
-    by_answer Contained zero_is = first_with found user (suc place) subtrees more zero_is
-    by_answer (Escapes ops) zero_is = let never : ⊥ = cc in absurd never
-    by_answer (Unsettled failed) zero_is = let never : ⊥ = cc in absurd never
+    by_answer Contained later zero_is = later zero_is
+    by_answer (Escapes ops) later zero_is = let never : ⊥ = cc in absurd never
+    by_answer (Unsettled failed) later zero_is = let never : ⊥ = cc in absurd never
 
 pub first_none : (found : ℕ → ℕ → Answer) (place : ℕ) (users : List Identity) (subtrees : List Names)
     → first_pair_status (listed_from found place users subtrees) ≡ 0 → listed_from found place users subtrees ≡ []
@@ -77,7 +80,8 @@ from_none found from [] subtrees none user place low within = absurd (omega (ari
 from_none found from (who ∷ users) subtrees none zero place low within =
     let whole : from + 0 ≡ from = omega arith in
     let both = both_none (listed_with (found from) who 0 subtrees) (listed_from found (suc from) users subtrees) none in
-    (λ i. is_contained (found (whole i) place)) ∙ with_none (found from) who 0 subtrees both.0 place within
+    let start : place ≡ 0 + place = omega arith in
+    (λ i. is_contained (found (whole i) (start i))) ∙ with_none (found from) who 0 subtrees both.0 place within
 from_none found from (who ∷ users) subtrees none (suc user) place low within =
     let same : from + suc user ≡ suc from + user = omega arith in
     let both = both_none (listed_with (found from) who 0 subtrees) (listed_from found (suc from) users subtrees) none in
