@@ -13,7 +13,7 @@ use Rattle.cg_model.specs.States.{State}
 use Rattle.cg_model.specs.Clauses.{first, unless}
 use Rattle.cg_model.specs.Guards.{IsSubtree}
 use Rattle.cg_model.specs.Checks.{subtree_faults, unless_fault}
-use Rattle.cg_model.specs.Listed.{Listed}
+use Rattle.cg_model.specs.Listed.{Listed, is_contained}
 use Rattle.cg_model.specs.Mends.{Pair}
 use Rattle.cg_model.specs.Once.{once}
 use Rattle.cg_model.specs.declared.answer.Answer.{Answer}
@@ -34,7 +34,7 @@ use Rattle.cg_cli.specs.May.{tree_read}
 use Rattle.cg_cli.specs.Once.{same_user}
 use Rattle.cg_cli.specs.Reports.{takes_memory}
 use Rattle.cg_cli.specs.Settled.{IsSettledFault}
-use Rattle.cg_cli.specs.Explaining.{is_unsettled, told_status, told_text, pair_told, IsTold, AreTold, AreFrontTold, TellsPair, TellsPairs, pairs_asked, explain_asked, ReportsTold}
+use Rattle.cg_cli.specs.Explaining.{told_status, told_text, pair_told, IsTold, AreTold, AreFrontTold, TellsPair, TellsPairs, pairs_asked, explain_asked, ReportsTold}
 use Rattle.streams.specs.Written.{AppendsPart}
 use Rattle.cg_faults.specs.Faults.{lifted_check}
 use Rattle.cg_faults.specs.declared.fault.CliFault.{CliFault}
@@ -58,14 +58,16 @@ any_behind test (x ∷ xs) y = ap (λ b. test x || b) (any_behind test xs y) ∙
     either_way false b c = refl
 
 -- with one more, the worse of theirs
-one_more_status : (told : List Listed) (each : Listed) → told_status (told ++ (each ∷ [])) ≡ worse (told_status told) (answer_status each.found)
+one_more_status : (told : List Listed) (each : Listed)
+    → told_status (told ++ (each ∷ [])) ≡ worse (told_status told) (answer_status each.found)
 one_more_status told each =
     (λ i. cond (any_behind (λ (one : Listed). is_escape one.found) told each i) 1
-    (cond (any_behind (λ (one : Listed). is_unsettled one.found) told each i) 2 0))
-    ∙ by_answer each.found (list_any (λ (one : Listed). is_escape one.found) told) (list_any (λ (one : Listed). is_unsettled one.found) told)
+    (cond (any_behind (λ (one : Listed). not (is_contained one.found)) told each i) 2 0))
+    ∙ by_answer each.found (list_any (λ (one : Listed). is_escape one.found) told)
+    (list_any (λ (one : Listed). not (is_contained one.found)) told)
   where
     by_answer : (found : Answer) (escapes unsettled : Bool)
-        → cond (escapes || is_escape found) 1 (cond (unsettled || is_unsettled found) 2 0)
+        → cond (escapes || is_escape found) 1 (cond (unsettled || not (is_contained found)) 2 0)
         ≡ worse (cond escapes 1 (cond unsettled 2 0)) (answer_status found)
     by_answer Contained true unsettled = refl
     by_answer Contained false true = refl
@@ -93,15 +95,18 @@ listed_with pair found = record { user = pair.user; subtree = pair.subtree; foun
 pub begins : (st : State) (known : Option (List ℕ)) → Told st [] known known 0
 begins st known = record { told = []; named = refl; settled = All-nil (IsTold st); status = refl; text = Appends-nil known }
 
-named_more : (told : List Listed) (each : Listed) → map pair_told (told ++ (each ∷ [])) ≡ map pair_told told ++ (pair_told each ∷ [])
+named_more : (told : List Listed) (each : Listed)
+    → map pair_told (told ++ (each ∷ [])) ≡ map pair_told told ++ (pair_told each ∷ [])
 named_more [] each = refl
 named_more (x ∷ told) each = ap (λ l. pair_told x ∷ l) (named_more told each)
 
-text_more : (st : State) (told : List Listed) (each : Listed) → told_text st (told ++ (each ∷ [])) ≡ told_text st told ++ pair_lines st each
+text_more : (st : State) (told : List Listed) (each : Listed)
+    → told_text st (told ++ (each ∷ [])) ≡ told_text st told ++ pair_lines st each
 text_more st told each =
     flat_map-append (pair_lines st) told (each ∷ []) ∙ ap (λ l. told_text st told ++ l) (append-nil (pair_lines st each))
 
-module _ (st : State) (begun : List Pair) (pair : Pair) (old mid new : Option (List ℕ)) (worst : ℕ) (far : Told st begun old mid worst) where
+module _ (st : State) (begun : List Pair) (pair : Pair) (old mid new : Option (List ℕ)) (worst : ℕ)
+    (far : Told st begun old mid worst) where
   pub goes_on : (status : ℕ) → TellsPair st pair mid new (Ok status) → Told st (begun ++ (pair ∷ [])) old new (worse worst status)
   goes_on status written =
       let each = listed_with pair written.0 in record {
@@ -167,7 +172,8 @@ all_told st pairs i all old new status far =
     (subst (λ (l : List PairOfBoth). Told st (map pair_of l) old new status) (take_all i pairs all) far)
 
 -- where there are pairs there are subtrees
-pub some_subtree : (users : List Identity) (subtrees : List Names) (pairs : List PairOfBoth) → map pair_of pairs ≡ all_pairs users subtrees
+pub some_subtree : (users : List Identity) (subtrees : List Names) (pairs : List PairOfBoth)
+    → map pair_of pairs ≡ all_pairs users subtrees
     → pairs ≢ [] → subtrees ≢ []
 some_subtree users subtrees pairs are some none = some (unmapped pairs (are ∙ ap (all_pairs users) none ∙ of_none users))
   where
@@ -185,7 +191,8 @@ some_subtree users subtrees pairs are some none = some (unmapped pairs (are ∙ 
 pub faultless : (st : State) (subtree : Names) → IsSubtree st subtree → first (subtree_faults st subtree) ≡ None
 faultless st subtree sub = λ i. first (unless (not (sub.1 i)) RootSubtree ++ unless (sub.0 i) NoSuchSubtree)
 
-pub settle_wants : (st : State) (pair : Pair) → IsSubtree st pair.subtree → (fault : CheckFault) → IsSettledFault st pair.subtree fault → (known : Option (List ℕ))
+pub settle_wants : (st : State) (pair : Pair) → IsSubtree st pair.subtree → (fault : CheckFault)
+    → IsSettledFault st pair.subtree fault → (known : Option (List ℕ))
     → TellsPair st pair known known (Err (lifted_check fault))
 settle_wants st pair sub fault (inl memory) known =
     subst (λ (f : CheckFault). TellsPair st pair known known (Err (lifted_check f))) (sym memory) (Keeps-refl known)

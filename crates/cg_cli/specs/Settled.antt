@@ -1,5 +1,4 @@
--- How an answer is found: nobody has to believe it.
--- What is answered where check is asked first, then the second row of guards, then the planner.
+-- What is answered where check is asked first, then the second row of guards, then the planner. Own.
 use Rattle.std.specs.Prelude.{◌≡◌, ◌⊎◌, true, false, [], ◌∷◌, Some}
 use Rattle.cg_cgroup.specs.Paths.{Names}
 use Rattle.cg_cgroup.specs.Identity.{Identity}

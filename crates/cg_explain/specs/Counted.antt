@@ -1,5 +1,4 @@
--- How an answer is found: nobody has to believe it.
--- What of a subtree its own limits count.
+-- What of a subtree its own limits count. Own.
 use Rattle.std.specs.Prelude.{Bool, ◌&&◌}
 use Rattle.cg_cgroup.specs.Paths.{Names}
 use Rattle.cg_cgroup.specs.declared.cgroup.Cgroup.{Cgroup}

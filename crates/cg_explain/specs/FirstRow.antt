@@ -1,5 +1,4 @@
--- How an answer is found: nobody has to believe it.
--- What is told of the guards of a subtree against a user: each entry on which one stands, and by what class the user reaches it.
+-- What is told of the guards of a subtree against a user: each entry on which one stands, and by what class the user reaches it. Own.
 use Rattle.std.specs.Prelude.{cond, List, [], ◌∷◌, Option, Some, None}
 use Rattle.std.specs.List.{flat_map}
 use Rattle.cg_cgroup.specs.Paths.{Names}

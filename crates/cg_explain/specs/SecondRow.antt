@@ -1,5 +1,4 @@
--- How an answer is found: nobody has to believe it.
--- What the second row of guards asks of a subtree against some users, one thing after another, and by what it is so.
+-- What the second row of guards asks of a subtree against some users, one thing after another, and by what it is so. Own.
 use Rattle.std.specs.Prelude.{suc, Bool, ◌&&◌, ◌||◌, not, cond, List, [], ◌∷◌, ◌++◌, map, length, Option, Some, None, is_some}
 use Rattle.std.specs.List.{list_all, flat_map}
 use Rattle.cg_cgroup.specs.Paths.{Names, parent}

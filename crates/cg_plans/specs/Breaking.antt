@@ -1,5 +1,4 @@
--- What laws beside the theorems speak of: nobody has to believe it.
--- What is known of a list that was replayed.
+-- What is known of a list that was replayed. Own.
 use Rattle.std.specs.Prelude.{◌≡◌, List, [], ◌∷◌, length}
 use Rattle.cg_cgroup.specs.Paths.{Names}
 use Rattle.cg_cgroup.specs.Identity.{Identity}

@@ -1,5 +1,4 @@
--- How an answer is found: nobody has to believe it.
--- What lasts of a tree, by single cgroups: whatever a chain of children hangs on is below the first of them.
+-- What lasts of a tree, by single cgroups: whatever a chain of children hangs on is below the first of them. Own.
 use Rattle.std.specs.Prelude.{Bool, ◌&&◌, ◌||◌, not, List}
 use Rattle.std.specs.List.{list_any}
 use Rattle.cg_cgroup.specs.Paths.{Names, is_root, parent, below}

@@ -1,5 +1,4 @@
--- How an answer is found: nobody has to believe it.
--- The tests of the second row, as they are made of one cgroup after another.
+-- The tests of the second row, as they are made of one cgroup after another. Own.
 use Rattle.std.specs.Prelude.{ℕ, zero, suc, ◌-◌, Bool, false, ◌&&◌, ◌||◌, not, cond, List, length, take}
 use Rattle.cg_cgroup.specs.Paths.{Names, inside, common}
 use Rattle.cg_cgroup.specs.Identity.{Identity}

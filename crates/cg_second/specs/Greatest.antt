@@ -1,5 +1,4 @@
--- What laws beside the theorems speak of: nobody has to believe it.
--- The greatest of what lasts of a tree, level by level: upwards from the deepest cgroups, and downwards from the root.
+-- The greatest of what lasts of a tree, level by level: upwards from the deepest cgroups, and downwards from the root. Own.
 use Rattle.std.specs.Prelude.{ℕ, zero, suc, ◌+◌, ◌-◌, max, Bool, false, ◌&&◌, ◌||◌, not, List, [], ◌∷◌, length, take}
 use Rattle.std.specs.List.{list_any}
 use Rattle.cg_cgroup.specs.Paths.{Names, is_root, parent, is_child}

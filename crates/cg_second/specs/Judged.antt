@@ -1,5 +1,4 @@
--- What laws beside the theorems speak of: nobody has to believe it.
--- The second row as a test.
+-- The second row as a test. Own.
 use Rattle.std.specs.Prelude.{ℕ, zero, suc, ◌-◌, Bool, true, false, ◌&&◌, ◌||◌, not, nat_le, List, length, take, Option, Some}
 use Rattle.std.specs.List.{list_all}
 use Rattle.cg_cgroup.specs.Paths.{Names, is_root, same_path, parent, inside, common}

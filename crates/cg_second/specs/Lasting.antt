@@ -1,5 +1,4 @@
--- What laws beside the theorems speak of: nobody has to believe it.
--- What some users can't change of a tree, whatever they do and wherever processes are.
+-- What some users can't change of a tree, whatever they do and wherever processes are. Own.
 use Rattle.std.specs.Prelude.{◌≡◌, ◌⊎◌, ◌≤◌, ℕ, ◌-◌, Bool, true, false, ◌&&◌, List, length, take, count_by, Some, None}
 use Rattle.std.specs.List.{list_any}
 use Rattle.cg_cgroup.specs.Paths.{Names, is_root, parent, below, is_child}
