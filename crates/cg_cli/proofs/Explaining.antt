@@ -13,7 +13,7 @@ use Rattle.cg_model.specs.States.{State}
 use Rattle.cg_model.specs.Clauses.{first, unless}
 use Rattle.cg_model.specs.Guards.{IsSubtree}
 use Rattle.cg_model.specs.Checks.{subtree_faults, unless_fault}
-use Rattle.cg_model.specs.Listed.{Listed}
+use Rattle.cg_model.specs.Listed.{Listed, is_contained}
 use Rattle.cg_model.specs.Mends.{Pair}
 use Rattle.cg_model.specs.Once.{once}
 use Rattle.cg_model.specs.declared.answer.Answer.{Answer}
@@ -67,7 +67,7 @@ one_more_status told each =
         (list_any (λ (one : Listed). is_unsettled one.found) told)
   where
     by_answer : (found : Answer) (escapes unsettled : Bool)
-        → cond (escapes || is_escape found) 1 (cond (unsettled || is_unsettled found) 2 0)
+        → cond (escapes || is_escape found) 1 (cond (unsettled || not (is_contained found)) 2 0)
         ≡ worse (cond escapes 1 (cond unsettled 2 0)) (answer_status found)
     by_answer Contained true unsettled = refl
     by_answer Contained false true = refl
@@ -95,11 +95,13 @@ listed_with pair found = record { user = pair.user; subtree = pair.subtree; foun
 pub begins : (st : State) (known : Option (List ℕ)) → Told st [] known known 0
 begins st known = record { told = []; named = refl; settled = All-nil (IsTold st); status = refl; text = Appends-nil known }
 
-named_more : (told : List Listed) (each : Listed) → map pair_told (told ++ (each ∷ [])) ≡ map pair_told told ++ (pair_told each ∷ [])
+named_more : (told : List Listed) (each : Listed)
+    → map pair_told (told ++ (each ∷ [])) ≡ map pair_told told ++ (pair_told each ∷ [])
 named_more [] each = refl
 named_more (x ∷ told) each = ap (λ l. pair_told x ∷ l) (named_more told each)
 
-text_more : (st : State) (told : List Listed) (each : Listed) → told_text st (told ++ (each ∷ [])) ≡ told_text st told ++ pair_lines st each
+text_more : (st : State) (told : List Listed) (each : Listed)
+    → told_text st (told ++ (each ∷ [])) ≡ told_text st told ++ pair_lines st each
 text_more st told each =
     flat_map-append (pair_lines st) told (each ∷ []) ∙ ap (λ l. told_text st told ++ l) (append-nil (pair_lines st each))
 
@@ -170,7 +172,8 @@ all_told st pairs i all old new status far =
     (subst (λ (l : List PairOfBoth). Told st (map pair_of l) old new status) (take_all i pairs all) far)
 
 -- where there are pairs there are subtrees
-pub some_subtree : (users : List Identity) (subtrees : List Names) (pairs : List PairOfBoth) → map pair_of pairs ≡ all_pairs users subtrees
+pub some_subtree : (users : List Identity) (subtrees : List Names) (pairs : List PairOfBoth)
+    → map pair_of pairs ≡ all_pairs users subtrees
     → pairs ≢ [] → subtrees ≢ []
 some_subtree users subtrees pairs are some none = some (unmapped pairs (are ∙ ap (all_pairs users) none ∙ of_none users))
   where

@@ -1,5 +1,5 @@
 -- The report on why subtrees are contained against users, or why that isn't told. Own.
-use Rattle.std.specs.Prelude.{◌≡◌, ℕ, Bool, true, false, cond, List, ◌++◌, map, Option, Result, Ok, Err}
+use Rattle.std.specs.Prelude.{◌≡◌, ℕ, true, not, cond, List, ◌++◌, map, Option, Result, Ok, Err}
 use Rattle.std.specs.List.{All, list_any, flat_map}
 use Rattle.std.specs.Io.KnownBytes.{Appends, Keeps}
 use Rattle.cg_cgroup.specs.Paths.{Names, same_path}
@@ -7,7 +7,7 @@ use Rattle.cg_cgroup.specs.Identity.{Identity}
 use Rattle.cg_model.specs.States.{State}
 use Rattle.cg_model.specs.Clauses.{first}
 use Rattle.cg_model.specs.Checks.{subtree_faults, unless_fault}
-use Rattle.cg_model.specs.Listed.{Listed}
+use Rattle.cg_model.specs.Listed.{Listed, is_contained}
 use Rattle.cg_model.specs.Mends.{Pair}
 use Rattle.cg_model.specs.Once.{once}
 use Rattle.cg_model.specs.declared.answer.Answer.{Answer}
@@ -27,7 +27,7 @@ use Rattle.cg_faults.specs.declared.fault.CliFault.TheVariants.{Write, NoMemory}
 
 -- 1 where one escapes, else 2 where one is unsettled, else 0
 abbrev pub told_status : List Listed → ℕ
-told_status told = cond (list_any (λ each. is_escape each.found) told) 1 (cond (list_any (λ each. is_unsettled each.found) told) 2 0)
+told_status told = cond (list_any (λ each. is_escape each.found) told) 1 (cond (list_any (λ each. not (is_contained each.found)) told) 2 0)
 
 abbrev pub told_text : State → List Listed → List ℕ
 told_text st told = flat_map (pair_lines st) told

@@ -85,7 +85,11 @@ fn the_second_row_is_told_where_a_guard_fails(rt: HostRuntime) -> Result<(), Fai
     expect(&rt, rt.alloc(), tree.as_bytes(), call, ESCAPES, 1);
     let users = [USER, user(1001, &[7, 8])];
     let both = format!(in rt.alloc(); "{HOLDS}{ESCAPES}")?;
-    let both = both.replace(rt.alloc(), "memory.max 0:0 644\n", "memory.max 1001:0 644\n")?;
+    let both = both.replace(
+        rt.alloc(),
+        "memory.max 0:0 644\n",
+        "memory.max 1001:0 644\n",
+    )?;
     let call = Call::Explain(&users, &["/c0"]);
     expect(&rt, rt.alloc(), tree.as_bytes(), call, both.as_str(), 1);
     Ok(())
@@ -98,7 +102,8 @@ fn a_limit_that_is_exceeded_fails(rt: HostRuntime) -> Result<(), Fail> {
     let mut out = Vec::new(rt.alloc());
     let call = Call::Explain(&users, &["/c0"]);
     assert_eq!(rt; call.make(rt.alloc(), tree.as_bytes(), &mut out), Ok(1));
-    let end = b"fails already-over /c0 cgroup.max.descendants 2 1\nholds already-over /c0 cgroup.max.depth 1 2\nescapes\n";
+    let end =
+        b"fails already-over /c0 cgroup.max.descendants 2 1\nholds already-over /c0 cgroup.max.depth 1 2\nescapes\n";
     assert!(rt; out.as_slice().ends_with(end));
     Ok(())
 }
