@@ -14,8 +14,7 @@ use Rattle.cg_second.specs.Judged.{second_row}
 use Rattle.cg_cli.specs.declared.answers.audited.Found.{Found}
 use Rattle.cg_cli.specs.Audited.{has_list, without_list, AreKnown}
 use Rattle.cg_cli.specs.FurtherPairs.{picked}
-use Rattle.cg_cli.specs.FoundPlaces.{found_at, AreApart, AreBefore, IsAlone, AreAlone, is_listed_at}
-use Rattle.cg_cli.specs.AllPairs.{is_unsettled}
+use Rattle.cg_cli.specs.FoundPlaces.{found_at, AreApart, AreBefore, IsAlone, AreAlone, is_unsettled, is_listed_at}
 use Rattle.cg_cli.proofs.FoundPlaces.{listed_alone, at_kept, apart_kept, before_kept, never_unsettled, listed_is_at}
 use Rattle.cg_cli.proofs.Knowing.{known_settled, known_apart, known_together, picked_more}
 

@@ -26,7 +26,7 @@ use Rattle.cg_advice.proofs.Gathering.{one_more, map-append}
 use Rattle.cg_explain.specs.PairExplained.{pair_lines}
 use Rattle.cg_format.specs.Readings.{Reading}
 use Rattle.cg_cli.specs.Advising.{pair_with, all_pairs}
-use Rattle.cg_cli.specs.AllPairs.{is_escape, is_unsettled, worse, read_then}
+use Rattle.cg_cli.specs.AllPairs.{is_escape, worse, read_then}
 use Rattle.cg_cli.specs.Asking.{read_in_turn, named_read, read_takes_memory, IsMet, IsKeptOnce}
 use Rattle.cg_cli.specs.Audits.{users_read, paths_read}
 use Rattle.cg_cli.specs.Containment.{in_call, answer_status}
@@ -62,9 +62,9 @@ one_more_status : (told : List Listed) (each : Listed)
     → told_status (told ++ (each ∷ [])) ≡ worse (told_status told) (answer_status each.found)
 one_more_status told each =
     (λ i. cond (any_behind (λ (one : Listed). is_escape one.found) told each i) 1
-    (cond (any_behind (λ (one : Listed). is_unsettled one.found) told each i) 2 0))
+    (cond (any_behind (λ (one : Listed). not (is_contained one.found)) told each i) 2 0))
     ∙ by_answer each.found (list_any (λ (one : Listed). is_escape one.found) told)
-        (list_any (λ (one : Listed). is_unsettled one.found) told)
+    (list_any (λ (one : Listed). not (is_contained one.found)) told)
   where
     by_answer : (found : Answer) (escapes unsettled : Bool)
         → cond (escapes || is_escape found) 1 (cond (unsettled || not (is_contained found)) 2 0)
@@ -191,8 +191,8 @@ some_subtree users subtrees pairs are some none = some (unmapped pairs (are ∙ 
 pub faultless : (st : State) (subtree : Names) → IsSubtree st subtree → first (subtree_faults st subtree) ≡ None
 faultless st subtree sub = λ i. first (unless (not (sub.1 i)) RootSubtree ++ unless (sub.0 i) NoSuchSubtree)
 
-pub settle_wants : (st : State) (pair : Pair) → IsSubtree st pair.subtree
-    → (fault : CheckFault) → IsSettledFault st pair.subtree fault → (known : Option (List ℕ))
+pub settle_wants : (st : State) (pair : Pair) → IsSubtree st pair.subtree → (fault : CheckFault)
+    → IsSettledFault st pair.subtree fault → (known : Option (List ℕ))
     → TellsPair st pair known known (Err (lifted_check fault))
 settle_wants st pair sub fault (inl memory) known =
     subst (λ (f : CheckFault). TellsPair st pair known known (Err (lifted_check f))) (sym memory) (Keeps-refl known)

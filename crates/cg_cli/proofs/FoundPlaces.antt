@@ -19,8 +19,7 @@ use Rattle.cg_check.specs.Listed.{is_guarded_of_all}
 use Rattle.cg_check.proofs.Checking.{guarded-answer}
 use Rattle.cg_cli.specs.declared.answers.audited.Found.{Found}
 use Rattle.cg_cli.specs.Audited.{has_list}
-use Rattle.cg_cli.specs.FoundPlaces.{found_at, AreApart, AreBefore, found_one, IsAlone, AreAlone, is_listed_at}
-use Rattle.cg_cli.specs.AllPairs.{is_unsettled}
+use Rattle.cg_cli.specs.FoundPlaces.{found_at, AreApart, AreBefore, found_one, IsAlone, AreAlone, is_unsettled, is_listed_at}
 
 -- ---- places
 

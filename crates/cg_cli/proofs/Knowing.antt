@@ -24,8 +24,7 @@ use Rattle.cg_laws.proofs.Steps.{sound-formed}
 use Rattle.cg_check.proofs.Checking.{answer-guarded}
 use Rattle.cg_cli.specs.Audited.{has_list, without_list, IsKnownFrom, AreKnown, AreKnownWithEach, UnlistedAreSettled}
 use Rattle.cg_cli.specs.FurtherPairs.{picked, not_listed}
-use Rattle.cg_cli.specs.FoundPlaces.{IsAlone}
-use Rattle.cg_cli.specs.AllPairs.{is_unsettled}
+use Rattle.cg_cli.specs.FoundPlaces.{IsAlone, is_unsettled}
 use Rattle.cg_cli.proofs.FoundPlaces.{kept}
 
 -- ---- those of some places

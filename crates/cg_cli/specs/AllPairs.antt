@@ -28,11 +28,6 @@ is_escape Contained = false
 is_escape (Escapes ops) = true
 is_escape (Unsettled failed) = false
 
-abbrev pub is_unsettled : Answer → Bool
-is_unsettled Contained = false
-is_unsettled (Escapes ops) = false
-is_unsettled (Unsettled failed) = true
-
 -- 1 where one escapes, else 2 where one is unsettled, else 0
 abbrev pub pairs_status : List Listed → ℕ
 pairs_status [] = 0

@@ -14,7 +14,7 @@ use Rattle.cg_model.specs.declared.answer.Answer.{Answer}
 use Rattle.cg_explain.specs.PairExplained.{pair_lines}
 use Rattle.cg_format.specs.Readings.{Reading}
 use Rattle.cg_cli.specs.Advising.{pair_with, all_pairs}
-use Rattle.cg_cli.specs.AllPairs.{is_escape, is_unsettled, read_then}
+use Rattle.cg_cli.specs.AllPairs.{is_escape, read_then}
 use Rattle.cg_cli.specs.Audits.{users_read, paths_read}
 use Rattle.cg_cli.specs.Containment.{in_call, answer_status}
 use Rattle.cg_cli.specs.May.{tree_read}

@@ -48,6 +48,11 @@ pub record AreAlone (st : State) (users : List Identity) (subtree : Names) (coun
   pub alone : (place : ℕ) (d : Identity) → place < count → place < length users
       → IsAlone st (get_or users place d) subtree (answer st (get_or users place d) subtree) (found_at found place)
 
+abbrev pub is_unsettled : Answer → Bool
+is_unsettled Contained = false
+is_unsettled (Escapes ops) = false
+is_unsettled (Unsettled failed) = true
+
 -- a list is known at a place
 abbrev pub is_listed_at : List Found → ℕ → Bool
 is_listed_at found place = list_any (λ (each : Found). nat_eq each.place place && has_list each.answer) found

@@ -12,8 +12,7 @@ ghost use Rattle.cg_model.specs.declared.answer.Answer.{Answer};
 ghost use Rattle.cg_check.specs.Listed.{is_guarded_of_all};
 ghost use Rattle.cg_guards.specs.Reach.{AreCovered};
 ghost use Rattle.cg_cli.specs.Audited.{has_list, without_list, AreKnown};
-ghost use Rattle.cg_cli.specs.FoundPlaces.{found_at, AreApart, AreBefore, found_one, IsAlone, AreAlone, is_listed_at};
-ghost use Rattle.cg_cli.specs.AllPairs.{is_unsettled};
+ghost use Rattle.cg_cli.specs.FoundPlaces.{found_at, AreApart, AreBefore, found_one, IsAlone, AreAlone, is_unsettled, is_listed_at};
 ghost use Rattle.cg_cli.specs.declared.answers.audited.Found.{Found};
 
 use cg_cgroup::memory::NoMemory;

@@ -1,7 +1,7 @@
 use Rattle.std.proofs.Common.{sym, ap, ◌∙◌}
 use Rattle.std.specs.List.{list_any}
 use Rattle.cg_cli.specs.declared.answers.audited.Found.{Found}
-use Rattle.cg_cli.specs.AllPairs.{is_unsettled}
+use Rattle.cg_cli.specs.FoundPlaces.{is_unsettled}
 use Rattle.cg_cli.proofs.Auditing.{known-settled}
 use Rattle.cg_cli.proofs.answers.audited.audited.Goals as goal
 
