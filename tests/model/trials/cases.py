@@ -50,7 +50,7 @@ def random_case(seed, number, known):
     able = [name for name in MAKERS if name.removesuffix(" alone") in known]
     command = rng.choices(able, [WEIGHTS[name] for name in able])[0]
     if "settle" in command and rng.random() < 0.75 or command == "explain" and rng.random() < 0.5:
-        tree = trees.tree_of_state(rng)
+        tree = trees.tree_of_state(rng, *[35] * (command in ("audit --settle", "advise --settle")))
         data = spelling.document(rng, tree.document(rng))
     case = Case(MAKERS[command](rng, tree, state_of(data)))
     if command.startswith("replay"):
@@ -199,21 +199,32 @@ def settled_audit_words(rng, tree, state):
 
 
 def settled_pairs(rng, tree, state):
-    users = rng.sample([tree.user, *small.USERS, trees.user_of(rng), other_user(rng, tree)], rng.choice([1, 2, 2, 3]))
+    """Often the two users of a small state, who may do together what neither can alone."""
+    if rng.random() < 0.6:
+        return few_pairs(rng, tree, state, [0, 1, 1, 2])
+    return pair_words(rng, tree, state, rng.sample(small.USERS, 2), [0, 1, 1, 2])
+
+
+def few_pairs(rng, tree, state, more):
+    users = [tree.user, *small.USERS, trees.user_of(rng), other_user(rng, tree)]
+    return pair_words(rng, tree, state, rng.sample(users, rng.choice([1, 2, 2, 3])), more)
+
+
+def pair_words(rng, tree, state, users, more):
     words = [word for user in users for word in ("--uid", listed_user(rng, *user))]
     below = [path for path in tree.rows if path] or [()]
     words += ["--subtree", subtree_word(rng, tree, state)]
-    for _ in range(rng.choice([0, 0, 1, 2])):
+    for _ in range(rng.choice(more)):
         words += ["--subtree", text_of(rng.choice(below)) if rng.random() < 0.7 else subtree_word(rng, tree, state)]
     return words
 
 
 def explain_words(rng, tree, state):
-    return ["explain", *settled_pairs(rng, tree, state)]
+    return ["explain", *few_pairs(rng, tree, state, [0, 0, 1, 2])]
 
 
 def settled_advice_words(rng, tree, state):
-    if rng.random() < 0.6:
+    if rng.random() < 0.85:
         return ["advise", *settled_pairs(rng, tree, state), "--settle"]
     return [*advise_words(rng, tree, state), "--settle"]
 

@@ -186,9 +186,6 @@ OF_SETTLED_ADVICE = {
         "all(settled.is_contained(state, [user], top) for user in call.users for top in tops)"),
     "advise --settle asks of the first subtree alone": (
         "all(settled.is_contained(state, call.users, top) for top in tops)", "settled.is_contained(state, call.users, tops[0])"),
-    "advise --settle leaves out subtrees of which the second row holds": (
-        "rules.advice(state, list(dict.fromkeys(pairs)))", "rules.advice(state, [pair for pair in dict.fromkeys(pairs) if not ("
-        '"--settle" in call.given and settled.is_contained(state, call.users, pair[1]))])'),
 }
 PAIRS_OF = "for user, top in asked(call, tops)]"
 OF_EXPLAIN = {

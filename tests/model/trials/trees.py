@@ -85,9 +85,11 @@ def random_tree(rng):
     return tree
 
 
-def tree_of_state(rng):
-    """A small state of a search, most of whose subtrees fail a guard and break by no try."""
-    state = rng.choices([small.random_state, small.state_of_site, small.state_of_two], [80, 11, 9])[0](rng)
+def tree_of_state(rng, of_two=9):
+    """A small state of a search, most of whose subtrees fail a guard and break by no try; of so many in 100 two users have to break
+    one together."""
+    states = [small.random_state, small.state_of_site, small.state_of_two]
+    state = rng.choices(states, [89 - of_two, 11, of_two])[0](rng)
     parts = commands.document_of(state)
     rows = {path: row for path, row in zip(sorted(state.cgroups), parts["cgroup"])}
     pairs = list(itertools.product(small.USERS, [path for path in rows if path]))
