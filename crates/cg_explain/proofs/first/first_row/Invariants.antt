@@ -9,5 +9,5 @@ use Rattle.cg_explain.proofs.first.first_row.Given as goal
 abbrev pub invariant-loop-place : goal.invariant-loop-place
 invariant-loop-place g l =
     (l.row.items ++ row_from (g.H.Hierarchy.state l.tree) l.user l.subtree l.place
-        ≡ first_row (g.H.Hierarchy.state l.tree) l.user l.subtree)
+    ≡ first_row (g.H.Hierarchy.state l.tree) l.user l.subtree)
     × All (λ told. IsShown l.subtree told.at) l.row.items

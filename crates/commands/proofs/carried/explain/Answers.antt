@@ -14,7 +14,12 @@ returns-in_err-users g c =
 
 pub returns : goal.returns
 returns g c =
-    let said = rw (c.as_slice-2.ensures.value, c.as_slice-3.ensures.value, c.in_ok-users.ensures.ids, c.as_slice.ensures.value,
-    c.as_slice-subtrees.ensures.value)
+    let said = rw (
+      c.as_slice-2.ensures.value,
+      c.as_slice-3.ensures.value,
+      c.in_ok-users.ensures.ids,
+      c.as_slice.ensures.value,
+      c.as_slice-subtrees.ensures.value,
+    )
     at c.explain_bytes.ensures in
     inl (c.in_ok-tree.tree.items, c.in_ok-tree.ensures.text, said)
