@@ -35,23 +35,38 @@ const MOST_HOLDS: usize = 4;
 impl<'a, H: Hierarchy> Planner<'a, H> {
     /// The holds on a side, at most 4 of each kind.
     pub fn holds(&self, side: Side) -> Result<Vec<Path>, NoMemory> {
+        let full = self.full()?;
         let mut holds = Vec::new(self.alloc);
         for kind in Kind::ALL {
-            self.add_holds(side, kind, &mut holds)?;
+            self.add_holds(side, kind, full.as_slice(), &mut holds)?;
         }
         Ok(holds)
     }
 
-    /// Adds those of one kind.
-    fn add_holds(&self, side: Side, kind: Kind, holds: &mut Vec<Path>) -> Result<(), NoMemory> {
-        let mut left = MOST_HOLDS;
+    /// Of each cgroup whether a limit bars a new child.
+    fn full(&self) -> Result<Vec<bool>, NoMemory> {
         let mut levels = Vec::new(self.alloc);
+        let mut full = Vec::new(self.alloc);
         for path in &self.paths {
+            full.push(self.is_full_at(path, &mut levels)?)?;
+        }
+        Ok(full)
+    }
+
+    /// Adds those of one kind.
+    fn add_holds(
+        &self,
+        side: Side,
+        kind: Kind,
+        full: &[bool],
+        holds: &mut Vec<Path>,
+    ) -> Result<(), NoMemory> {
+        let mut left = MOST_HOLDS;
+        for (path, is_full) in self.paths.iter().zip(full) {
             if left == 0 {
                 return Ok(());
             }
-            let is_full = self.is_full_at(path, &mut levels)?;
-            if !self.is_beside(side, path) || !self.is_of_kind(kind, path, is_full) {
+            if !self.is_beside(side, path) || !self.is_of_kind(kind, path, *is_full) {
                 continue;
             }
             if let Some(hold) = self.hold_at(kind, path)? {
