@@ -76,7 +76,10 @@ class Runner:
 
 
 def is_front(row, ended):
-    """Whether what was written is what the row says before a fault: nothing, or of a replay and of all pairs some first lines."""
+    """Whether what was written is what the row says before a fault: nothing, of a replay and of all pairs some first lines, or of
+    pairs that are explained some first pairs."""
+    if row.words[0] == "explain":
+        return row.out.startswith(ended.out) and (not ended.out or row.out[len(ended.out):].startswith(b"pair "))
     if row.words[0] == "replay" or "--all" in row.words:
         return row.out.startswith(ended.out) and ended.out[-1:] in (b"", b"\n")
     return ended.out == b""
