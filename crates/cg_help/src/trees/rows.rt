@@ -20,7 +20,7 @@ pub(super) fn controller_said<'a>(
     let Some(text) = unknown_controller(texts_at(row.keys, key)) else {
         return Ok(None);
     };
-    let names = Controller::ALL.map(|controller| controller.name());
+    let names = Controller::IN_FORMAT_2.map(|controller| controller.name());
     let shown = quoted(alloc, text)?;
     let why = match nearest_of(alloc, text, &names)? {
         Some(name) => format!(in alloc;
@@ -36,7 +36,7 @@ pub(super) fn controller_said<'a>(
 fn unknown_controller(texts: &[Value]) -> Option<&str> {
     for value in texts {
         if let Some(text) = value.as_str() {
-            if Controller::from_name(text).is_none() {
+            if Controller::from_format_2(text).is_none() {
                 return Some(text);
             }
         }

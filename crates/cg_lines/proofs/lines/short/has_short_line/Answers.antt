@@ -1,5 +1,5 @@
-use Rattle.std.proofs.Common.{◌≡◌, ◌≤◌, length, sym, subst}
-use Rattle.std.proofs.lemmas.Bool.{leb-true}
+use Rattle.std.proofs.Common.{◌≡◌, ◌∙◌, sym, subst}
+use Rattle.std.proofs.lemmas.Bool.{leb-true, and_parts}
 use Rattle.cg_model.specs.declared.operation.Op.{Op}
 use Rattle.cg_lines.specs.OperationLines.{IsInRange, HasLine}
 use Rattle.cg_lines.specs.LineLengths.{HasFewChanges}
@@ -13,9 +13,9 @@ pub returns-then-is_pid : goal.returns-then-is_pid
 returns-then-is_pid c = λ _. short_as _ _ c.in-Move.is (c.is_pid.ensures, c.is_path.ensures) tt
 
 pub returns-then-is_path : goal.returns-then-is_path
-returns-then-is_path c = λ few.
-    short_as _ _ c.in-Control.is c.is_path-in-Control.ensures
-    (subst (λ changes. length changes ≤ 511) c.as_slice.ensures (leb-true (length c.as_slice.result.now) 511 few))
+returns-then-is_path c = λ spelled.
+    let parts = and_parts _ _ (sym c.are_spelled.ensures ∙ spelled) in
+    short_as _ _ c.in-Control.is (c.is_path-in-Control.ensures, parts.0) (leb-true _ 511 parts.1)
 
 pub returns-then-is_path-2 : goal.returns-then-is_path-2
 returns-then-is_path-2 c = λ _. short_as _ _ c.in-Set.is (c.is_path-in-Set.ensures, c.is_limit.ensures) tt
