@@ -133,7 +133,7 @@ fn line_of(alloc: Global, op: &Op) -> Result<String, NoMemory>
 }
 
 /// The line of an operation, and a newline. `read_op` of the line gives the operation back, where it has at most 8192
-/// bytes.
+/// bytes and names no controller but those of format 2.
 pub fn op_text(alloc: Global, op: &Op) -> Result<Vec<u8>, NoMemory>
     ensures text { IfOk result (λ text. text.items ≡ spelling op.now ++ 10 ∷ []) }
     ensures held { IsInFormat2 op.now → IsInRange op.now }
