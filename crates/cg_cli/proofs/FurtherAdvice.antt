@@ -41,6 +41,13 @@ use Rattle.cg_faults.specs.declared.fault.CliFault.{CliFault}
 -- ---- the subtrees one after another
 
 module _ (st : State) (users : List Identity) (subtrees : List Names) where
+  pub held_none : length subtrees ≡ 0 → true ≡ are_held st users subtrees
+  held_none short = by_list subtrees short
+    where
+      by_list : (xs : List Names) → length xs ≡ 0 → true ≡ are_held st users xs
+      by_list [] none = refl
+      by_list (x ∷ xs) none = absurd (omega (arith, none))
+
   module _ (none : first (flat_map (subtree_faults st) subtrees) ≡ None) where
     pub sub_at : All (IsSubtree st) subtrees
     sub_at k d within = no_fault st (get_or subtrees k d) (sym (none-element (subtree_faults st) subtrees k d within none))
