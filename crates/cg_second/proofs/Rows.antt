@@ -10,7 +10,7 @@ use Rattle.cg_model.specs.Limits.{fits_descendants, fits_depth}
 use Rattle.cg_second.specs.Lasting.{is_reached}
 use Rattle.cg_second.specs.Greatest.{greatest}
 use Rattle.cg_second.specs.Judged.{second_row, is_closed_to}
-use Rattle.cg_second.specs.Exposed.{is_spared, is_shut_in}
+use Rattle.cg_second.specs.Exposed.{keeps_limits, is_shut_in}
 
 -- (stays, control, files, closed, fits)
 turned : (s c f k d : Bool) → (s && (c && (f && (k && d)))) ≡ ((f && d) && (s && (c && k)))
@@ -27,16 +27,16 @@ turned false c true k false = refl
 turned false c false k d = refl
 
 module _ (st : State) (users : List Identity) (subtree : Names) where
-  in_two : second_row st users subtree ≡ (is_spared st users subtree && is_shut_in st users subtree)
+  in_two : second_row st users subtree ≡ (keeps_limits st users subtree && is_shut_in st users subtree)
   in_two =
       let last = greatest st users in
       turned (last.stays subtree) (list_all (λ controller. last.on (parent subtree) controller || last.off (parent subtree) controller) all_controllers)
       (list_all (λ file. not (is_reached st users subtree (File file))) all_files) (is_closed_to st users last subtree (length subtree))
       (fits_descendants st subtree && fits_depth st subtree)
 
-  pub row-unspared : (spared : Bool) → spared ≡ is_spared st users subtree → spared ≡ false → false ≡ second_row st users subtree
-  row-unspared spared is none = sym (in_two ∙ ap (λ b. b && is_shut_in st users subtree) (sym is ∙ none))
+  pub row-fails : (keeps : Bool) → keeps ≡ keeps_limits st users subtree → keeps ≡ false → false ≡ second_row st users subtree
+  row-fails keeps is none = sym (in_two ∙ ap (λ b. b && is_shut_in st users subtree) (sym is ∙ none))
 
-  pub row-spared : (spared : Bool) → spared ≡ is_spared st users subtree → spared ≡ true
+  pub row-is : (keeps : Bool) → keeps ≡ keeps_limits st users subtree → keeps ≡ true
       → is_shut_in st users subtree ≡ second_row st users subtree
-  row-spared spared is all = sym (in_two ∙ ap (λ b. b && is_shut_in st users subtree) (sym is ∙ all))
+  row-is keeps is all = sym (in_two ∙ ap (λ b. b && is_shut_in st users subtree) (sym is ∙ all))

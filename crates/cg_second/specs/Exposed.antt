@@ -48,8 +48,8 @@ is_shut_or_apart st users subtree path =
     || (takes_none st users (greatest st users) path && grows_none st users (greatest st users) path)
 
 -- none of the users reaches a limit file of a subtree that is within its own limits
-abbrev pub is_spared : State → List Identity → Names → Bool
-is_spared st users subtree =
+abbrev pub keeps_limits : State → List Identity → Names → Bool
+keeps_limits st users subtree =
     list_all (λ file. not (is_reached st users subtree (File file))) all_files && (fits_descendants st subtree && fits_depth st subtree)
 
 -- a subtree stays, with what its parent enables, and nothing gets over its edge

@@ -5,7 +5,7 @@ ghost use Rattle.cg_model.specs.WellFormed.{IsWellFormed};
 ghost use Rattle.cg_model.specs.Guards.{IsSubtree};
 ghost use Rattle.cg_second.specs.Judged.{second_row};
 ghost use Rattle.cg_second.specs.Counts.{IsSurvey};
-ghost use Rattle.cg_second.specs.Exposed.{is_spared, is_shut_in};
+ghost use Rattle.cg_second.specs.Exposed.{keeps_limits, is_shut_in};
 
 use crate::closed::is_closed;
 use crate::control::{control_stays, stays};
@@ -30,7 +30,7 @@ pub fn second_row<H: Hierarchy>(
     requires subtree { IsSubtree (H.state tree.now) subtree.now }
     ensures { IfOk result (λ holds. holds ≡ second_row (H.state tree.now) users.now subtree.now) }
 {
-    if !is_spared(tree, users, subtree) {
+    if !keeps_limits(tree, users, subtree) {
         return Ok(false);
     }
     let survey = Survey::of(alloc, tree, users)?;
@@ -81,16 +81,16 @@ fn holds_on<H: Hierarchy>(
     requires subtree { IsSubtree (H.state survey.now.tree.now) subtree.now }
     ensures { IfOk result (λ holds. holds ≡ second_row (H.state survey.now.tree.now) survey.now.users.now subtree.now) }
 {
-    if !is_spared(survey.tree, survey.users, subtree) {
+    if !keeps_limits(survey.tree, survey.users, subtree) {
         return Ok(false);
     }
     is_shut_in(alloc, survey, subtree)
 }
 
 /// Whether none of the users reaches a limit file of a subtree that is within its own limits.
-fn is_spared<H: Hierarchy>(tree: &H, users: &[User], subtree: &Path) -> bool
+fn keeps_limits<H: Hierarchy>(tree: &H, users: &[User], subtree: &Path) -> bool
     requires { IsSubtree (H.state tree.now) subtree.now }
-    ensures { result ≡ is_spared (H.state tree.now) users.now subtree.now }
+    ensures { result ≡ keeps_limits (H.state tree.now) users.now subtree.now }
 {
     spares_files(tree, users, subtree) && !is_over(tree, subtree)
 }

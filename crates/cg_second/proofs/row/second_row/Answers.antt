@@ -1,15 +1,15 @@
 use Rattle.std.proofs.lemmas.Result.{IfOk-weaker}
 use Rattle.std.proofs.Common.{◌∙◌}
-use Rattle.cg_second.proofs.Rows.{row-unspared, row-spared}
+use Rattle.cg_second.proofs.Rows.{row-fails, row-is}
 use Rattle.cg_second.proofs.row.second_row.Goals as goal
 
-pub returns-then-not-is_spared : goal.returns-then-not-is_spared
-returns-then-not-is_spared g c =
-    row-unspared (g.H.Hierarchy.state c.args.tree.now) c.args.users.now c.args.subtree.now c.is_spared.result c.is_spared.ensures
-    c.if-not-is_spared.true
+pub returns-then-not-keeps_limits : goal.returns-then-not-keeps_limits
+returns-then-not-keeps_limits g c =
+    row-fails (g.H.Hierarchy.state c.args.tree.now) c.args.users.now c.args.subtree.now c.keeps_limits.result c.keeps_limits.ensures
+    c.if-not-keeps_limits.true
 
 pub returns : goal.returns
 returns g c =
     IfOk-weaker c.is_shut_in.result _ _ (λ holds is. is
-    ∙ row-spared (g.H.Hierarchy.state c.args.tree.now) c.args.users.now c.args.subtree.now c.is_spared.result c.is_spared.ensures
-    c.if-not-is_spared.false) c.is_shut_in.ensures
+    ∙ row-is (g.H.Hierarchy.state c.args.tree.now) c.args.users.now c.args.subtree.now c.keeps_limits.result c.keeps_limits.ensures
+    c.if-not-keeps_limits.false) c.is_shut_in.ensures
