@@ -30,7 +30,8 @@ module _ (st : State) (users : List Identity) (subtree : Names) where
   in_two : second_row st users subtree ≡ (keeps_limits st users subtree && is_shut_in st users subtree)
   in_two =
       let last = greatest st users in
-      turned (last.stays subtree) (list_all (λ controller. last.on (parent subtree) controller || last.off (parent subtree) controller) all_controllers)
+      turned (last.stays subtree)
+      (list_all (λ controller. last.on (parent subtree) controller || last.off (parent subtree) controller) all_controllers)
       (list_all (λ file. not (is_reached st users subtree (File file))) all_files) (is_closed_to st users last subtree (length subtree))
       (fits_descendants st subtree && fits_depth st subtree)
 

@@ -6,7 +6,8 @@ use Rattle.cg_second.proofs.row.holds_on.Goals as goal
 pub returns-then-not-keeps_limits : goal.returns-then-not-keeps_limits
 returns-then-not-keeps_limits g c =
     let s = c.args.survey.now in
-    row-fails (g.H.Hierarchy.state s.tree.now) s.users.now c.args.subtree.now c.keeps_limits.result c.keeps_limits.ensures c.if-not-keeps_limits.true
+    row-fails (g.H.Hierarchy.state s.tree.now) s.users.now c.args.subtree.now c.keeps_limits.result c.keeps_limits.ensures
+    c.if-not-keeps_limits.true
 
 pub returns : goal.returns
 returns g c =
