@@ -29,7 +29,7 @@ use Rattle.cg_advice.specs.Ways.{pair_of}
 use Rattle.cg_advice.specs.declared.pair.Pair.{Pair as PairOfBoth}
 use Rattle.cg_advice.proofs.Gathering.{one_more, flat_more}
 use Rattle.cg_format.specs.Readings.{Reading}
-use Rattle.cg_cli.specs.Advising.{lines_report, pair_with, all_pairs, advised, advice_report, named_report, advise_report}
+use Rattle.cg_cli.specs.Advising.{lines_report, pair_with, all_pairs, advised, advice_report, named_report, pairs_advice}
 use Rattle.cg_cli.specs.Asking.{named_read, IsMet, IsKeptOnce}
 use Rattle.cg_cli.specs.Audits.{users_read, paths_read}
 use Rattle.cg_cli.specs.Containment.{in_call}
@@ -217,17 +217,6 @@ module _ (report : State → List Identity → List Names → Report)
       → named_report report tree given texts ≡ report st users subtrees
   said_of_read users subtrees st is = by_all ∙ ap (λ found. report_on found (λ all. report all.2 all.0 all.1)) is
 
--- of users and subtrees each of whom counts once
-abbrev pub once_report : State → List Identity → List Names → Report
-once_report st users subtrees =
-    advice_report st (once same_path subtrees) (all_pairs (once same_user users) (once same_path subtrees))
-
-pub once_takes : (st : State) (users : List Identity) (subtrees : List Names) → takes_memory (once_report st users subtrees).ending ≡ true
-once_takes st users subtrees = advice_takes st (once same_path subtrees) (all_pairs (once same_user users) (once same_path subtrees))
-
-pub said_of_kept : (tree : Reading) (given : List (ℕ × List ℕ)) (texts : List (List ℕ)) (users : List Identity) (subtrees : List Names)
-    (st : State) → IsKeptOnce (named_read given texts tree) users subtrees st
-    → advise_report tree given texts ≡ advice_report st subtrees (all_pairs users subtrees)
-said_of_kept tree given texts users subtrees st kept =
-    said_of_read once_report once_takes tree given texts kept.all_users kept.all_subtrees st kept.is
-    ∙ (λ i. advice_report st (sym kept.of_subtrees i) (all_pairs (sym kept.of_users i) (sym kept.of_subtrees i)))
+-- of every user with every subtree
+pub pairs_advice_take : (st : State) (users : List Identity) (subtrees : List Names) → takes_memory (pairs_advice st users subtrees).ending ≡ true
+pairs_advice_take st users subtrees = advice_takes st subtrees (all_pairs users subtrees)

@@ -59,21 +59,6 @@ pub settled_takes : (st : State) (users : List Identity) (subtrees : List Names)
 settled_takes st users subtrees =
     report_takes (in_call (settled_advice st users subtrees)) lines_report of_lines (call_takes (settled_advice st users subtrees))
 
--- of users and subtrees each of whom counts once
-abbrev pub once_settled : State → List Identity → List Names → Report
-once_settled st users subtrees = settled_report st (once same_user users) (once same_path subtrees)
-
-pub once_settled_takes : (st : State) (users : List Identity) (subtrees : List Names)
-    → takes_memory (once_settled st users subtrees).ending ≡ true
-once_settled_takes st users subtrees = settled_takes st (once same_user users) (once same_path subtrees)
-
-pub settled_of_kept : (tree : Reading) (given : List (ℕ × List ℕ)) (texts : List (List ℕ)) (users : List Identity) (subtrees : List Names)
-    (st : State) → IsKeptOnce (named_read given texts tree) users subtrees st
-    → advise_settled_report tree given texts ≡ settled_report st users subtrees
-settled_of_kept tree given texts users subtrees st kept =
-    said_of_read once_settled once_settled_takes tree given texts kept.all_users kept.all_subtrees st kept.is
-    ∙ (λ i. settled_report st (sym kept.of_users i) (sym kept.of_subtrees i))
-
 -- ---- what may be said
 
 -- where all pass, none who acts breaks a subtree

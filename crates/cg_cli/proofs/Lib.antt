@@ -33,3 +33,4 @@ pub mod FoundPlaces
 pub mod Knowing
 pub mod Auditing
 pub mod ListedRows
+mod Inquiries

@@ -49,6 +49,10 @@ advised st subtrees pairs = unless_fault (first (flat_map (subtree_faults st) su
 abbrev pub advice_report : State → List Names → List Pair → Report
 advice_report st subtrees pairs = report_on (in_call (advised st subtrees pairs)) lines_report
 
+-- that for every user with every subtree
+abbrev pub pairs_advice : State → List Identity → List Names → Report
+pairs_advice st users subtrees = advice_report st subtrees (all_pairs users subtrees)
+
 -- What is said of users and subtrees once they, a tree's text and the subtrees are read: all users are looked at first, each with
 -- their uid before their gids; then all paths, the tree's text, and whether the subtrees are ones that can be checked.
 abbrev pub named_report : (State → List Identity → List Names → Report) → Reading → List (ℕ × List ℕ) → List (List ℕ) → Report

@@ -23,3 +23,4 @@ pub mod Pairs
 pub mod Explaining
 pub mod SettledPairs
 pub mod SettledRows
+pub mod Inquiries

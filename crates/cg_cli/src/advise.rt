@@ -12,12 +12,13 @@ ghost use Rattle.cg_format.specs.Readings.{OnText};
 ghost use Rattle.cg_format.specs.TextOf.{IsTextOf};
 ghost use Rattle.cg_advice.specs.AdviceLines.{advice_lines};
 ghost use Rattle.cg_advice.specs.Ways.{pair_of};
-ghost use Rattle.cg_cli.specs.Advising.{contained_line, lines_report, pair_with, all_pairs, advised, advice_report, advise_report};
+ghost use Rattle.cg_cli.specs.Advising.{contained_line, lines_report, pair_with, all_pairs, pairs_advice, advised, advice_report, advise_report};
 ghost use Rattle.cg_cli.specs.Audits.{users_read, paths_read};
+ghost use Rattle.cg_cli.specs.Inquiries.{ReportsContained};
 ghost use Rattle.cg_cli.specs.Reports.{Reports};
 
 use crate::arguments::UserIds;
-use crate::named::read_named;
+use crate::inquiry::{Inquiry, inquire};
 use crate::report::write_said;
 use cg_advice::pair::Pair;
 use cg_advice::text::advice_lines;
@@ -54,14 +55,27 @@ pub fn advise_bytes<W: Write>(
         → IsTextOf st tree.now → users_read (map (λ user. (user.uid, user.gids.now)) users.now) ≡ Ok who
         → paths_read (map (λ subtree. subtree.now) subtrees.now) ≡ Ok paths → who ≢ [] → AreContained st who paths }
 {
-    let named = read_named(alloc, tree, users, subtrees)?;
-    let said = advised(
-        alloc,
-        &named.tree,
-        named.users.as_slice(),
-        named.subtrees.as_slice(),
-    )?;
-    write_said(out, said)
+    inquire(alloc, &Advising, tree, users, subtrees, out)
+}
+
+/// What to change.
+#[derive(Drop)]
+struct Advising;
+
+impl Inquiry for Advising {
+    ghost reports = { λ _. ReportsContained pairs_advice };
+
+    fn write<H: Hierarchy + Drop, W: Write>(
+        &self,
+        alloc: Global,
+        tree: &H,
+        users: &[User],
+        subtrees: &[Path],
+        out: &mut W,
+    ) -> Result<u8, CliFault> {
+        let said = advised(alloc, tree, users, subtrees)?;
+        write_said(out, said)
+    }
 }
 
 /// What is said of users and subtrees, and the status.

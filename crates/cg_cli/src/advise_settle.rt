@@ -12,7 +12,7 @@ ghost use Rattle.cg_cli.specs.Reports.{Reports};
 
 use crate::advise::{advice, said_of};
 use crate::arguments::UserIds;
-use crate::named::read_named;
+use crate::inquiry::{Inquiry, inquire};
 use crate::report::write_said;
 use cg_cgroup::memory::NoMemory;
 use cg_cgroup::path::Path;
@@ -44,14 +44,27 @@ pub fn advise_settled_bytes<W: Write>(
         (map (λ user. (user.uid, user.gids.now)) users.now) (map (λ subtree. subtree.now) subtrees.now)
         (W.contents out.old) (W.contents out.new) result) }
 {
-    let named = read_named(alloc, tree, users, subtrees)?;
-    let said = advised(
-        alloc,
-        &named.tree,
-        named.users.as_slice(),
-        named.subtrees.as_slice(),
-    )?;
-    write_said(out, said)
+    inquire(alloc, &Settling, tree, users, subtrees, out)
+}
+
+/// What to change where the second row is asked first.
+#[derive(Drop)]
+struct Settling;
+
+impl Inquiry for Settling {
+    ghost reports = { λ _ st users subtrees. Reports (settled_report st users subtrees) };
+
+    fn write<H: Hierarchy + Drop, W: Write>(
+        &self,
+        alloc: Global,
+        tree: &H,
+        users: &[User],
+        subtrees: &[Path],
+        out: &mut W,
+    ) -> Result<u8, CliFault> {
+        let said = advised(alloc, tree, users, subtrees)?;
+        write_said(out, said)
+    }
 }
 
 /// What is said of users and subtrees, and the status.

@@ -8,11 +8,12 @@ ghost use Rattle.cg_model.specs.Several.{AreContained};
 ghost use Rattle.cg_format.specs.Readings.{OnText};
 ghost use Rattle.cg_format.specs.TextOf.{IsTextOf};
 ghost use Rattle.cg_cli.specs.Audits.{users_read, paths_read, audit_status, pairs_report, audit_report};
+ghost use Rattle.cg_cli.specs.Inquiries.{ReportsContained};
 ghost use Rattle.cg_cli.specs.Reports.{Reports};
 
 use crate::arguments::UserIds;
+use crate::inquiry::{Inquiry, inquire};
 use crate::check::status;
-use crate::named::read_named;
 use crate::report::write_said;
 use cg_cgroup::memory::NoMemory;
 use cg_cgroup::path::Path;
@@ -48,14 +49,27 @@ pub fn audit_bytes<W: Write>(
         → IsTextOf st tree.now → users_read (map (λ user. (user.uid, user.gids.now)) users.now) ≡ Ok who
         → paths_read (map (λ subtree. subtree.now) subtrees.now) ≡ Ok paths → who ≢ [] → AreContained st who paths }
 {
-    let named = read_named(alloc, tree, users, subtrees)?;
-    let said = audited(
-        alloc,
-        &named.tree,
-        named.users.as_slice(),
-        named.subtrees.as_slice(),
-    )?;
-    write_said(out, said)
+    inquire(alloc, &Auditing, tree, users, subtrees, out)
+}
+
+/// Whether the subtrees are contained.
+#[derive(Drop)]
+struct Auditing;
+
+impl Inquiry for Auditing {
+    ghost reports = { λ _. ReportsContained pairs_report };
+
+    fn write<H: Hierarchy + Drop, W: Write>(
+        &self,
+        alloc: Global,
+        tree: &H,
+        users: &[User],
+        subtrees: &[Path],
+        out: &mut W,
+    ) -> Result<u8, CliFault> {
+        let said = audited(alloc, tree, users, subtrees)?;
+        write_said(out, said)
+    }
 }
 
 /// What is said of users and subtrees, and the status.

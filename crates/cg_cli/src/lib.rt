@@ -11,6 +11,7 @@ pub mod audit_all;
 pub mod audit_settle;
 pub mod check;
 pub mod explain;
+mod inquiry;
 pub mod laws;
 pub mod may;
 mod named;
