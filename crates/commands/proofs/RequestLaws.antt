@@ -1,6 +1,6 @@
 -- A command that ends before it has written anything.
 use Rattle.std.proofs.Common.{◌≡◌, ◌∙◌, ℕ, List, refl, ap, inl, inr}
-use Rattle.std.specs.Prelude.{◌⊎◌, Option, Some, None, Result, Err, IsErrAnd}
+use Rattle.std.specs.Prelude.{◌⊎◌, Option, Some, None, Result, Ok, Err, IfOk, IsErrAnd}
 use Rattle.std.proofs.lemmas.Result.{err_from_is_err_and}
 use Rattle.std.specs.Io.KnownBytes.{Keeps}
 use Rattle.cg_faults.specs.declared.fault.CliFault.{CliFault}
@@ -22,3 +22,8 @@ pub unread_by : (known : Option (List ℕ)) (fault : CliFault) (result : Result 
 unread_by known fault result is early =
     let met = err_from_is_err_and result is in
     unread known fault result (met.1 ∙ ap (λ (it : CliFault). Err it) met.2) early
+
+-- what holds whatever is answered
+pub on_answer : {P : Type 0} (result : Result ℕ CliFault) → P → IfOk result (λ _. P)
+on_answer (Ok status) holds = holds
+on_answer (Err fault) holds = tt

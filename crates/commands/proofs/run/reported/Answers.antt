@@ -5,6 +5,6 @@ pub returns-clause-carried : goal.returns-clause-carried
 returns-clause-carried g c = (
   c.carried_out-ended.result,
   CarriesOut-Keeps c.args.request.now (g.F.Files.given c.args.files.now) _ _ _ _ c.carried_out-ended.result
-      c.carried_out-ended.ensures c.flushed.ensures.kept,
+      c.carried_out-ended.ensures.answer c.flushed.ensures.kept,
   c.flushed.ensures.ended,
 )
