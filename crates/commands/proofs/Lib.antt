@@ -4,3 +4,4 @@ mod PairLaws
 mod ProgramLaws
 mod RequestLaws
 mod RunLaws
+mod WaitingLaws
