@@ -1,3 +1,4 @@
+mod BesideLaws
 pub mod BufferedLaws
 mod FaultLaws
 mod PairLaws

@@ -1,6 +1,6 @@
 use Rattle.std.proofs.Common.{◌∙◌, ap, inl, inr}
 use Rattle.cg_help.specs.Modes.{spelled_mode}
-use Rattle.commands.proofs.RequestLaws.{unread_by, on_answer}
+use Rattle.commands.proofs.RequestLaws.{unread_by, spelled_on}
 use Rattle.commands.proofs.carried.audit.Goals as goal
 
 pub returns-in_err-tree-clause-answer : goal.returns-in_err-tree-clause-answer
@@ -21,4 +21,4 @@ returns-clause-answer g c =
 
 pub returns-clause-mode : goal.returns-clause-mode
 returns-clause-mode g c =
-    on_answer _ (c.in_ok-tree.tree.items, c.in_ok-tree.ensures.text, c.spelled_mode.ensures ∙ ap spelled_mode c.as_slice.ensures.value)
+    spelled_on _ c.in_ok-tree.tree.items _ c.in_ok-tree.ensures.text (c.spelled_mode.ensures ∙ ap spelled_mode c.as_slice.ensures.value) _

@@ -1,5 +1,6 @@
-use Rattle.std.proofs.Common.{inl, inr}
-use Rattle.commands.proofs.RequestLaws.{unread_by}
+use Rattle.std.proofs.Common.{◌∙◌, ap, inl, inr}
+use Rattle.cg_help.specs.Modes.{spelled_mode}
+use Rattle.commands.proofs.RequestLaws.{unread_by, spelled_on}
 use Rattle.commands.proofs.carried.replay.Goals as goal
 
 pub returns-in_err-tree-in-Files-clause-answer : goal.returns-in_err-tree-in-Files-clause-answer
@@ -21,15 +22,30 @@ returns-in_err-tree-in-OtherGiven-clause-answer g c =
 
 pub returns-in_ok-tree-in-Files-clause-answer : goal.returns-in_ok-tree-in-Files-clause-answer
 returns-in_ok-tree-in-Files-clause-answer g c =
-    let said = rw c.as_slice.ensures.value at c.replay_file.ensures in
+    let said = rw c.as_slice-in-Files.ensures.value at c.replay_file.ensures in
     rw c.in-Files.is (inl (c.in_ok-tree-in-Files.tree.items, c.in_ok-tree-in-Files.ensures.text, said))
 
 pub returns-in_ok-tree-in-TreeGiven-clause-answer : goal.returns-in_ok-tree-in-TreeGiven-clause-answer
 returns-in_ok-tree-in-TreeGiven-clause-answer g c =
-    let said = rw c.as_slice-in-TreeGiven.ensures.value at c.replay_file-in-TreeGiven.ensures in
+    let said = rw c.as_slice-in-TreeGiven-2.ensures.value at c.replay_file-in-TreeGiven.ensures in
     rw c.in-TreeGiven.is (inl (c.in_ok-tree-in-TreeGiven.tree.items, c.in_ok-tree-in-TreeGiven.ensures.text, said))
 
 pub returns-in_ok-tree-in-OtherGiven-clause-answer : goal.returns-in_ok-tree-in-OtherGiven-clause-answer
 returns-in_ok-tree-in-OtherGiven-clause-answer g c =
-    let said = rw c.as_slice-in-OtherGiven.ensures.value at c.replayed.ensures in
+    let said = rw c.as_slice-in-OtherGiven-2.ensures.value at c.replayed.ensures in
     rw c.in-OtherGiven.is (inl (c.in_ok-tree-in-OtherGiven.tree.items, c.in_ok-tree-in-OtherGiven.ensures.text, said))
+
+pub returns-in_ok-tree-in-Files-clause-mode : goal.returns-in_ok-tree-in-Files-clause-mode
+returns-in_ok-tree-in-Files-clause-mode g c =
+    rw c.in-Files.is
+    (spelled_on _ c.in_ok-tree-in-Files.tree.items _ c.in_ok-tree-in-Files.ensures.text (c.spelled_mode.ensures ∙ ap spelled_mode c.as_slice.ensures.value) _)
+
+pub returns-in_ok-tree-in-TreeGiven-clause-mode : goal.returns-in_ok-tree-in-TreeGiven-clause-mode
+returns-in_ok-tree-in-TreeGiven-clause-mode g c =
+    rw c.in-TreeGiven.is
+    (spelled_on _ c.in_ok-tree-in-TreeGiven.tree.items _ c.in_ok-tree-in-TreeGiven.ensures.text (c.spelled_mode-in-TreeGiven.ensures ∙ ap spelled_mode c.as_slice-in-TreeGiven.ensures.value) _)
+
+pub returns-in_ok-tree-in-OtherGiven-clause-mode : goal.returns-in_ok-tree-in-OtherGiven-clause-mode
+returns-in_ok-tree-in-OtherGiven-clause-mode g c =
+    rw c.in-OtherGiven.is
+    (spelled_on _ c.in_ok-tree-in-OtherGiven.tree.items _ c.in_ok-tree-in-OtherGiven.ensures.text (c.spelled_mode-in-OtherGiven.ensures ∙ ap spelled_mode c.as_slice-in-OtherGiven.ensures.value) _)
