@@ -20,8 +20,8 @@ silent false words known shut = (refl, Keeps-refl known)
 -- what is told of a terminal
 pub heard : (is_terminal : Bool) (words : List (List ℕ)) (old new : Option (List ℕ)) (result : Result (Unit {0}) CliFault)
     → not is_terminal ≡ false → TellsWaiting words true old new result → TellsWaiting words is_terminal old new result
-heard true words old new result open told = told
-heard false words old new result open told = let never : ⊥ = cc in absurd never
+heard true words old new result terminal told = told
+heard false words old new result terminal told = let never : ⊥ = cc in absurd never
 
 pub refused : (words : List (List ℕ)) (known : Option (List ℕ)) (result : Result (Unit {0}) CliFault)
     → IsErrAnd result (λ found. found ≡ NoMemory) → TellsWaiting words true known known result

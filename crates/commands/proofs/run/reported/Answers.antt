@@ -11,4 +11,4 @@ returns-clause-carried g c = (
 )
 
 pub returns-clause-mode : goal.returns-clause-mode
-returns-clause-mode g c = flushed_keeps c.carried_out-ended.result c.flushed.result.0 c.flushed.ensures.ended c.carried_out-ended.ensures.mode
+returns-clause-mode g c = flushed_keeps _ c.carried_out-ended.result c.flushed.result.0 c.flushed.ensures.ended c.carried_out-ended.ensures.mode
