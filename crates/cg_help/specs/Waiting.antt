@@ -1,3 +1,4 @@
+-- What a terminal is told: nobody has to believe it.
 -- What is said of a terminal that the program waits for. Own.
 use Rattle.std.specs.Prelude.{ℕ, List, [], codes, Option, Some, None}
 use Rattle.std.specs.Option.{option_map_or}

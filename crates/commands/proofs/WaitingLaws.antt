@@ -37,8 +37,8 @@ cut words asked line old new result makes said part is =
     subst (TellsWaiting words true old new) (sym (p.1 ∙ ap (λ (it : CliFault). Err it) p.2))
     (asked, makes, subst (AppendsPart old new) said part)
 
-pub told : (words : List (List ℕ)) (asked : Request) (line : List ℕ) (old new : Option (List ℕ)) → Makes words asked → line ≡ waiting_line asked
-    → Appends old new line → TellsWaiting words true old new (Ok tt)
+pub told : (words : List (List ℕ)) (asked : Request) (line : List ℕ) (old new : Option (List ℕ)) → Makes words asked
+    → line ≡ waiting_line asked → Appends old new line → TellsWaiting words true old new (Ok tt)
 told words asked line old new makes said whole = inl (asked, makes, subst (Appends old new) said whole)
 
 pub none : (words : List (List ℕ)) (known : Option (List ℕ)) → IsNone words → TellsWaiting words true known known (Ok tt)

@@ -1,3 +1,4 @@
+-- What a terminal is told: nobody has to believe it.
 -- What a terminal is told that the program waits for. Own.
 use Rattle.std.specs.Prelude.{◌≡◌, ◌⊎◌, ℕ, Bool, true, false, List, Option, Result, Ok, Err}
 use Rattle.std.specs.Io.KnownBytes.{Appends, Keeps}

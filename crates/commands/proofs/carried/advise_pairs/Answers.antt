@@ -5,5 +5,5 @@ use Rattle.commands.proofs.carried.advise_pairs.Goals as goal
 
 pub returns-clause-mode : goal.returns-clause-mode
 returns-clause-mode g c =
-    spelled_on _ c.in_ok-texts.texts.tree.items _ c.in_ok-texts.ensures.tree (c.spelled_mode-noted.ensures ∙ ap spelled_mode c.as_slice.ensures.value)
-    _
+    spelled_on _ c.in_ok-texts.texts.tree.items _ c.in_ok-texts.ensures.tree
+    (c.spelled_mode-noted.ensures ∙ ap spelled_mode c.as_slice.ensures.value) _

@@ -38,14 +38,17 @@ returns-in_ok-tree-in-OtherGiven-clause-answer g c =
 pub returns-in_ok-tree-in-Files-clause-mode : goal.returns-in_ok-tree-in-Files-clause-mode
 returns-in_ok-tree-in-Files-clause-mode g c =
     rw c.in-Files.is
-    (spelled_on _ c.in_ok-tree-in-Files.tree.items _ c.in_ok-tree-in-Files.ensures.text (c.spelled_mode-noted.ensures ∙ ap spelled_mode c.as_slice.ensures.value) _)
+    (spelled_on _ c.in_ok-tree-in-Files.tree.items _ c.in_ok-tree-in-Files.ensures.text
+    (c.spelled_mode-noted.ensures ∙ ap spelled_mode c.as_slice.ensures.value) _)
 
 pub returns-in_ok-tree-in-TreeGiven-clause-mode : goal.returns-in_ok-tree-in-TreeGiven-clause-mode
 returns-in_ok-tree-in-TreeGiven-clause-mode g c =
     rw c.in-TreeGiven.is
-    (spelled_on _ c.in_ok-tree-in-TreeGiven.tree.items _ c.in_ok-tree-in-TreeGiven.ensures.text (c.spelled_mode-noted-in-TreeGiven.ensures ∙ ap spelled_mode c.as_slice-in-TreeGiven.ensures.value) _)
+    (spelled_on _ c.in_ok-tree-in-TreeGiven.tree.items _ c.in_ok-tree-in-TreeGiven.ensures.text
+    (c.spelled_mode-noted-in-TreeGiven.ensures ∙ ap spelled_mode c.as_slice-in-TreeGiven.ensures.value) _)
 
 pub returns-in_ok-tree-in-OtherGiven-clause-mode : goal.returns-in_ok-tree-in-OtherGiven-clause-mode
 returns-in_ok-tree-in-OtherGiven-clause-mode g c =
     rw c.in-OtherGiven.is
-    (spelled_on _ c.in_ok-tree-in-OtherGiven.tree.items _ c.in_ok-tree-in-OtherGiven.ensures.text (c.spelled_mode-noted-in-OtherGiven.ensures ∙ ap spelled_mode c.as_slice-in-OtherGiven.ensures.value) _)
+    (spelled_on _ c.in_ok-tree-in-OtherGiven.tree.items _ c.in_ok-tree-in-OtherGiven.ensures.text
+    (c.spelled_mode-noted-in-OtherGiven.ensures ∙ ap spelled_mode c.as_slice-in-OtherGiven.ensures.value) _)

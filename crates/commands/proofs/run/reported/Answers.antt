@@ -1,3 +1,4 @@
+use Rattle.commands.specs.Beside.{IsSpelledFor}
 use Rattle.commands.proofs.BesideLaws.{flushed_keeps}
 use Rattle.commands.proofs.BufferedLaws.{CarriesOut-Keeps}
 use Rattle.commands.proofs.run.reported.Goals as goal
@@ -11,4 +12,8 @@ returns-clause-carried g c = (
 )
 
 pub returns-clause-mode : goal.returns-clause-mode
-returns-clause-mode g c = flushed_keeps _ c.carried_out-ended.result c.flushed.result.0 c.flushed.ensures.ended c.carried_out-ended.ensures.mode
+returns-clause-mode g c =
+    flushed_keeps
+    (IsSpelledFor c.args.request.now (g.F.Files.given c.args.files.now) (g.I.Read.remaining c.args.input)
+    c.carried_out-ended.new.noted.mode)
+    c.carried_out-ended.result c.flushed.result.0 c.flushed.ensures.ended c.carried_out-ended.ensures.mode
