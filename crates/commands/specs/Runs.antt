@@ -67,8 +67,8 @@ TellsFault fault old new =
     (line : Option (List ℕ)) × (is_told : Bool) × (help : List ℕ)
     × Prints fault old line is_told × Appends line new help × (is_told ≡ false → help ≡ [])
 
--- Beside an answer stands the line of a mode, where there is one, and nothing else; or a front of it, where a write failed or memory
--- was refused.
+-- Beside an answer stands the line of a mode, where there is one, and nothing else; or a front of it, where a write failed; or nothing,
+-- where memory was refused.
 abbrev pub Tells : Result ℕ Fault → Option Spelled → Option (List ℕ) → Option (List ℕ) → Type 0
-Tells (Ok status) mode old new = WritesFront (mode_line mode) old new
+Tells (Ok status) mode old new = WritesFront (mode_line mode) old new ⊎ Keeps old new
 Tells (Err fault) mode old new = TellsFault fault old new

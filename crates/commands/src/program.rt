@@ -144,11 +144,9 @@ fn tell<F: Files, E: Write>(
 
 /// Writes the line of a mode that is spelled in decimal. Where that fails nothing more is said.
 fn tell_mode<E: Write>(alloc: Global, mode: Option<Spelled>, errors: &mut E)
-    ensures { WritesFront (mode_line mode) (E.contents errors.old) (E.contents errors.new) }
+    ensures { WritesFront (mode_line mode) (E.contents errors.old) (E.contents errors.new)
+        ⊎ Keeps (E.contents errors.old) (E.contents errors.new) }
 {
-    if mode.is_none() {
-        return;
-    }
     if let Ok(line) = mode_line(alloc, mode) {
         let _ = write_whole(errors, line.as_slice());
     }
