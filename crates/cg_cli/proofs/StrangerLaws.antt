@@ -17,7 +17,7 @@ use Rattle.cg_format.specs.Readings.{Reading, IsReading}
 use Rattle.cg_format.specs.TextOf.{IsTextOf}
 use Rattle.cg_cli.specs.Arguments.{user_read}
 use Rattle.cg_cli.specs.Asking.{read_in_turn, named_read, IsKeptOnce}
-use Rattle.cg_cli.specs.Audits.{users_read, paths_read}
+use Rattle.cg_cli.specs.Audits.{read_before, users_read, paths_read}
 use Rattle.cg_cli.specs.Known.{AreKnown, AreAdded}
 use Rattle.cg_cli.specs.May.{tree_read}
 use Rattle.cg_cli.specs.Once.{same_user}
@@ -46,6 +46,19 @@ stranger_said text given texts users subtrees st kept stranger is result =
     let all = kept (Ok start) of_text in
     let same = in_turn (users_read given) (paths_read texts) (tree_read (Ok start)) all.all_users who all.all_subtrees st start of_who refl all.is in
     is ∙ (λ i. first_stranger (same.1 i) (all.of_users i)) ∙ ap (λ read. first_stranger start (once same_user read)) same.0)
+
+-- of one user
+pub alone_said : (text : List ℕ) (uid : ℕ) (gids : List ℕ) (user : Identity) (st : State) → user_read uid gids ≡ Ok user
+    → ((read : Reading) → IsReading text read → read ≡ Ok st)
+    → (stranger : Option ℕ) → stranger ≡ first_stranger st (user ∷ []) → (result : Result ℕ CliFault)
+    → IsFirstStranger text ((uid, gids) ∷ []) result stranger
+alone_said text uid gids user st is_user reads stranger is result =
+    on_answer result (λ start who of_text of_who.
+    let read : Ok (user ∷ []) ≡ Ok who = sym (ap (λ one. read_before one (Ok [])) is_user) ∙ of_who in
+    let same : user ∷ [] ≡ who = cc in
+    let started : Ok start ≡ Ok st = reads (Ok start) of_text in
+    let begun : st ≡ start = cc in
+    is ∙ (λ i. first_stranger (begun i) (once same_user (same i))))
 
 -- ---- the uids and gids of a tree
 

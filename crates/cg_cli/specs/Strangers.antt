@@ -13,7 +13,6 @@ use Rattle.cg_cgroup.specs.declared.user.Entry.{Entry}
 use Rattle.cg_model.specs.Once.{once}
 use Rattle.cg_model.specs.States.{State}
 use Rattle.cg_format.specs.TextOf.{IsTextOf}
-use Rattle.cg_cli.specs.Arguments.{user_read}
 use Rattle.cg_cli.specs.Audits.{users_read}
 use Rattle.cg_cli.specs.Once.{same_user}
 use Rattle.cg_faults.specs.declared.fault.CliFault.{CliFault}
@@ -54,8 +53,3 @@ first_stranger st users = option_map (λ user. user.uid) (find (is_stranger st) 
 abbrev pub IsFirstStranger : List ℕ → List (ℕ × List ℕ) → Result ℕ CliFault → Option ℕ → Type 0
 IsFirstStranger text given result stranger = IfOk result (λ _. (st : State) (who : List Identity) → IsTextOf st text → users_read given ≡ Ok who
     → stranger ≡ first_stranger st (once same_user who))
-
--- of one user
-abbrev pub IsStranger : List ℕ → ℕ → List ℕ → Result ℕ CliFault → Option ℕ → Type 0
-IsStranger text uid gids result stranger = IfOk result (λ _. (st : State) (who : Identity) → IsTextOf st text → user_read uid gids ≡ Ok who
-    → stranger ≡ first_stranger st (who ∷ []))

@@ -1,9 +1,9 @@
 //! Whether a subtree is contained against a user.
-ghost use Rattle.std.specs.Prelude.{◌≡◌};
+ghost use Rattle.std.specs.Prelude.{◌≡◌, ◌∷◌, []};
 ghost use Rattle.cg_format.specs.Readings.{OnText};
 ghost use Rattle.cg_cli.specs.Containment.{answer_status, check_report, subtree_report, MeansContained};
 ghost use Rattle.cg_cli.specs.Reports.{Reports};
-ghost use Rattle.cg_cli.specs.Strangers.{IsStranger};
+ghost use Rattle.cg_cli.specs.Strangers.{IsFirstStranger};
 
 use crate::arguments::UserIds;
 use crate::question::{Question, ask};
@@ -37,7 +37,7 @@ pub fn check_bytes<W: Write>(
     ensures report { OnText tree.now (λ read. Reports (check_report read user.entry.uid user.entry.gids.now subtree.now)
         (W.contents out.old) (W.contents out.new) result) }
     ensures contained { MeansContained tree.now user.entry.uid user.entry.gids.now subtree.now result }
-    ensures stranger { IsStranger tree.now user.entry.uid user.entry.gids.now result stranger.new }
+    ensures stranger { IsFirstStranger tree.now ((user.entry.uid, user.entry.gids.now) ∷ []) result stranger.new }
 {
     ask(alloc, &Containment, tree, user, subtree, stranger, out)
 }

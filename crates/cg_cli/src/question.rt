@@ -1,5 +1,5 @@
 //! Questions about a user and a subtree: what they ask of a tree differs, and nothing else.
-ghost use Rattle.std.specs.Prelude.{◌≡◌, ◌≢◌, true, Ok, IfOk, MatchResult};
+ghost use Rattle.std.specs.Prelude.{◌≡◌, ◌≢◌, ◌∷◌, [], true, Ok, IfOk, MatchResult};
 ghost use Rattle.cg_cgroup.specs.Identity.{Identity};
 ghost use Rattle.cg_cgroup.specs.Paths.{Names};
 ghost use Rattle.cg_model.specs.States.{State};
@@ -9,7 +9,7 @@ ghost use Rattle.cg_cli.specs.Containment.{MeansContained};
 ghost use Rattle.cg_faults.specs.Faults.{lifted_check};
 ghost use Rattle.cg_cli.specs.Reports.{Report, fault_report, takes_memory};
 ghost use Rattle.cg_cli.specs.Settling.{AskedReports};
-ghost use Rattle.cg_cli.specs.Strangers.{IsStranger};
+ghost use Rattle.cg_cli.specs.Strangers.{IsFirstStranger};
 
 use crate::arguments::{UserIds, read_path, read_user};
 use crate::reading::read_tree;
@@ -58,7 +58,7 @@ pub fn ask<Q: Question, W: Write>(
     ensures report { OnText tree.now (λ read. AskedReports (Q.says question.now)
         read user.entry.uid user.entry.gids.now subtree.now (W.contents out.old) (W.contents out.new) result) }
     ensures contained { MeansContained tree.now user.entry.uid user.entry.gids.now subtree.now result }
-    ensures stranger { IsStranger tree.now user.entry.uid user.entry.gids.now result stranger.new }
+    ensures stranger { IsFirstStranger tree.now ((user.entry.uid, user.entry.gids.now) ∷ []) result stranger.new }
 {
     let user = read_user(user)?;
     let subtree = read_path(alloc, subtree)?;

@@ -1,9 +1,10 @@
 //! What is known of a subtree against a user, where check tells less.
+ghost use Rattle.std.specs.Prelude.{◌∷◌, []};
 ghost use Rattle.cg_cli.specs.Settled.{IsSettledFrom};
 ghost use Rattle.cg_format.specs.Readings.{OnText};
 ghost use Rattle.cg_cli.specs.Containment.{MeansContained};
 ghost use Rattle.cg_cli.specs.Settling.{AskedReports, FurtherSays, IsFurther};
-ghost use Rattle.cg_cli.specs.Strangers.{IsStranger};
+ghost use Rattle.cg_cli.specs.Strangers.{IsFirstStranger};
 
 use crate::answers::settle::settle;
 use crate::arguments::UserIds;
@@ -39,7 +40,7 @@ pub fn settle_bytes<W: Write>(
     ensures further { OnText tree.now (λ read. AskedReports (FurtherSays IsFurther)
         read user.entry.uid user.entry.gids.now subtree.now (W.contents out.old) (W.contents out.new) result) }
     ensures contained { MeansContained tree.now user.entry.uid user.entry.gids.now subtree.now result }
-    ensures stranger { IsStranger tree.now user.entry.uid user.entry.gids.now result stranger.new }
+    ensures stranger { IsFirstStranger tree.now ((user.entry.uid, user.entry.gids.now) ∷ []) result stranger.new }
 {
     ask(alloc, &Settling, tree, user, subtree, stranger, out)
 }
