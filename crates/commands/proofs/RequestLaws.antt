@@ -27,3 +27,8 @@ unread_by known fault result is early =
 pub on_answer : {P : Type 0} (result : Result ℕ CliFault) → P → IfOk result (λ _. P)
 on_answer (Ok status) holds = holds
 on_answer (Err fault) holds = tt
+
+-- what holds of an answer since something else does
+pub in_answer : {P Q : Type 0} (result : Result ℕ CliFault) → IfOk result (λ _. P) → (P → Q) → IfOk result (λ _. Q)
+in_answer (Ok status) holds further = further holds
+in_answer (Err fault) holds further = tt

@@ -1,6 +1,6 @@
 use Rattle.std.proofs.Common.{◌∙◌, ap, inl, inr}
 use Rattle.cg_help.specs.Modes.{spelled_mode}
-use Rattle.commands.proofs.RequestLaws.{unread_by, on_answer}
+use Rattle.commands.proofs.RequestLaws.{unread_by, in_answer}
 use Rattle.commands.proofs.carried.check.Goals as goal
 
 pub returns-in_err-tree-clause-answer : goal.returns-in_err-tree-clause-answer
@@ -13,6 +13,12 @@ returns-clause-answer g c =
     let said = rw (c.as_slice-2.ensures.value, c.ids.ensures.uid, c.ids.ensures.gids) at c.check_bytes.ensures.report in
     inl (c.in_ok-tree.tree.items, c.in_ok-tree.ensures.text, said)
 
-pub returns-clause-mode : goal.returns-clause-mode
-returns-clause-mode g c =
-    on_answer _ (c.in_ok-tree.tree.items, c.in_ok-tree.ensures.text, c.spelled_mode.ensures ∙ ap spelled_mode c.as_slice.ensures.value)
+pub returns-clause-noted : goal.returns-clause-noted
+returns-clause-noted g c =
+    let says = rw (c.as_slice-2.ensures.value, c.ids.ensures.uid, c.ids.ensures.gids) at c.check_bytes.ensures.stranger in
+    in_answer _ says (λ first. (
+      c.in_ok-tree.tree.items,
+      c.in_ok-tree.ensures.text,
+      c.spelled_mode.ensures ∙ ap spelled_mode c.as_slice.ensures.value,
+      first,
+    ))

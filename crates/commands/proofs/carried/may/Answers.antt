@@ -13,6 +13,7 @@ returns-clause-answer g c =
     let said = rw (c.as_slice-2.ensures.value, c.ids.ensures.uid, c.ids.ensures.gids) at c.may_bytes.ensures in
     inl (c.in_ok-tree.tree.items, c.in_ok-tree.ensures.text, said)
 
-pub returns-clause-mode : goal.returns-clause-mode
-returns-clause-mode g c =
-    on_answer _ (c.in_ok-tree.tree.items, c.in_ok-tree.ensures.text, c.spelled_mode.ensures ∙ ap spelled_mode c.as_slice.ensures.value)
+pub returns-clause-noted : goal.returns-clause-noted
+returns-clause-noted g c =
+    on_answer _ (c.in_ok-tree.tree.items, c.in_ok-tree.ensures.text, c.plain.ensures.mode ∙ ap spelled_mode c.as_slice.ensures.value,
+    c.plain.ensures.stranger)
