@@ -6,7 +6,9 @@ use Rattle.std.specs.Cmp.{unsigned_tied, nat_eq_equiv}
 use Rattle.std.specs.List.{list_any, flat_map, find}
 use Rattle.std.specs.Option.{option_map}
 use Rattle.std.specs.Ordering.{nat_cmp, eq_by_cmp}
-use Rattle.std.proofs.lemmas.List.Folds.{list_any-append, list_any_more, take_more}
+use Rattle.std.proofs.lemmas.List.{take_more}
+use Rattle.std.proofs.lemmas.List.Folds.{list_any-append}
+use Rattle.std.proofs.lemmas.Grind.{flat_map-append}
 use Rattle.cg_cgroup.specs.Identity.{Identity}
 use Rattle.cg_cgroup.specs.Paths.{Names}
 use Rattle.cg_cgroup.specs.Users.{has_bit}
@@ -21,7 +23,7 @@ use Rattle.cg_cli.specs.Audits.{read_before, users_read, paths_read}
 use Rattle.cg_cli.specs.Known.{AreKnown, AreAdded}
 use Rattle.cg_cli.specs.May.{tree_read}
 use Rattle.cg_cli.specs.Once.{same_user}
-use Rattle.cg_cli.specs.Strangers.{has_uid, has_gid, is_stranger, first_stranger, IsFirstStranger}
+use Rattle.cg_cli.specs.Strangers.{all_entries, all_owners, has_uid, has_gid, is_stranger, first_stranger, IsFirstStranger}
 use Rattle.cg_cli.specs.declared.strangers.Known.{Known}
 use Rattle.cg_faults.specs.declared.fault.CliFault.{CliFault}
 
@@ -69,3 +71,109 @@ pub added_both : (before between after : Known) (more others : List Entry) → A
     → AreAdded before after (more ++ others)
 added_both before between after more others first second entries of =
     subst (λ all. AreKnown after all []) (append_assoc entries more others) (second (entries ++ more) (first entries of))
+
+-- ---- an entry
+
+-- Unsigned numbers that compare as equal are the same.
+turned : (x y : ℕ) → eq_by_cmp nat_cmp x y ≡ nat_eq x y
+turned x y = unsigned_tied x y
+
+chosen : (a b : Bool) → cond a true b ≡ b || a
+chosen true true = refl
+chosen true false = refl
+chosen false true = refl
+chosen false false = refl
+
+or_assoc : (a b c : Bool) → (a || b) || c ≡ a || (b || c)
+or_assoc true b c = refl
+or_assoc false b c = refl
+
+or_false : (a : Bool) → a || false ≡ a
+or_false true = refl
+or_false false = refl
+
+and_true : (a : Bool) → a && true ≡ a
+and_true true = refl
+and_true false = refl
+
+and_false : (a : Bool) → a && false ≡ false
+and_false true = refl
+and_false false = refl
+
+-- ---- step by step
+
+flat_more : {A B : Type 0} (f : A → List B) (xs : List A) (i : ℕ) (x d : A) → i < length xs → x ≡ get_or xs i d
+    → flat_map f (take (i + 1) xs) ≡ flat_map f (take i xs) ++ f x
+flat_more f xs i x d within at =
+    ap (flat_map f) (take_more xs i d within) ∙ flat_map-append f (take i xs) _
+    ∙ ap (λ more. flat_map f (take i xs) ++ more) (append-nil (f (get_or xs i d)) ∙ ap f (sym at))
+
+pub added_more : {A : Type 0} (f : A → List Entry) (xs : List A) (i : ℕ) (x d : A) → i < length xs → x ≡ get_or xs i d
+    → (before between after : Known) → AreAdded before between (flat_map f (take i xs)) → AreAdded between after (f x)
+    → AreAdded before after (flat_map f (take (i + 1) xs))
+added_more f xs i x d within at before between after first second =
+    subst (AreAdded before after) (sym (flat_more f xs i x d within at)) (added_both before between after _ _ first second)
+
+-- ---- the owners of processes
+
+-- what is known, and what is still to come
+pub record AreLeft {Live : Type 0} (owner : Live → ℕ) (known : Known) (entries : List Entry) (owners : List ℕ) (left : List Live) : Type 0 where
+  pub uids : (uid : ℕ) → contains nat_cmp known.uids uid || list_any (λ row. nat_eq (owner row) uid) left ≡ has_uid entries owners uid
+  pub gids : (gid : ℕ) → contains nat_cmp known.gids gid ≡ has_gid entries gid
+
+any_owner : {Live : Type 0} (owner : Live → ℕ) (left : List Live) (uid : ℕ)
+    → list_any (λ row. nat_eq (owner row) uid) left ≡ list_any (λ one. nat_eq one uid) (map owner left)
+any_owner owner [] uid = refl
+any_owner owner (row ∷ left) uid = ap (λ rest. nat_eq (owner row) uid || rest) (any_owner owner left uid)
+
+pub left_all : {Live : Type 0} (owner : Live → ℕ) (known : Known) (entries : List Entry) (live left : List Live) → AreKnown known entries []
+    → left ≡ live → AreLeft owner known entries (map owner live) left
+left_all owner known entries live left of is = record {
+  uids =
+      λ uid. (λ i. (of.uids uid ∙ or_false (list_any (λ entry. nat_eq entry.uid uid) entries)) i || list_any (λ row. nat_eq (owner row) uid) (is i))
+      ∙ ap (λ rest. list_any (λ entry. nat_eq entry.uid uid) entries || rest) (any_owner owner live uid);
+  gids = of.gids;
+}
+
+pub left_less : {Live : Type 0} (owner : Live → ℕ) (known more : Known) (entries : List Entry) (owners : List ℕ) (left rest : List Live) (row : Live)
+    → left ≡ row ∷ rest → AreLeft owner known entries owners left
+    → ((uid : ℕ) → contains nat_cmp more.uids uid ≡ cond (eq_by_cmp nat_cmp (owner row) uid) true (contains nat_cmp known.uids uid))
+    → more.gids ≡ known.gids → AreLeft owner more entries owners rest
+left_less owner known more entries owners left rest row is of added same = record {
+  uids =
+      λ uid. let others = list_any (λ one. nat_eq (owner one) uid) rest in
+      ap (λ has. has || others) (added uid ∙ ap (λ b. cond b true (contains nat_cmp known.uids uid)) (turned (owner row) uid)
+      ∙ chosen (nat_eq (owner row) uid) (contains nat_cmp known.uids uid))
+      ∙ or_assoc (contains nat_cmp known.uids uid) (nat_eq (owner row) uid) others
+      ∙ ap (λ all. contains nat_cmp known.uids uid || list_any (λ one. nat_eq (owner one) uid) all) (sym is) ∙ of.uids uid;
+  gids = λ gid. ap (λ gids. contains nat_cmp gids gid) same ∙ of.gids gid;
+}
+
+pub left_none : {Live : Type 0} (owner : Live → ℕ) (known : Known) (entries : List Entry) (owners : List ℕ) (left : List Live) → left ≡ []
+    → AreLeft owner known entries owners left → AreKnown known entries owners
+left_none owner known entries owners left none of = record {
+  uids =
+      λ uid. sym (ap (λ rest. contains nat_cmp known.uids uid || list_any (λ row. nat_eq (owner row) uid) rest) none
+      ∙ or_false (contains nat_cmp known.uids uid)) ∙ of.uids uid;
+  gids = of.gids;
+}
+
+pub known_none : (known : Known) → known.uids.keys ≡ [] → known.gids.keys ≡ [] → AreKnown known [] []
+known_none known uids gids = record { uids = λ uid. ap (list_any _) uids; gids = λ gid. ap (list_any _) gids }
+
+-- ---- what is known of a user
+
+pub stranger_is : (st : State) (known : Known) → AreKnown known (all_entries st) (all_owners st) → (user : Identity)
+    → not (contains nat_cmp known.uids user.uid || list_any (contains nat_cmp known.gids) user.gids) ≡ is_stranger st user
+stranger_is st known of user =
+    (λ i. not (of.uids user.uid i || any_gid user.gids i))
+  where
+    any_gid : (gids : List ℕ) → list_any (contains nat_cmp known.gids) gids ≡ list_any (has_gid (all_entries st)) gids
+    any_gid [] = refl
+    any_gid (gid ∷ gids) = λ i. of.gids gid i || any_gid gids i
+
+pub first_is : (st : State) (known : Known) → AreKnown known (all_entries st) (all_owners st) → (users : List Identity)
+    → option_map (λ user. user.uid)
+    (find (λ user. not (contains nat_cmp known.uids user.uid || list_any (contains nat_cmp known.gids) user.gids)) users)
+    ≡ first_stranger st users
+first_is st known of users = λ i. option_map (λ user. user.uid) (find (λ user. stranger_is st known of user i) users)

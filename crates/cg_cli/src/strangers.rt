@@ -94,7 +94,14 @@ impl Known {
     fn has(&self, user: &User) -> bool
         ensures { result ≡ (contains nat_cmp self.now.uids user.now.uid || list_any (contains nat_cmp self.now.gids) user.now.gids) }
     {
-        self.uids.contains(&user.uid()) || user.gids().iter().any(|gid| self.gids.contains(gid))
+        self.uids.contains(&user.uid()) || self.has_one(user.gids())
+    }
+
+    /// Whether one of some gids is among them.
+    fn has_one(&self, gids: &[u32]) -> bool
+        ensures { result ≡ list_any (contains nat_cmp self.now.gids) gids.now }
+    {
+        gids.iter().any(|gid| self.gids.contains(gid))
     }
 }
 
