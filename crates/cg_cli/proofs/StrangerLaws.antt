@@ -1,6 +1,6 @@
 -- Users of whom a tree says nothing.
 use Rattle.std.proofs.Common.{◌≡◌, ◌∙◌, ℕ, ◌+◌, ◌<◌, Bool, true, false, not, ◌||◌, ◌&&◌, nat_eq, cond, List, [], ◌∷◌, ◌++◌, length, take, get_or, map, Option, Some, None, Result, Ok, Err, refl, sym, ap, subst, append_assoc, append-nil}
-use Rattle.std.specs.Prelude.{IfOk}
+use Rattle.std.specs.Prelude.{IfOk, OnOk}
 use Rattle.std.specs.BTreeSet.{contains}
 use Rattle.std.specs.Cmp.{unsigned_tied, nat_eq_equiv}
 use Rattle.std.specs.List.{list_any, flat_map, find}
@@ -25,6 +25,7 @@ use Rattle.cg_cli.specs.May.{tree_read}
 use Rattle.cg_cli.specs.Once.{same_user}
 use Rattle.cg_cli.specs.Strangers.{all_entries, all_owners, has_uid, has_gid, is_stranger, first_stranger, IsFirstStranger}
 use Rattle.cg_cli.specs.declared.strangers.Known.{Known}
+use Rattle.cg_cli.proofs.ReportLaws.{same_Ok}
 use Rattle.cg_faults.specs.declared.fault.CliFault.{CliFault}
 
 -- ---- what an answer says
@@ -35,7 +36,9 @@ on_answer (Err fault) holds = tt
 
 in_turn : {A B C : Type 0} (first : Result A CliFault) (second : Result B CliFault) (third : Result C CliFault) (a x : A) (b : B) (c z : C)
     → first ≡ Ok x → third ≡ Ok z → read_in_turn first second third ≡ Ok (a, b, c) → (a ≡ x) × (c ≡ z)
-in_turn (Ok first) (Ok second) (Ok third) a x b c z is_first is_third is = (cc, cc)
+in_turn {A = A} {B = B} {C = C} (Ok first) (Ok second) (Ok third) a x b c z is_first is_third is =
+    let all = same_Ok (first, second, third) (a, b, c) is in
+    (sym (ap (λ (t : A × B × C). t.0) all) ∙ same_Ok first x is_first, sym (ap (λ (t : A × B × C). t.2) all) ∙ same_Ok third z is_third)
 in_turn (Ok first) (Ok second) (Err fault) a x b c z is_first is_third is = let never : ⊥ = cc in absurd never
 in_turn (Ok first) (Err fault) third a x b c z is_first is_third is = let never : ⊥ = cc in absurd never
 in_turn (Err fault) second third a x b c z is_first is_third is = let never : ⊥ = cc in absurd never
@@ -72,6 +75,10 @@ pub added_both : (before between after : Known) (more others : List Entry) → A
 added_both before between after more others first second entries of =
     subst (λ all. AreKnown after all []) (append_assoc entries more others) (second (entries ++ more) (first entries of))
 
+pub on_ok : {X E P Q : Type 0} (result : Result X E) → OnOk result P → (P → Q) → OnOk result Q
+on_ok (Ok x) holds further = further holds
+on_ok (Err fault) holds further = tt
+
 -- ---- an entry
 
 -- Unsigned numbers that compare as equal are the same.
@@ -102,7 +109,7 @@ and_false false = refl
 
 -- ---- step by step
 
-flat_more : {A B : Type 0} (f : A → List B) (xs : List A) (i : ℕ) (x d : A) → i < length xs → x ≡ get_or xs i d
+pub flat_more : {A B : Type 0} (f : A → List B) (xs : List A) (i : ℕ) (x d : A) → i < length xs → x ≡ get_or xs i d
     → flat_map f (take (i + 1) xs) ≡ flat_map f (take i xs) ++ f x
 flat_more f xs i x d within at =
     ap (flat_map f) (take_more xs i d within) ∙ flat_map-append f (take i xs) _

@@ -28,7 +28,7 @@ returns-in_err-tree-clause-named c = λ read is.
 
 pub returns-in_err-stranger-clause-named : goal.returns-in_err-stranger-clause-named
 returns-in_err-stranger-clause-named c = λ read is.
-    let p = err_from_is_err_and c.from_residual-in_err-stranger.result c.from_residual-in_err-stranger.ensures in
+    let p = err_from_is_err_and c.from_residual-in_err-stranger.result c.from_residual-in_err-stranger.ensures.1 in
     rw (p.1, p.2)
     (ap read_takes_memory
     (all_are (map (λ user. (user.uid, user.gids.now)) c.args.users.now) (map (λ text. text.now) c.args.subtrees.now) read
