@@ -251,6 +251,31 @@ def trees():
     yield row("path = '/c0'", "path = '/c0'\nenabled = ['memory']", "internal-process process 1", "/c0")
 
 
+def strangers():
+    """What is said beside an answer of users of whom the tree says nothing, and of no others."""
+    said = "uid 1001 and its gids own nothing in this tree, write nothing but what all others write, and have no process in it"
+    of_group = TREE.replace("gid = 1000, mode", "gid = 5, mode").replace("0o644", "0o664")
+    of_all, running = TREE.replace("0o644", "0o646"), TREE.replace("pid = 10\nuid = 1000", "pid = 10\nuid = 1001")
+    a_limit = TREE.replace("value = 4096", "uid = 1001, value = 4096")
+    at = ["--subtree", "/c0"]
+    check, audit, advise = (["check", "--uid", "1001"], ["audit", "--uid", "1000", "--uid", "1001"], ["advise", "--uid", "1001"])
+    for words in (check, ["settle", *check[1:]], audit, [*audit, "--all"], [*audit, "--settle"], [*audit, "--settle", "--all"], ["explain", *audit[1:]], advise, [*advise, "--settle"], [*check, "--gid", "5"],
+                  [*audit[:3], "--uid", "1001:5,6"]):
+        yield Row([*words, *at], None, [said])
+        yield Row([*words, *at], None, [said], of_all)
+        for tree in (running, a_limit):
+            yield Row([*words, *at], None, (), tree)
+    yield Row([*check, *at], None, [said], of_group)
+    yield Row([*check, "--gid", "7", "--gid", "5", *at], None, (), of_group)
+    yield Row(["audit", "--uid", "1001:5", *at], None, (), of_group)
+    yield Row(["audit", "--uid", "1002", "--uid", "1001", *at], None, [said.replace("1001", "1002")])
+    yield Row(CHECK, None, ())
+    yield Row(["may", "--uid", "1001", "--pid", "10", "--to", "/c0"], None, ())
+    yield Row(["replay", "--uid", "1001", "--ops", "OPS"], None, ())
+    yield Row([*check, *at], None, [said, "mode 400 is 0o620"], edited("mode = 0o644", "mode = 400"))
+    yield Row([*check, "--subtree", "/c9"], "subtree missing", ["the nearest is '/c0'"])
+
+
 def modes():
     """What is said beside an answer of a mode that reads as an octal one, as it is spelled: of the first."""
     for mode, octal in (("400", "0o620"), ("440", "0o670"), ("444", "0o674"), ("500", "0o764")):
@@ -325,7 +350,7 @@ def operations():
 
 
 def rows(_):
-    yield from (*command_lines(), *arguments(), *trees(), *modes(), *terminals(), *operations())
+    yield from (*command_lines(), *arguments(), *trees(), *strangers(), *modes(), *terminals(), *operations())
 
 
 if __name__ == "__main__":

@@ -4,6 +4,7 @@
 //! No answer rests on it. Where the second look fails, or finds nothing, there is no help.
 #![tactic(auto)]
 
+pub mod beside;
 mod files;
 mod given;
 pub mod help;

@@ -6,8 +6,9 @@ use Rattle.std.specs.Io.KnownBytes.{Keeps}
 use Rattle.cg_faults.specs.declared.fault.CliFault.{CliFault}
 use Rattle.cg_faults.specs.declared.fault.CliFault.TheVariants.{Read, NoMemory}
 use Rattle.cg_help.specs.Modes.{spelled_mode}
-use Rattle.cg_help.specs.declared.modes.Spelled.{Spelled}
-use Rattle.commands.specs.Beside.{IsSpelledIn}
+use Rattle.cg_help.specs.declared.beside.Beside.{Beside}
+use Rattle.cg_cli.specs.Strangers.{IsFirstStranger}
+use Rattle.commands.specs.Beside.{IsNoted, IsPlain}
 use Rattle.commands.specs.Requests.{IsTree, IsUnread}
 
 pub Keeps-refl : (known : Option (List ℕ)) → Keeps known known
@@ -31,7 +32,14 @@ on_answer : {P : Type 0} (result : Result ℕ CliFault) → P → IfOk result (�
 on_answer (Ok status) holds = holds
 on_answer (Err fault) holds = tt
 
--- the mode that a text spells
-pub spelled_on : (known : Option (List ℕ)) (text : List ℕ) (mode : Option Spelled) → IsTree known text → mode ≡ spelled_mode text
-    → (result : Result ℕ CliFault) → IfOk result (λ _. IsSpelledIn known mode)
-spelled_on known text mode is same result = on_answer {P = IsSpelledIn known mode} result (text, is, same)
+-- what was noted of a text where no user is asked about
+pub plain_on : (known : Option (List ℕ)) (text : List ℕ) (beside : Beside) → IsTree known text → beside.mode ≡ spelled_mode text
+    → beside.stranger ≡ None → (result : Result ℕ CliFault) → IfOk result (λ _. IsPlain known beside)
+plain_on known text beside is mode none result = on_answer {P = IsPlain known beside} result (text, is, mode, none)
+
+-- and of one on which users were asked about
+pub noted_on : (known : Option (List ℕ)) (text : List ℕ) (given : List (ℕ × List ℕ)) (beside : Beside) → IsTree known text
+    → beside.mode ≡ spelled_mode text → (result : Result ℕ CliFault) → IsFirstStranger text given result beside.stranger
+    → IfOk result (λ _. IsNoted known given beside)
+noted_on known text given beside is mode (Ok status) first = (text, is, mode, first)
+noted_on known text given beside is mode (Err fault) first = tt

@@ -6,8 +6,8 @@ use Rattle.arguments.specs.declared.request.Request.{Request}
 use Rattle.cg_faults.specs.declared.fault.CliFault.{CliFault}
 use Rattle.cg_faults.specs.declared.fault.CliFault.TheVariants.{Write, NoMemory}
 use Rattle.streams.specs.declared.write.WriteFailed.{WriteFailed}
-use Rattle.cg_help.specs.Modes.{mode_line}
-use Rattle.cg_help.specs.declared.modes.Spelled.{Spelled}
+use Rattle.cg_help.specs.Beside.{beside_lines}
+use Rattle.cg_help.specs.declared.beside.Beside.{Beside}
 use Rattle.commands.specs.Faults.{Prints, WritesFront}
 use Rattle.commands.specs.Requests.{Files, CarriesOut}
 use Rattle.commands.specs.declared.fault.Fault.{Fault}
@@ -67,8 +67,8 @@ TellsFault fault old new =
     (line : Option (List ℕ)) × (is_told : Bool) × (help : List ℕ)
     × Prints fault old line is_told × Appends line new help × (is_told ≡ false → help ≡ [])
 
--- Beside an answer stands the line of a mode, where there is one, and nothing else; or a front of it, where a write failed; or nothing,
--- where memory was refused.
-abbrev pub Tells : Result ℕ Fault → Option Spelled → Option (List ℕ) → Option (List ℕ) → Type 0
-Tells (Ok status) mode old new = WritesFront (mode_line mode) old new ⊎ Keeps old new
-Tells (Err fault) mode old new = TellsFault fault old new
+-- Beside an answer stand the lines of what was noted, and nothing else; or a front of them, where a write failed; or nothing, where
+-- memory was refused.
+abbrev pub Tells : Result ℕ Fault → Beside → Option (List ℕ) → Option (List ℕ) → Type 0
+Tells (Ok status) beside old new = WritesFront (beside_lines beside) old new ⊎ Keeps old new
+Tells (Err fault) beside old new = TellsFault fault old new

@@ -2,7 +2,7 @@
 ghost use Rattle.std.specs.Prelude.{◌≡◌, ◌≢◌, ◌⊎◌, ℕ, map, string_bytes, Option, Result, Err, IsErrAnd, MatchOption, MatchResult};
 ghost use Rattle.std.specs.IoError.{error_kind};
 ghost use Rattle.std.specs.Io.KnownBytes.{Keeps};
-ghost use Rattle.cg_help.specs.Modes.{mode_line};
+ghost use Rattle.cg_help.specs.Beside.{beside_lines};
 ghost use Rattle.commands.specs.Beside.{IsBeside};
 ghost use Rattle.commands.specs.Faults.{WritesFront};
 ghost use Rattle.commands.specs.Runs.{exit_status, TellsFault, Tells, RunsTo};
@@ -14,8 +14,8 @@ ghost use Rattle.cg_faults.specs.declared.fault.CliFault.TheVariants.{NoMemory a
 use crate::carried::Noted;
 use crate::fault::Fault;
 use crate::run::run;
+use cg_help::beside::{Beside, beside_lines};
 use cg_help::help::{Seen, help_text};
-use cg_help::modes::{Spelled, mode_line};
 use std::alloc::Global;
 use std::io;
 use std::io::{ErrorKind, Read, Write};
@@ -26,6 +26,11 @@ use streams::write::write_whole;
 
 /// The status of a fault.
 const FAULT: u8 = 3;
+
+const NOTHING: Beside = Beside {
+    mode: None,
+    stranger: None,
+};
 
 /// How the program ended.
 #[derive(Drop)]
@@ -48,12 +53,12 @@ pub fn run_program<F: Files, I: Read + Drop, W: Write + Drop, E: Write + Drop>(
     out: W,
     errors: E,
 ) -> Ended<W, E>
-    ensures { (answer : Result ℕ Fault) × (mode : Option Spelled) × (result.status ≡ exit_status answer)
-        × Tells answer mode (E.contents errors) (E.contents result.errors)
+    ensures { (answer : Result ℕ Fault) × (beside : Beside) × (result.status ≡ exit_status answer)
+        × Tells answer beside (E.contents errors) (E.contents result.errors)
         × MatchOption result.out (answer ≡ Err (Cli MemoryFault)) (λ below. MatchResult words
         (λ words. (written : Result (Unit {0}) WriteFailed) × RunsTo (map string_bytes words.items) (F.given files.now)
         (I.remaining input) (W.contents out) (W.contents below) answer written
-        × IsBeside (map string_bytes words.items) (F.given files.now) (I.remaining input) answer mode)
+        × IsBeside (map string_bytes words.items) (F.given files.now) (I.remaining input) answer beside)
         (λ error. Keeps (W.contents out) (W.contents below)
         × IsErrAnd answer (λ fault. ((fault ≡ UsageFault) × (error_kind error ≢ ErrorKind.OutOfMemory))
         ⊎ ((fault ≡ Cli MemoryFault) × (error_kind error ≡ ErrorKind.OutOfMemory))))) }
@@ -68,7 +73,7 @@ pub fn run_program<F: Files, I: Read + Drop, W: Write + Drop, E: Write + Drop>(
                 line: None,
             };
             let fault = Fault::of_words(error);
-            let status = status_told(alloc, files, Err(fault), unseen, None, &mut errors);
+            let status = status_told(alloc, files, Err(fault), unseen, NOTHING, &mut errors);
             return Ended {
                 status,
                 out: Some(out),
@@ -79,7 +84,7 @@ pub fn run_program<F: Files, I: Read + Drop, W: Write + Drop, E: Write + Drop>(
     let mut input = Kept::new(alloc, input);
     let mut noted = Noted {
         line: None,
-        mode: None,
+        beside: NOTHING,
     };
     let ended = run(alloc, words.as_slice(), files, &mut input, &mut noted, out);
     let seen = Seen {
@@ -87,8 +92,8 @@ pub fn run_program<F: Files, I: Read + Drop, W: Write + Drop, E: Write + Drop>(
         input: input.whole(),
         line: noted.line.as_ref().map(Vec::as_slice),
     };
-    let mode = noted.mode;
-    let status = status_told(alloc, files, ended.answer, seen, mode, &mut errors);
+    let beside = noted.beside;
+    let status = status_told(alloc, files, ended.answer, seen, beside, &mut errors);
     Ended {
         status,
         out: ended.out,
@@ -96,21 +101,21 @@ pub fn run_program<F: Files, I: Read + Drop, W: Write + Drop, E: Write + Drop>(
     }
 }
 
-/// The status of an answer. Where it is a fault, its line is written, and help below it; else the line of a mode, if there is one.
+/// The status of an answer. Where it is a fault, its line is written, and help below it; else what stands beside an answer.
 fn status_told<F: Files, E: Write>(
     alloc: Global,
     files: &F,
     answer: Result<u8, Fault>,
     seen: Seen<'_, '_, '_>,
-    mode: Option<Spelled>,
+    beside: Beside,
     errors: &mut E,
 ) -> u8
     ensures status { result ≡ exit_status answer }
-    ensures told { Tells answer mode (E.contents errors.old) (E.contents errors.new) }
+    ensures told { Tells answer beside (E.contents errors.old) (E.contents errors.new) }
 {
     match answer {
         Ok(status) => {
-            tell_mode(alloc, mode, errors);
+            tell_beside(alloc, beside, errors);
             status
         }
         Err(fault) => {
@@ -142,12 +147,12 @@ fn tell<F: Files, E: Write>(
     }
 }
 
-/// Writes the line of a mode that is spelled in decimal. Where that fails nothing more is said.
-fn tell_mode<E: Write>(alloc: Global, mode: Option<Spelled>, errors: &mut E)
-    ensures { WritesFront (mode_line mode) (E.contents errors.old) (E.contents errors.new)
+/// Writes what stands beside an answer. Where that fails nothing more is said.
+fn tell_beside<E: Write>(alloc: Global, beside: Beside, errors: &mut E)
+    ensures { WritesFront (beside_lines beside) (E.contents errors.old) (E.contents errors.new)
         ⊎ Keeps (E.contents errors.old) (E.contents errors.new) }
 {
-    if let Ok(line) = mode_line(alloc, mode) {
-        let _ = write_whole(errors, line.as_slice());
+    if let Ok(lines) = beside_lines(alloc, beside) {
+        let _ = write_whole(errors, lines.as_slice());
     }
 }

@@ -2,7 +2,7 @@
 ghost use Rattle.std.specs.Prelude.{◌≡◌, [], map, string_bytes, Err, IfOk, OnOk, IsOk, IsErr, MatchOption};
 ghost use Rattle.std.specs.Io.Buffered.{writer_buffer, writer_contents};
 ghost use Rattle.std.specs.Io.KnownBytes.{Keeps};
-ghost use Rattle.commands.specs.Beside.{IsSpelledFor, IsBeside};
+ghost use Rattle.commands.specs.Beside.{IsNotedFor, IsBeside};
 ghost use Rattle.commands.specs.Runs.{IsFlushed, CarriesOutBuffered, LeadsTo, in_program, TellsWrites, RunsTo};
 ghost use Rattle.commands.specs.declared.fault.Fault.TheVariants.{Cli};
 ghost use Rattle.cg_faults.specs.declared.fault.CliFault.TheVariants.{NoMemory as MemoryFault};
@@ -44,7 +44,7 @@ pub fn run<F: Files, I: Read + Drop, W: Write + Drop>(
         (result.answer ≡ Err (Cli MemoryFault))
         (λ written. RunsTo (map string_bytes words.now) (F.given files.now) (I.remaining input)
         (W.contents out) (W.contents written) result.answer result.written) }
-    ensures beside { IsBeside (map string_bytes words.now) (F.given files.now) (I.remaining input) result.answer noted.new.mode }
+    ensures beside { IsBeside (map string_bytes words.now) (F.given files.now) (I.remaining input) result.answer noted.new.beside }
 {
     let Ok(mut report) = BufWriter::new(alloc, Again { inner: out }) else {
         return Ended {
@@ -80,7 +80,7 @@ fn answered<F: Files, I: Read + Drop, W: Write + Drop>(
         (writer_contents W.contents report.old) (writer_contents W.contents report.new) result.0 }
     ensures tells { TellsWrites result.0 result.1 }
     ensures whole { OnOk result.1 (writer_buffer report.new ≡ []) }
-    ensures beside { IsBeside (map string_bytes words.now) (F.given files.now) (I.remaining input) result.0 noted.new.mode }
+    ensures beside { IsBeside (map string_bytes words.now) (F.given files.now) (I.remaining input) result.0 noted.new.beside }
 {
     match Request::from_words(alloc, words) {
         Err(fault) => (Err(Fault::from(fault)), Ok(())),
@@ -115,7 +115,7 @@ fn reported<F: Files, I: Read + Drop, W: Write + Drop>(
     ensures status { IfOk result.0 (λ status. IsOk result.1) }
     ensures failed { result.0 ≡ Err CliFault.Write → IsErr result.1 }
     ensures whole { OnOk result.1 (writer_buffer report.new ≡ []) }
-    ensures mode { IfOk result.0 (λ _. IsSpelledFor request.now (F.given files.now) (I.remaining input) noted.new.mode) }
+    ensures noted { IfOk result.0 (λ _. IsNotedFor request.now (F.given files.now) (I.remaining input) noted.new.beside) }
 {
     let ended = carried_out(alloc, request, files, input, noted, report);
     flushed(ended, report)

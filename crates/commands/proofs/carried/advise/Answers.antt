@@ -1,6 +1,6 @@
 use Rattle.std.proofs.Common.{◌∙◌, ap, inl, inr}
 use Rattle.cg_help.specs.Modes.{spelled_mode}
-use Rattle.commands.proofs.RequestLaws.{unread_by, spelled_on}
+use Rattle.commands.proofs.RequestLaws.{unread_by, noted_on}
 use Rattle.commands.proofs.carried.advise.Goals as goal
 
 pub returns-in_err-tree-clause-answer : goal.returns-in_err-tree-clause-answer
@@ -16,9 +16,12 @@ returns-in_err-users-clause-answer g c =
 pub returns-clause-answer : goal.returns-clause-answer
 returns-clause-answer g c =
     let said = rw (c.as_slice-3.ensures.value, c.as_slice-4.ensures.value, c.in_ok-users.ensures.ids, c.as_slice-2.ensures.value)
-    at c.advised_by.ensures in
+    at c.advised_by.ensures.answer in
     inl (c.in_ok-tree.tree.items, c.in_ok-tree.ensures.text, said)
 
-pub returns-clause-mode : goal.returns-clause-mode
-returns-clause-mode g c =
-    spelled_on _ c.in_ok-tree.tree.items _ c.in_ok-tree.ensures.text (c.spelled_mode.ensures ∙ ap spelled_mode c.as_slice.ensures.value) _
+pub returns-clause-noted : goal.returns-clause-noted
+returns-clause-noted g c =
+    let first = rw (c.as_slice-3.ensures.value, c.as_slice-4.ensures.value, c.in_ok-users.ensures.ids, c.as_slice-2.ensures.value)
+    at c.advised_by.ensures.stranger in
+    noted_on _ c.in_ok-tree.tree.items _ _ c.in_ok-tree.ensures.text
+    (c.spelled_mode-beside.ensures ∙ ap spelled_mode c.as_slice.ensures.value) _ first

@@ -30,29 +30,29 @@ returns-in-AdvisePairs-clause-answer g c = rw c.in-AdvisePairs.is c.advise_pairs
 pub returns-in-Explain-clause-answer : goal.returns-in-Explain-clause-answer
 returns-in-Explain-clause-answer g c = rw c.in-Explain.is c.explain.ensures.answer
 
-pub returns-in-May-clause-mode : goal.returns-in-May-clause-mode
-returns-in-May-clause-mode g c = rw c.in-May.is c.may.ensures.mode
+pub returns-in-May-clause-noted : goal.returns-in-May-clause-noted
+returns-in-May-clause-noted g c = rw c.in-May.is c.may.ensures.noted
 
-pub returns-in-Check-clause-mode : goal.returns-in-Check-clause-mode
-returns-in-Check-clause-mode g c = rw c.in-Check.is c.check.ensures.mode
+pub returns-in-Check-clause-noted : goal.returns-in-Check-clause-noted
+returns-in-Check-clause-noted g c = rw c.in-Check.is c.check.ensures.noted
 
-pub returns-in-Settle-clause-mode : goal.returns-in-Settle-clause-mode
-returns-in-Settle-clause-mode g c = rw c.in-Settle.is c.settle.ensures.mode
+pub returns-in-Settle-clause-noted : goal.returns-in-Settle-clause-noted
+returns-in-Settle-clause-noted g c = rw c.in-Settle.is c.settle.ensures.noted
 
-pub returns-in-Audit-clause-mode : goal.returns-in-Audit-clause-mode
-returns-in-Audit-clause-mode g c = rw c.in-Audit.is c.audit.ensures.mode
+pub returns-in-Audit-clause-noted : goal.returns-in-Audit-clause-noted
+returns-in-Audit-clause-noted g c = rw c.in-Audit.is c.audit.ensures.noted
 
-pub returns-in-Replay-clause-mode : goal.returns-in-Replay-clause-mode
-returns-in-Replay-clause-mode g c = rw c.in-Replay.is c.replay.ensures.mode
+pub returns-in-Replay-clause-noted : goal.returns-in-Replay-clause-noted
+returns-in-Replay-clause-noted g c = rw c.in-Replay.is c.replay.ensures.noted
 
-pub returns-in-Explain-clause-mode : goal.returns-in-Explain-clause-mode
-returns-in-Explain-clause-mode g c = rw c.in-Explain.is c.explain.ensures.mode
+pub returns-in-Explain-clause-noted : goal.returns-in-Explain-clause-noted
+returns-in-Explain-clause-noted g c = rw c.in-Explain.is c.explain.ensures.noted
 
-pub returns-in-Advise-clause-mode : goal.returns-in-Advise-clause-mode
-returns-in-Advise-clause-mode g c = rw c.in-Advise.is c.advise.ensures.mode
+pub returns-in-Advise-clause-noted : goal.returns-in-Advise-clause-noted
+returns-in-Advise-clause-noted g c = rw c.in-Advise.is c.advise.ensures.noted
 
-pub returns-in-Upgrade-clause-mode : goal.returns-in-Upgrade-clause-mode
-returns-in-Upgrade-clause-mode g c = rw c.in-Upgrade.is c.upgrade.ensures.mode
+pub returns-in-Upgrade-clause-noted : goal.returns-in-Upgrade-clause-noted
+returns-in-Upgrade-clause-noted g c = rw c.in-Upgrade.is c.upgrade.ensures.noted
 
-pub returns-in-AdvisePairs-clause-mode : goal.returns-in-AdvisePairs-clause-mode
-returns-in-AdvisePairs-clause-mode g c = rw c.in-AdvisePairs.is c.advise_pairs.ensures.mode
+pub returns-in-AdvisePairs-clause-noted : goal.returns-in-AdvisePairs-clause-noted
+returns-in-AdvisePairs-clause-noted g c = rw c.in-AdvisePairs.is c.advise_pairs.ensures.noted

@@ -1,6 +1,6 @@
 use Rattle.std.proofs.Common.{◌∙◌, ap, inl, inr}
 use Rattle.cg_help.specs.Modes.{spelled_mode}
-use Rattle.commands.proofs.RequestLaws.{unread_by, spelled_on}
+use Rattle.commands.proofs.RequestLaws.{unread_by, plain_on}
 use Rattle.commands.proofs.carried.replay.Goals as goal
 
 pub returns-in_err-tree-in-Files-clause-answer : goal.returns-in_err-tree-in-Files-clause-answer
@@ -35,20 +35,22 @@ returns-in_ok-tree-in-OtherGiven-clause-answer g c =
     let said = rw c.as_slice-in-OtherGiven-2.ensures.value at c.replayed.ensures in
     rw c.in-OtherGiven.is (inl (c.in_ok-tree-in-OtherGiven.tree.items, c.in_ok-tree-in-OtherGiven.ensures.text, said))
 
-pub returns-in_ok-tree-in-Files-clause-mode : goal.returns-in_ok-tree-in-Files-clause-mode
-returns-in_ok-tree-in-Files-clause-mode g c =
+pub returns-in_ok-tree-in-Files-clause-noted : goal.returns-in_ok-tree-in-Files-clause-noted
+returns-in_ok-tree-in-Files-clause-noted g c =
     rw c.in-Files.is
-    (spelled_on _ c.in_ok-tree-in-Files.tree.items _ c.in_ok-tree-in-Files.ensures.text
-    (c.spelled_mode-noted.ensures ∙ ap spelled_mode c.as_slice.ensures.value) _)
+    (plain_on _ c.in_ok-tree-in-Files.tree.items _ c.in_ok-tree-in-Files.ensures.text
+    (c.plain-noted.ensures.mode ∙ ap spelled_mode c.as_slice.ensures.value) c.plain-noted.ensures.stranger _)
 
-pub returns-in_ok-tree-in-TreeGiven-clause-mode : goal.returns-in_ok-tree-in-TreeGiven-clause-mode
-returns-in_ok-tree-in-TreeGiven-clause-mode g c =
+pub returns-in_ok-tree-in-TreeGiven-clause-noted : goal.returns-in_ok-tree-in-TreeGiven-clause-noted
+returns-in_ok-tree-in-TreeGiven-clause-noted g c =
     rw c.in-TreeGiven.is
-    (spelled_on _ c.in_ok-tree-in-TreeGiven.tree.items _ c.in_ok-tree-in-TreeGiven.ensures.text
-    (c.spelled_mode-noted-in-TreeGiven.ensures ∙ ap spelled_mode c.as_slice-in-TreeGiven.ensures.value) _)
+    (plain_on _ c.in_ok-tree-in-TreeGiven.tree.items _ c.in_ok-tree-in-TreeGiven.ensures.text
+    (c.plain-noted-in-TreeGiven.ensures.mode ∙ ap spelled_mode c.as_slice-in-TreeGiven.ensures.value)
+    c.plain-noted-in-TreeGiven.ensures.stranger _)
 
-pub returns-in_ok-tree-in-OtherGiven-clause-mode : goal.returns-in_ok-tree-in-OtherGiven-clause-mode
-returns-in_ok-tree-in-OtherGiven-clause-mode g c =
+pub returns-in_ok-tree-in-OtherGiven-clause-noted : goal.returns-in_ok-tree-in-OtherGiven-clause-noted
+returns-in_ok-tree-in-OtherGiven-clause-noted g c =
     rw c.in-OtherGiven.is
-    (spelled_on _ c.in_ok-tree-in-OtherGiven.tree.items _ c.in_ok-tree-in-OtherGiven.ensures.text
-    (c.spelled_mode-noted-in-OtherGiven.ensures ∙ ap spelled_mode c.as_slice-in-OtherGiven.ensures.value) _)
+    (plain_on _ c.in_ok-tree-in-OtherGiven.tree.items _ c.in_ok-tree-in-OtherGiven.ensures.text
+    (c.plain-noted-in-OtherGiven.ensures.mode ∙ ap spelled_mode c.as_slice-in-OtherGiven.ensures.value)
+    c.plain-noted-in-OtherGiven.ensures.stranger _)

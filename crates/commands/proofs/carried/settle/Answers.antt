@@ -1,6 +1,6 @@
 use Rattle.std.proofs.Common.{◌∙◌, ap, inl, inr}
 use Rattle.cg_help.specs.Modes.{spelled_mode}
-use Rattle.commands.proofs.RequestLaws.{unread_by, spelled_on}
+use Rattle.commands.proofs.RequestLaws.{unread_by, noted_on}
 use Rattle.commands.proofs.carried.settle.Goals as goal
 
 pub returns-in_err-tree-clause-answer : goal.returns-in_err-tree-clause-answer
@@ -13,6 +13,8 @@ returns-clause-answer g c =
     let said = rw (c.as_slice-2.ensures.value, c.ids.ensures.uid, c.ids.ensures.gids) at c.settle_bytes.ensures.further in
     inl (c.in_ok-tree.tree.items, c.in_ok-tree.ensures.text, said)
 
-pub returns-clause-mode : goal.returns-clause-mode
-returns-clause-mode g c =
-    spelled_on _ c.in_ok-tree.tree.items _ c.in_ok-tree.ensures.text (c.spelled_mode.ensures ∙ ap spelled_mode c.as_slice.ensures.value) _
+pub returns-clause-noted : goal.returns-clause-noted
+returns-clause-noted g c =
+    let first = rw (c.as_slice-2.ensures.value, c.ids.ensures.uid, c.ids.ensures.gids) at c.settle_bytes.ensures.stranger in
+    noted_on _ c.in_ok-tree.tree.items _ _ c.in_ok-tree.ensures.text
+    (c.spelled_mode-beside.ensures ∙ ap spelled_mode c.as_slice.ensures.value) _ first

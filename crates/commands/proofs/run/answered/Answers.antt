@@ -27,4 +27,4 @@ pub returns-in-Ok-clause-beside : goal.returns-in-Ok-clause-beside
 returns-in-Ok-clause-beside g c =
     rw c.of_call.ensures
     (beside_of (map string_bytes c.args.words.now) (g.F.Files.given c.args.files.now) (g.I.Read.remaining c.args.input) c.in-Ok.request
-    c.reported-ended.result.0 c.reported-ended.new.noted.mode c.in-Ok.ensures c.reported-ended.ensures.mode)
+    c.reported-ended.result.0 c.reported-ended.new.noted.beside c.in-Ok.ensures c.reported-ended.ensures.noted)

@@ -1,4 +1,4 @@
-use Rattle.commands.specs.Beside.{IsSpelledFor}
+use Rattle.commands.specs.Beside.{IsNotedFor}
 use Rattle.commands.proofs.BesideLaws.{flushed_keeps}
 use Rattle.commands.proofs.BufferedLaws.{CarriesOut-Keeps}
 use Rattle.commands.proofs.run.reported.Goals as goal
@@ -11,9 +11,9 @@ returns-clause-carried g c = (
   c.flushed.ensures.ended,
 )
 
-pub returns-clause-mode : goal.returns-clause-mode
-returns-clause-mode g c =
+pub returns-clause-noted : goal.returns-clause-noted
+returns-clause-noted g c =
     flushed_keeps
-    (IsSpelledFor c.args.request.now (g.F.Files.given c.args.files.now) (g.I.Read.remaining c.args.input)
-    c.carried_out-ended.new.noted.mode)
-    c.carried_out-ended.result c.flushed.result.0 c.flushed.ensures.ended c.carried_out-ended.ensures.mode
+    (IsNotedFor c.args.request.now (g.F.Files.given c.args.files.now) (g.I.Read.remaining c.args.input)
+    c.carried_out-ended.new.noted.beside)
+    c.carried_out-ended.result c.flushed.result.0 c.flushed.ensures.ended c.carried_out-ended.ensures.noted
