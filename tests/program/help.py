@@ -259,7 +259,8 @@ def strangers():
     a_limit = TREE.replace("value = 4096", "uid = 1001, value = 4096")
     at = ["--subtree", "/c0"]
     check, audit, advise = (["check", "--uid", "1001"], ["audit", "--uid", "1000", "--uid", "1001"], ["advise", "--uid", "1001"])
-    for words in (check, ["settle", *check[1:]], audit, [*audit, "--all"], [*audit, "--settle"], [*audit, "--settle", "--all"], ["explain", *audit[1:]], advise, [*advise, "--settle"], [*check, "--gid", "5"],
+    audits = [audit, [*audit, "--all"], [*audit, "--settle"], [*audit, "--settle", "--all"], ["explain", *audit[1:]]]
+    for words in (check, ["settle", *check[1:]], *audits, advise, [*advise, "--settle"], [*check, "--gid", "5"],
                   [*audit[:3], "--uid", "1001:5,6"]):
         yield Row([*words, *at], None, [said])
         yield Row([*words, *at], None, [said], of_all)

@@ -136,8 +136,8 @@ any_owner : {Live : Type 0} (owner : Live → ℕ) (left : List Live) (uid : ℕ
 any_owner owner [] uid = refl
 any_owner owner (row ∷ left) uid = ap (λ rest. nat_eq (owner row) uid || rest) (any_owner owner left uid)
 
-pub left_all : {Live : Type 0} (owner : Live → ℕ) (known : Known) (entries : List Entry) (live left : List Live) → AreOfEntries known entries []
-    → left ≡ live → AreLeft owner known entries (map owner live) left
+pub left_all : {Live : Type 0} (owner : Live → ℕ) (known : Known) (entries : List Entry) (live left : List Live)
+    → AreOfEntries known entries [] → left ≡ live → AreLeft owner known entries (map owner live) left
 left_all owner known entries live left of is = record {
   uids =
       λ uid. (λ i. (of.uids uid ∙ or_false (list_any (λ entry. nat_eq entry.uid uid) entries)) i
