@@ -36,7 +36,8 @@ OPS = "set /c0 memory.max max\nmove 10 /c0\n"
 CHECK = ["check", "--uid", "1000", "--subtree", "/c0"]
 MAY = ["may", "--uid", "1000", "--pid", "10", "--to", "/c0"]
 REPLAY = ["replay", "--uid", "1000", "--ops", "OPS"]
-
+# what else is asked of a user and a subtree
+OF_TREE = [[*words.split(), *CHECK[1:]] for words in ("settle", "audit", "audit --all", "audit --settle", "explain", "advise", "advise --settle")]
 BOTH = ["both the tree and the operations", "./-"]
 
 
@@ -283,8 +284,7 @@ def modes():
         said = f"mode {mode} is {octal}, since it is decimal: an octal mode begins with 0o, as 0o{mode}"
         yield Row(CHECK, None, [said], edited("mode = 0o644", f"mode={mode}"))
     said = "mode 400 is 0o620"
-    others = (["settle", *CHECK[1:]], ["audit", *CHECK[1:]], ["advise", *CHECK[1:]], MAY, ["upgrade"], REPLAY, [*CHECK, "--tree", "TREE"],
-              [*REPLAY, "--tree", "TREE"])
+    others = (*OF_TREE, MAY, ["upgrade"], REPLAY, [*CHECK, "--tree", "TREE"], [*REPLAY, "--tree", "TREE"])
     for words in others:
         yield Row(words, None, [said], edited("gid = 1000 }", "gid = 1000, mode\t=  400 }"))
     tree = edited("mode = 0o644", "mode = 400")
@@ -303,8 +303,7 @@ def terminals():
     """What is said where standard input is a terminal: what is read from it, where anything is."""
     said = "{} read from this terminal: end {} with Ctrl-D, or name a file with {}"
     tree = said.format("the tree is", "it", "--tree")
-    others = (["settle", *CHECK[1:]], ["audit", *CHECK[1:]], ["advise", *CHECK[1:]], MAY, ["upgrade"], REPLAY)
-    for words in (CHECK, [*CHECK, "--tree", "-"], *others):
+    for words in (CHECK, [*CHECK, "--tree", "-"], *OF_TREE, MAY, ["upgrade"], REPLAY):
         yield Row(words, None, terminal=tree)
     yield Row(subtree("/c9"), "subtree missing", ["the nearest is '/c0'"], terminal=tree)
     ops = said.format("the operations are", "them", "--ops")

@@ -1,5 +1,5 @@
 -- How a terminal is told that it is waited for.
-use Rattle.std.proofs.Common.{◌≡◌, ◌∙◌, ℕ, Bool, true, false, not, List, sym, ap, subst, refl, inl, inr}
+use Rattle.std.proofs.Common.{◌≡◌, ◌∙◌, ℕ, Bool, true, false, List, sym, ap, subst, refl, inl, inr}
 use Rattle.std.specs.Prelude.{Option, Result, Ok, Err, IsErrAnd}
 use Rattle.std.proofs.lemmas.Result.{err_from_is_err_and}
 use Rattle.std.specs.Io.KnownBytes.{Appends}
@@ -12,14 +12,14 @@ use Rattle.cg_help.specs.Waiting.{waiting_line}
 use Rattle.commands.specs.Waiting.{TellsWaiting}
 use Rattle.commands.proofs.RequestLaws.{Keeps-refl}
 
-pub silent : (is_terminal : Bool) (words : List (List ℕ)) (known : Option (List ℕ)) → not is_terminal ≡ true
+pub silent : (is_terminal : Bool) (words : List (List ℕ)) (known : Option (List ℕ)) → is_terminal ≡ false
     → TellsWaiting words is_terminal known known (Ok tt)
 silent true words known shut = let never : ⊥ = cc in absurd never
 silent false words known shut = (refl, Keeps-refl known)
 
 -- what is told of a terminal
 pub heard : (is_terminal : Bool) (words : List (List ℕ)) (old new : Option (List ℕ)) (result : Result (Unit {0}) CliFault)
-    → not is_terminal ≡ false → TellsWaiting words true old new result → TellsWaiting words is_terminal old new result
+    → is_terminal ≡ true → TellsWaiting words true old new result → TellsWaiting words is_terminal old new result
 heard true words old new result terminal told = told
 heard false words old new result terminal told = let never : ⊥ = cc in absurd never
 
@@ -42,4 +42,4 @@ pub told : (words : List (List ℕ)) (asked : Request) (line : List ℕ) (old ne
 told words asked line old new makes said whole = inl (asked, makes, subst (Appends old new) said whole)
 
 pub none : (words : List (List ℕ)) (known : Option (List ℕ)) → IsNone words → TellsWaiting words true known known (Ok tt)
-none words known no = inr (no, Keeps-refl known)
+none words known nothing = inr (nothing, Keeps-refl known)
