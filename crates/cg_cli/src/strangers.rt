@@ -126,11 +126,7 @@ fn first_beside(known: &Known, users: &[User]) -> Option<u32>
 }
 
 /// The uid of a user of whom a tree says nothing.
-pub(crate) fn if_stranger(
-    alloc: Global,
-    tree: &Rows,
-    user: &User,
-) -> Result<Option<u32>, NoMemory>
+pub(crate) fn if_stranger(alloc: Global, tree: &Rows, user: &User) -> Result<Option<u32>, NoMemory>
     ensures { IfOk result (λ stranger. stranger ≡ first_stranger tree.now (user.now ∷ [])) }
 {
     let known = Known::of(alloc, tree)?;

@@ -164,7 +164,14 @@ fn advise<F: Files, I: Read + Drop, W: Write>(
     let tree = tree_text(alloc, files, asked.tree, input)?;
     beside.mode = spelled_mode(tree.as_slice());
     let users = all_ids(alloc, asked.users.as_slice())?;
-    advised_by(alloc, tree.as_slice(), users.as_slice(), asked, &mut beside.stranger, out)
+    advised_by(
+        alloc,
+        tree.as_slice(),
+        users.as_slice(),
+        asked,
+        &mut beside.stranger,
+        out,
+    )
 }
 
 /// Advises on a tree, by its guards alone or looking further.
@@ -306,7 +313,14 @@ fn audit<F: Files, I: Read + Drop, W: Write>(
     let tree = tree_text(alloc, files, asked.tree, input)?;
     beside.mode = spelled_mode(tree.as_slice());
     let users = all_ids(alloc, asked.users.as_slice())?;
-    audited(alloc, tree.as_slice(), users.as_slice(), asked, &mut beside.stranger, out)
+    audited(
+        alloc,
+        tree.as_slice(),
+        users.as_slice(),
+        asked,
+        &mut beside.stranger,
+        out,
+    )
 }
 
 /// Audits a tree, by its guards alone or looking further.
@@ -370,9 +384,10 @@ fn explain<F: Files, I: Read + Drop, W: Write>(
     let tree = tree_text(alloc, files, asked.tree, input)?;
     beside.mode = spelled_mode(tree.as_slice());
     let users = all_ids(alloc, asked.users.as_slice())?;
+    let given = users.as_slice();
     let subtrees = asked.subtrees.as_slice();
     let stranger = &mut beside.stranger;
-    explain_bytes(alloc, tree.as_slice(), users.as_slice(), subtrees, stranger, out)
+    explain_bytes(alloc, tree.as_slice(), given, subtrees, stranger, out)
 }
 
 /// Audits a tree looking further, of which each pair that isn't settled is asked for, or the first.
@@ -438,19 +453,39 @@ fn replay<F: Files, I: Read + Drop, W: Write>(
             let tree = file_text(alloc, files, tree)?;
             noted.beside = plain(tree.as_slice());
             let line = &mut noted.line;
-            replay_file(alloc, tree.as_slice(), Replaying { asked, line }, files, ops, out)
+            replay_file(
+                alloc,
+                tree.as_slice(),
+                Replaying { asked, line },
+                files,
+                ops,
+                out,
+            )
         }
         Sources::TreeGiven(ops) => {
             let tree = tree_text(alloc, files, None, input)?;
             noted.beside = plain(tree.as_slice());
             let line = &mut noted.line;
-            replay_file(alloc, tree.as_slice(), Replaying { asked, line }, files, ops, out)
+            replay_file(
+                alloc,
+                tree.as_slice(),
+                Replaying { asked, line },
+                files,
+                ops,
+                out,
+            )
         }
         Sources::OtherGiven(tree) => {
             let tree = file_text(alloc, files, tree)?;
             noted.beside = plain(tree.as_slice());
             let line = &mut noted.line;
-            replayed(alloc, tree.as_slice(), Replaying { asked, line }, input, out)
+            replayed(
+                alloc,
+                tree.as_slice(),
+                Replaying { asked, line },
+                input,
+                out,
+            )
         }
     }
 }

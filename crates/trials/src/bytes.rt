@@ -49,24 +49,61 @@ impl Call<'_> {
             Call::May(user, pid, to) => may_bytes(alloc, tree, *user, *pid, to, out),
             Call::Check(user, subtree) => check_bytes(alloc, tree, *user, subtree, stranger, out),
             Call::Settle(user, subtree) => settle_bytes(alloc, tree, *user, subtree, stranger, out),
-            Call::Advise(user, subtree) => { advise_bytes(alloc, tree, &[*user], &[*subtree], stranger, out) }
+            Call::Advise(user, subtree) => {
+                advise_bytes(alloc, tree, &[*user], &[*subtree], stranger, out)
+            }
             Call::AdvisePairs(pairs) => advise_pairs_bytes(alloc, tree, pairs.as_slice(), out),
             Call::AdviseSettled(user, subtree) => {
                 advise_settled_bytes(alloc, tree, &[*user], &[*subtree], stranger, out)
             }
-            Call::Explain(user, subtree) => explain_bytes(alloc, tree, &[*user], &[*subtree], stranger, out),
+            Call::Explain(user, subtree) => explain_bytes(
+                alloc,
+                tree,
+                &[*user],
+                &[*subtree],
+                stranger,
+                out,
+            ),
             Call::Upgrade => upgrade_bytes(alloc, tree, out),
             Call::AuditAll(users, subtrees) => {
-                audit_all_bytes(alloc, tree, users.as_slice(), subtrees.as_slice(), stranger, out)
+                audit_all_bytes(
+                    alloc,
+                    tree,
+                    users.as_slice(),
+                    subtrees.as_slice(),
+                    stranger,
+                    out,
+                )
             }
             Call::AuditSettled(users, subtrees) => {
-                audit_settled_bytes(alloc, tree, users.as_slice(), subtrees.as_slice(), stranger, out)
+                audit_settled_bytes(
+                    alloc,
+                    tree,
+                    users.as_slice(),
+                    subtrees.as_slice(),
+                    stranger,
+                    out,
+                )
             }
             Call::AuditAllSettled(users, subtrees) => {
-                audit_all_settled_bytes(alloc, tree, users.as_slice(), subtrees.as_slice(), stranger, out)
+                audit_all_settled_bytes(
+                    alloc,
+                    tree,
+                    users.as_slice(),
+                    subtrees.as_slice(),
+                    stranger,
+                    out,
+                )
             }
             Call::Audit(users, subtrees) => {
-                audit_bytes(alloc, tree, users.as_slice(), subtrees.as_slice(), stranger, out)
+                audit_bytes(
+                    alloc,
+                    tree,
+                    users.as_slice(),
+                    subtrees.as_slice(),
+                    stranger,
+                    out,
+                )
             }
             Call::ReplayBytes(user, subtree, ops) => {
                 replay_bytes(alloc, tree, *user, *subtree, ops.as_slice(), out)

@@ -17,7 +17,7 @@ pub returns-clause-answer : goal.returns-clause-answer
 returns-clause-answer g c =
     let said = rw (
       c.as_slice-3.ensures.value,
-      c.as_slice-4.ensures.value,
+      c.as_slice-given.ensures.value,
       c.in_ok-users.ensures.ids,
       c.as_slice-2.ensures.value,
       c.as_slice-subtrees.ensures.value,
@@ -27,7 +27,7 @@ returns-clause-answer g c =
 
 pub returns-clause-noted : goal.returns-clause-noted
 returns-clause-noted g c =
-    let first = rw (c.as_slice-3.ensures.value, c.as_slice-4.ensures.value, c.in_ok-users.ensures.ids, c.as_slice-2.ensures.value)
+    let first = rw (c.as_slice-3.ensures.value, c.as_slice-given.ensures.value, c.in_ok-users.ensures.ids, c.as_slice-2.ensures.value)
     at c.explain_bytes.ensures.stranger in
     noted_on _ c.in_ok-tree.tree.items _ _ c.in_ok-tree.ensures.text
     (c.spelled_mode-beside.ensures ∙ ap spelled_mode c.as_slice.ensures.value) _ first
