@@ -1,1 +1,3 @@
 pub mod Help
+pub mod Modes
+pub mod Waiting

@@ -6,7 +6,9 @@ use Rattle.arguments.specs.declared.request.Request.{Request}
 use Rattle.cg_faults.specs.declared.fault.CliFault.{CliFault}
 use Rattle.cg_faults.specs.declared.fault.CliFault.TheVariants.{Write, NoMemory}
 use Rattle.streams.specs.declared.write.WriteFailed.{WriteFailed}
-use Rattle.commands.specs.Faults.{Prints}
+use Rattle.cg_help.specs.Modes.{mode_line}
+use Rattle.cg_help.specs.declared.modes.Spelled.{Spelled}
+use Rattle.commands.specs.Faults.{Prints, WritesFront}
 use Rattle.commands.specs.Requests.{Files, CarriesOut}
 use Rattle.commands.specs.declared.fault.Fault.{Fault}
 use Rattle.commands.specs.declared.fault.Fault.TheVariants.{Usage, Cli}
@@ -60,8 +62,13 @@ exit_status (Ok status) = status
 exit_status (Err fault) = 3
 
 -- The line of a fault lies in the second writer, and help may stand below it; or a front of the line, where a write failed.
-abbrev pub Tells : Result ℕ Fault → Option (List ℕ) → Option (List ℕ) → Type 0
-Tells (Ok status) old new = Keeps old new
-Tells (Err fault) old new =
+abbrev pub TellsFault : Fault → Option (List ℕ) → Option (List ℕ) → Type 0
+TellsFault fault old new =
     (line : Option (List ℕ)) × (is_told : Bool) × (help : List ℕ)
     × Prints fault old line is_told × Appends line new help × (is_told ≡ false → help ≡ [])
+
+-- Beside an answer stands the line of a mode, where there is one, and nothing else; or a front of it, where a write failed; or nothing,
+-- where memory was refused.
+abbrev pub Tells : Result ℕ Fault → Option Spelled → Option (List ℕ) → Option (List ℕ) → Type 0
+Tells (Ok status) mode old new = WritesFront (mode_line mode) old new ⊎ Keeps old new
+Tells (Err fault) mode old new = TellsFault fault old new

@@ -7,6 +7,7 @@ ghost use Rattle.cg_cli.specs.FurtherAdvice.{AdvisesFurther};
 ghost use Rattle.cg_cli.specs.Reports.{Reports};
 ghost use Rattle.cg_cli.specs.Upgrades.{Upgrades};
 ghost use Rattle.arguments.specs.Given.{ids_of, ids_of_pair, tree_file, other_file};
+ghost use Rattle.commands.specs.Beside.{IsSpelledIn, IsSpelledFor};
 ghost use Rattle.commands.specs.Requests.{source, name_of, IsTree, may_said, check_said, AdviseSays, GuardsSay, FurtherSay, AuditSays, ExplainSays, OnTree, ReportsOnTree, SettlesOnTree, ArePairs, ReportsOnPairs, OnPairs, replay_said, ReplaysOver, ReplaysOnTree, CarriesOut};
 
 use crate::pairs::{line_at, read_pairs};
@@ -29,6 +30,7 @@ use cg_cli::replay::replay_from;
 use cg_cli::settle::settle_bytes;
 use cg_cli::upgrade::upgrade_bytes;
 use cg_faults::fault::CliFault;
+use cg_help::modes::{Spelled, spelled_mode};
 use std::alloc::Global;
 use std::io::{BufReader, Read, Write};
 use streams::again::Again;
@@ -37,29 +39,39 @@ use streams::line::{LineKept, line_of};
 use streams::read::read_input;
 use streams::write::write_whole;
 
-/// Carries out a request. What no file is named for is read from `input`, and the report goes to `out`. Where an operation line
-/// ends it, `line` is that line, as far as it was read and kept.
+/// What help is made of.
+#[derive(Drop)]
+pub struct Noted {
+    /// The line of operations or pairs that ended a command, as far as it was read and kept.
+    pub line: Option<Vec<u8>>,
+    /// The mode of the tree's text of which something is to be said.
+    pub mode: Option<Spelled>,
+}
+
+/// Carries out a request. What no file is named for is read from `input`, and the report goes to `out`.
 pub(crate) fn carried_out<F: Files, I: Read + Drop, W: Write>(
     alloc: Global,
     request: &Request<'_>,
     files: &F,
     input: I,
-    line: &mut Option<Vec<u8>>,
+    noted: &mut Noted,
     out: &mut W,
 ) -> Result<u8, CliFault>
-    ensures { CarriesOut request.now (F.given files.now) (I.remaining input) (W.contents out.old) (W.contents out.new) result }
+    ensures answer { CarriesOut request.now (F.given files.now) (I.remaining input) (W.contents out.old) (W.contents out.new) result }
+    ensures mode { IfOk result (λ _. IsSpelledFor request.now (F.given files.now) (I.remaining input) noted.new.mode) }
 {
+    noted.mode = None;
     match request {
         Request::Help(help) => shown(alloc, help, out),
-        Request::May(request) => may(alloc, request, files, input, out),
-        Request::Check(request) => check(alloc, request, files, input, out),
-        Request::Settle(request) => settle(alloc, request, files, input, out),
-        Request::Audit(request) => audit(alloc, request, files, input, out),
-        Request::Explain(request) => explain(alloc, request, files, input, out),
-        Request::Advise(request) => advise(alloc, request, files, input, out),
-        Request::AdvisePairs(asked) => advise_pairs(alloc, *asked, files, input, line, out),
-        Request::Replay(asked) => replay(alloc, Replaying { asked, line }, files, input, out),
-        Request::Upgrade(request) => upgrade(alloc, request, files, input, out),
+        Request::May(request) => may(alloc, request, files, input, &mut noted.mode, out),
+        Request::Check(request) => check(alloc, request, files, input, &mut noted.mode, out),
+        Request::Settle(request) => settle(alloc, request, files, input, &mut noted.mode, out),
+        Request::Audit(request) => audit(alloc, request, files, input, &mut noted.mode, out),
+        Request::Explain(request) => explain(alloc, request, files, input, &mut noted.mode, out),
+        Request::Advise(request) => advise(alloc, request, files, input, &mut noted.mode, out),
+        Request::AdvisePairs(asked) => advise_pairs(alloc, *asked, files, input, noted, out),
+        Request::Replay(asked) => replay(alloc, asked, files, input, noted, out),
+        Request::Upgrade(request) => upgrade(alloc, request, files, input, &mut noted.mode, out),
     }
 }
 
@@ -76,12 +88,15 @@ fn may<F: Files, I: Read + Drop, W: Write>(
     asked: &May<'_>,
     files: &F,
     input: I,
+    mode: &mut Option<Spelled>,
     out: &mut W,
 ) -> Result<u8, CliFault>
-    ensures { ReportsOnTree (source (F.given files.now) (name_of asked.now.tree) (I.remaining input)) (may_said asked.now)
+    ensures answer { ReportsOnTree (source (F.given files.now) (name_of asked.now.tree) (I.remaining input)) (may_said asked.now)
         (W.contents out.old) (W.contents out.new) result }
+    ensures mode { IfOk result (λ _. IsSpelledIn (source (F.given files.now) (name_of asked.now.tree) (I.remaining input)) mode.new) }
 {
     let tree = tree_text(alloc, files, asked.tree, input)?;
+    *mode = spelled_mode(tree.as_slice());
     may_bytes(
         alloc,
         tree.as_slice(),
@@ -97,12 +112,15 @@ fn check<F: Files, I: Read + Drop, W: Write>(
     asked: &Check<'_>,
     files: &F,
     input: I,
+    mode: &mut Option<Spelled>,
     out: &mut W,
 ) -> Result<u8, CliFault>
-    ensures { ReportsOnTree (source (F.given files.now) (name_of asked.now.tree) (I.remaining input)) (check_said asked.now)
+    ensures answer { ReportsOnTree (source (F.given files.now) (name_of asked.now.tree) (I.remaining input)) (check_said asked.now)
         (W.contents out.old) (W.contents out.new) result }
+    ensures mode { IfOk result (λ _. IsSpelledIn (source (F.given files.now) (name_of asked.now.tree) (I.remaining input)) mode.new) }
 {
     let tree = tree_text(alloc, files, asked.tree, input)?;
+    *mode = spelled_mode(tree.as_slice());
     check_bytes(alloc, tree.as_slice(), ids(&asked.user), asked.subtree, out)
 }
 
@@ -111,12 +129,15 @@ fn settle<F: Files, I: Read + Drop, W: Write>(
     asked: &Check<'_>,
     files: &F,
     input: I,
+    mode: &mut Option<Spelled>,
     out: &mut W,
 ) -> Result<u8, CliFault>
-    ensures { SettlesOnTree (source (F.given files.now) (name_of asked.now.tree) (I.remaining input)) asked.now
+    ensures answer { SettlesOnTree (source (F.given files.now) (name_of asked.now.tree) (I.remaining input)) asked.now
         (W.contents out.old) (W.contents out.new) result }
+    ensures mode { IfOk result (λ _. IsSpelledIn (source (F.given files.now) (name_of asked.now.tree) (I.remaining input)) mode.new) }
 {
     let tree = tree_text(alloc, files, asked.tree, input)?;
+    *mode = spelled_mode(tree.as_slice());
     settle_bytes(alloc, tree.as_slice(), ids(&asked.user), asked.subtree, out)
 }
 
@@ -125,13 +146,16 @@ fn advise<F: Files, I: Read + Drop, W: Write>(
     asked: &Advise<'_>,
     files: &F,
     input: I,
+    mode: &mut Option<Spelled>,
     out: &mut W,
 ) -> Result<u8, CliFault>
-    ensures { OnTree (source (F.given files.now) (name_of asked.now.tree) (I.remaining input))
+    ensures answer { OnTree (source (F.given files.now) (name_of asked.now.tree) (I.remaining input))
         (AdviseSays asked.now (W.contents out.old) (W.contents out.new) result)
         (W.contents out.old) (W.contents out.new) result }
+    ensures mode { IfOk result (λ _. IsSpelledIn (source (F.given files.now) (name_of asked.now.tree) (I.remaining input)) mode.new) }
 {
     let tree = tree_text(alloc, files, asked.tree, input)?;
+    *mode = spelled_mode(tree.as_slice());
     let users = all_ids(alloc, asked.users.as_slice())?;
     advised_by(alloc, tree.as_slice(), users.as_slice(), asked, out)
 }
@@ -158,25 +182,27 @@ fn advised_by<W: Write>(
     }
 }
 
-/// Advises on the pairs of a text. Where one of its lines ends it, `line` is that line.
+/// Advises on the pairs of a text. Where one of its lines ends it, that line is noted.
 fn advise_pairs<F: Files, I: Read + Drop, W: Write>(
     alloc: Global,
     asked: AdvisePairs<'_>,
     files: &F,
     input: I,
-    line: &mut Option<Vec<u8>>,
+    noted: &mut Noted,
     out: &mut W,
 ) -> Result<u8, CliFault>
-    ensures { OnPairs (source (F.given files.now) (tree_file asked.entry.sources) (I.remaining input))
+    ensures answer { OnPairs (source (F.given files.now) (tree_file asked.entry.sources) (I.remaining input))
         (source (F.given files.now) (other_file asked.entry.sources) (I.remaining input))
         (W.contents out.old) (W.contents out.new) result }
+    ensures mode { IfOk result (λ _. IsSpelledIn (source (F.given files.now) (tree_file asked.entry.sources) (I.remaining input)) noted.new.mode) }
 {
     let texts = both_texts(alloc, asked.sources, files, input)?;
+    noted.mode = spelled_mode(texts.tree.as_slice());
     advised(
         alloc,
         texts.tree.as_slice(),
         texts.other.as_slice(),
-        line,
+        &mut noted.line,
         out,
     )
 }
@@ -260,13 +286,16 @@ fn audit<F: Files, I: Read + Drop, W: Write>(
     asked: &Audit<'_>,
     files: &F,
     input: I,
+    mode: &mut Option<Spelled>,
     out: &mut W,
 ) -> Result<u8, CliFault>
-    ensures { OnTree (source (F.given files.now) (name_of asked.now.tree) (I.remaining input))
+    ensures answer { OnTree (source (F.given files.now) (name_of asked.now.tree) (I.remaining input))
         (AuditSays asked.now (W.contents out.old) (W.contents out.new) result)
         (W.contents out.old) (W.contents out.new) result }
+    ensures mode { IfOk result (λ _. IsSpelledIn (source (F.given files.now) (name_of asked.now.tree) (I.remaining input)) mode.new) }
 {
     let tree = tree_text(alloc, files, asked.tree, input)?;
+    *mode = spelled_mode(tree.as_slice());
     let users = all_ids(alloc, asked.users.as_slice())?;
     audited(alloc, tree.as_slice(), users.as_slice(), asked, out)
 }
@@ -317,13 +346,16 @@ fn explain<F: Files, I: Read + Drop, W: Write>(
     asked: &Explain<'_>,
     files: &F,
     input: I,
+    mode: &mut Option<Spelled>,
     out: &mut W,
 ) -> Result<u8, CliFault>
-    ensures { OnTree (source (F.given files.now) (name_of asked.now.tree) (I.remaining input))
+    ensures answer { OnTree (source (F.given files.now) (name_of asked.now.tree) (I.remaining input))
         (ExplainSays asked.now (W.contents out.old) (W.contents out.new) result)
         (W.contents out.old) (W.contents out.new) result }
+    ensures mode { IfOk result (λ _. IsSpelledIn (source (F.given files.now) (name_of asked.now.tree) (I.remaining input)) mode.new) }
 {
     let tree = tree_text(alloc, files, asked.tree, input)?;
+    *mode = spelled_mode(tree.as_slice());
     let users = all_ids(alloc, asked.users.as_slice())?;
     let subtrees = asked.subtrees.as_slice();
     explain_bytes(alloc, tree.as_slice(), users.as_slice(), subtrees, out)
@@ -353,12 +385,15 @@ fn upgrade<F: Files, I: Read + Drop, W: Write>(
     asked: &Upgrade<'_>,
     files: &F,
     input: I,
+    mode: &mut Option<Spelled>,
     out: &mut W,
 ) -> Result<u8, CliFault>
-    ensures { OnTree (source (F.given files.now) (name_of asked.now.tree) (I.remaining input))
+    ensures answer { OnTree (source (F.given files.now) (name_of asked.now.tree) (I.remaining input))
         (Upgrades (W.contents out.old) (W.contents out.new) result) (W.contents out.old) (W.contents out.new) result }
+    ensures mode { IfOk result (λ _. IsSpelledIn (source (F.given files.now) (name_of asked.now.tree) (I.remaining input)) mode.new) }
 {
     let tree = tree_text(alloc, files, asked.tree, input)?;
+    *mode = spelled_mode(tree.as_slice());
     upgrade_bytes(alloc, tree.as_slice(), out)
 }
 
@@ -371,27 +406,35 @@ struct Replaying<'r, 'a> {
 
 fn replay<F: Files, I: Read + Drop, W: Write>(
     alloc: Global,
-    of: Replaying<'_, '_>,
+    asked: &Replay<'_>,
     files: &F,
     input: I,
+    noted: &mut Noted,
     out: &mut W,
 ) -> Result<u8, CliFault>
-    ensures { ReplaysOnTree (source (F.given files.now) (tree_file of.entry.asked.now.sources) (I.remaining input))
-        (source (F.given files.now) (other_file of.entry.asked.now.sources) (I.remaining input)) (replay_said of.entry.asked.now)
+    ensures answer { ReplaysOnTree (source (F.given files.now) (tree_file asked.now.sources) (I.remaining input))
+        (source (F.given files.now) (other_file asked.now.sources) (I.remaining input)) (replay_said asked.now)
         (W.contents out.old) (W.contents out.new) result }
+    ensures mode { IfOk result (λ _. IsSpelledIn (source (F.given files.now) (tree_file asked.now.sources) (I.remaining input)) noted.new.mode) }
 {
-    match of.asked.sources {
+    match asked.sources {
         Sources::Files(tree, ops) => {
             let tree = file_text(alloc, files, tree)?;
-            replay_file(alloc, tree.as_slice(), of, files, ops, out)
+            noted.mode = spelled_mode(tree.as_slice());
+            let line = &mut noted.line;
+            replay_file(alloc, tree.as_slice(), Replaying { asked, line }, files, ops, out)
         }
         Sources::TreeGiven(ops) => {
             let tree = tree_text(alloc, files, None, input)?;
-            replay_file(alloc, tree.as_slice(), of, files, ops, out)
+            noted.mode = spelled_mode(tree.as_slice());
+            let line = &mut noted.line;
+            replay_file(alloc, tree.as_slice(), Replaying { asked, line }, files, ops, out)
         }
         Sources::OtherGiven(tree) => {
             let tree = file_text(alloc, files, tree)?;
-            replayed(alloc, tree.as_slice(), of, input, out)
+            noted.mode = spelled_mode(tree.as_slice());
+            let line = &mut noted.line;
+            replayed(alloc, tree.as_slice(), Replaying { asked, line }, input, out)
         }
     }
 }
