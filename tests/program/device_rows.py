@@ -207,10 +207,10 @@ def tree_faults(folder):
 
 
 def spelled(program, folder):
-    """Answers beside which help stands, of a mode that is spelled in decimal."""
+    """Answers beside which help stands, of a mode that is spelled in decimal. In format 1 none like that is one."""
     tree = f"{folder}/spelled.toml"
     with open(tree, "w", encoding="ascii") as file:
-        file.write(BASE + '[[cgroup]]\npath = "/a"\ndir = { uid = 1000, mode = 440 }\n')
+        file.write(BASE.replace("format = 1", "format = 2") + '[[cgroup]]\npath = "/a"\ndir = { uid = 1000, mode = 440 }\n')
     for words in ("check --uid 1000 --subtree /a", "audit --all --uid 1000 --subtree /a", "replay --uid 1000 --subtree /a --ops - --tree {tree}"):
         words = words.format(tree=tree).split()
         yield asked(program, words[0], words, None if "--tree" in words else tree, 0)

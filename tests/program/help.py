@@ -305,6 +305,7 @@ def terminals():
     tree = said.format("the tree is", "it", "--tree")
     for words in (CHECK, [*CHECK, "--tree", "-"], *OF_TREE, MAY, ["upgrade"], REPLAY):
         yield Row(words, None, terminal=tree)
+    yield Row(CHECK, None, ["mode 400 is 0o620"], edited("mode = 0o644", "mode = 400"), terminal=tree)
     yield Row(subtree("/c9"), "subtree missing", ["the nearest is '/c0'"], terminal=tree)
     ops = said.format("the operations are", "them", "--ops")
     yield Row([*REPLAY[:4], "-", "--tree", "TREE"], None, input=OPS, terminal=ops)
