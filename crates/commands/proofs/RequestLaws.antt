@@ -41,5 +41,5 @@ plain_on known text beside is mode none result = on_answer {P = IsPlain known be
 pub noted_on : (known : Option (List ℕ)) (text : List ℕ) (given : List (ℕ × List ℕ)) (beside : Beside) → IsTree known text
     → beside.mode ≡ spelled_mode text → (result : Result ℕ CliFault) → IsFirstStranger text given result beside.stranger
     → IfOk result (λ _. IsNoted known given beside)
-noted_on known text given beside is mode (Ok status) first = (text, is, mode, first)
+noted_on known text given beside is mode (Ok status) first = (text, is, (mode, first))
 noted_on known text given beside is mode (Err fault) first = tt

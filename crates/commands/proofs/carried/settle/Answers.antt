@@ -10,11 +10,11 @@ returns-in_err-tree-clause-answer g c =
 
 pub returns-clause-answer : goal.returns-clause-answer
 returns-clause-answer g c =
-    let said = rw (c.as_slice-2.ensures.value, c.ids.ensures.uid, c.ids.ensures.gids) at c.settle_bytes.ensures.further in
+    let said = rw (c.as_slice-2.ensures.value, c.ids-user.ensures.uid, c.ids-user.ensures.gids) at c.settle_bytes.ensures.further in
     inl (c.in_ok-tree.tree.items, c.in_ok-tree.ensures.text, said)
 
 pub returns-clause-noted : goal.returns-clause-noted
 returns-clause-noted g c =
-    let first = rw (c.as_slice-2.ensures.value, c.ids.ensures.uid, c.ids.ensures.gids) at c.settle_bytes.ensures.stranger in
+    let first = rw (c.as_slice-2.ensures.value, c.ids-user.ensures.uid, c.ids-user.ensures.gids) at c.settle_bytes.ensures.stranger in
     noted_on _ c.in_ok-tree.tree.items _ _ c.in_ok-tree.ensures.text
     (c.spelled_mode-beside.ensures ∙ ap spelled_mode c.as_slice.ensures.value) _ first
