@@ -1,4 +1,5 @@
-use Rattle.std.proofs.Common.{◌∙◌, ap, inl, inr}
+use Rattle.std.proofs.Common.{◌∙◌, map, ap, inl, inr}
+use Rattle.arguments.specs.Given.{ids_of}
 use Rattle.cg_help.specs.Modes.{spelled_mode}
 use Rattle.commands.proofs.RequestLaws.{unread_by, noted_on}
 use Rattle.commands.proofs.carried.explain.Goals as goal
@@ -29,5 +30,6 @@ pub returns-clause-noted : goal.returns-clause-noted
 returns-clause-noted g c =
     let first = rw (c.as_slice-3.ensures.value, c.as_slice-given.ensures.value, c.in_ok-users.ensures.ids, c.as_slice-2.ensures.value)
     at c.explain_bytes.ensures.stranger in
-    noted_on _ c.in_ok-tree.tree.items _ _ c.in_ok-tree.ensures.text
+    noted_on _ c.in_ok-tree.tree.items (map ids_of c.args.asked.now.users.items)
+    (record { mode = c.spelled_mode-beside.result; stranger = c.explain_bytes.new.stranger }) c.in_ok-tree.ensures.text
     (c.spelled_mode-beside.ensures ∙ ap spelled_mode c.as_slice.ensures.value) _ first

@@ -1,4 +1,5 @@
-use Rattle.std.proofs.Common.{◌∙◌, ap, inl, inr}
+use Rattle.std.proofs.Common.{◌∙◌, [], ◌∷◌, ap, inl, inr}
+use Rattle.arguments.specs.Given.{ids_of}
 use Rattle.cg_help.specs.Modes.{spelled_mode}
 use Rattle.commands.proofs.RequestLaws.{unread_by, noted_on}
 use Rattle.commands.proofs.carried.settle.Goals as goal
@@ -16,5 +17,6 @@ returns-clause-answer g c =
 pub returns-clause-noted : goal.returns-clause-noted
 returns-clause-noted g c =
     let first = rw (c.as_slice-2.ensures.value, c.ids-user.ensures.uid, c.ids-user.ensures.gids) at c.settle_bytes.ensures.stranger in
-    noted_on _ c.in_ok-tree.tree.items _ _ c.in_ok-tree.ensures.text
+    noted_on _ c.in_ok-tree.tree.items (ids_of c.args.asked.now.user ∷ [])
+    (record { mode = c.spelled_mode-beside.result; stranger = c.settle_bytes.new.stranger }) c.in_ok-tree.ensures.text
     (c.spelled_mode-beside.ensures ∙ ap spelled_mode c.as_slice.ensures.value) _ first
