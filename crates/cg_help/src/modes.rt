@@ -35,7 +35,11 @@ pub fn spelled_mode(text: &[u8]) -> Option<Spelled>
 fn mode_outside(is_comment: bool, text: &[u8]) -> Option<Spelled>
     ensures { result ≡ cond is_comment None (mode_at text.now) }
 {
-    if is_comment { None } else { mode_at(text) }
+    // most bytes begin no key, and the whole text is gone over
+    match text {
+        [b'm', ..] if !is_comment => mode_at(text),
+        _ => None,
+    }
 }
 
 /// Whether what stands behind a byte is of a comment.
