@@ -17,13 +17,20 @@ class Ended:
 
     @property
     def fault(self):
-        """The first line of standard error, or nothing."""
-        return self.errors.partition(b"\n")[0].decode("utf-8", "replace")
+        """The first line of standard error that isn't help, or nothing."""
+        return next((line for line in self.lines if not line.startswith("  ")), "")
 
     @property
     def help(self):
-        """What stands below the fault's line."""
-        return self.errors.decode("utf-8", "replace").splitlines()[1:]
+        """What stands beside the fault's line."""
+        lines = self.lines
+        if self.fault:
+            lines.remove(self.fault)
+        return lines
+
+    @property
+    def lines(self):
+        return self.errors.decode("utf-8", "replace").splitlines()
 
 
 @dataclass(frozen=True)

@@ -174,13 +174,14 @@ def knows(program, words):
 def asked(program, command, words, tree, status):
     """A row of what the program writes where nothing fails: of a command with this status."""
     got = ended(program, words, tree)
-    return Row(command, words, tree, got.stdout, got.stderr if status == 3 else b"", status)
+    return with_help(program, Row(command, words, tree, got.stdout, got.stderr if status == 3 else b"", status))
 
 
-def with_fault(program, row):
-    """A row of a fault, with all that stands behind the fault's line."""
+def with_help(program, row):
+    """A row with the help that stands below the fault's line, or beside an answer."""
     got = ended(program, row.words, row.tree)
-    return row._replace(err=got.stderr) if got.stderr.startswith(row.err) else row
+    is_help = all(line.startswith(b"  ") for line in got.stderr[len(row.err):].splitlines())
+    return row._replace(err=got.stderr) if got.stderr.startswith(row.err) and is_help else row
 
 
 def named(top, folder):
@@ -205,6 +206,16 @@ def tree_faults(folder):
         yield Row(words[0], words, tree, b"", f"fault: tree {fault}\n".encode(), 3)
 
 
+def spelled(program, folder):
+    """Answers beside which help stands, of a mode that is spelled in decimal. In format 1 none like that is one."""
+    tree = f"{folder}/spelled.toml"
+    with open(tree, "w", encoding="ascii") as file:
+        file.write(BASE.replace("format = 1", "format = 2") + '[[cgroup]]\npath = "/a"\ndir = { uid = 1000, mode = 440 }\n')
+    for words in ("check --uid 1000 --subtree /a", "audit --all --uid 1000 --subtree /a", "replay --uid 1000 --subtree /a --ops - --tree {tree}"):
+        words = words.format(tree=tree).split()
+        yield asked(program, words[0], words, None if "--tree" in words else tree, 0)
+
+
 def file_of(top, tree):
     return f"{top}/examples/{tree}.toml"
 
@@ -216,14 +227,16 @@ def rows_of(program, top, folder):
     for tree, words, status, out in ANSWERS:
         file = file_of(top, tree)
         words = words.format(tree=file, **names).split()
-        rows.append(Row(words[0], words, None if "--tree" in words else file, lines(out), b"", status))
+        row = Row(words[0], words, None if "--tree" in words else file, lines(out), b"", status)
+        rows.append(with_help(program, row))
     faults = [*tree_faults(folder)]
     for words, fault, out in FAULTS:
         words = words.format(**names).split()
         command = words[0] if words[0] in COMMANDS else "none"
         faults.append(Row(command, words, file_of(top, "delegation"), lines(out), f"fault: {fault}\n".encode(), 3))
-    rows += [with_fault(program, row) for row in faults]
+    rows += [with_help(program, row) for row in faults]
     rows += [asked(program, "help", words.split(), None, 0) for words in HELP]
+    rows += spelled(program, folder)
     for tree, words, status in ASKED:
         file = file_of(top, tree)
         words = words.format(tree=file, **names).split()

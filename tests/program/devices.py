@@ -85,6 +85,11 @@ def is_front(row, ended):
     return ended.out == b""
 
 
+def line_of(err):
+    """The line of a fault, if any: below it, or beside an answer, stands help, each line behind two blanks."""
+    return b"" if err.startswith(b"  ") else err[:err.find(b"\n") + 1]
+
+
 def is_fault(ended, name):
     return ended.status == FAULT and ended.err.startswith(b"fault: " + name + b"\n")
 
@@ -95,9 +100,11 @@ def is_right_written(row, ended):
     Where the row has a fault, only a write before it can be the fault: one that a full buffer made.
     """
     is_cut = len(ended.out) < len(row.out) and row.out.startswith(ended.out)
-    if is_fault(ended, b"write") and is_cut and (not row.err or len(row.out) > BUFFER):
+    if is_fault(ended, b"write") and is_cut and (not line_of(row.err) or len(row.out) > BUFFER):
         return True
-    if not row.err or ended.status != FAULT:
+    if not line_of(row.err):
+        return ended.status == row.status and ended.out == row.out and row.err.startswith(ended.err)
+    if ended.status != FAULT:
         return False
     return (ended.err == row.err and is_cut) or (ended.out == row.out and row.err.startswith(ended.err))
 
@@ -107,8 +114,8 @@ def is_right(row, call, how, ended):
         return True
     if how in ("short", "interrupted"):
         return False
-    # help below a fault's line comes from a second look, and where that fails there is none, or clap's own word of it
-    line = row.err.partition(b"\n")[0] + b"\n"
+    # where help can't be made there is none, or clap's own word of it
+    line = line_of(row.err)
     if call != "write" and row.err and ended in [Ended(row.status, row.out, line + more) for more in (b"", CLAP_OUT_OF_MEMORY)]:
         return True
     if call == "write":

@@ -62,10 +62,10 @@ def is_right(words, lines):
     ended = subprocess.run([f"{TOP}/zirofen", *words], cwd=TOP, stdin=subprocess.DEVNULL, capture_output=True, text=True)
     faults = [line for line in lines if line.startswith("fault:")]
     wanted = [line for line in lines if line not in faults]
-    # below the line of a fault stands help, which isn't exact
-    said, helped = ended.stderr.splitlines()[:1], ended.stderr.splitlines()[1:]
+    # below the line of a fault, and beside an answer, stands help, which isn't exact
+    said = [line for line in ended.stderr.splitlines() if not line.startswith("  ")]
     written = (ended.stdout.splitlines(), said, ended.returncode)
-    if written == (wanted, faults, status_of(words, lines)) and all(line.startswith("  ") for line in helped):
+    if written == (wanted, faults, status_of(words, lines)):
         return True
     print(f"examples: FAILED: zirofen {shlex.join(words)} ended with status {ended.returncode}; it wrote:")
     print(ended.stdout + ended.stderr, end="")

@@ -1,9 +1,11 @@
 #!/usr/bin/env python3
 """Runs the program on command lines, trees and operations as somebody mistypes them: what is said of each, and what below it.
 
-Usage: tests/program/help.py [PROGRAM]. Without PROGRAM it is ./zirofen. The first line of standard error is exact; below it stand lines of
-help, each two spaces in, that name what is wrong. The last line is 'N passed, M failed'.
+Usage: tests/program/help.py [PROGRAM]. Without PROGRAM it is ./zirofen. The first line of standard error is exact where it is a fault;
+below it stand lines of help, each two spaces in, that name what is wrong. The last line is 'N passed, M failed'.
 """
+import os
+import pty
 import subprocess
 import sys
 import tempfile
@@ -34,20 +36,23 @@ OPS = "set /c0 memory.max max\nmove 10 /c0\n"
 CHECK = ["check", "--uid", "1000", "--subtree", "/c0"]
 MAY = ["may", "--uid", "1000", "--pid", "10", "--to", "/c0"]
 REPLAY = ["replay", "--uid", "1000", "--ops", "OPS"]
-
+# what else is asked of a user and a subtree
+OF_TREE = [[*words.split(), *CHECK[1:]] for words in ("settle", "audit", "audit --all", "audit --settle", "explain", "advise", "advise --settle")]
 BOTH = ["both the tree and the operations", "./-"]
 
 
 @dataclass(frozen=True)
 class Row:
-    """The words of a command line, in which OPS and TREE stand for files of theirs, the fault, and what is told below its line.
-    Standard input gives the tree where nothing else is said."""
+    """The words of a command line, in which OPS and TREE stand for files of theirs, the fault, or None of an answer, and what is told
+    below its line. Standard input gives the tree where nothing else is said."""
     words: list
-    line: str
+    line: str | None
     helps: tuple = ()
     tree: str = TREE
     ops: str = OPS
     input: str = None
+    # what is said of a terminal that gives the input, where one does; nothing where it isn't read
+    terminal: str = None
 
     def ended(self, program):
         with tempfile.TemporaryDirectory() as folder:
@@ -57,17 +62,33 @@ class Row:
                     out.write(text)
             words = [f"{folder}/{word}" if word in names else word for word in self.words]
             given = (self.tree if self.input is None else self.input).encode(errors="surrogateescape")
+            if self.terminal is not None:
+                return at_terminal([program, *words], given, self.terminal, folder)
             ended = subprocess.run([program, *words], input=given, capture_output=True, cwd=folder)
         return Ended(ended.returncode, ended.stdout, ended.stderr)
 
     def failure(self, program):
         ended = self.ended(program)
         wrong = [f"the help has no {word!r}" for word in self.helps if not any(word in line for line in ended.help)]
-        if (ended.status, ended.fault) != (3, f"fault: {self.line}"):
+        if self.line and (ended.status, ended.lines[:1]) != (3, [f"fault: {self.line}"]):
             wrong.append(f"it isn't fault: {self.line}, with status 3")
+        if not self.line and (ended.status == 3 or len(ended.lines) != len(self.helps)):
+            wrong.append("it is a fault, or other help stands beside the answer")
         if not all(line.startswith("  ") and line.isprintable() for line in ended.help):
-            wrong.append("a line below the first isn't two spaces in, or has a byte that acts on a terminal")
+            wrong.append("a line of help isn't two spaces in, or has a byte that acts on a terminal")
         return f"{'; '.join(wrong)}; it ended with status {ended.status} and wrote {ended.errors!r}" if wrong else ""
+
+
+def at_terminal(words, given, said, folder):
+    """Runs a command at a terminal, which it has to tell of first, and returns what it says beside that."""
+    master, slave = pty.openpty()
+    with os.fdopen(master, "wb", buffering=0) as keys, os.fdopen(slave, "rb") as stdin:
+        keys.write(given + b"\x04")
+        ended = subprocess.run(words, stdin=stdin, capture_output=True, cwd=folder, timeout=60)
+    first, _, rest = ended.stderr.partition(b"\n")
+    if said and first != b"  " + said.encode():
+        rest = b"it isn't told of the terminal first: " + ended.stderr
+    return Ended(ended.returncode, ended.stdout, rest if said else ended.stderr)
 
 
 def subtree(path):
@@ -231,6 +252,70 @@ def trees():
     yield row("path = '/c0'", "path = '/c0'\nenabled = ['memory']", "internal-process process 1", "/c0")
 
 
+def strangers():
+    """What is said beside an answer of users of whom the tree says nothing, and of no others."""
+    said = "uid 1001 and its gids own nothing in this tree, write nothing but what all others write, and have no process in it"
+    of_group = TREE.replace("gid = 1000, mode", "gid = 5, mode").replace("0o644", "0o664")
+    of_all, running = TREE.replace("0o644", "0o646"), TREE.replace("pid = 10\nuid = 1000", "pid = 10\nuid = 1001")
+    a_limit = TREE.replace("value = 4096", "uid = 1001, value = 4096")
+    at = ["--subtree", "/c0"]
+    check, audit, advise = (["check", "--uid", "1001"], ["audit", "--uid", "1000", "--uid", "1001"], ["advise", "--uid", "1001"])
+    audits = [audit, [*audit, "--all"], [*audit, "--settle"], [*audit, "--settle", "--all"], ["explain", *audit[1:]]]
+    for words in (check, ["settle", *check[1:]], *audits, advise, [*advise, "--settle"], [*check, "--gid", "5"],
+                  [*audit[:3], "--uid", "1001:5,6"]):
+        yield Row([*words, *at], None, [said])
+        yield Row([*words, *at], None, [said], of_all)
+        for tree in (running, a_limit):
+            yield Row([*words, *at], None, (), tree)
+    yield Row([*check, *at], None, [said], of_group)
+    yield Row([*check, "--gid", "7", "--gid", "5", *at], None, (), of_group)
+    yield Row(["audit", "--uid", "1001:5", *at], None, (), of_group)
+    yield Row(["audit", "--uid", "1002", "--uid", "1001", *at], None, [said.replace("1001", "1002")])
+    yield Row(CHECK, None, ())
+    yield Row(["may", "--uid", "1001", "--pid", "10", "--to", "/c0"], None, ())
+    yield Row(["replay", "--uid", "1001", "--ops", "OPS"], None, ())
+    yield Row([*check, *at], None, [said, "mode 400 is 0o620"], edited("mode = 0o644", "mode = 400"))
+    yield Row([*check, "--subtree", "/c9"], "subtree missing", ["the nearest is '/c0'"])
+
+
+def modes():
+    """What is said beside an answer of a mode that reads as an octal one, as it is spelled: of the first."""
+    for mode, octal in (("400", "0o620"), ("440", "0o670"), ("444", "0o674"), ("500", "0o764")):
+        said = f"mode {mode} is {octal}, since it is decimal: an octal mode begins with 0o, as 0o{mode}"
+        yield Row(CHECK, None, [said], edited("mode = 0o644", f"mode={mode}"))
+    said = "mode 400 is 0o620"
+    others = (*OF_TREE, MAY, ["upgrade"], REPLAY, [*CHECK, "--tree", "TREE"], [*REPLAY, "--tree", "TREE"])
+    for words in others:
+        yield Row(words, None, [said], edited("gid = 1000 }", "gid = 1000, mode\t=  400 }"))
+    tree = edited("mode = 0o644", "mode = 400")
+    yield Row([*REPLAY[:4], "-", "--tree", "TREE"], None, [said], tree, input=OPS)
+    yield Row(["advise", "--pairs", "-", "--tree", "TREE"], None, [said], tree, input="pair 1000 /c0\n")
+    yield Row(CHECK, None, [said], tree.replace("value = 4096", "value = 4096, mode = 500"))
+    for spelled in ("0o400", "420", "493", "0x190", "4_00", "0o620", "64", "50"):
+        yield Row(CHECK, None, (), edited("mode = 0o644", f"mode = {spelled}"))
+    yield Row(CHECK, None, (), edited("files = {", "# mode = 400\nfiles = {"))
+    yield Row(CHECK, None, [said], edited("files = {", "# mode = 500\ndir.mode = 400\nfiles = {").replace("dir = {", "#"))
+    # below a fault its own help alone
+    yield Row(subtree("/c9"), "subtree missing", ["the nearest is '/c0'"], tree)
+
+
+def terminals():
+    """What is said where standard input is a terminal: what is read from it, where anything is."""
+    said = "{} read from this terminal: end {} with Ctrl-D, or name a file with {}"
+    tree = said.format("the tree is", "it", "--tree")
+    for words in (CHECK, [*CHECK, "--tree", "-"], *OF_TREE, MAY, ["upgrade"], REPLAY):
+        yield Row(words, None, terminal=tree)
+    yield Row(CHECK, None, ["mode 400 is 0o620"], edited("mode = 0o644", "mode = 400"), terminal=tree)
+    yield Row(subtree("/c9"), "subtree missing", ["the nearest is '/c0'"], terminal=tree)
+    ops = said.format("the operations are", "them", "--ops")
+    yield Row([*REPLAY[:4], "-", "--tree", "TREE"], None, input=OPS, terminal=ops)
+    pairs = said.format("the pairs are", "them", "--pairs")
+    yield Row(["advise", "--pairs", "-", "--tree", "TREE"], None, input="pair 1000 /c0\n", terminal=pairs)
+    for words in ([*CHECK, "--tree", "TREE"], [*REPLAY, "--tree", "TREE"], ["--help"]):
+        yield Row(words, None, terminal="")
+    yield Row(["chek"], "usage", ["check"], terminal="")
+
+
 def operations():
     def row(ops, line, *helps):
         return Row(REPLAY, line, helps, TREE, ops)
@@ -266,7 +351,7 @@ def operations():
 
 
 def rows(_):
-    yield from (*command_lines(), *arguments(), *trees(), *operations())
+    yield from (*command_lines(), *arguments(), *trees(), *strangers(), *modes(), *terminals(), *operations())
 
 
 if __name__ == "__main__":

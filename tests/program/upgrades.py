@@ -39,9 +39,11 @@ MOST_FAULTS, MOST_SHOWN = 4, 300
 
 
 def run(program, words, text=b""):
-    """How a command ends on a text that is standard input."""
+    """How a command ends on a text that is standard input. What is written has decimal modes, which help speaks of: those lines
+    aren't taken."""
     ended = subprocess.run([program, *words], cwd=TOP, input=text, capture_output=True)
-    return ended.returncode, ended.stdout, ended.stderr
+    said = [line for line in ended.stderr.splitlines(keepends=True) if not line.startswith(b"  mode ")]
+    return ended.returncode, ended.stdout, b"".join(said)
 
 
 def is_entry(entry, *more):

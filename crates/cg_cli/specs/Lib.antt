@@ -4,6 +4,8 @@ pub mod FoundPlaces
 pub mod ListedRows
 pub mod Arguments
 pub mod Reports
+pub mod Strangers
+pub mod Known
 pub mod May
 pub mod Courses
 pub mod Replays

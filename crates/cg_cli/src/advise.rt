@@ -15,6 +15,7 @@ ghost use Rattle.cg_advice.specs.Ways.{pair_of};
 ghost use Rattle.cg_cli.specs.Advising.{contained_line, lines_report, pair_with, all_pairs, advised, advice_report, advise_report};
 ghost use Rattle.cg_cli.specs.Audits.{users_read, paths_read};
 ghost use Rattle.cg_cli.specs.Reports.{Reports};
+ghost use Rattle.cg_cli.specs.Strangers.{IsFirstStranger};
 
 use crate::arguments::UserIds;
 use crate::named::read_named;
@@ -36,6 +37,7 @@ use std::io::Write;
 /// else, with status 1, for each entry that lets one in, where it is met first, a line for each class by which one gets in,
 /// and below the last the changes that mend it for all; then the same of the limits of the subtrees. A user or a subtree
 /// that is named again counts once.
+/// `stranger` is the uid of the first user of whom the tree says nothing.
 ///
 /// # Errors
 /// The first that holds of `Uid` and `Gids` for each user in turn, `BadPath`, `Tree` and `Subtree`, and then nothing is
@@ -45,6 +47,7 @@ pub fn advise_bytes<W: Write>(
     tree: &[u8],
     users: &[UserIds<'_>],
     subtrees: &[&str],
+    stranger: &mut Option<u32>,
     out: &mut W,
 ) -> Result<u8, CliFault>
     ensures report { OnText tree.now (λ read. Reports
@@ -53,8 +56,10 @@ pub fn advise_bytes<W: Write>(
     ensures contained { result ≡ Ok 0 → (st : State) (who : List Identity) (paths : List Names)
         → IsTextOf st tree.now → users_read (map (λ user. (user.uid, user.gids.now)) users.now) ≡ Ok who
         → paths_read (map (λ subtree. subtree.now) subtrees.now) ≡ Ok paths → who ≢ [] → AreContained st who paths }
+    ensures stranger { IsFirstStranger tree.now (map (λ user. (user.uid, user.gids.now)) users.now) result stranger.new }
 {
     let named = read_named(alloc, tree, users, subtrees)?;
+    *stranger = named.stranger;
     let said = advised(
         alloc,
         &named.tree,

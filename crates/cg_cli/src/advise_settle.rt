@@ -9,6 +9,7 @@ ghost use Rattle.cg_format.specs.Readings.{OnText};
 ghost use Rattle.cg_cli.specs.FurtherAdvice.{AdvisesFurther};
 ghost use Rattle.cg_cli.specs.SettledAdvice.{are_held, settled_lines, settled_advice, settled_report, advise_settled_report};
 ghost use Rattle.cg_cli.specs.Reports.{Reports};
+ghost use Rattle.cg_cli.specs.Strangers.{IsFirstStranger};
 
 use crate::advise::{advice, said_of};
 use crate::arguments::UserIds;
@@ -27,6 +28,7 @@ use std::io::Write;
 
 /// Writes what `advise_bytes` does, but `contained` with status 0 also where a guard fails and the second row of guards of each
 /// subtree holds for all users together.
+/// `stranger` is the uid of the first user of whom the tree says nothing.
 ///
 /// # Errors
 /// Those of `advise_bytes`.
@@ -35,6 +37,7 @@ pub fn advise_settled_bytes<W: Write>(
     tree: &[u8],
     users: &[UserIds<'_>],
     subtrees: &[&str],
+    stranger: &mut Option<u32>,
     out: &mut W,
 ) -> Result<u8, CliFault>
     ensures report { OnText tree.now (λ read. Reports
@@ -43,8 +46,10 @@ pub fn advise_settled_bytes<W: Write>(
     ensures further { OnText tree.now (λ read. AdvisesFurther read
         (map (λ user. (user.uid, user.gids.now)) users.now) (map (λ subtree. subtree.now) subtrees.now)
         (W.contents out.old) (W.contents out.new) result) }
+    ensures stranger { IsFirstStranger tree.now (map (λ user. (user.uid, user.gids.now)) users.now) result stranger.new }
 {
     let named = read_named(alloc, tree, users, subtrees)?;
+    *stranger = named.stranger;
     let said = advised(
         alloc,
         &named.tree,

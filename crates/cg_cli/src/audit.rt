@@ -9,6 +9,7 @@ ghost use Rattle.cg_format.specs.Readings.{OnText};
 ghost use Rattle.cg_format.specs.TextOf.{IsTextOf};
 ghost use Rattle.cg_cli.specs.Audits.{users_read, paths_read, audit_status, pairs_report, audit_report};
 ghost use Rattle.cg_cli.specs.Reports.{Reports};
+ghost use Rattle.cg_cli.specs.Strangers.{IsFirstStranger};
 
 use crate::arguments::UserIds;
 use crate::check::status;
@@ -30,6 +31,7 @@ use std::io::Write;
 /// Writes whether every subtree is contained against every user: `contained` with status 0, or the line of the first pair
 /// that isn't, by user and then subtree, and what `check_bytes` writes of it, with its status. A user or a subtree that is
 /// named again is asked once.
+/// `stranger` is the uid of the first user of whom the tree says nothing.
 ///
 /// # Errors
 /// The first that holds of `Uid` and `Gids` for each user in turn, `BadPath`, `Tree` and `Subtree`, and then nothing is
@@ -39,6 +41,7 @@ pub fn audit_bytes<W: Write>(
     tree: &[u8],
     users: &[UserIds<'_>],
     subtrees: &[&str],
+    stranger: &mut Option<u32>,
     out: &mut W,
 ) -> Result<u8, CliFault>
     ensures report { OnText tree.now (λ read. Reports
@@ -47,8 +50,10 @@ pub fn audit_bytes<W: Write>(
     ensures contained { result ≡ Ok 0 → (st : State) (who : List Identity) (paths : List Names)
         → IsTextOf st tree.now → users_read (map (λ user. (user.uid, user.gids.now)) users.now) ≡ Ok who
         → paths_read (map (λ subtree. subtree.now) subtrees.now) ≡ Ok paths → who ≢ [] → AreContained st who paths }
+    ensures stranger { IsFirstStranger tree.now (map (λ user. (user.uid, user.gids.now)) users.now) result stranger.new }
 {
     let named = read_named(alloc, tree, users, subtrees)?;
+    *stranger = named.stranger;
     let said = audited(
         alloc,
         &named.tree,

@@ -14,6 +14,7 @@ ghost use Rattle.cg_cli.specs.Audits.{users_read, paths_read};
 ghost use Rattle.cg_model.specs.Once.{once};
 ghost use Rattle.cg_cli.specs.Once.{same_user};
 ghost use Rattle.cg_cli.specs.AllPairs.{worse, WritesPairs, pairs_found, all_report, ReportsPairs, UnlistedAreContained};
+ghost use Rattle.cg_cli.specs.Strangers.{IsFirstStranger};
 
 use crate::arguments::UserIds;
 use crate::check::status;
@@ -33,6 +34,7 @@ use streams::write::write_whole;
 /// Writes every pair of a user and a subtree that isn't contained, by user and then subtree: the line that names it, and
 /// what `check_bytes` writes of it; or `contained` where there is none. The status is 1 where one escapes, else 2 where
 /// one is unsettled, else 0. A user or a subtree that is named again counts once.
+/// `stranger` is the uid of the first user of whom the tree says nothing.
 ///
 /// # Errors
 /// The first that holds of `Uid` and `Gids` for each user in turn, `BadPath`, `Tree` and `Subtree`, and then nothing is
@@ -43,6 +45,7 @@ pub fn audit_all_bytes<W: Write>(
     tree: &[u8],
     users: &[UserIds<'_>],
     subtrees: &[&str],
+    stranger: &mut Option<u32>,
     out: &mut W,
 ) -> Result<u8, CliFault>
     ensures report { OnText tree.now (λ read. ReportsPairs
@@ -51,8 +54,10 @@ pub fn audit_all_bytes<W: Write>(
     ensures unlisted { IfOk result (λ status. (st : State) (who : List Identity) (paths : List Names)
         → IsTextOf st tree.now → users_read (map (λ user. (user.uid, user.gids.now)) users.now) ≡ Ok who
         → paths_read (map (λ subtree. subtree.now) subtrees.now) ≡ Ok paths → UnlistedAreContained st (once same_user who) (once same_path paths)) }
+    ensures stranger { IsFirstStranger tree.now (map (λ user. (user.uid, user.gids.now)) users.now) result stranger.new }
 {
     let named = read_named(alloc, tree, users, subtrees)?;
+    *stranger = named.stranger;
     let listing = Listing {
         alloc,
         tree: &named.tree,

@@ -18,6 +18,7 @@ ghost use Rattle.cg_cli.specs.Containment.{answer_status};
 ghost use Rattle.cg_cli.specs.FurtherPairs.{first_pair_report, ReportsFirst, ReportsFurther};
 ghost use Rattle.cg_cli.specs.SettledPairs.{ReportsFound, ReportsSettled, SaysFirst, TellsUnsettled};
 ghost use Rattle.cg_cli.specs.SettledRows.{row_pairs, rows_pairs, IsPairLine, IsRowOfLines};
+ghost use Rattle.cg_cli.specs.Strangers.{IsFirstStranger};
 ghost use Rattle.cg_report.specs.AnswerLines.{answer_text, IsShown};
 ghost use Rattle.cg_report.specs.AuditLines.{pair_line};
 
@@ -46,6 +47,7 @@ use streams::write::write_whole;
 /// `check_bytes` writes of such an answer; or `contained` where there is none. A user against whom no list is known isn't listed
 /// where the second row of guards holds for all of these together. The status is 1 where one escapes, else 2 where one is
 /// unsettled, else 0. A user or a subtree that is named again counts once.
+/// `stranger` is the uid of the first user of whom the tree says nothing.
 ///
 /// # Errors
 /// Those of `audit_all_bytes`.
@@ -54,6 +56,7 @@ pub fn audit_all_settled_bytes<W: Write>(
     tree: &[u8],
     users: &[UserIds<'_>],
     subtrees: &[&str],
+    stranger: &mut Option<u32>,
     out: &mut W,
 ) -> Result<u8, CliFault>
     ensures report { OnText tree.now (λ read. ReportsSettled ReportsPairs read
@@ -66,8 +69,10 @@ pub fn audit_all_settled_bytes<W: Write>(
         → IsTextOf st tree.now → users_read (map (λ user. (user.uid, user.gids.now)) users.now) ≡ Ok who
         → paths_read (map (λ subtree. subtree.now) subtrees.now) ≡ Ok paths
         → TellsUnsettled st (once same_user who) (once same_path paths) (W.contents out.old) (W.contents out.new)) }
+    ensures stranger { IsFirstStranger tree.now (map (λ user. (user.uid, user.gids.now)) users.now) result stranger.new }
 {
     let named = read_named(alloc, tree, users, subtrees)?;
+    *stranger = named.stranger;
     write_found(
         alloc,
         &named.tree,
@@ -78,6 +83,7 @@ pub fn audit_all_settled_bytes<W: Write>(
 }
 
 /// Writes the first of these pairs alone, as `audit_bytes` writes one, with its status.
+/// `stranger` is the uid of the first user of whom the tree says nothing.
 ///
 /// # Errors
 /// Those of `audit_bytes`.
@@ -86,6 +92,7 @@ pub fn audit_settled_bytes<W: Write>(
     tree: &[u8],
     users: &[UserIds<'_>],
     subtrees: &[&str],
+    stranger: &mut Option<u32>,
     out: &mut W,
 ) -> Result<u8, CliFault>
     ensures report { OnText tree.now (λ read. ReportsSettled ReportsFirst read
@@ -94,8 +101,10 @@ pub fn audit_settled_bytes<W: Write>(
     ensures further { OnText tree.now (λ read. ReportsFurther ReportsFirst read
         (map (λ user. (user.uid, user.gids.now)) users.now) (map (λ subtree. subtree.now) subtrees.now)
         (W.contents out.old) (W.contents out.new) result) }
+    ensures stranger { IsFirstStranger tree.now (map (λ user. (user.uid, user.gids.now)) users.now) result stranger.new }
 {
     let named = read_named(alloc, tree, users, subtrees)?;
+    *stranger = named.stranger;
     let said = first_said(
         alloc,
         &named.tree,

@@ -1,8 +1,9 @@
 //! Whether a subtree is contained against a user.
-ghost use Rattle.std.specs.Prelude.{◌≡◌};
+ghost use Rattle.std.specs.Prelude.{◌≡◌, ◌∷◌, []};
 ghost use Rattle.cg_format.specs.Readings.{OnText};
 ghost use Rattle.cg_cli.specs.Containment.{answer_status, check_report, subtree_report, MeansContained};
 ghost use Rattle.cg_cli.specs.Reports.{Reports};
+ghost use Rattle.cg_cli.specs.Strangers.{IsFirstStranger};
 
 use crate::arguments::UserIds;
 use crate::question::{Question, ask};
@@ -20,6 +21,7 @@ use std::io::Write;
 
 /// Writes whether the subtree is contained against the user: `contained` with status 0; `escapes` with status 1, and a
 /// line for each operation of a list that breaks it; or `unsettled` with status 2, and the first guard that fails.
+/// Where the tree says nothing of the user, `stranger` is their uid.
 ///
 /// # Errors
 /// The first that holds of `Uid`, `Gids`, `BadPath`, `Tree` and `Subtree`, and then nothing is written; `Write` where a
@@ -29,13 +31,15 @@ pub fn check_bytes<W: Write>(
     tree: &[u8],
     user: UserIds<'_>,
     subtree: &str,
+    stranger: &mut Option<u32>,
     out: &mut W,
 ) -> Result<u8, CliFault>
     ensures report { OnText tree.now (λ read. Reports (check_report read user.entry.uid user.entry.gids.now subtree.now)
         (W.contents out.old) (W.contents out.new) result) }
     ensures contained { MeansContained tree.now user.entry.uid user.entry.gids.now subtree.now result }
+    ensures stranger { IsFirstStranger tree.now ((user.entry.uid, user.entry.gids.now) ∷ []) result stranger.new }
 {
-    ask(alloc, &Containment, tree, user, subtree, out)
+    ask(alloc, &Containment, tree, user, subtree, stranger, out)
 }
 
 /// Whether the subtree is contained.

@@ -7,6 +7,7 @@ ghost use Rattle.cg_model.specs.Guards.{IsSubtree};
 ghost use Rattle.cg_model.specs.WellFormed.{IsWellFormed};
 ghost use Rattle.cg_advice.specs.Ways.{pair_of};
 ghost use Rattle.cg_format.specs.Readings.{OnText};
+ghost use Rattle.cg_cli.specs.Strangers.{IsFirstStranger};
 ghost use Rattle.cg_cli.specs.Explaining.{TellsPair, TellsPairs, pairs_asked, explain_asked, ReportsTold};
 
 use crate::advise::all_pairs;
@@ -30,6 +31,7 @@ use streams::write::write_whole;
 /// that names it; each entry on which a guard stands, and whether it holds; where one doesn't, what the second row of guards asks,
 /// and whether that is so; what the two limits of the subtree count; and the first line of what `settle_bytes` writes. The status is
 /// 1 where one escapes, else 2 where one is unsettled, else 0. A user or a subtree that is named again counts once.
+/// `stranger` is the uid of the first user of whom the tree says nothing.
 ///
 /// # Errors
 /// The first that holds of `Uid` and `Gids` for each user in turn, `BadPath`, `Tree` and `Subtree`, and then nothing is
@@ -40,13 +42,16 @@ pub fn explain_bytes<W: Write>(
     tree: &[u8],
     users: &[UserIds<'_>],
     subtrees: &[&str],
+    stranger: &mut Option<u32>,
     out: &mut W,
 ) -> Result<u8, CliFault>
-    ensures { OnText tree.now (λ read. ReportsTold
+    ensures report { OnText tree.now (λ read. ReportsTold
         (explain_asked read (map (λ user. (user.uid, user.gids.now)) users.now) (map (λ subtree. subtree.now) subtrees.now))
         (W.contents out.old) (W.contents out.new) result) }
+    ensures stranger { IsFirstStranger tree.now (map (λ user. (user.uid, user.gids.now)) users.now) result stranger.new }
 {
     let named = read_named(alloc, tree, users, subtrees)?;
+    *stranger = named.stranger;
     write_told(
         alloc,
         &named.tree,

@@ -19,4 +19,5 @@ mod reading;
 pub mod replay;
 mod report;
 pub mod settle;
+mod strangers;
 pub mod upgrade;

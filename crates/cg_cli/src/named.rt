@@ -1,14 +1,16 @@
 //! Users and subtrees as they are named, each of them once.
-ghost use Rattle.std.specs.Prelude.{◌≡◌, ◌≢◌, map, Err, IfErr, MatchResult};
+ghost use Rattle.std.specs.Prelude.{◌≡◌, ◌≢◌, map, Err, IfOk, IfErr, MatchResult};
 ghost use Rattle.cg_cgroup.specs.Paths.{same_path};
 ghost use Rattle.cg_format.specs.Readings.{Reading, IsReading};
 ghost use Rattle.cg_cli.specs.Asking.{named_read, IsMet, IsKeptOnce};
 ghost use Rattle.cg_cli.specs.Audits.{users_read, paths_read};
 ghost use Rattle.cg_cli.specs.Once.{same_user, IsReadOnce};
+ghost use Rattle.cg_cli.specs.Strangers.{first_stranger};
 ghost use Rattle.cg_faults.specs.declared.fault.CliFault.{CliFault};
 
 use crate::arguments::{UserIds, read_path, read_user};
 use crate::reading::read_tree;
+use crate::strangers::first_stranger;
 use cg_cgroup::path::Path;
 use cg_cgroup::user::User;
 use cg_faults::fault::CliFault;
@@ -22,6 +24,8 @@ pub struct Named {
     pub users: Vec<User>,
     pub subtrees: Vec<Path>,
     pub tree: Rows,
+    /// The uid of the first user of whom the tree says nothing.
+    pub stranger: Option<u32>,
 }
 
 /// Reads all users, then all subtrees, and then the tree.
@@ -31,18 +35,21 @@ pub fn read_named(
     users: &[UserIds<'_>],
     subtrees: &[&str],
 ) -> Result<Named, CliFault>
-    ensures { (read : Reading) → IsReading tree.now read → MatchResult result
+    ensures named { (read : Reading) → IsReading tree.now read → MatchResult result
         (λ named. IsKeptOnce (named_read (map (λ user. (user.uid, user.gids.now)) users.now) (map (λ text. text.now) subtrees.now) read)
         named.users.items named.subtrees.items named.tree)
         (λ fault. IsMet (named_read (map (λ user. (user.uid, user.gids.now)) users.now) (map (λ text. text.now) subtrees.now) read) fault) }
+    ensures stranger { IfOk result (λ named. named.stranger ≡ first_stranger named.tree named.users.items) }
 {
     let users = users_once(alloc, users)?;
     let subtrees = paths_once(alloc, subtrees)?;
     let tree = read_tree(alloc, tree)?;
+    let stranger = first_stranger(alloc, &tree, users.as_slice())?;
     Ok(Named {
         users,
         subtrees,
         tree,
+        stranger,
     })
 }
 

@@ -1,8 +1,10 @@
 //! What is known of a subtree against a user, where check tells less.
+ghost use Rattle.std.specs.Prelude.{◌∷◌, []};
 ghost use Rattle.cg_cli.specs.Settled.{IsSettledFrom};
 ghost use Rattle.cg_format.specs.Readings.{OnText};
 ghost use Rattle.cg_cli.specs.Containment.{MeansContained};
 ghost use Rattle.cg_cli.specs.Settling.{AskedReports, FurtherSays, IsFurther};
+ghost use Rattle.cg_cli.specs.Strangers.{IsFirstStranger};
 
 use crate::answers::settle::settle;
 use crate::arguments::UserIds;
@@ -20,6 +22,7 @@ use std::io::Write;
 
 /// Writes what `check` does, but where that is `unsettled` also `contained`, with status 0, where the second row of guards
 /// holds, or `escapes`, with status 1, and a line for each operation of a list that is planned and breaks the subtree.
+/// Where the tree says nothing of the user, `stranger` is their uid.
 ///
 /// # Errors
 /// The first that holds of `Uid`, `Gids`, `BadPath`, `Tree` and `Subtree`, and then nothing is written; `Write` where a
@@ -29,6 +32,7 @@ pub fn settle_bytes<W: Write>(
     tree: &[u8],
     user: UserIds<'_>,
     subtree: &str,
+    stranger: &mut Option<u32>,
     out: &mut W,
 ) -> Result<u8, CliFault>
     ensures report { OnText tree.now (λ read. AskedReports (FurtherSays IsSettledFrom)
@@ -36,8 +40,9 @@ pub fn settle_bytes<W: Write>(
     ensures further { OnText tree.now (λ read. AskedReports (FurtherSays IsFurther)
         read user.entry.uid user.entry.gids.now subtree.now (W.contents out.old) (W.contents out.new) result) }
     ensures contained { MeansContained tree.now user.entry.uid user.entry.gids.now subtree.now result }
+    ensures stranger { IsFirstStranger tree.now ((user.entry.uid, user.entry.gids.now) ∷ []) result stranger.new }
 {
-    ask(alloc, &Settling, tree, user, subtree, out)
+    ask(alloc, &Settling, tree, user, subtree, stranger, out)
 }
 
 /// What is known of the subtree.

@@ -1,1 +1,4 @@
+pub mod Beside
 pub mod Help
+pub mod Modes
+pub mod Waiting

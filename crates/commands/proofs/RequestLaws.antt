@@ -1,11 +1,15 @@
 -- A command that ends before it has written anything.
 use Rattle.std.proofs.Common.{◌≡◌, ◌∙◌, ℕ, List, refl, ap, inl, inr}
-use Rattle.std.specs.Prelude.{◌⊎◌, Option, Some, None, Result, Err, IsErrAnd}
+use Rattle.std.specs.Prelude.{◌⊎◌, Option, Some, None, Result, Ok, Err, IfOk, IsErrAnd}
 use Rattle.std.proofs.lemmas.Result.{err_from_is_err_and}
 use Rattle.std.specs.Io.KnownBytes.{Keeps}
 use Rattle.cg_faults.specs.declared.fault.CliFault.{CliFault}
 use Rattle.cg_faults.specs.declared.fault.CliFault.TheVariants.{Read, NoMemory}
-use Rattle.commands.specs.Requests.{IsUnread}
+use Rattle.cg_help.specs.Modes.{spelled_mode}
+use Rattle.cg_help.specs.declared.beside.Beside.{Beside}
+use Rattle.cg_cli.specs.Strangers.{IsFirstStranger}
+use Rattle.commands.specs.Beside.{IsNoted, IsPlain}
+use Rattle.commands.specs.Requests.{IsTree, IsUnread}
 
 pub Keeps-refl : (known : Option (List ℕ)) → Keeps known known
 Keeps-refl None = tt
@@ -22,3 +26,20 @@ pub unread_by : (known : Option (List ℕ)) (fault : CliFault) (result : Result 
 unread_by known fault result is early =
     let met = err_from_is_err_and result is in
     unread known fault result (met.1 ∙ ap (λ (it : CliFault). Err it) met.2) early
+
+-- what holds whatever is answered
+on_answer : {P : Type 0} (result : Result ℕ CliFault) → P → IfOk result (λ _. P)
+on_answer (Ok status) holds = holds
+on_answer (Err fault) holds = tt
+
+-- what was noted of a text where no user is asked about
+pub plain_on : (known : Option (List ℕ)) (text : List ℕ) (beside : Beside) → IsTree known text → beside.mode ≡ spelled_mode text
+    → beside.stranger ≡ None → (result : Result ℕ CliFault) → IfOk result (λ _. IsPlain known beside)
+plain_on known text beside is mode none result = on_answer {P = IsPlain known beside} result (text, is, mode, none)
+
+-- and of one on which users were asked about
+pub noted_on : (known : Option (List ℕ)) (text : List ℕ) (given : List (ℕ × List ℕ)) (beside : Beside) → IsTree known text
+    → beside.mode ≡ spelled_mode text → (result : Result ℕ CliFault) → IsFirstStranger text given result beside.stranger
+    → IfOk result (λ _. IsNoted known given beside)
+noted_on known text given beside is mode (Ok status) first = (text, is, (mode, first))
+noted_on known text given beside is mode (Err fault) first = tt

@@ -1,4 +1,6 @@
+pub mod Beside
 pub mod Faults
 pub mod PairLines
 pub mod Requests
 pub mod Runs
+pub mod Waiting

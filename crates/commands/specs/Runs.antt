@@ -6,7 +6,9 @@ use Rattle.arguments.specs.declared.request.Request.{Request}
 use Rattle.cg_faults.specs.declared.fault.CliFault.{CliFault}
 use Rattle.cg_faults.specs.declared.fault.CliFault.TheVariants.{Write, NoMemory}
 use Rattle.streams.specs.declared.write.WriteFailed.{WriteFailed}
-use Rattle.commands.specs.Faults.{Prints}
+use Rattle.cg_help.specs.Beside.{beside_lines}
+use Rattle.cg_help.specs.declared.beside.Beside.{Beside}
+use Rattle.commands.specs.Faults.{Prints, WritesFront}
 use Rattle.commands.specs.Requests.{Files, CarriesOut}
 use Rattle.commands.specs.declared.fault.Fault.{Fault}
 use Rattle.commands.specs.declared.fault.Fault.TheVariants.{Usage, Cli}
@@ -60,8 +62,13 @@ exit_status (Ok status) = status
 exit_status (Err fault) = 3
 
 -- The line of a fault lies in the second writer, and help may stand below it; or a front of the line, where a write failed.
-abbrev pub Tells : Result ℕ Fault → Option (List ℕ) → Option (List ℕ) → Type 0
-Tells (Ok status) old new = Keeps old new
-Tells (Err fault) old new =
+abbrev pub TellsFault : Fault → Option (List ℕ) → Option (List ℕ) → Type 0
+TellsFault fault old new =
     (line : Option (List ℕ)) × (is_told : Bool) × (help : List ℕ)
     × Prints fault old line is_told × Appends line new help × (is_told ≡ false → help ≡ [])
+
+-- Beside an answer stand the lines of what was noted, and nothing else; or a front of them, where a write failed; or nothing, where
+-- memory was refused.
+abbrev pub Tells : Result ℕ Fault → Beside → Option (List ℕ) → Option (List ℕ) → Type 0
+Tells (Ok status) beside old new = WritesFront (beside_lines beside) old new ⊎ Keeps old new
+Tells (Err fault) beside old new = TellsFault fault old new

@@ -1,12 +1,15 @@
 //! A request is carried out: its tree is read, its files are opened, and one call answers.
-ghost use Rattle.std.specs.Prelude.{◌≡◌, ◌⊎◌, ℕ, List, map, Ok, IfOk, IfErr, MatchBool};
+ghost use Rattle.std.specs.Prelude.{◌≡◌, ◌⊎◌, ◌∷◌, ℕ, List, [], map, None, Ok, IfOk, IfErr, MatchBool};
 ghost use Rattle.cg_format.specs.Readings.{OnText};
 ghost use Rattle.cg_cli.specs.Pairs.{pair_given};
 ghost use Rattle.cg_cli.specs.Advising.{advise_report};
 ghost use Rattle.cg_cli.specs.FurtherAdvice.{AdvisesFurther};
 ghost use Rattle.cg_cli.specs.Reports.{Reports};
+ghost use Rattle.cg_cli.specs.Strangers.{IsFirstStranger};
 ghost use Rattle.cg_cli.specs.Upgrades.{Upgrades};
 ghost use Rattle.arguments.specs.Given.{ids_of, ids_of_pair, tree_file, other_file};
+ghost use Rattle.cg_help.specs.Modes.{spelled_mode};
+ghost use Rattle.commands.specs.Beside.{IsNoted, IsPlain, IsNotedFor};
 ghost use Rattle.commands.specs.Requests.{source, name_of, IsTree, may_said, check_said, AdviseSays, GuardsSay, FurtherSay, AuditSays, ExplainSays, OnTree, ReportsOnTree, SettlesOnTree, ArePairs, ReportsOnPairs, OnPairs, replay_said, ReplaysOver, ReplaysOnTree, CarriesOut};
 
 use crate::pairs::{line_at, read_pairs};
@@ -29,6 +32,8 @@ use cg_cli::replay::replay_from;
 use cg_cli::settle::settle_bytes;
 use cg_cli::upgrade::upgrade_bytes;
 use cg_faults::fault::CliFault;
+use cg_help::beside::Beside;
+use cg_help::modes::spelled_mode;
 use std::alloc::Global;
 use std::io::{BufReader, Read, Write};
 use streams::again::Again;
@@ -37,29 +42,41 @@ use streams::line::{LineKept, line_of};
 use streams::read::read_input;
 use streams::write::write_whole;
 
-/// Carries out a request. What no file is named for is read from `input`, and the report goes to `out`. Where an operation line
-/// ends it, `line` is that line, as far as it was read and kept.
+/// What help is made of.
+#[derive(Drop)]
+pub struct Noted {
+    /// The line of operations or pairs that ended a command, as far as it was read and kept.
+    pub line: Option<Vec<u8>>,
+    pub beside: Beside,
+}
+
+/// Carries out a request. What no file is named for is read from `input`, and the report goes to `out`.
 pub(crate) fn carried_out<F: Files, I: Read + Drop, W: Write>(
     alloc: Global,
     request: &Request<'_>,
     files: &F,
     input: I,
-    line: &mut Option<Vec<u8>>,
+    noted: &mut Noted,
     out: &mut W,
 ) -> Result<u8, CliFault>
-    ensures { CarriesOut request.now (F.given files.now) (I.remaining input) (W.contents out.old) (W.contents out.new) result }
+    ensures answer { CarriesOut request.now (F.given files.now) (I.remaining input) (W.contents out.old) (W.contents out.new) result }
+    ensures noted { IfOk result (λ _. IsNotedFor request.now (F.given files.now) (I.remaining input) noted.new.beside) }
 {
+    noted.beside = Beside {
+        mode: None,
+        stranger: None,
+    };
     match request {
         Request::Help(help) => shown(alloc, help, out),
-        Request::May(request) => may(alloc, request, files, input, out),
-        Request::Check(request) => check(alloc, request, files, input, out),
-        Request::Settle(request) => settle(alloc, request, files, input, out),
-        Request::Audit(request) => audit(alloc, request, files, input, out),
-        Request::Explain(request) => explain(alloc, request, files, input, out),
-        Request::Advise(request) => advise(alloc, request, files, input, out),
-        Request::AdvisePairs(asked) => advise_pairs(alloc, *asked, files, input, line, out),
-        Request::Replay(asked) => replay(alloc, Replaying { asked, line }, files, input, out),
-        Request::Upgrade(request) => upgrade(alloc, request, files, input, out),
+        Request::May(request) => may(alloc, request, files, input, &mut noted.beside, out),
+        Request::Check(request) => check(alloc, request, files, input, &mut noted.beside, out),
+        Request::Settle(request) => settle(alloc, request, files, input, &mut noted.beside, out),
+        Request::Audit(request) => audit(alloc, request, files, input, &mut noted.beside, out),
+        Request::Explain(request) => explain(alloc, request, files, input, &mut noted.beside, out),
+        Request::Advise(request) => advise(alloc, request, files, input, &mut noted.beside, out),
+        Request::AdvisePairs(asked) => advise_pairs(alloc, *asked, files, input, noted, out),
+        Request::Replay(asked) => replay(alloc, asked, files, input, noted, out),
+        Request::Upgrade(request) => upgrade(alloc, request, files, input, &mut noted.beside, out),
     }
 }
 
@@ -76,12 +93,15 @@ fn may<F: Files, I: Read + Drop, W: Write>(
     asked: &May<'_>,
     files: &F,
     input: I,
+    beside: &mut Beside,
     out: &mut W,
 ) -> Result<u8, CliFault>
-    ensures { ReportsOnTree (source (F.given files.now) (name_of asked.now.tree) (I.remaining input)) (may_said asked.now)
+    ensures answer { ReportsOnTree (source (F.given files.now) (name_of asked.now.tree) (I.remaining input)) (may_said asked.now)
         (W.contents out.old) (W.contents out.new) result }
+    ensures noted { IfOk result (λ _. IsPlain (source (F.given files.now) (name_of asked.now.tree) (I.remaining input)) beside.new) }
 {
     let tree = tree_text(alloc, files, asked.tree, input)?;
+    *beside = plain(tree.as_slice());
     may_bytes(
         alloc,
         tree.as_slice(),
@@ -97,13 +117,17 @@ fn check<F: Files, I: Read + Drop, W: Write>(
     asked: &Check<'_>,
     files: &F,
     input: I,
+    beside: &mut Beside,
     out: &mut W,
 ) -> Result<u8, CliFault>
-    ensures { ReportsOnTree (source (F.given files.now) (name_of asked.now.tree) (I.remaining input)) (check_said asked.now)
+    ensures answer { ReportsOnTree (source (F.given files.now) (name_of asked.now.tree) (I.remaining input)) (check_said asked.now)
         (W.contents out.old) (W.contents out.new) result }
+    ensures noted { IfOk result (λ _. IsNoted (source (F.given files.now) (name_of asked.now.tree) (I.remaining input)) (ids_of asked.now.user ∷ []) beside.new) }
 {
     let tree = tree_text(alloc, files, asked.tree, input)?;
-    check_bytes(alloc, tree.as_slice(), ids(&asked.user), asked.subtree, out)
+    beside.mode = spelled_mode(tree.as_slice());
+    let (user, stranger) = (ids(&asked.user), &mut beside.stranger);
+    check_bytes(alloc, tree.as_slice(), user, asked.subtree, stranger, out)
 }
 
 fn settle<F: Files, I: Read + Drop, W: Write>(
@@ -111,13 +135,17 @@ fn settle<F: Files, I: Read + Drop, W: Write>(
     asked: &Check<'_>,
     files: &F,
     input: I,
+    beside: &mut Beside,
     out: &mut W,
 ) -> Result<u8, CliFault>
-    ensures { SettlesOnTree (source (F.given files.now) (name_of asked.now.tree) (I.remaining input)) asked.now
+    ensures answer { SettlesOnTree (source (F.given files.now) (name_of asked.now.tree) (I.remaining input)) asked.now
         (W.contents out.old) (W.contents out.new) result }
+    ensures noted { IfOk result (λ _. IsNoted (source (F.given files.now) (name_of asked.now.tree) (I.remaining input)) (ids_of asked.now.user ∷ []) beside.new) }
 {
     let tree = tree_text(alloc, files, asked.tree, input)?;
-    settle_bytes(alloc, tree.as_slice(), ids(&asked.user), asked.subtree, out)
+    beside.mode = spelled_mode(tree.as_slice());
+    let (user, stranger) = (ids(&asked.user), &mut beside.stranger);
+    settle_bytes(alloc, tree.as_slice(), user, asked.subtree, stranger, out)
 }
 
 fn advise<F: Files, I: Read + Drop, W: Write>(
@@ -125,15 +153,25 @@ fn advise<F: Files, I: Read + Drop, W: Write>(
     asked: &Advise<'_>,
     files: &F,
     input: I,
+    beside: &mut Beside,
     out: &mut W,
 ) -> Result<u8, CliFault>
-    ensures { OnTree (source (F.given files.now) (name_of asked.now.tree) (I.remaining input))
+    ensures answer { OnTree (source (F.given files.now) (name_of asked.now.tree) (I.remaining input))
         (AdviseSays asked.now (W.contents out.old) (W.contents out.new) result)
         (W.contents out.old) (W.contents out.new) result }
+    ensures noted { IfOk result (λ _. IsNoted (source (F.given files.now) (name_of asked.now.tree) (I.remaining input)) (map ids_of asked.now.users.items) beside.new) }
 {
     let tree = tree_text(alloc, files, asked.tree, input)?;
+    beside.mode = spelled_mode(tree.as_slice());
     let users = all_ids(alloc, asked.users.as_slice())?;
-    advised_by(alloc, tree.as_slice(), users.as_slice(), asked, out)
+    advised_by(
+        alloc,
+        tree.as_slice(),
+        users.as_slice(),
+        asked,
+        &mut beside.stranger,
+        out,
+    )
 }
 
 /// Advises on a tree, by its guards alone or looking further.
@@ -142,41 +180,45 @@ fn advised_by<W: Write>(
     tree: &[u8],
     users: &[UserIds<'_>],
     request: &Advise<'_>,
+    stranger: &mut Option<u32>,
     out: &mut W,
 ) -> Result<u8, CliFault>
-    ensures { OnText tree.now (λ read. MatchBool request.now.settle
+    ensures answer { OnText tree.now (λ read. MatchBool request.now.settle
         (AdvisesFurther read (map (λ user. (user.uid, user.gids.now)) users.now) (map (λ subtree. subtree.now) request.now.subtrees.items)
         (W.contents out.old) (W.contents out.new) result)
         (Reports (advise_report read (map (λ user. (user.uid, user.gids.now)) users.now) (map (λ subtree. subtree.now) request.now.subtrees.items))
         (W.contents out.old) (W.contents out.new) result)) }
+    ensures stranger { IsFirstStranger tree.now (map (λ user. (user.uid, user.gids.now)) users.now) result stranger.new }
 {
     let subtrees = request.subtrees.as_slice();
     if request.settle {
-        advise_settled_bytes(alloc, tree, users, subtrees, out)
+        advise_settled_bytes(alloc, tree, users, subtrees, stranger, out)
     } else {
-        advise_bytes(alloc, tree, users, subtrees, out)
+        advise_bytes(alloc, tree, users, subtrees, stranger, out)
     }
 }
 
-/// Advises on the pairs of a text. Where one of its lines ends it, `line` is that line.
+/// Advises on the pairs of a text. Where one of its lines ends it, that line is noted.
 fn advise_pairs<F: Files, I: Read + Drop, W: Write>(
     alloc: Global,
     asked: AdvisePairs<'_>,
     files: &F,
     input: I,
-    line: &mut Option<Vec<u8>>,
+    noted: &mut Noted,
     out: &mut W,
 ) -> Result<u8, CliFault>
-    ensures { OnPairs (source (F.given files.now) (tree_file asked.entry.sources) (I.remaining input))
+    ensures answer { OnPairs (source (F.given files.now) (tree_file asked.entry.sources) (I.remaining input))
         (source (F.given files.now) (other_file asked.entry.sources) (I.remaining input))
         (W.contents out.old) (W.contents out.new) result }
+    ensures noted { IfOk result (λ _. IsPlain (source (F.given files.now) (tree_file asked.entry.sources) (I.remaining input)) noted.new.beside) }
 {
     let texts = both_texts(alloc, asked.sources, files, input)?;
+    noted.beside = plain(texts.tree.as_slice());
     advised(
         alloc,
         texts.tree.as_slice(),
         texts.other.as_slice(),
-        line,
+        &mut noted.line,
         out,
     )
 }
@@ -260,15 +302,25 @@ fn audit<F: Files, I: Read + Drop, W: Write>(
     asked: &Audit<'_>,
     files: &F,
     input: I,
+    beside: &mut Beside,
     out: &mut W,
 ) -> Result<u8, CliFault>
-    ensures { OnTree (source (F.given files.now) (name_of asked.now.tree) (I.remaining input))
+    ensures answer { OnTree (source (F.given files.now) (name_of asked.now.tree) (I.remaining input))
         (AuditSays asked.now (W.contents out.old) (W.contents out.new) result)
         (W.contents out.old) (W.contents out.new) result }
+    ensures noted { IfOk result (λ _. IsNoted (source (F.given files.now) (name_of asked.now.tree) (I.remaining input)) (map ids_of asked.now.users.items) beside.new) }
 {
     let tree = tree_text(alloc, files, asked.tree, input)?;
+    beside.mode = spelled_mode(tree.as_slice());
     let users = all_ids(alloc, asked.users.as_slice())?;
-    audited(alloc, tree.as_slice(), users.as_slice(), asked, out)
+    audited(
+        alloc,
+        tree.as_slice(),
+        users.as_slice(),
+        asked,
+        &mut beside.stranger,
+        out,
+    )
 }
 
 /// Audits a tree, by its guards alone or looking further.
@@ -277,19 +329,21 @@ fn audited<W: Write>(
     tree: &[u8],
     users: &[UserIds<'_>],
     request: &Audit<'_>,
+    stranger: &mut Option<u32>,
     out: &mut W,
 ) -> Result<u8, CliFault>
-    ensures { OnText tree.now (λ read. MatchBool request.now.settle
+    ensures answer { OnText tree.now (λ read. MatchBool request.now.settle
         (FurtherSay request.now.all (map (λ user. (user.uid, user.gids.now)) users.now) (map (λ subtree. subtree.now) request.now.subtrees.items)
         (W.contents out.old) (W.contents out.new) result read)
         (GuardsSay request.now.all (map (λ user. (user.uid, user.gids.now)) users.now) (map (λ subtree. subtree.now) request.now.subtrees.items)
         (W.contents out.old) (W.contents out.new) result read)) }
+    ensures stranger { IsFirstStranger tree.now (map (λ user. (user.uid, user.gids.now)) users.now) result stranger.new }
 {
     let subtrees = request.subtrees.as_slice();
     if request.settle {
-        audited_further(alloc, tree, users, subtrees, request.all, out)
+        audited_further(alloc, tree, users, subtrees, request.all, stranger, out)
     } else {
-        audited_by_guards(alloc, tree, users, subtrees, request.all, out)
+        audited_by_guards(alloc, tree, users, subtrees, request.all, stranger, out)
     }
 }
 
@@ -300,15 +354,17 @@ fn audited_by_guards<W: Write>(
     users: &[UserIds<'_>],
     subtrees: &[&str],
     all: bool,
+    stranger: &mut Option<u32>,
     out: &mut W,
 ) -> Result<u8, CliFault>
-    ensures { OnText tree.now (GuardsSay all (map (λ user. (user.uid, user.gids.now)) users.now) (map (λ subtree. subtree.now) subtrees.now)
+    ensures answer { OnText tree.now (GuardsSay all (map (λ user. (user.uid, user.gids.now)) users.now) (map (λ subtree. subtree.now) subtrees.now)
         (W.contents out.old) (W.contents out.new) result) }
+    ensures stranger { IsFirstStranger tree.now (map (λ user. (user.uid, user.gids.now)) users.now) result stranger.new }
 {
     if all {
-        audit_all_bytes(alloc, tree, users, subtrees, out)
+        audit_all_bytes(alloc, tree, users, subtrees, stranger, out)
     } else {
-        audit_bytes(alloc, tree, users, subtrees, out)
+        audit_bytes(alloc, tree, users, subtrees, stranger, out)
     }
 }
 
@@ -317,16 +373,21 @@ fn explain<F: Files, I: Read + Drop, W: Write>(
     asked: &Explain<'_>,
     files: &F,
     input: I,
+    beside: &mut Beside,
     out: &mut W,
 ) -> Result<u8, CliFault>
-    ensures { OnTree (source (F.given files.now) (name_of asked.now.tree) (I.remaining input))
+    ensures answer { OnTree (source (F.given files.now) (name_of asked.now.tree) (I.remaining input))
         (ExplainSays asked.now (W.contents out.old) (W.contents out.new) result)
         (W.contents out.old) (W.contents out.new) result }
+    ensures noted { IfOk result (λ _. IsNoted (source (F.given files.now) (name_of asked.now.tree) (I.remaining input)) (map ids_of asked.now.users.items) beside.new) }
 {
     let tree = tree_text(alloc, files, asked.tree, input)?;
+    beside.mode = spelled_mode(tree.as_slice());
     let users = all_ids(alloc, asked.users.as_slice())?;
+    let given = users.as_slice();
     let subtrees = asked.subtrees.as_slice();
-    explain_bytes(alloc, tree.as_slice(), users.as_slice(), subtrees, out)
+    let stranger = &mut beside.stranger;
+    explain_bytes(alloc, tree.as_slice(), given, subtrees, stranger, out)
 }
 
 /// Audits a tree looking further, of which each pair that isn't settled is asked for, or the first.
@@ -336,15 +397,17 @@ fn audited_further<W: Write>(
     users: &[UserIds<'_>],
     subtrees: &[&str],
     all: bool,
+    stranger: &mut Option<u32>,
     out: &mut W,
 ) -> Result<u8, CliFault>
-    ensures { OnText tree.now (FurtherSay all (map (λ user. (user.uid, user.gids.now)) users.now) (map (λ subtree. subtree.now) subtrees.now)
+    ensures answer { OnText tree.now (FurtherSay all (map (λ user. (user.uid, user.gids.now)) users.now) (map (λ subtree. subtree.now) subtrees.now)
         (W.contents out.old) (W.contents out.new) result) }
+    ensures stranger { IsFirstStranger tree.now (map (λ user. (user.uid, user.gids.now)) users.now) result stranger.new }
 {
     if all {
-        audit_all_settled_bytes(alloc, tree, users, subtrees, out)
+        audit_all_settled_bytes(alloc, tree, users, subtrees, stranger, out)
     } else {
-        audit_settled_bytes(alloc, tree, users, subtrees, out)
+        audit_settled_bytes(alloc, tree, users, subtrees, stranger, out)
     }
 }
 
@@ -353,12 +416,15 @@ fn upgrade<F: Files, I: Read + Drop, W: Write>(
     asked: &Upgrade<'_>,
     files: &F,
     input: I,
+    beside: &mut Beside,
     out: &mut W,
 ) -> Result<u8, CliFault>
-    ensures { OnTree (source (F.given files.now) (name_of asked.now.tree) (I.remaining input))
+    ensures answer { OnTree (source (F.given files.now) (name_of asked.now.tree) (I.remaining input))
         (Upgrades (W.contents out.old) (W.contents out.new) result) (W.contents out.old) (W.contents out.new) result }
+    ensures noted { IfOk result (λ _. IsPlain (source (F.given files.now) (name_of asked.now.tree) (I.remaining input)) beside.new) }
 {
     let tree = tree_text(alloc, files, asked.tree, input)?;
+    *beside = plain(tree.as_slice());
     upgrade_bytes(alloc, tree.as_slice(), out)
 }
 
@@ -371,27 +437,55 @@ struct Replaying<'r, 'a> {
 
 fn replay<F: Files, I: Read + Drop, W: Write>(
     alloc: Global,
-    of: Replaying<'_, '_>,
+    asked: &Replay<'_>,
     files: &F,
     input: I,
+    noted: &mut Noted,
     out: &mut W,
 ) -> Result<u8, CliFault>
-    ensures { ReplaysOnTree (source (F.given files.now) (tree_file of.entry.asked.now.sources) (I.remaining input))
-        (source (F.given files.now) (other_file of.entry.asked.now.sources) (I.remaining input)) (replay_said of.entry.asked.now)
+    ensures answer { ReplaysOnTree (source (F.given files.now) (tree_file asked.now.sources) (I.remaining input))
+        (source (F.given files.now) (other_file asked.now.sources) (I.remaining input)) (replay_said asked.now)
         (W.contents out.old) (W.contents out.new) result }
+    ensures noted { IfOk result (λ _. IsPlain (source (F.given files.now) (tree_file asked.now.sources) (I.remaining input)) noted.new.beside) }
 {
-    match of.asked.sources {
+    match asked.sources {
         Sources::Files(tree, ops) => {
             let tree = file_text(alloc, files, tree)?;
-            replay_file(alloc, tree.as_slice(), of, files, ops, out)
+            noted.beside = plain(tree.as_slice());
+            let line = &mut noted.line;
+            replay_file(
+                alloc,
+                tree.as_slice(),
+                Replaying { asked, line },
+                files,
+                ops,
+                out,
+            )
         }
         Sources::TreeGiven(ops) => {
             let tree = tree_text(alloc, files, None, input)?;
-            replay_file(alloc, tree.as_slice(), of, files, ops, out)
+            noted.beside = plain(tree.as_slice());
+            let line = &mut noted.line;
+            replay_file(
+                alloc,
+                tree.as_slice(),
+                Replaying { asked, line },
+                files,
+                ops,
+                out,
+            )
         }
         Sources::OtherGiven(tree) => {
             let tree = file_text(alloc, files, tree)?;
-            replayed(alloc, tree.as_slice(), of, input, out)
+            noted.beside = plain(tree.as_slice());
+            let line = &mut noted.line;
+            replayed(
+                alloc,
+                tree.as_slice(),
+                Replaying { asked, line },
+                input,
+                out,
+            )
         }
     }
 }
@@ -439,6 +533,17 @@ fn replayed<O: Read + Drop, W: Write>(
         }
     }
     ended
+}
+
+/// What is noted of a tree's text where no user is asked about.
+fn plain(text: &[u8]) -> Beside
+    ensures mode { result.mode ≡ spelled_mode text.now }
+    ensures stranger { result.stranger ≡ None }
+{
+    Beside {
+        mode: spelled_mode(text),
+        stranger: None,
+    }
 }
 
 /// The user as a call takes them.

@@ -7,7 +7,7 @@ ghost use Rattle.cg_faults.specs.declared.fault.CliFault.TheVariants.{NoMemory a
 
 use arguments::fault::ArgumentsFault;
 use cg_faults::fault::{CliFault, fault_text};
-use std::alloc::{AllocError, Global};
+use std::alloc::Global;
 use std::io;
 use std::io::{ErrorKind, Write};
 use streams::write::write_whole;
@@ -52,22 +52,6 @@ impl Fault {
                 false
             }
         }
-    }
-}
-
-impl From<CliFault> for Fault {
-    ghost from_gives = { λ inner fault. fault ≡ Cli inner };
-
-    fn from(fault: CliFault) -> Fault {
-        Fault::Cli(fault)
-    }
-}
-
-impl From<AllocError> for Fault {
-    ghost from_gives = { λ _ fault. fault ≡ Cli MemoryFault };
-
-    fn from(_failed: AllocError) -> Fault {
-        Fault::Cli(CliFault::NoMemory)
     }
 }
 

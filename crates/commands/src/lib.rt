@@ -6,3 +6,4 @@ pub mod fault;
 mod pairs;
 pub mod program;
 pub mod run;
+pub mod waiting;

@@ -1,15 +1,20 @@
 //! The whole program: what the host gives it in, its status and its streams out.
-ghost use Rattle.std.specs.Prelude.{◌≡◌, ◌≢◌, ◌⊎◌, ℕ, map, string_bytes, Result, Err, IsErrAnd, MatchOption, MatchResult};
+ghost use Rattle.std.specs.Prelude.{◌≡◌, ◌≢◌, ◌⊎◌, ℕ, map, string_bytes, Option, Result, Err, IsErrAnd, MatchOption, MatchResult};
 ghost use Rattle.std.specs.IoError.{error_kind};
 ghost use Rattle.std.specs.Io.KnownBytes.{Keeps};
-ghost use Rattle.commands.specs.Runs.{exit_status, Tells, RunsTo};
+ghost use Rattle.cg_help.specs.Beside.{beside_lines};
+ghost use Rattle.commands.specs.Beside.{IsBeside};
+ghost use Rattle.commands.specs.Faults.{WritesFront};
+ghost use Rattle.commands.specs.Runs.{exit_status, TellsFault, Tells, RunsTo};
 ghost use Rattle.commands.specs.declared.fault.Fault.{Fault};
 ghost use Rattle.commands.specs.declared.fault.Fault.TheVariants.{Cli, Usage as UsageFault};
 ghost use Rattle.streams.specs.declared.write.WriteFailed.{WriteFailed};
 ghost use Rattle.cg_faults.specs.declared.fault.CliFault.TheVariants.{NoMemory as MemoryFault};
 
+use crate::carried::Noted;
 use crate::fault::Fault;
 use crate::run::run;
+use cg_help::beside::{Beside, beside_lines};
 use cg_help::help::{Seen, help_text};
 use std::alloc::Global;
 use std::io;
@@ -21,6 +26,11 @@ use streams::write::write_whole;
 
 /// The status of a fault.
 const FAULT: u8 = 3;
+
+const NOTHING: Beside = Beside {
+    mode: None,
+    stranger: None,
+};
 
 /// How the program ended.
 #[derive(Drop)]
@@ -43,11 +53,12 @@ pub fn run_program<F: Files, I: Read + Drop, W: Write + Drop, E: Write + Drop>(
     out: W,
     errors: E,
 ) -> Ended<W, E>
-    ensures { (answer : Result ℕ Fault) × (result.status ≡ exit_status answer)
-        × Tells answer (E.contents errors) (E.contents result.errors)
+    ensures { (answer : Result ℕ Fault) × (beside : Beside) × (result.status ≡ exit_status answer)
+        × Tells answer beside (E.contents errors) (E.contents result.errors)
         × MatchOption result.out (answer ≡ Err (Cli MemoryFault)) (λ below. MatchResult words
         (λ words. (written : Result (Unit {0}) WriteFailed) × RunsTo (map string_bytes words.items) (F.given files.now)
-        (I.remaining input) (W.contents out) (W.contents below) answer written)
+        (I.remaining input) (W.contents out) (W.contents below) answer written
+        × IsBeside (map string_bytes words.items) (F.given files.now) (I.remaining input) answer beside)
         (λ error. Keeps (W.contents out) (W.contents below)
         × IsErrAnd answer (λ fault. ((fault ≡ UsageFault) × (error_kind error ≢ ErrorKind.OutOfMemory))
         ⊎ ((fault ≡ Cli MemoryFault) × (error_kind error ≡ ErrorKind.OutOfMemory))))) }
@@ -62,7 +73,7 @@ pub fn run_program<F: Files, I: Read + Drop, W: Write + Drop, E: Write + Drop>(
                 line: None,
             };
             let fault = Fault::of_words(error);
-            let status = status_told(alloc, files, Err(fault), unseen, &mut errors);
+            let status = status_told(alloc, files, Err(fault), unseen, NOTHING, &mut errors);
             return Ended {
                 status,
                 out: Some(out),
@@ -71,14 +82,18 @@ pub fn run_program<F: Files, I: Read + Drop, W: Write + Drop, E: Write + Drop>(
         }
     };
     let mut input = Kept::new(alloc, input);
-    let mut line = None;
-    let ended = run(alloc, words.as_slice(), files, &mut input, &mut line, out);
+    let mut noted = Noted {
+        line: None,
+        beside: NOTHING,
+    };
+    let ended = run(alloc, words.as_slice(), files, &mut input, &mut noted, out);
     let seen = Seen {
         words: Some(words.as_slice()),
         input: input.whole(),
-        line: line.as_ref().map(Vec::as_slice),
+        line: noted.line.as_ref().map(Vec::as_slice),
     };
-    let status = status_told(alloc, files, ended.answer, seen, &mut errors);
+    let beside = noted.beside;
+    let status = status_told(alloc, files, ended.answer, seen, beside, &mut errors);
     Ended {
         status,
         out: ended.out,
@@ -86,19 +101,23 @@ pub fn run_program<F: Files, I: Read + Drop, W: Write + Drop, E: Write + Drop>(
     }
 }
 
-/// The status of an answer. Where it is a fault, its line is written, and help below it.
+/// The status of an answer. Where it is a fault, its line is written, and help below it; else what stands beside an answer.
 fn status_told<F: Files, E: Write>(
     alloc: Global,
     files: &F,
     answer: Result<u8, Fault>,
     seen: Seen<'_, '_, '_>,
+    beside: Beside,
     errors: &mut E,
 ) -> u8
     ensures status { result ≡ exit_status answer }
-    ensures told { Tells answer (E.contents errors.old) (E.contents errors.new) }
+    ensures told { Tells answer beside (E.contents errors.old) (E.contents errors.new) }
 {
     match answer {
-        Ok(status) => status,
+        Ok(status) => {
+            tell_beside(alloc, beside, errors);
+            status
+        }
         Err(fault) => {
             tell(alloc, files, fault, seen, errors);
             FAULT
@@ -114,7 +133,7 @@ fn tell<F: Files, E: Write>(
     seen: Seen<'_, '_, '_>,
     errors: &mut E,
 )
-    ensures { Tells (Err fault) (E.contents errors.old) (E.contents errors.new) }
+    ensures { TellsFault fault (E.contents errors.old) (E.contents errors.new) }
 {
     if !fault.print(alloc, errors) {
         return;
@@ -125,5 +144,15 @@ fn tell<F: Files, E: Write>(
     };
     if let Ok(help) = help_text(alloc, files, of_call.as_ref(), seen) {
         let _ = write_whole(errors, help.as_slice());
+    }
+}
+
+/// Writes what stands beside an answer. Where that fails nothing more is said.
+fn tell_beside<E: Write>(alloc: Global, beside: Beside, errors: &mut E)
+    ensures { WritesFront (beside_lines beside) (E.contents errors.old) (E.contents errors.new)
+        ⊎ Keeps (E.contents errors.old) (E.contents errors.new) }
+{
+    if let Ok(lines) = beside_lines(alloc, beside) {
+        let _ = write_whole(errors, lines.as_slice());
     }
 }

@@ -2,11 +2,12 @@
 ghost use Rattle.std.specs.Prelude.{◌≡◌, [], map, string_bytes, Err, IfOk, OnOk, IsOk, IsErr, MatchOption};
 ghost use Rattle.std.specs.Io.Buffered.{writer_buffer, writer_contents};
 ghost use Rattle.std.specs.Io.KnownBytes.{Keeps};
+ghost use Rattle.commands.specs.Beside.{IsNotedFor, IsBeside};
 ghost use Rattle.commands.specs.Runs.{IsFlushed, CarriesOutBuffered, LeadsTo, in_program, TellsWrites, RunsTo};
 ghost use Rattle.commands.specs.declared.fault.Fault.TheVariants.{Cli};
 ghost use Rattle.cg_faults.specs.declared.fault.CliFault.TheVariants.{NoMemory as MemoryFault};
 
-use crate::carried::carried_out;
+use crate::carried::{Noted, carried_out};
 use crate::fault::Fault;
 use arguments::request::Request;
 use cg_faults::fault::CliFault;
@@ -29,20 +30,21 @@ pub struct Ended<W> {
 
 /// Carries out what the words of a command line ask for.
 ///
-/// What no file is named for is read from `input`, and the report goes to `out`, through a buffer. Where an operation line ends
-/// it, `line` is that line, as far as it was read and kept.
+/// What no file is named for is read from `input`, and the report goes to `out`, through a buffer. What help is made of is put into
+/// `noted`.
 pub fn run<F: Files, I: Read + Drop, W: Write + Drop>(
     alloc: Global,
     words: &[String],
     files: &F,
     input: I,
-    line: &mut Option<Vec<u8>>,
+    noted: &mut Noted,
     out: W,
 ) -> Ended<W>
-    ensures { MatchOption result.out
+    ensures answer { MatchOption result.out
         (result.answer ≡ Err (Cli MemoryFault))
         (λ written. RunsTo (map string_bytes words.now) (F.given files.now) (I.remaining input)
         (W.contents out) (W.contents written) result.answer result.written) }
+    ensures beside { IsBeside (map string_bytes words.now) (F.given files.now) (I.remaining input) result.answer noted.new.beside }
 {
     let Ok(mut report) = BufWriter::new(alloc, Again { inner: out }) else {
         return Ended {
@@ -51,7 +53,7 @@ pub fn run<F: Files, I: Read + Drop, W: Write + Drop>(
             out: None,
         };
     };
-    let (answer, written) = answered(alloc, words, files, input, line, &mut report);
+    let (answer, written) = answered(alloc, words, files, input, noted, &mut report);
     // what a write left that failed isn't written again
     let (below, _) = report.into_parts();
     Ended {
@@ -70,7 +72,7 @@ fn answered<F: Files, I: Read + Drop, W: Write + Drop>(
     words: &[String],
     files: &F,
     input: I,
-    line: &mut Option<Vec<u8>>,
+    noted: &mut Noted,
     report: &mut BufWriter<W>,
 ) -> Answered<Fault>
     requires { writer_buffer report.old ≡ [] }
@@ -78,11 +80,12 @@ fn answered<F: Files, I: Read + Drop, W: Write + Drop>(
         (writer_contents W.contents report.old) (writer_contents W.contents report.new) result.0 }
     ensures tells { TellsWrites result.0 result.1 }
     ensures whole { OnOk result.1 (writer_buffer report.new ≡ []) }
+    ensures beside { IsBeside (map string_bytes words.now) (F.given files.now) (I.remaining input) result.0 noted.new.beside }
 {
     match Request::from_words(alloc, words) {
         Err(fault) => (Err(Fault::from(fault)), Ok(())),
         Ok(request) => {
-            let (ended, written) = reported(alloc, &request, files, input, line, report);
+            let (ended, written) = reported(alloc, &request, files, input, noted, report);
             (of_call(ended), written)
         }
     }
@@ -104,7 +107,7 @@ fn reported<F: Files, I: Read + Drop, W: Write + Drop>(
     request: &Request<'_>,
     files: &F,
     input: I,
-    line: &mut Option<Vec<u8>>,
+    noted: &mut Noted,
     report: &mut BufWriter<W>,
 ) -> Answered<CliFault>
     ensures carried { CarriesOutBuffered request.now (F.given files.now) (I.remaining input)
@@ -112,8 +115,9 @@ fn reported<F: Files, I: Read + Drop, W: Write + Drop>(
     ensures status { IfOk result.0 (λ status. IsOk result.1) }
     ensures failed { result.0 ≡ Err CliFault.Write → IsErr result.1 }
     ensures whole { OnOk result.1 (writer_buffer report.new ≡ []) }
+    ensures noted { IfOk result.0 (λ _. IsNotedFor request.now (F.given files.now) (I.remaining input) noted.new.beside) }
 {
-    let ended = carried_out(alloc, request, files, input, line, report);
+    let ended = carried_out(alloc, request, files, input, noted, report);
     flushed(ended, report)
 }
 

@@ -1,4 +1,3 @@
--- How it is read and written: nobody has to believe it.
 -- Bytes as they are shown. Own.
 use Rattle.std.specs.Prelude.{ℕ, ◌+◌, ◌/◌, ◌%◌, ◌<◌, ◌≤◌, List, [], ◌∷◌, ◌++◌, cond, nat_eq, nat_lt, nat_le, ◌&&◌, ◌≡◌, length, take}
 use Rattle.std.specs.List.{flat_map}

@@ -44,28 +44,66 @@ enum Call<'a> {
 
 impl Call<'_> {
     fn make(&self, alloc: Global, tree: &[u8], out: &mut Vec<u8>) -> Result<u8, CliFault> {
+        let stranger = &mut None;
         match self {
             Call::May(user, pid, to) => may_bytes(alloc, tree, *user, *pid, to, out),
-            Call::Check(user, subtree) => check_bytes(alloc, tree, *user, subtree, out),
-            Call::Settle(user, subtree) => settle_bytes(alloc, tree, *user, subtree, out),
-            Call::Advise(user, subtree) => { advise_bytes(alloc, tree, &[*user], &[*subtree], out) }
+            Call::Check(user, subtree) => check_bytes(alloc, tree, *user, subtree, stranger, out),
+            Call::Settle(user, subtree) => settle_bytes(alloc, tree, *user, subtree, stranger, out),
+            Call::Advise(user, subtree) => {
+                advise_bytes(alloc, tree, &[*user], &[*subtree], stranger, out)
+            }
             Call::AdvisePairs(pairs) => advise_pairs_bytes(alloc, tree, pairs.as_slice(), out),
             Call::AdviseSettled(user, subtree) => {
-                advise_settled_bytes(alloc, tree, &[*user], &[*subtree], out)
+                advise_settled_bytes(alloc, tree, &[*user], &[*subtree], stranger, out)
             }
-            Call::Explain(user, subtree) => explain_bytes(alloc, tree, &[*user], &[*subtree], out),
+            Call::Explain(user, subtree) => explain_bytes(
+                alloc,
+                tree,
+                &[*user],
+                &[*subtree],
+                stranger,
+                out,
+            ),
             Call::Upgrade => upgrade_bytes(alloc, tree, out),
             Call::AuditAll(users, subtrees) => {
-                audit_all_bytes(alloc, tree, users.as_slice(), subtrees.as_slice(), out)
+                audit_all_bytes(
+                    alloc,
+                    tree,
+                    users.as_slice(),
+                    subtrees.as_slice(),
+                    stranger,
+                    out,
+                )
             }
             Call::AuditSettled(users, subtrees) => {
-                audit_settled_bytes(alloc, tree, users.as_slice(), subtrees.as_slice(), out)
+                audit_settled_bytes(
+                    alloc,
+                    tree,
+                    users.as_slice(),
+                    subtrees.as_slice(),
+                    stranger,
+                    out,
+                )
             }
             Call::AuditAllSettled(users, subtrees) => {
-                audit_all_settled_bytes(alloc, tree, users.as_slice(), subtrees.as_slice(), out)
+                audit_all_settled_bytes(
+                    alloc,
+                    tree,
+                    users.as_slice(),
+                    subtrees.as_slice(),
+                    stranger,
+                    out,
+                )
             }
             Call::Audit(users, subtrees) => {
-                audit_bytes(alloc, tree, users.as_slice(), subtrees.as_slice(), out)
+                audit_bytes(
+                    alloc,
+                    tree,
+                    users.as_slice(),
+                    subtrees.as_slice(),
+                    stranger,
+                    out,
+                )
             }
             Call::ReplayBytes(user, subtree, ops) => {
                 replay_bytes(alloc, tree, *user, *subtree, ops.as_slice(), out)

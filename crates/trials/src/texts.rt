@@ -124,7 +124,8 @@ pub fn fault_written(tree: &[u8], trial: &mut Trial<'_>) -> Ended {
         gids: &[],
     };
     let mut out = Vec::new(alloc);
-    let Err(fault) = check_bytes(alloc, tree, user, trial.words.next()?, &mut out) else {
+    let subtree = trial.words.next()?;
+    let Err(fault) = check_bytes(alloc, tree, user, subtree, &mut None, &mut out) else {
         return Err(Stopped::BadWords);
     };
     written(trial, || fault_text(alloc, &fault))

@@ -155,6 +155,7 @@ FAULT = re.compile(rb"fault: [a-z]+[a-z0-9 -]*\n")
 def form_fault(written):
     """What is wrong with the form of a run about which nothing else is known, or ''."""
     stdout, status, stderr = written
-    if status == 3 and FAULT.match(stderr) or status in (0, 1, 2) and not stderr:
+    is_help = all(line[:2] == b"  " for line in stderr.splitlines())
+    if status == 3 and FAULT.match(stderr) or status in (0, 1, 2) and is_help:
         return ""
     return f"status {status}, standard error {stderr[:200]!r}"

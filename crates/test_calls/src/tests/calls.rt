@@ -37,22 +37,31 @@ pub enum Call<'a> {
 
 impl Call<'_> {
     pub fn make<W: Write>(self, alloc: Global, tree: &[u8], out: &mut W) -> Result<u8, CliFault> {
+        let stranger = &mut None;
         match self {
             Call::May(user, pid, to) => may_bytes(alloc, tree, user, pid, to, out),
-            Call::Check(user, subtree) => check_bytes(alloc, tree, user, subtree, out),
-            Call::Audit(users, subtrees) => audit_bytes(alloc, tree, users, subtrees, out),
-            Call::AuditAll(users, subtrees) => audit_all_bytes(alloc, tree, users, subtrees, out),
-            Call::Explain(users, subtrees) => explain_bytes(alloc, tree, users, subtrees, out),
+            Call::Check(user, subtree) => check_bytes(alloc, tree, user, subtree, stranger, out),
+            Call::Audit(users, subtrees) => audit_bytes(
+                alloc, tree, users, subtrees, stranger, out,
+            ),
+            Call::AuditAll(users, subtrees) => audit_all_bytes(
+                alloc, tree, users, subtrees, stranger, out,
+            ),
+            Call::Explain(users, subtrees) => explain_bytes(
+                alloc, tree, users, subtrees, stranger, out,
+            ),
             Call::AuditSettled(users, subtrees) => {
-                audit_settled_bytes(alloc, tree, users, subtrees, out)
+                audit_settled_bytes(alloc, tree, users, subtrees, stranger, out)
             }
             Call::AuditAllSettled(users, subtrees) => {
-                audit_all_settled_bytes(alloc, tree, users, subtrees, out)
+                audit_all_settled_bytes(alloc, tree, users, subtrees, stranger, out)
             }
-            Call::Advise(users, subtrees) => advise_bytes(alloc, tree, users, subtrees, out),
+            Call::Advise(users, subtrees) => advise_bytes(
+                alloc, tree, users, subtrees, stranger, out,
+            ),
             Call::AdvisePairs(pairs) => advise_pairs_bytes(alloc, tree, pairs, out),
             Call::AdviseSettled(users, subtrees) => {
-                advise_settled_bytes(alloc, tree, users, subtrees, out)
+                advise_settled_bytes(alloc, tree, users, subtrees, stranger, out)
             }
             Call::Upgrade => upgrade_bytes(alloc, tree, out),
             Call::Replay(user, subtree, ops) => replay_bytes(alloc, tree, user, subtree, ops, out),

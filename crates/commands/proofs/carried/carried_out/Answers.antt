@@ -1,31 +1,58 @@
 use Rattle.commands.proofs.carried.carried_out.Goals as goal
 
-pub returns-in-Help : goal.returns-in-Help
-returns-in-Help g c = rw c.in-Help.is c.shown.ensures
+pub returns-in-Help-clause-answer : goal.returns-in-Help-clause-answer
+returns-in-Help-clause-answer g c = rw c.in-Help.is c.shown.ensures
 
-pub returns-in-May : goal.returns-in-May
-returns-in-May g c = rw c.in-May.is c.may.ensures
+pub returns-in-May-clause-answer : goal.returns-in-May-clause-answer
+returns-in-May-clause-answer g c = rw c.in-May.is c.may.ensures.answer
 
-pub returns-in-Check : goal.returns-in-Check
-returns-in-Check g c = rw c.in-Check.is c.check.ensures
+pub returns-in-Check-clause-answer : goal.returns-in-Check-clause-answer
+returns-in-Check-clause-answer g c = rw c.in-Check.is c.check.ensures.answer
 
-pub returns-in-Settle : goal.returns-in-Settle
-returns-in-Settle g c = rw c.in-Settle.is c.settle.ensures
+pub returns-in-Settle-clause-answer : goal.returns-in-Settle-clause-answer
+returns-in-Settle-clause-answer g c = rw c.in-Settle.is c.settle.ensures.answer
 
-pub returns-in-Audit : goal.returns-in-Audit
-returns-in-Audit g c = rw c.in-Audit.is c.audit.ensures
+pub returns-in-Audit-clause-answer : goal.returns-in-Audit-clause-answer
+returns-in-Audit-clause-answer g c = rw c.in-Audit.is c.audit.ensures.answer
 
-pub returns-in-Replay : goal.returns-in-Replay
-returns-in-Replay g c = rw c.in-Replay.is c.replay.ensures
+pub returns-in-Replay-clause-answer : goal.returns-in-Replay-clause-answer
+returns-in-Replay-clause-answer g c = rw c.in-Replay.is c.replay.ensures.answer
 
-pub returns-in-Advise : goal.returns-in-Advise
-returns-in-Advise g c = rw c.in-Advise.is c.advise.ensures
+pub returns-in-Advise-clause-answer : goal.returns-in-Advise-clause-answer
+returns-in-Advise-clause-answer g c = rw c.in-Advise.is c.advise.ensures.answer
 
-pub returns-in-Upgrade : goal.returns-in-Upgrade
-returns-in-Upgrade g c = rw c.in-Upgrade.is c.upgrade.ensures
+pub returns-in-Upgrade-clause-answer : goal.returns-in-Upgrade-clause-answer
+returns-in-Upgrade-clause-answer g c = rw c.in-Upgrade.is c.upgrade.ensures.answer
 
-pub returns-in-AdvisePairs : goal.returns-in-AdvisePairs
-returns-in-AdvisePairs g c = rw c.in-AdvisePairs.is c.advise_pairs.ensures
+pub returns-in-AdvisePairs-clause-answer : goal.returns-in-AdvisePairs-clause-answer
+returns-in-AdvisePairs-clause-answer g c = rw c.in-AdvisePairs.is c.advise_pairs.ensures.answer
 
-pub returns-in-Explain : goal.returns-in-Explain
-returns-in-Explain g c = rw c.in-Explain.is c.explain.ensures
+pub returns-in-Explain-clause-answer : goal.returns-in-Explain-clause-answer
+returns-in-Explain-clause-answer g c = rw c.in-Explain.is c.explain.ensures.answer
+
+pub returns-in-May-clause-noted : goal.returns-in-May-clause-noted
+returns-in-May-clause-noted g c = rw c.in-May.is c.may.ensures.noted
+
+pub returns-in-Check-clause-noted : goal.returns-in-Check-clause-noted
+returns-in-Check-clause-noted g c = rw c.in-Check.is c.check.ensures.noted
+
+pub returns-in-Settle-clause-noted : goal.returns-in-Settle-clause-noted
+returns-in-Settle-clause-noted g c = rw c.in-Settle.is c.settle.ensures.noted
+
+pub returns-in-Audit-clause-noted : goal.returns-in-Audit-clause-noted
+returns-in-Audit-clause-noted g c = rw c.in-Audit.is c.audit.ensures.noted
+
+pub returns-in-Replay-clause-noted : goal.returns-in-Replay-clause-noted
+returns-in-Replay-clause-noted g c = rw c.in-Replay.is c.replay.ensures.noted
+
+pub returns-in-Explain-clause-noted : goal.returns-in-Explain-clause-noted
+returns-in-Explain-clause-noted g c = rw c.in-Explain.is c.explain.ensures.noted
+
+pub returns-in-Advise-clause-noted : goal.returns-in-Advise-clause-noted
+returns-in-Advise-clause-noted g c = rw c.in-Advise.is c.advise.ensures.noted
+
+pub returns-in-Upgrade-clause-noted : goal.returns-in-Upgrade-clause-noted
+returns-in-Upgrade-clause-noted g c = rw c.in-Upgrade.is c.upgrade.ensures.noted
+
+pub returns-in-AdvisePairs-clause-noted : goal.returns-in-AdvisePairs-clause-noted
+returns-in-AdvisePairs-clause-noted g c = rw c.in-AdvisePairs.is c.advise_pairs.ensures.noted

@@ -1,0 +1,191 @@
+-- Users of whom a tree says nothing.
+use Rattle.std.proofs.Common.{◌≡◌, ◌∙◌, ℕ, ◌+◌, ◌<◌, Bool, true, false, not, ◌||◌, ◌&&◌, nat_eq, cond, List, [], ◌∷◌, ◌++◌, length, take, get_or, map, Option, Some, None, Result, Ok, Err, refl, sym, ap, subst, append_assoc, append-nil}
+use Rattle.std.specs.Prelude.{IfOk, OnOk}
+use Rattle.std.specs.BTreeSet.{contains}
+use Rattle.std.specs.Cmp.{unsigned_tied, nat_eq_equiv}
+use Rattle.std.specs.List.{list_any, flat_map, find}
+use Rattle.std.specs.Option.{option_map}
+use Rattle.std.specs.Ordering.{nat_cmp, eq_by_cmp}
+use Rattle.std.proofs.lemmas.List.{take_more}
+use Rattle.std.proofs.lemmas.List.Folds.{list_any-append}
+use Rattle.std.proofs.lemmas.Grind.{flat_map-append}
+use Rattle.cg_cgroup.specs.Identity.{Identity}
+use Rattle.cg_cgroup.specs.Paths.{Names}
+use Rattle.cg_cgroup.specs.Users.{has_bit}
+use Rattle.cg_cgroup.specs.declared.user.Entry.{Entry}
+use Rattle.cg_model.specs.Once.{once}
+use Rattle.cg_model.specs.States.{State}
+use Rattle.cg_format.specs.Readings.{Reading, IsReading}
+use Rattle.cg_format.specs.TextOf.{IsTextOf}
+use Rattle.cg_cli.specs.Arguments.{user_read}
+use Rattle.cg_cli.specs.Asking.{read_in_turn, named_read, IsKeptOnce}
+use Rattle.cg_cli.specs.Audits.{read_before, users_read, paths_read}
+use Rattle.cg_cli.specs.Known.{AreOfEntries, AreAdded}
+use Rattle.cg_cli.specs.May.{tree_read}
+use Rattle.cg_cli.specs.Once.{same_user}
+use Rattle.cg_cli.specs.Strangers.{tree_entries, all_owners, has_uid, has_gid, is_stranger, first_stranger, IsFirstStranger}
+use Rattle.cg_cli.specs.declared.strangers.Known.{Known}
+use Rattle.cg_cli.proofs.ReportLaws.{same_Ok}
+use Rattle.cg_faults.specs.declared.fault.CliFault.{CliFault}
+
+-- ---- what an answer says
+
+on_answer : {P : Type 0} (result : Result ℕ CliFault) → P → IfOk result (λ _. P)
+on_answer (Ok status) holds = holds
+on_answer (Err fault) holds = tt
+
+in_turn : {A B C : Type 0} (first : Result A CliFault) (second : Result B CliFault) (third : Result C CliFault) (a x : A) (b : B) (c z : C)
+    → first ≡ Ok x → third ≡ Ok z → read_in_turn first second third ≡ Ok (a, b, c) → (a ≡ x) × (c ≡ z)
+in_turn {A = A} {B = B} {C = C} (Ok first) (Ok second) (Ok third) a x b c z is_first is_third is =
+    let all = same_Ok (first, second, third) (a, b, c) is in
+    (sym (ap (λ (t : A × B × C). t.0) all) ∙ same_Ok first x is_first, sym (ap (λ (t : A × B × C). t.2) all) ∙ same_Ok third z is_third)
+in_turn (Ok first) (Ok second) (Err fault) a x b c z is_first is_third is = let never : ⊥ = cc in absurd never
+in_turn (Ok first) (Err fault) third a x b c z is_first is_third is = let never : ⊥ = cc in absurd never
+in_turn (Err fault) second third a x b c z is_first is_third is = let never : ⊥ = cc in absurd never
+
+pub stranger_said : (text : List ℕ) (given : List (ℕ × List ℕ)) (texts : List (List ℕ)) (users : List Identity) (subtrees : List Names)
+    (st : State)
+    → ((read : Reading) → IsReading text read → IsKeptOnce (named_read given texts read) users subtrees st)
+    → (stranger : Option ℕ) → stranger ≡ first_stranger st users → (result : Result ℕ CliFault) → IsFirstStranger text given result stranger
+stranger_said text given texts users subtrees st kept stranger is result =
+    on_answer result (λ start who of_text of_who.
+    let all = kept (Ok start) of_text in
+    let same = in_turn (users_read given) (paths_read texts) (tree_read (Ok start)) all.all_users who all.all_subtrees st start of_who refl
+    all.is in
+    is ∙ (λ i. first_stranger (same.1 i) (all.of_users i)) ∙ ap (λ read. first_stranger start (once same_user read)) same.0)
+
+-- of one user
+pub alone_said : (text : List ℕ) (uid : ℕ) (gids : List ℕ) (user : Identity) (st : State) → user_read uid gids ≡ Ok user
+    → ((read : Reading) → IsReading text read → read ≡ Ok st)
+    → (stranger : Option ℕ) → stranger ≡ first_stranger st (user ∷ []) → (result : Result ℕ CliFault)
+    → IsFirstStranger text ((uid, gids) ∷ []) result stranger
+alone_said text uid gids user st is_user reads stranger is result =
+    on_answer result (λ start who of_text of_who.
+    let read : Ok (user ∷ []) ≡ Ok who = sym (ap (λ one. read_before one (Ok [])) is_user) ∙ of_who in
+    let same : user ∷ [] ≡ who = cc in
+    let started : Ok start ≡ Ok st = reads (Ok start) of_text in
+    let begun : st ≡ start = cc in
+    is ∙ (λ i. first_stranger (begun i) (once same_user (same i))))
+
+-- ---- the uids and gids of a tree
+
+pub added_none : (known : Known) → AreAdded known known []
+added_none known entries of = subst (λ all. AreOfEntries known all []) (sym (append-nil entries)) of
+
+pub added_both : (before between after : Known) (more others : List Entry) → AreAdded before between more → AreAdded between after others
+    → AreAdded before after (more ++ others)
+added_both before between after more others first second entries of =
+    subst (λ all. AreOfEntries after all []) (append_assoc entries more others) (second (entries ++ more) (first entries of))
+
+pub on_ok : {X E P Q : Type 0} (result : Result X E) → OnOk result P → (P → Q) → OnOk result Q
+on_ok (Ok x) holds further = further holds
+on_ok (Err fault) holds further = tt
+
+-- ---- an entry
+
+-- Unsigned numbers that compare as equal are the same.
+turned : (x y : ℕ) → eq_by_cmp nat_cmp x y ≡ nat_eq x y
+turned x y = unsigned_tied x y
+
+chosen : (a b : Bool) → cond a true b ≡ b || a
+chosen true true = refl
+chosen true false = refl
+chosen false true = refl
+chosen false false = refl
+
+or_assoc : (a b c : Bool) → (a || b) || c ≡ a || (b || c)
+or_assoc true b c = refl
+or_assoc false b c = refl
+
+or_false : (a : Bool) → a || false ≡ a
+or_false true = refl
+or_false false = refl
+
+and_true : (a : Bool) → a && true ≡ a
+and_true true = refl
+and_true false = refl
+
+and_false : (a : Bool) → a && false ≡ false
+and_false true = refl
+and_false false = refl
+
+-- ---- step by step
+
+pub flat_more : {A B : Type 0} (f : A → List B) (xs : List A) (i : ℕ) (x d : A) → i < length xs → x ≡ get_or xs i d
+    → flat_map f (take (i + 1) xs) ≡ flat_map f (take i xs) ++ f x
+flat_more f xs i x d within at =
+    ap (flat_map f) (take_more xs i d within) ∙ flat_map-append f (take i xs) _
+    ∙ ap (λ more. flat_map f (take i xs) ++ more) (append-nil (f (get_or xs i d)) ∙ ap f (sym at))
+
+pub added_more : {A : Type 0} (f : A → List Entry) (xs : List A) (i : ℕ) (x d : A) → i < length xs → x ≡ get_or xs i d
+    → (before between after : Known) → AreAdded before between (flat_map f (take i xs)) → AreAdded between after (f x)
+    → AreAdded before after (flat_map f (take (i + 1) xs))
+added_more f xs i x d within at before between after first second =
+    subst (AreAdded before after) (sym (flat_more f xs i x d within at)) (added_both before between after _ _ first second)
+
+-- ---- the owners of processes
+
+-- what is known, and what is still to come
+pub record AreLeft {Live : Type 0} (owner : Live → ℕ) (known : Known) (entries : List Entry) (owners : List ℕ) (left : List Live)
+    : Type 0 where
+  pub uids : (uid : ℕ) → contains nat_cmp known.uids uid || list_any (λ row. nat_eq (owner row) uid) left ≡ has_uid entries owners uid
+  pub gids : (gid : ℕ) → contains nat_cmp known.gids gid ≡ has_gid entries gid
+
+any_owner : {Live : Type 0} (owner : Live → ℕ) (left : List Live) (uid : ℕ)
+    → list_any (λ row. nat_eq (owner row) uid) left ≡ list_any (λ one. nat_eq one uid) (map owner left)
+any_owner owner [] uid = refl
+any_owner owner (row ∷ left) uid = ap (λ rest. nat_eq (owner row) uid || rest) (any_owner owner left uid)
+
+pub left_all : {Live : Type 0} (owner : Live → ℕ) (known : Known) (entries : List Entry) (live left : List Live)
+    → AreOfEntries known entries [] → left ≡ live → AreLeft owner known entries (map owner live) left
+left_all owner known entries live left of is = record {
+  uids =
+      λ uid. (λ i. (of.uids uid ∙ or_false (list_any (λ entry. nat_eq entry.uid uid) entries)) i
+      || list_any (λ row. nat_eq (owner row) uid) (is i))
+      ∙ ap (λ rest. list_any (λ entry. nat_eq entry.uid uid) entries || rest) (any_owner owner live uid);
+  gids = of.gids;
+}
+
+pub left_less : {Live : Type 0} (owner : Live → ℕ) (known more : Known) (entries : List Entry) (owners : List ℕ) (left rest : List Live)
+    (row : Live)
+    → left ≡ row ∷ rest → AreLeft owner known entries owners left
+    → ((uid : ℕ) → contains nat_cmp more.uids uid ≡ cond (eq_by_cmp nat_cmp (owner row) uid) true (contains nat_cmp known.uids uid))
+    → more.gids ≡ known.gids → AreLeft owner more entries owners rest
+left_less owner known more entries owners left rest row is of added same = record {
+  uids =
+      λ uid. let others = list_any (λ one. nat_eq (owner one) uid) rest in
+      ap (λ has. has || others) (added uid ∙ ap (λ b. cond b true (contains nat_cmp known.uids uid)) (turned (owner row) uid)
+      ∙ chosen (nat_eq (owner row) uid) (contains nat_cmp known.uids uid))
+      ∙ or_assoc (contains nat_cmp known.uids uid) (nat_eq (owner row) uid) others
+      ∙ ap (λ all. contains nat_cmp known.uids uid || list_any (λ one. nat_eq (owner one) uid) all) (sym is) ∙ of.uids uid;
+  gids = λ gid. ap (λ gids. contains nat_cmp gids gid) same ∙ of.gids gid;
+}
+
+pub left_none : {Live : Type 0} (owner : Live → ℕ) (known : Known) (entries : List Entry) (owners : List ℕ) (left : List Live) → left ≡ []
+    → AreLeft owner known entries owners left → AreOfEntries known entries owners
+left_none owner known entries owners left none of = record {
+  uids =
+      λ uid. sym (ap (λ rest. contains nat_cmp known.uids uid || list_any (λ row. nat_eq (owner row) uid) rest) none
+      ∙ or_false (contains nat_cmp known.uids uid)) ∙ of.uids uid;
+  gids = of.gids;
+}
+
+pub known_none : (known : Known) → known.uids.keys ≡ [] → known.gids.keys ≡ [] → AreOfEntries known [] []
+known_none known uids gids = record { uids = λ uid. ap (list_any _) uids; gids = λ gid. ap (list_any _) gids }
+
+-- ---- what is known of a user
+
+pub stranger_is : (st : State) (known : Known) → AreOfEntries known (tree_entries st) (all_owners st) → (user : Identity)
+    → not (contains nat_cmp known.uids user.uid || list_any (contains nat_cmp known.gids) user.gids) ≡ is_stranger st user
+stranger_is st known of user =
+    (λ i. not (of.uids user.uid i || any_gid user.gids i))
+  where
+    any_gid : (gids : List ℕ) → list_any (contains nat_cmp known.gids) gids ≡ list_any (has_gid (tree_entries st)) gids
+    any_gid [] = refl
+    any_gid (gid ∷ gids) = λ i. of.gids gid i || any_gid gids i
+
+pub first_is : (st : State) (known : Known) → AreOfEntries known (tree_entries st) (all_owners st) → (users : List Identity)
+    → option_map (λ user. user.uid)
+    (find (λ user. not (contains nat_cmp known.uids user.uid || list_any (contains nat_cmp known.gids) user.gids)) users)
+    ≡ first_stranger st users
+first_is st known of users = λ i. option_map (λ user. user.uid) (find (λ user. stranger_is st known of user i) users)

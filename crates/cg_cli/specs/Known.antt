@@ -1,0 +1,17 @@
+-- How an answer is found: nobody has to believe it.
+-- The uids and gids of which a tree says something.
+use Rattle.std.specs.Prelude.{◌≡◌, ℕ, List, [], ◌++◌}
+use Rattle.std.specs.Ordering.{nat_cmp}
+use Rattle.std.specs.BTreeSet.{contains}
+use Rattle.cg_cgroup.specs.declared.user.Entry.{Entry}
+use Rattle.cg_cli.specs.Strangers.{has_uid, has_gid}
+use Rattle.cg_cli.specs.declared.strangers.Known.{Known}
+
+-- They are those of some entries and some owners of processes.
+pub record AreOfEntries (known : Known) (entries : List Entry) (owners : List ℕ) : Type 0 where
+  pub uids : (uid : ℕ) → contains nat_cmp known.uids uid ≡ has_uid entries owners uid
+  pub gids : (gid : ℕ) → contains nat_cmp known.gids gid ≡ has_gid entries gid
+
+-- those of more entries behind some
+abbrev pub AreAdded : Known → Known → List Entry → Type 0
+AreAdded old new more = (entries : List Entry) → AreOfEntries old entries [] → AreOfEntries new (entries ++ more) []

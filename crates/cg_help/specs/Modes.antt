@@ -1,0 +1,61 @@
+-- Modes of a tree's text that are written in decimal where an octal number is likely to be meant. Own.
+use Rattle.std.specs.Prelude.{ℕ, Bool, true, false, cond, not, nat_eq, nat_le, ◌&&◌, ◌||◌, List, [], ◌∷◌, codes, take, drop, length, Option, Some, None, option_and_then}
+use Rattle.std.specs.Cmp.Lexicographic.{pointwise}
+use Rattle.std.specs.Option.{option_or, option_map_or}
+use Rattle.text_places.specs.Shown.{indented}
+use Rattle.cg_help.specs.declared.modes.Spelled.{Spelled}
+use Rattle.cg_help.specs.declared.modes.Spelled.TheVariants.{Of400, Of440, Of444, Of500}
+
+-- what stands behind a word at a text's front
+abbrev pub behind : List ℕ → List ℕ → Option (List ℕ)
+behind word text = cond (pointwise nat_eq (take (length word) text) word) (Some (drop (length word) text)) None
+
+-- a text without the spaces and tabs at its front
+abbrev pub unspaced : List ℕ → List ℕ
+unspaced [] = []
+unspaced (byte ∷ text) = cond (nat_eq byte 32 || nat_eq byte 9) (unspaced text) (byte ∷ text)
+
+-- whether a number's digits go on
+abbrev pub goes_on : List ℕ → Bool
+goes_on [] = false
+goes_on (byte ∷ text) = (nat_le 48 byte && nat_le byte 57) || nat_eq byte 95
+
+-- whether a text begins with a number of these digits
+abbrev pub is_number : List ℕ → List ℕ → Bool
+is_number digits text = option_map_or (λ rest. not (goes_on rest)) (behind digits text) false
+
+abbrev pub number_at : List ℕ → Option Spelled
+number_at text =
+    cond (is_number (codes "400") text) (Some Of400)
+    (cond (is_number (codes "440") text) (Some Of440)
+    (cond (is_number (codes "444") text) (Some Of444)
+    (cond (is_number (codes "500") text) (Some Of500) None)))
+
+-- what a key `mode` at a text's front has, where it is one of these
+abbrev pub mode_at : List ℕ → Option Spelled
+mode_at text =
+    option_and_then (λ rest. option_and_then (λ value. number_at (unspaced value)) (behind (codes "=") (unspaced rest))) (behind (codes "mode") text)
+
+-- whether what stands behind a byte is of a comment, which a number sign begins and a newline ends
+abbrev pub is_comment_behind : Bool → ℕ → Bool
+is_comment_behind is_comment byte = not (nat_eq byte 10) && (is_comment || nat_eq byte 35)
+
+-- the first of these modes that stands in no comment, of a text that may begin in one
+abbrev pub spelled_from : Bool → List ℕ → Option Spelled
+spelled_from is_comment [] = None
+spelled_from is_comment (byte ∷ text) =
+    option_or (cond is_comment None (mode_at (byte ∷ text))) (spelled_from (is_comment_behind is_comment byte) text)
+
+abbrev pub spelled_mode : List ℕ → Option Spelled
+spelled_mode text = spelled_from false text
+
+-- what is said of one
+abbrev pub mode_words : Spelled → List ℕ
+mode_words Of400 = codes "mode 400 is 0o620, since it is decimal: an octal mode begins with 0o, as 0o400"
+mode_words Of440 = codes "mode 440 is 0o670, since it is decimal: an octal mode begins with 0o, as 0o440"
+mode_words Of444 = codes "mode 444 is 0o674, since it is decimal: an octal mode begins with 0o, as 0o444"
+mode_words Of500 = codes "mode 500 is 0o764, since it is decimal: an octal mode begins with 0o, as 0o500"
+
+-- the line of that, or none
+abbrev pub mode_line : Option Spelled → List ℕ
+mode_line mode = option_map_or (λ mode. indented (mode_words mode)) mode []
