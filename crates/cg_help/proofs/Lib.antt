@@ -1,1 +1,1 @@
-mod ModeLaws
+mod MarkLaws

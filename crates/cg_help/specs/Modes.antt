@@ -1,5 +1,5 @@
 -- Modes of a tree's text that are written in decimal where an octal number is likely to be meant. Own.
-use Rattle.std.specs.Prelude.{ℕ, Bool, true, false, cond, not, nat_eq, nat_le, ◌&&◌, ◌||◌, List, [], ◌∷◌, codes, take, drop, length, Option, Some, None, option_and_then}
+use Rattle.std.specs.Prelude.{ℕ, Bool, false, cond, not, nat_eq, nat_le, ◌&&◌, ◌||◌, List, [], ◌∷◌, codes, take, drop, length, Option, Some, None, option_and_then}
 use Rattle.std.specs.Cmp.Lexicographic.{pointwise}
 use Rattle.std.specs.Option.{option_or, option_map_or}
 use Rattle.text_places.specs.Shown.{indented}

@@ -1,8 +1,9 @@
 //! Modes of a tree's text that are written in decimal where an octal number is likely to be meant.
-ghost use Rattle.std.specs.Prelude.{◌≡◌, None, IfOk, cond};
+ghost use Rattle.std.specs.Prelude.{◌≡◌, ◌≤◌, length, true, false, IfOk};
 ghost use Rattle.cg_help.specs.Modes.{behind, unspaced, goes_on, is_number, number_at, mode_at, is_comment_behind, spelled_from, spelled_mode, mode_words, mode_line};
 
 use cg_cgroup::memory::NoMemory;
+use memchr::{memchr, memchr2};
 use std::alloc::Global;
 use text_places::shown::indented;
 
@@ -19,34 +20,48 @@ pub enum Spelled {
 pub fn spelled_mode(text: &[u8]) -> Option<Spelled>
     ensures { result ≡ spelled_mode text.now }
 {
-    let mut is_comment = false;
-    let mut left = text;
+    let mut left = from_mark(text);
     while let Some((byte, rest)) = left.split_first() {
-        if let Some(mode) = mode_outside(is_comment, left) {
+        if let Some(mode) = mode_at(left) {
             return Some(mode);
         }
-        is_comment = is_comment_behind(is_comment, *byte);
-        left = rest;
+        left = from_mark(behind_byte(*byte, rest));
     }
     None
 }
 
-/// Such a mode at a text's front, where that is in no comment.
-fn mode_outside(is_comment: bool, text: &[u8]) -> Option<Spelled>
-    ensures { result ≡ cond is_comment None (mode_at text.now) }
+/// A text from the first byte on with which a mode or a comment may begin.
+fn from_mark(text: &[u8]) -> &[u8]
+    ensures same { spelled_from false result.now ≡ spelled_from false text.now }
+    ensures length { length result.now ≤ length text.now }
 {
-    // most bytes begin no key, and the whole text is gone over
-    match text {
-        [b'm', ..] if !is_comment => mode_at(text),
-        _ => None,
+    match memchr2(b'm', b'#', text) {
+        Some(at) => &text[at..],
+        None => &text[text.len()..],
     }
 }
 
-/// Whether what stands behind a byte is of a comment.
-fn is_comment_behind(is_comment: bool, byte: u8) -> bool
-    ensures { result ≡ is_comment_behind is_comment byte }
+/// What is left behind a byte outside comments: all, or what stands behind a comment.
+fn behind_byte(byte: u8, rest: &[u8]) -> &[u8]
+    ensures same { spelled_from false result.now ≡ spelled_from (is_comment_behind false byte) rest.now }
+    ensures length { length result.now ≤ length rest.now }
 {
-    byte != b'\n' && (is_comment || byte == b'#')
+    if byte == b'#' {
+        from_line_end(rest)
+    } else {
+        rest
+    }
+}
+
+/// A text that begins in a comment, from the end of its line on.
+fn from_line_end(text: &[u8]) -> &[u8]
+    ensures same { spelled_from false result.now ≡ spelled_from true text.now }
+    ensures length { length result.now ≤ length text.now }
+{
+    match memchr(b'\n', text) {
+        Some(at) => &text[at..],
+        None => &text[text.len()..],
+    }
 }
 
 /// What a key `mode` at a text's front has, where it is such a mode.
