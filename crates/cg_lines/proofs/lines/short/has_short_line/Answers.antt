@@ -15,7 +15,7 @@ spelled : (op : Op) (at : Names) (changes : List Change) (result : Bool) → op 
 spelled op at changes result is said =
     subst (λ op. IsTrue result ↔ (IsInFormat2 op × HasFewChanges op)) (sym is) (
       λ h. let parts = and_parts (are_in_format_2 changes) (nat_le (length changes) 511) (sym said ∙ h) in
-      (parts.0, leb-true (length changes) 511 parts.1),
+          (parts.0, leb-true (length changes) 511 parts.1),
       λ h. said ∙ and_from _ _ h.0 (le-leb (length changes) 511 h.1),
     )
 
