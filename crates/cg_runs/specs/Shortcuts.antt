@@ -1,9 +1,10 @@
 -- How an answer is found: nobody has to believe it.
 -- How a replay tells what a step breaks: by no more than the operation may change. That this is what the definition says
 -- is proved; a reader of the contracts needs none of it.
-use Rattle.std.specs.Prelude.{◌≡◌, ◌≤◌, Bool, true, false, not, ◌||◌, List, [], Some}
+use Rattle.std.specs.Prelude.{◌≡◌, ◌≤◌, Bool, true, false, not, ◌||◌, List, [], Some, is_some}
 use Rattle.cg_cgroup.specs.Paths.{Names, same_path, is_child}
-use Rattle.cg_cgroup.specs.Cgroups.{value_in}
+use Rattle.cg_cgroup.specs.declared.cgroup.Cgroup.{Cgroup}
+use Rattle.cg_cgroup.specs.Cgroups.{value_in, other_in}
 use Rattle.cg_model.specs.States.{State, place_at}
 use Rattle.cg_model.specs.WellFormed.{has_row}
 use Rattle.cg_model.specs.Clauses.{unless}
@@ -19,6 +20,10 @@ use Rattle.cg_model.specs.declared.verdict.Clause.{Clause}
 use Rattle.cg_model.specs.declared.verdict.Clause.TheVariants.{Gone, Crossed, Limits}
 use Rattle.cg_model.specs.declared.verdict.Verdict.{Verdict}
 use Rattle.cg_model.specs.declared.verdict.Verdict.TheVariants.{Kept}
+
+-- the limits of a cgroup that is there
+abbrev pub limits_in : Cgroup → LimitMap
+limits_in row = record { values = value_in row; others = λ controller. is_some (other_in row controller) }
 
 -- the operation, carried out, moves a process over the edge
 abbrev pub moves_over : State → Names → Op → Bool
@@ -50,4 +55,4 @@ pub record IsIntact (had : LimitMap) (st : State) (subtree : Names) : Type 0 whe
 pub record IsReplay (run : Progress) : Type 0 where
   pub bound : run.steps ≤ 65536
   pub sound : IsSound run.state
-  pub intact : run.verdict ≡ Kept → IsIntact (value_in run.original) run.state run.subtree
+  pub intact : run.verdict ≡ Kept → IsIntact (limits_in run.original) run.state run.subtree
