@@ -8,9 +8,10 @@ use native.Mathlib.Nat.{ℕ_set}
 use Rattle.std.specs.Option.{option_map}
 use Rattle.std.proofs.lemmas.Option.{same_Some}
 use Rattle.cg_cgroup.specs.Identity.{Identity}
-use Rattle.cg_cgroup.specs.Files.{all_files, all_controllers, brought_files, kind_of, place_of, accepts, default_value, enables, stands_under, same_file, same_entry}
+use Rattle.cg_cgroup.specs.Files.{all_files, all_controllers, controller_kind, brought_files, kind_of, place_of, accepts, default_value, enables, stands_under, same_file, same_entry}
 use Rattle.cg_cgroup.specs.Users.{entry_made_by}
-use Rattle.cg_cgroup.specs.Cgroups.{held_at, with_held, file_of, other_in, entry_in, value_in, with_file, with_value_of, with_value_in, with_mode_of, with_file_mode_of, with_mode_in, file_made_by, refitted, refitted_other, with_files_of, cgroup_made_by}
+use Rattle.cg_cgroup.specs.Cgroups.{held_at, with_held, file_of, other_in, entry_in, value_in, with_file, with_value_of, with_value_in, with_mode_of, with_file_mode_of, with_mode_in, file_made_by, refitted, refitted_other, others_under, with_files_of, cgroup_made_by}
+use Rattle.cg_cgroup.specs.declared.user.Entry.{Entry}
 use Rattle.cg_cgroup.specs.declared.files.Limit.{Limit}
 use Rattle.cg_cgroup.specs.declared.files.Controller.{Controller}
 use Rattle.cg_cgroup.specs.declared.files.Controller.TheVariants.{Cpu}
@@ -101,6 +102,31 @@ others_are row =
     ap (λ count. map (λ n. get_or row.others.entries n None) (numbers count)) (sym row.others.whole)
     ∙ held_all row.others.entries None
 
+is_some-cond : {A : Type 0} (b : Bool) (x : A) → is_some (cond b (Some x) None) ≡ b
+is_some-cond true x = refl
+is_some-cond false x = refl
+
+-- those below a cgroup that enables these, where all have one entry
+pub other_in-under : (enabled : ControllerSet) (entry : Entry) (row : Cgroup) → row.others ≡ others_under enabled entry
+    → (controller : Controller) → other_in row controller ≡ cond (enables enabled controller) (Some entry) None
+other_in-under enabled entry row is controller =
+    ap (λ (others : OtherFiles). get_or others.entries (controller_kind controller).number None) is
+    ∙ mapped_at (λ controller. cond (enables enabled controller) (Some entry) None) None controller
+
+pub stands-under : (enabled : ControllerSet) (entry : Entry) (row : Cgroup) → row.others ≡ others_under enabled entry
+    → (controller : Controller) → is_some (other_in row controller) ≡ enables enabled controller
+stands-under enabled entry row is controller =
+    ap is_some (other_in-under enabled entry row is controller) ∙ is_some-cond (enables enabled controller) entry
+
+some_one : {A : Type 0} (b : Bool) (x y : A) → cond b (Some x) None ≡ Some y → y ≡ x
+some_one true x y h = sym (same_Some x y h)
+some_one false x y h = cc
+
+pub entry-under : (enabled : ControllerSet) (entry : Entry) (row : Cgroup) → row.others ≡ others_under enabled entry
+    → (controller : Controller) (other : Entry) → other_in row controller ≡ Some other → other ≡ entry
+entry-under enabled entry row is controller other has =
+    some_one (enables enabled controller) entry other (sym (other_in-under enabled entry row is controller) ∙ has)
+
 -- ---- one limit file changed
 
 pub file_of-with_file : (file : LimitFile) (f : LimitEntry → LimitEntry) (row : Cgroup) (other : LimitFile)
@@ -132,7 +158,7 @@ pub rest-with_file : (file : LimitFile) (f : LimitEntry → LimitEntry) (row : C
 rest-with_file MaxDescendants f row = record { dir = refl; procs = refl; subtree_control = refl; freeze = refl; enabled = refl }
 rest-with_file file f row = record { dir = refl; procs = refl; subtree_control = refl; freeze = refl; enabled = refl }
 
-other_in-with_file : (file : LimitFile) (f : LimitEntry → LimitEntry) (row : Cgroup) (controller : Controller)
+pub other_in-with_file : (file : LimitFile) (f : LimitEntry → LimitEntry) (row : Cgroup) (controller : Controller)
     → other_in (with_file file f row) controller ≡ other_in row controller
 other_in-with_file MaxDescendants f row controller = refl
 other_in-with_file file f row controller = refl
@@ -235,10 +261,6 @@ pub file_of-with_files_of : (enabled : ControllerSet) (user : Identity) (row : C
     → file_of (with_files_of enabled user row) file ≡ refitted enabled user file (file_of row file)
 file_of-with_files_of enabled user row MaxDescendants = refl
 file_of-with_files_of enabled user row file = refl
-
-is_some-cond : {A : Type 0} (b : Bool) (x : A) → is_some (cond b (Some x) None) ≡ b
-is_some-cond true x = refl
-is_some-cond false x = refl
 
 -- limit files stand exactly where they belong
 pub stands-with_files_of : (enabled : ControllerSet) (user : Identity) (row : Cgroup) (file : LimitFile)
