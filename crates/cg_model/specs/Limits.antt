@@ -4,10 +4,12 @@ use mathlib.Core.Bool.{beq}
 use Rattle.std.specs.List.{list_all}
 use Rattle.cg_cgroup.specs.Paths.{Names}
 use Rattle.cg_cgroup.specs.Files.{all_files, all_controllers}
+use Rattle.cg_cgroup.specs.Cgroups.{value_in, other_in}
 use Rattle.cg_cgroup.specs.declared.files.Limit.{Limit}
 use Rattle.cg_cgroup.specs.declared.files.Limit.TheVariants.{Max, At}
 use Rattle.cg_cgroup.specs.declared.files.LimitFile.{LimitFile}
 use Rattle.cg_cgroup.specs.declared.files.Controller.{Controller}
+use Rattle.cg_cgroup.specs.declared.cgroup.Cgroup.{Cgroup}
 use Rattle.cg_model.specs.States.{State, row_at, value_at, other_at, count_below, depth_below}
 
 -- Own: whether so many are fewer than a limit allows.
@@ -24,6 +26,10 @@ pub record Limits : Type 0 where
 -- Core Interface Files; CPU, Memory and PID; Enabling and Disabling: the limits set on a cgroup.
 abbrev pub limits : State → Names → Limits
 limits st path = record { values = value_at st path; others = λ controller. is_some (other_at st path controller) }
+
+-- those of a cgroup that is there
+abbrev pub limits_in : Cgroup → Limits
+limits_in row = record { values = value_in row; others = λ controller. is_some (other_in row controller) }
 
 abbrev pub same_limit : Limit → Limit → Bool
 same_limit Max Max = true

@@ -18,13 +18,13 @@ use Rattle.cg_model.specs.Next.{next}
 use Rattle.cg_model.specs.Outcomes.{RefusedBy, IsRefused}
 use Rattle.cg_model.proofs.Prefixes.{take_whole, no_root_of_length}
 use Rattle.cg_model.proofs.StepFormed.{after-allowed, after-barred}
-use Rattle.cg_model.specs.Limits.{Limits as LimitMap, limits, same_limits}
+use Rattle.cg_model.specs.Limits.{Limits as LimitMap, limits, same_limits, limits_in}
 use Rattle.cg_laws.proofs.Sound.{sound-formed, sound-after}
 use Rattle.cg_model.proofs.Edges.{none-crosses-same}
 use Rattle.cg_model.specs.Verdicts.{broken, broken_since, or_later, verdict_from}
 use Rattle.cg_model.specs.Replays.{Progress, or_broken, stepped}
 use Rattle.cg_runs.specs.Replays.{IsRunOf}
-use Rattle.cg_runs.specs.Shortcuts.{limits_in, may_break, moves_over, broken_by, IsIntact, IsReplay}
+use Rattle.cg_runs.specs.Shortcuts.{may_break, moves_over, broken_by, IsIntact, IsReplay}
 use Rattle.cg_model.specs.declared.verdict.Clause.{Clause}
 use Rattle.cg_model.specs.declared.verdict.Verdict.{Verdict}
 use Rattle.cg_model.specs.declared.verdict.Verdict.TheVariants.{Kept, Broken}

@@ -1,10 +1,8 @@
 -- How an answer is found: nobody has to believe it.
 -- How a replay tells what a step breaks: by no more than the operation may change. That this is what the definition says
 -- is proved; a reader of the contracts needs none of it.
-use Rattle.std.specs.Prelude.{◌≡◌, ◌≤◌, Bool, true, false, not, ◌||◌, List, [], Some, is_some}
+use Rattle.std.specs.Prelude.{◌≡◌, ◌≤◌, Bool, true, false, not, ◌||◌, List, [], Some}
 use Rattle.cg_cgroup.specs.Paths.{Names, same_path, is_child}
-use Rattle.cg_cgroup.specs.declared.cgroup.Cgroup.{Cgroup}
-use Rattle.cg_cgroup.specs.Cgroups.{value_in, other_in}
 use Rattle.cg_model.specs.States.{State, place_at}
 use Rattle.cg_model.specs.WellFormed.{has_row}
 use Rattle.cg_model.specs.Clauses.{unless}
@@ -12,7 +10,7 @@ use Rattle.cg_model.specs.declared.operation.Op.{Op}
 use Rattle.cg_model.specs.declared.operation.Op.TheVariants.{Move, Control, Rmdir, Set}
 use Rattle.cg_model.specs.declared.outcome.Outcome.{Outcome}
 use Rattle.cg_model.specs.declared.outcome.Outcome.TheVariants.{Done}
-use Rattle.cg_model.specs.Limits.{Limits as LimitMap, limits, same_limits, fits_descendants, fits_depth}
+use Rattle.cg_model.specs.Limits.{Limits as LimitMap, limits, limits_in, same_limits, fits_descendants, fits_depth}
 use Rattle.cg_model.specs.Edge.{is_crossed}
 use Rattle.cg_laws.specs.Sound.{IsSound}
 use Rattle.cg_model.specs.Replays.{Progress}
@@ -20,10 +18,6 @@ use Rattle.cg_model.specs.declared.verdict.Clause.{Clause}
 use Rattle.cg_model.specs.declared.verdict.Clause.TheVariants.{Gone, Crossed, Limits}
 use Rattle.cg_model.specs.declared.verdict.Verdict.{Verdict}
 use Rattle.cg_model.specs.declared.verdict.Verdict.TheVariants.{Kept}
-
--- the limits of a cgroup that is there
-abbrev pub limits_in : Cgroup → LimitMap
-limits_in row = record { values = value_in row; others = λ controller. is_some (other_in row controller) }
 
 -- the operation, carried out, moves a process over the edge
 abbrev pub moves_over : State → Names → Op → Bool

@@ -7,9 +7,9 @@ ghost use Rattle.std.specs.List.{list_all};
 ghost use mathlib.Core.Bool.{beq};
 ghost use Rattle.cg_model.specs.States.{row_at};
 ghost use Rattle.cg_model.specs.Clauses.{first, unless};
-ghost use Rattle.cg_model.specs.Limits.{limits, same_value, same_limits};
+ghost use Rattle.cg_model.specs.Limits.{limits, limits_in, same_value, same_limits};
 ghost use Rattle.cg_model.specs.Verdicts.{broken, or_later};
-ghost use Rattle.cg_runs.specs.Shortcuts.{limits_in, moves_over, may_break, broken_by};
+ghost use Rattle.cg_runs.specs.Shortcuts.{moves_over, may_break, broken_by};
 
 use cg_cgroup::cgroup::Cgroup;
 use cg_cgroup::files::{Controller, LimitFile};

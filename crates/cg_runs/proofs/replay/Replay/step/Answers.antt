@@ -1,7 +1,8 @@
 use Rattle.std.proofs.Common.{ap, sym, ◌∙◌, arith}
 use Rattle.cg_model.specs.Clauses.{first}
 use Rattle.cg_model.specs.Replays.{stepped}
-use Rattle.cg_runs.specs.Shortcuts.{limits_in, broken_by}
+use Rattle.cg_model.specs.Limits.{limits_in}
+use Rattle.cg_runs.specs.Shortcuts.{broken_by}
 use Rattle.cg_runs.proofs.ReplayLaws.{progress, applied, step-still, step-done, replay-still, replay-done}
 use Rattle.cg_runs.proofs.replay.Replay.step.Goals as goal
 use Rattle.cg_runs.proofs.replay.Replay.step.Goals.{then-may_break, else-may_break}
