@@ -9,7 +9,6 @@ use cg_cgroup::files::Limit;
 use cg_cgroup::path::Path;
 use cg_cgroup::process::Pid;
 use cg_cgroup::user::Mode;
-use cg_model::changes::{Change, Changes};
 use cg_model::changes::Change;
 use cg_model::operation::Op;
 

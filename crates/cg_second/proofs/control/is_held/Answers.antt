@@ -14,7 +14,8 @@ returns-then-stays_off g c =
     let off : lasting.off (parent subtree) c.args.controller ≡ true =
     off-above st s.users.now c.requires.survey.formed subtree c.args.controller c.requires.stays c.requires.not_root
     ∙ sym c.stays_off.ensures ∙ c.if-stays_off.true in
-    sym (ap (λ b. lasting.on (parent subtree) c.args.controller || b) off ∙ or-true (lasting.on (parent subtree) c.args.controller))
+    c.if-stays_off.true
+    ∙ sym (ap (λ b. lasting.on (parent subtree) c.args.controller || b) off ∙ or-true (lasting.on (parent subtree) c.args.controller))
 
 pub returns-else-stays_off : goal.returns-else-stays_off
 returns-else-stays_off g c =

@@ -21,7 +21,8 @@ spelled op at changes result is said =
 
 pub returns-in-Control : goal.returns-in-Control
 returns-in-Control c =
-    let few = spelled c.args.op.now _ _ _ c.in-Control.is (c.are_spelled.ensures ∙ ap (λ changes. are_in_format_2 changes && nat_le (length changes) 511) c.as_slice.ensures) in
+    let held = ap (λ changes. are_in_format_2 changes && nat_le (length changes) 511) c.as_slice.ensures in
+    let few = spelled c.args.op.now _ _ _ c.in-Control.is (c.are_spelled.ensures ∙ held) in
     record {
       few = few;
       line = λ h. (c.hold.ensures (few.0 h).0, line_length c.args.op.now (c.hold.ensures (few.0 h).0) (few.0 h).1);
