@@ -10,6 +10,8 @@ use Rattle.cg_cgroup.proofs.AllFiles.{each_passes, all_pass}
 use Rattle.cg_cgroup.proofs.ControllerLaws.{flag_same, flag_itself, each_controller, all_controllers_pass}
 use Rattle.cg_cgroup.specs.declared.files.Limit.{Limit}
 use Rattle.cg_cgroup.specs.declared.files.Limit.TheVariants.{Max, At}
+use Rattle.cg_cgroup.specs.declared.files.Controller.{Controller}
+use Rattle.cg_cgroup.specs.declared.files.LimitFile.{LimitFile}
 use Rattle.cg_cgroup.specs.declared.files.LimitFile.TheVariants.{MaxDescendants, MaxDepth}
 use Rattle.cg_model.specs.States.{State, row_at, value_at, count_below, depth_below}
 use Rattle.cg_model.specs.Limits.{Limits, same_value, same_limits, is_within_limit, fits_descendants, fits_depth}
@@ -30,8 +32,8 @@ same_value-itself (Some (At m)) = eq-eqb m m refl
 
 pub same_limits-is : (these those : Limits) → same_limits these those ≡ true → these ≡ those
 same_limits-is these those h =
-    let same_values = λ file. same_value (these.values file) (those.values file) in
-    let same_others = λ controller. beq (these.others controller) (those.others controller) in
+    let same_values : LimitFile → Bool = λ file. same_value (these.values file) (those.values file) in
+    let same_others : Controller → Bool = λ controller. beq (these.others controller) (those.others controller) in
     let parts = and_parts (list_all same_values all_files) (list_all same_others all_controllers) h in
     λ i. record {
       values = λ file. same_value-is (these.values file) (those.values file) (each_passes same_values parts.0 file) i;
