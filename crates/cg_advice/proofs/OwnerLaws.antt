@@ -48,7 +48,8 @@ module _ (uid gid : ℕ) (row : Cgroup) where
   file_of-with_owner_in SubtreeControl MaxDescendants = refl
   file_of-with_owner_in name file = refl
 
-  other_in-with_owner_in : (name : EntryName) (controller : Controller) → other_in (with_owner_in name uid gid row) controller ≡ other_in row controller
+  other_in-with_owner_in : (name : EntryName) (controller : Controller)
+      → other_in (with_owner_in name uid gid row) controller ≡ other_in row controller
   other_in-with_owner_in (File file) controller = other_in-with_file file (with_file_owned_by uid gid) row controller
   other_in-with_owner_in name controller = refl
 

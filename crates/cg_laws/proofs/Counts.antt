@@ -53,10 +53,12 @@ module _ (st : State) (subtree : Names) where
       → fits_descendants st subtree ≡ true
   most-descendants within = descendants-limit st subtree ∙ most-in (count_below st subtree) (value_at st subtree MaxDescendants) within
 
-  pub depth-most : fits_depth st subtree ≡ true → (most : ℕ) → value_at st subtree MaxDepth ≡ Some (At most) → depth_below st subtree ≤ most
+  pub depth-most : fits_depth st subtree ≡ true → (most : ℕ) → value_at st subtree MaxDepth ≡ Some (At most)
+      → depth_below st subtree ≤ most
   depth-most h = in-most (depth_below st subtree) (value_at st subtree MaxDepth) (sym (depth-limit st subtree) ∙ h)
 
-  pub most-depth : ((most : ℕ) → value_at st subtree MaxDepth ≡ Some (At most) → depth_below st subtree ≤ most) → fits_depth st subtree ≡ true
+  pub most-depth : ((most : ℕ) → value_at st subtree MaxDepth ≡ Some (At most) → depth_below st subtree ≤ most)
+      → fits_depth st subtree ≡ true
   most-depth within = depth-limit st subtree ∙ most-in (depth_below st subtree) (value_at st subtree MaxDepth) within
 
 fewer : (less count : ℕ) (limit : Option Limit) → less ≤ count → fits_in count limit ≡ true → fits_in less limit ≡ true
@@ -147,7 +149,8 @@ module _ (st : State) (user : Identity) (subtree path : Names) (there : has_row 
 
 -- ---- an rmdir
 
-fits-without_row : (st : State) (subtree path : Names) (values : LimitFile → Option Limit) → has_row st path ≡ true → FitIn st subtree values
+fits-without_row : (st : State) (subtree path : Names) (values : LimitFile → Option Limit) → has_row st path ≡ true
+    → FitIn st subtree values
     → FitIn (without_row st path) subtree values
 fits-without_row st subtree path values there fits =
     let row = some_value (row_at st path) there in (

@@ -64,7 +64,8 @@ module _ (had : Limits) (st new : State) (subtree : Names) where
     there = whole.there;
     limits = whole.limits;
     descendants =
-        λ most is. descendants-most new subtree whole.descendants most (ap (λ (these : Limits). these.values MaxDescendants) whole.limits ∙ is);
+        λ most is.
+        descendants-most new subtree whole.descendants most (ap (λ (these : Limits). these.values MaxDescendants) whole.limits ∙ is);
     depth = λ most is. depth-most new subtree whole.depth most (ap (λ (these : Limits). these.values MaxDepth) whole.limits ∙ is);
   }
 

@@ -96,7 +96,8 @@ module _ (st : State) (at : Names) (enabled : ControllerSet) (user : Identity) (
       (λ file. subst (λ path. entry_at (with_enabled st at enabled user) path (File file) ≡ entry_at st path (File file))
       (sym (take_all (length subtree) subtree (omega arith)))
       (entry_at-file (with_enabled st at enabled user) subtree file
-      ∙ ap (option_map (λ f. f.entry)) (file-with_enabled file (ap (λ (these : Limits). these.values file) same)) ∙ sym (entry_at-file st subtree file)))
+      ∙ ap (option_map (λ f. f.entry)) (file-with_enabled file (ap (λ (these : Limits). these.values file) same))
+      ∙ sym (entry_at-file st subtree file)))
       (entry_at-with_enabled-subtree_control st at enabled user (take (length subtree - 1) subtree))
       (entry_at-with_enabled-dir st at enabled user (take (length subtree - 1) subtree))
 

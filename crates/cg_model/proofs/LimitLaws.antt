@@ -37,7 +37,8 @@ same_limits-is these those h =
     let parts = and_parts (list_all same_values all_files) (list_all same_others all_controllers) h in
     λ i. record {
       values = λ file. same_value-is (these.values file) (those.values file) (each_passes same_values parts.0 file) i;
-      others = λ controller. flag_same (these.others controller) (those.others controller) (each_controller same_others parts.1 controller) i;
+      others = λ controller.
+          flag_same (these.others controller) (those.others controller) (each_controller same_others parts.1 controller) i;
     }
 
 pub same_limits-itself : (these : Limits) → same_limits these these ≡ true

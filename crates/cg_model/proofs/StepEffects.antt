@@ -231,7 +231,10 @@ module _ (st : State) (user : Identity) (op : Op) where
   pub limits-after : (q : Names) → ((file : LimitFile) → alters_value op q file ≡ false) → limits (after st user op) q ≡ limits st q
   limits-after q h =
       let others = others_unaltered op q h in
-      λ i. record { values = λ file. value_at-after q file (h file) i; others = λ controller. is_some (other_at-after q controller others i) }
+      λ i. record {
+        values = λ file. value_at-after q file (h file) i;
+        others = λ controller. is_some (other_at-after q controller others i);
+      }
 
   pub enabled_at-after : (q : Names) → alters_enabled op q ≡ false → enabled_at (after st user op) q ≡ enabled_at st q
   enabled_at-after q h = after-by st user op (λ s. enabled_at s q ≡ enabled_at st q) (λ _. enabled_at-next st user op q h) refl
