@@ -1,13 +1,13 @@
 -- The state of a tree: what every call of `Hierarchy` reads or changes.
-use Rattle.std.specs.Prelude.{ℕ, ◌-◌, Bool, ◌&&◌, cond, List, length, map as map_list, filter, fold, count_by, max, Option, Some, None, option_and_then}
+use Rattle.std.specs.Prelude.{ℕ, ◌-◌, Bool, ◌&&◌, ◌||◌, not, cond, List, length, map as map_list, filter, fold, count_by, max, Option, Some, None, option_and_then}
 use Rattle.std.specs.List.{list_any}
 use Rattle.std.specs.Option.{option_map}
 use Rattle.std.specs.Ordering.{nat_cmp}
 use Rattle.std.specs.FinMap as map
 use Rattle.std.specs.FinSet as set
-use Rattle.cg_cgroup.specs.Paths.{Names, path_cmp, same_path, below, is_child}
+use Rattle.cg_cgroup.specs.Paths.{Names, path_cmp, same_path, parent, below, is_child}
 use Rattle.cg_cgroup.specs.Identity.{Identity}
-use Rattle.cg_cgroup.specs.Files.{enables}
+use Rattle.cg_cgroup.specs.Files.{enables, brings}
 use Rattle.cg_cgroup.specs.Cgroups.{file_of, other_in, entry_in, value_in, with_value_in, with_mode_in, with_files_of}
 use Rattle.cg_cgroup.specs.declared.user.Entry.{Entry}
 use Rattle.cg_cgroup.specs.declared.files.Limit.{Limit}
@@ -18,10 +18,13 @@ use Rattle.cg_cgroup.specs.declared.files.EntryName.{EntryName}
 use Rattle.cg_cgroup.specs.declared.cgroup.Cgroup.{Cgroup}
 use Rattle.cg_cgroup.specs.declared.cgroup.LimitEntry.{LimitEntry}
 use Rattle.cg_cgroup.specs.declared.process.Process.{Process}
+use Rattle.cg_cgroup.specs.declared.told.Told.{Told}
 
--- The cgroups by path, the live processes by PID, the PIDs that were ever used, and the controllers that the root has.
+-- The cgroups by path, what is told of limit files beyond `LimitFile`, by the path of the cgroup with the name of the file
+-- behind it, the live processes by PID, the PIDs that were ever used, and the controllers that the root has.
 pub record State : Type 0 where
   pub rows : map.FinMap path_cmp Cgroup
+  pub told : map.FinMap path_cmp Told
   pub live : map.FinMap nat_cmp Process
   pub used : set.FinSet nat_cmp
   pub controllers : ControllerSet
@@ -91,8 +94,12 @@ change_each f rows = map.from_sorted (map_list (λ e. (e.0, f e.0 e.1)) (map.ent
 abbrev pub with_row : State → Names → Cgroup → State
 with_row st path row = record st { rows = map.insert st.rows path row }
 
+-- what is told of the files that pass a test
+abbrev pub told_of : (Names → Told → Bool) → State → map.FinMap path_cmp Told
+told_of test st = map.from_sorted (filter (λ e. test e.0 e.1) (map.entries st.told))
+
 abbrev pub without_row : State → Names → State
-without_row st path = record st { rows = map.remove st.rows path }
+without_row st path = record st { rows = map.remove st.rows path; told = told_of (λ file told. not (is_child path file)) st }
 
 abbrev pub with_value : State → Names → LimitFile → Limit → State
 with_value st path file value = change_at path (with_value_in file value) st
@@ -110,7 +117,10 @@ enabling path enabled user q row =
 
 -- Enabling and Disabling: what a path enables, and with it the files of its children.
 abbrev pub with_enabled : State → Names → ControllerSet → Identity → State
-with_enabled st path enabled user = record st { rows = change_each (enabling path enabled user) st.rows }
+with_enabled st path enabled user = record st {
+  rows = change_each (enabling path enabled user) st.rows;
+  told = told_of (λ file told. not (is_child path (parent file)) || brings enabled told.controller) st;
+}
 
 abbrev pub placed_at : Names → Process → Process
 placed_at path process = record process { place = path }
