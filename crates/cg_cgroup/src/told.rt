@@ -11,3 +11,11 @@ pub struct Told {
     /// Its lines, with a newline between two; `None` where its value stays as it is.
     pub value: Option<String>,
 }
+
+/// The name of a limit file beyond `LimitFile`.
+#[derive(Debug, Drop, PartialEq, Eq)]
+pub struct OtherName {
+    /// The controller that brings the file; `None` for one of the core.
+    pub controller: Option<Controller>,
+    pub text: String,
+}

@@ -1,11 +1,11 @@
 -- The state of a tree: what every call of `Hierarchy` reads or changes.
-use Rattle.std.specs.Prelude.{ℕ, ◌-◌, Bool, ◌&&◌, ◌||◌, not, cond, List, length, map as map_list, filter, fold, count_by, max, Option, Some, None, option_and_then}
+use Rattle.std.specs.Prelude.{ℕ, ◌-◌, Bool, ◌&&◌, ◌||◌, not, cond, List, [], ◌∷◌, ◌++◌, length, map as map_list, filter, fold, count_by, max, Option, Some, None, option_and_then}
 use Rattle.std.specs.List.{list_any}
 use Rattle.std.specs.Option.{option_map}
 use Rattle.std.specs.Ordering.{nat_cmp}
 use Rattle.std.specs.FinMap as map
 use Rattle.std.specs.FinSet as set
-use Rattle.cg_cgroup.specs.Paths.{Names, path_cmp, same_path, parent, below, is_child}
+use Rattle.cg_cgroup.specs.Paths.{Names, path_cmp, same_path, is_root, parent, below, is_child}
 use Rattle.cg_cgroup.specs.Identity.{Identity}
 use Rattle.cg_cgroup.specs.Files.{enables, brings}
 use Rattle.cg_cgroup.specs.Cgroups.{file_of, other_in, entry_in, value_in, with_value_in, with_mode_in, with_files_of}
@@ -19,6 +19,7 @@ use Rattle.cg_cgroup.specs.declared.cgroup.Cgroup.{Cgroup}
 use Rattle.cg_cgroup.specs.declared.cgroup.LimitEntry.{LimitEntry}
 use Rattle.cg_cgroup.specs.declared.process.Process.{Process}
 use Rattle.cg_cgroup.specs.declared.told.Told.{Told}
+use Rattle.cg_cgroup.specs.declared.told.OtherName.{OtherName}
 
 -- The cgroups by path, what is told of limit files beyond `LimitFile`, by the path of the cgroup with the name of the file
 -- behind it, the live processes by PID, the PIDs that were ever used, and the controllers that the root has.
@@ -81,7 +82,22 @@ count_below st path = count_by (below path) (paths_of st)
 abbrev pub depth_below : State → Names → ℕ
 depth_below st path = fold max 0 (map_list (λ q. length q - length path) (filter (below path) (paths_of st)))
 
+-- a limit file beyond `LimitFile`: what is told of it, and else whose those are that the core or its controller brings
+abbrev pub untold_at : State → Names → Option Controller → Option Entry
+untold_at st path None = cond (is_root path) None (option_map (λ row. row.freeze) (row_at st path))
+untold_at st path (Some controller) = other_at st path controller
+
+abbrev pub other_file_at : State → Names → OtherName → Option Told
+other_file_at st path file = elim (map.get st.told (path ++ file.text ∷ [])) [
+  | None ↦ option_map (λ entry. record { controller = file.controller; entry = entry; value = None }) (untold_at st path file.controller)
+  | Some told ↦ Some told
+]
+
 -- ---- changes
+
+-- such a file changed, where it stands
+abbrev pub with_told : State → Names → OtherName → (Told → Told) → State
+with_told st at file f = elim (other_file_at st at file) [ None ↦ st | Some told ↦ record st { told = map.insert st.told (at ++ file.text ∷ []) (f told) } ]
 
 -- a row changed, where it is there
 abbrev pub change_at : Names → (Cgroup → Cgroup) → State → State
