@@ -5,7 +5,7 @@ import functools
 import itertools
 import re
 
-from . import explained, rules, settled
+from . import explained, files, rules, settled, written
 from .documents import Fault
 from .rules import text_of
 from .texts import LAST_ID, tree_of
@@ -29,21 +29,25 @@ OPTIONS = {
 
 
 @functools.lru_cache(maxsize=1024)
-def operation_of(line):
-    """The operation of a line without its newline, or None."""
+def operation_of(line, form=2):
+    """The operation of a line without its newline, of a tree of a format, or None."""
     try:
-        words = line.decode("ascii").split(" ")
+        kind, *rest = line.decode("ascii").split(" ")
     except UnicodeDecodeError:
         return None
-    kind, rest = words[0], words[1:]
     if kind == "control" and rest:
-        read = [rules.path_of(rest[0]), tuple(map(change_word, rest[1:]))]
+        read = [rules.path_of(rest[0]), tuple(change_word(word, form) for word in rest[1:])]
         return None if read[0] is None or None in read[1] else (kind, *read)
+    if kind == "set" and form == 4 and files.is_further(" ".join(rest[1:2])):
+        rest, value = [*rest[:2], " ".join(rest[2:])], line_word
+    else:
+        value = value_word
     forms = {"move": (pid_word, rules.path_of), "mkdir": (rules.path_of,), "rmdir": (rules.path_of,), "fork": (pid_word, pid_word),
-             "set": (rules.path_of, limit_word, value_word), "exit": (pid_word,), "chmod": (rules.path_of, entry_word, mode_word)}
+             "set": (rules.path_of, lambda word: limit_word(word, form), value), "exit": (pid_word,),
+             "chmod": (rules.path_of, lambda word: entry_word(word, form), mode_word)}
     if len(forms.get(kind, ())) != len(rest) or kind not in forms:
         return None
-    read = [form(word) for form, word in zip(forms[kind], rest)]
+    read = [each(word) for each, word in zip(forms[kind], rest)]
     return None if None in read else (kind, *read)
 
 
@@ -52,12 +56,16 @@ def pid_word(word):
     return found if 1 <= found <= rules.LAST_PID else None
 
 
-def change_word(word):
-    return (word[0], word[1:]) if word[:1] in ("+", "-") and word[1:] in rules.CONTROLLERS else None
+def change_word(word, form):
+    return (word[0], word[1:]) if word[:1] in ("+", "-") and word[1:] in files.controllers_of(form) else None
 
 
-def limit_word(word):
-    return word if word in rules.LIMIT_FILES else None
+def limit_word(word, form):
+    return word if word in rules.LIMIT_FILES or form == 4 and files.is_further(word) else None
+
+
+def line_word(word):
+    return word if files.is_line(word, files.LONGEST_SET) else None
 
 
 def value_word(word):
@@ -66,8 +74,8 @@ def value_word(word):
     return int(word) if re.fullmatch(NUMBER, word) and int(word) < 2 ** 64 else None
 
 
-def entry_word(word):
-    return word if word in rules.STANDING or word in rules.LIMIT_FILES else None
+def entry_word(word, form):
+    return word if word in rules.STANDING else limit_word(word, form)
 
 
 def mode_word(word):
@@ -84,8 +92,8 @@ def spelling(operation):
     return " ".join([kind, *words])
 
 
-def lines_of(data):
-    """Each line's operation; raises the fault that ends them."""
+def lines_of(data, form):
+    """Each line's operation, of a tree of a format; raises the fault that ends them."""
     *lines, end = data.split(b"\n")
     for number, line in enumerate(lines + ([end] if end else []), 1):
         if number > MOST_STEPS:
@@ -94,7 +102,7 @@ def lines_of(data):
             raise Fault(f"line {number} too-long")
         if number > len(lines):
             raise Fault(f"line {number} cut")
-        operation = operation_of(line)
+        operation = operation_of(line, form)
         if operation is None:
             raise Fault(f"line {number} bad-word")
         yield operation
@@ -218,29 +226,29 @@ class Open:
         return "another report: of these more than one is right"
 
 
-def respond(words, stdin, files):
+def respond(words, stdin, given):
     """The lines of standard output, the status and the first line of standard error, or an `Open` in place of the lines, without a
-    status. A tree that is read from what isn't a file is None in `files`, and so is a folder's name, which opens and can't be read,
+    status. A tree that is read from what isn't a file is None in `given`, and so is a folder's name, which opens and can't be read,
     with the value False."""
     lines = []
     try:
-        return lines, report(words, stdin, files, lines), ""
+        return lines, report(words, stdin, given, lines), ""
     except Fault as fault:
         return lines, 3, f"fault: {fault}"
 
 
-def report(words, stdin, files, lines):
+def report(words, stdin, given, lines):
     call = Call(words)
-    files = {**files, "-": stdin}
+    given = {**given, "-": stdin}
     named = "-" if call.one("--tree") is None else call.one("--tree")
     if "-" == named in (call.one("--ops"), call.one("--pairs")):
         raise Fault("usage")
-    tree = files.get(named)
-    if not isinstance(tree, bytes) or call.command == "replay" and files.get(call.one("--ops")) is None:
+    tree = given.get(named)
+    if not isinstance(tree, bytes) or call.command == "replay" and given.get(call.one("--ops")) is None:
         raise Fault("read")
     subtrees = call.subtrees()
     if call.one("--pairs") is not None:
-        text = files.get(call.one("--pairs"))
+        text = given.get(call.one("--pairs"))
         if not isinstance(text, bytes):
             raise Fault("read")
         pairs = pairs_of(text)
@@ -248,7 +256,7 @@ def report(words, stdin, files, lines):
     test_arguments(call, subtrees)
     state = tree_of(tree)
     tops = [subtree_of(state, word) for word in subtrees]
-    return REPORTS[call.command](call, state, tops, files, lines)
+    return REPORTS[call.command](call, state, tops, given, lines)
 
 
 def test_arguments(call, subtrees):
@@ -272,7 +280,7 @@ def subtree_of(state, word):
     return path
 
 
-def may(call, state, _tops, _files, lines):
+def may(call, state, _tops, _given, lines):
     found = rules.bars(state, call.users[0], ("move", call.pid, rules.path_of(call.one("--to"))))
     lines.append(f"refused {found[0]}" if found else "granted")
     return 1 if found else 0
@@ -293,36 +301,36 @@ def worst(kinds):
     return STATUS[next((kind for kind in ("escapes", "unsettled") if kind in kinds), "contained")]
 
 
-def check(call, state, tops, _files, lines):
+def check(call, state, tops, _given, lines):
     answer = rules.answer(state, call.users[0], tops[0])
     lines += answer_lines(answer)
     return STATUS[answer[0]]
 
 
-def answer_of(lines):
-    """The answer that lines spell, or None."""
+def answer_of(lines, form=2):
+    """The answer of a tree of a format that lines spell, or None."""
     kind, *words = lines[0].split(" ") if lines else [""]
     if kind == "escapes" and not words:
-        operations = [operation_of(line.encode()) if len(line) <= LONGEST_LINE else None for line in lines[1:]]
+        operations = [operation_of(line.encode(), form) if len(line) <= LONGEST_LINE else None for line in lines[1:]]
         return None if None in operations else (kind, operations)
     if len(lines) != 1 or kind not in STATUS or len(words) != (2 if kind == "unsettled" else 0):
         return None
     return (kind, words[0], rules.path_of(words[1])) if words else (kind,)
 
 
-def settle(call, state, tops, _files, lines):
+def settle(call, state, tops, _given, lines):
     user, top = call.users[0], tops[0]
     known = settled.known(state, user, top)
     if known is None:
-        lines.append(Open(lambda said, status: is_said(said, status, lambda answer: settled.is_right(state, user, top, answer))))
+        lines.append(Open(lambda said, status: is_said(state.form, said, status, lambda answer: settled.is_right(state, user, top, answer))))
         return None
     lines += answer_lines(known)
     return STATUS[known[0]]
 
 
-def is_said(lines, status, is_right):
+def is_said(form, lines, status, is_right):
     """Whether lines spell an answer that is right, with its status."""
-    answer = answer_of(lines)
+    answer = answer_of(lines, form)
     return answer is not None and status == STATUS[answer[0]] and is_right(answer)
 
 
@@ -338,13 +346,14 @@ def is_first_said(state, users, tops, said, status):
         return status == 0 and settled.are_listed(state, users, tops, {})
     pairs = list(itertools.product(users, tops))
     named = [at for at, (user, top) in enumerate(pairs) if said[:1] == [head_of(user[:1], top)]]
-    return is_said(said[1:], status, lambda answer: any(settled.is_first(state, users, pairs[:at], pairs[at], answer) for at in named))
+    return is_said(state.form, said[1:], status,
+                   lambda answer: any(settled.is_first(state, users, pairs[:at], pairs[at], answer) for at in named))
 
 
 def is_list_said(state, users, tops, said, status):
     heads = {head_of(user, top): (user, top) for user, top in itertools.product(users, tops)}
     starts = [at for at, line in enumerate(said) if line in heads]
-    listed = {heads[said[start]]: answer_of(said[start + 1:end]) for start, end in zip(starts, [*starts[1:], None])}
+    listed = {heads[said[start]]: answer_of(said[start + 1:end], state.form) for start, end in zip(starts, [*starts[1:], None])}
     if not starts:
         return said == ["contained"] and status == 0 and settled.are_listed(state, users, tops, {})
     in_order = starts[0] == 0 and [said[start] for start in starts] == [head for head, pair in heads.items() if pair in listed]
@@ -363,7 +372,7 @@ def asked(call, tops):
     return list(itertools.product(dict.fromkeys(call.users), dict.fromkeys(tops)))
 
 
-def audit(call, state, tops, _files, lines):
+def audit(call, state, tops, _given, lines):
     if "--settle" in call.given:
         return settled_audit(call, state, tops, lines)
     listed = "--all" in call.given
@@ -380,11 +389,11 @@ def audit(call, state, tops, _files, lines):
     return worst(kinds)
 
 
-def replay(call, state, tops, files, lines):
-    if files[call.one("--ops")] is False:
+def replay(call, state, tops, given, lines):
+    if given[call.one("--ops")] is False:
         raise Fault("read")
     states = [state]
-    for operation in lines_of(files[call.one("--ops")]):
+    for operation in lines_of(given[call.one("--ops")], state.form):
         state, refusal = rules.step(state, call.users[0], operation)
         lines.append(f"refused {refusal}" if refusal else "ok")
         states.append(state)
@@ -394,7 +403,7 @@ def replay(call, state, tops, files, lines):
     return 0 if lines[-1] == "kept" else 1
 
 
-def explain(call, state, tops, _files, lines):
+def explain(call, state, tops, _given, lines):
     told = [(user, top, [head_of(user, top), *explained.lines_of(state, user, top)]) for user, top in asked(call, tops)]
     ends = [settled.known(state, user, top) for user, top, _ in told]
     if None in ends:
@@ -418,7 +427,7 @@ def is_told(state, told, said, status):
     return not said and status == worst(kinds)
 
 
-def advise(call, state, tops, _files, lines):
+def advise(call, state, tops, _given, lines):
     """With --settle nothing is to be changed where of each subtree the second row holds for all users together."""
     if "--settle" not in call.given or not all(settled.is_contained(state, call.users, top) for top in tops):
         pairs = zip(call.users, tops) if "--pairs" in call.given else itertools.product(call.users, tops)
@@ -429,24 +438,33 @@ def advise(call, state, tops, _files, lines):
     return 0
 
 
-def upgrade(_call, state, _tops, _files, lines):
-    """One element in place of lines: the document that is written, whose spelling is the library's."""
-    lines.append(document_of(state))
+def upgrade(_call, state, _tops, _given, lines):
+    lines += written.lines_of(document_of(state))
     return 0
 
 
 def document_of(state):
+    """What is written of a state."""
     rows = [full_row(path, state.cgroups[path]) for path in sorted(state.cgroups)]
     processes = [{"pid": pid, "uid": uid, "at": text_of(path)} for pid, (uid, path) in sorted(state.live.items())]
-    return {"format": 2, "controllers": [c for c in rules.CONTROLLERS if c in state.controllers], "cgroup": rows, "process": processes}
+    controllers = [c for c in files.ALL_CONTROLLERS if c in state.controllers]
+    return {"format": state.form, "controllers": controllers, "cgroup": rows, "process": processes}
 
 
 def full_row(path, cgroup):
-    files = {name: {"uid": entry.uid, "gid": entry.gid, "mode": entry.mode} for name, entry in cgroup.entries.items()}
+    tables = {name: {"uid": entry.uid, "gid": entry.gid, "mode": entry.mode} for name, entry in cgroup.entries.items()}
     for name, value in cgroup.values.items():
-        files[name]["value"] = value
-    enabled = [c for c in rules.CONTROLLERS if c in cgroup.enabled]
-    return {"path": text_of(path), "enabled": enabled, "dir": files.pop(rules.DIR), "files": files}
+        if value is not None:
+            tables[name]["value"] = written_value(value)
+    enabled = [c for c in files.ALL_CONTROLLERS if c in cgroup.enabled]
+    return {"path": text_of(path), "enabled": enabled, "dir": tables.pop(rules.DIR), "files": tables}
+
+
+def written_value(value):
+    """Of a further limit file a text where it has one line, else an array of texts."""
+    if not isinstance(value, tuple):
+        return value
+    return value[0] if len(value) == 1 else list(value)
 
 
 REPORTS = {"may": may, "check": check, "settle": settle, "audit": audit, "explain": explain, "replay": replay, "advise": advise,

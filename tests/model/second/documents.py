@@ -10,7 +10,11 @@ import math
 import re
 import tomllib
 
-MOST_BYTES, NESTED = 16777216, 80
+from . import files
+
+MOST_BYTES, MOST_LARGE, NESTED = 16777216, 67108864, 80
+# how a large text begins
+LARGE = re.compile(rb"(?:controllers = \[([^\n]*)\]\n)?format = 4\n")
 # the pieces of a text that tell which TOML it is: texts and comments whole, dates and times by their beginning, and marks
 PIECES = re.compile(r"""
     (?P<escaped> \"{3} (?:[^\\]|\\.)*? \"{3,5} | " (?:[^"\\\n]|\\.)* " )
@@ -79,10 +83,19 @@ def float_of(word):
     return float(word)
 
 
+def is_large(data):
+    """Whether a text says at its beginning that it is a large one of format 4."""
+    begins = LARGE.match(data)
+    if not begins or begins[1] is None:
+        return bool(begins)
+    quoted = [b'"%s"' % controller.encode() for controller in files.ALL_CONTROLLERS]
+    return begins[1] == b", ".join(controller for controller in quoted if controller in begins[1])
+
+
 @functools.lru_cache(maxsize=2)
 def reading_of(data):
     """The document of a text, or what stands in its place; kept, since several models ask of one text."""
-    if len(data) > MOST_BYTES:
+    if len(data) > (MOST_LARGE if is_large(data) else MOST_BYTES):
         return Fault("tree too-long")
     try:
         text = data.decode("utf-8").removeprefix("\ufeff")

@@ -6,22 +6,12 @@ the code's mistakes. It is plain and slow: each count is taken anew from all pat
 A path is a tuple of names. A user is (uid, gids). A state and what it holds are never changed: a step makes another state.
 """
 import itertools
-from dataclasses import dataclass, replace
+from dataclasses import dataclass, field, replace
 
-CONTROLLERS = ("cpu", "memory", "pids")
-MOST = 2 ** 63 - 1
-MAX = "max"
-# each limit file, in the order used everywhere: its controller, default, least and greatest number, whether it takes `max`
-LIMIT_FILES = {
-    "cgroup.max.descendants": (None, MAX, 0, MOST, True),
-    "cgroup.max.depth": (None, MAX, 0, MOST, True),
-    "cpu.weight": ("cpu", 100, 1, 10000, False),
-    "memory.min": ("memory", 0, 0, MOST, True),
-    "memory.low": ("memory", 0, 0, MOST, True),
-    "memory.high": ("memory", MAX, 0, MOST, True),
-    "memory.max": ("memory", MAX, 0, MOST, True),
-    "pids.max": ("pids", MAX, 0, MOST, True),
-}
+from . import files
+from .files import ALL_CONTROLLERS, CONTROLLERS, FREEZE, LIMIT_FILES, MAX, group_of
+
+MOST = files.MOST
 DESCENDANTS, DEPTH = "cgroup.max.descendants", "cgroup.max.depth"
 DIR, PROCS, CONTROL = "dir", "cgroup.procs", "cgroup.subtree_control"
 STANDING = (DIR, PROCS, CONTROL)
@@ -40,19 +30,24 @@ class Entry:
 
 @dataclass(frozen=True)
 class Cgroup:
-    """`entries` and `values` by name: the directory, the control files and the limit files that stand, and their values."""
+    """`entries` and `values` by name: the directory, the control files, the eight limit files that stand and the further ones that are
+    told of, and their values: of a further one its lines, or None where it is as it is. `untold` by what brings a further file: the
+    entry of those of which nothing is told, where it isn't root's."""
     entries: dict
     values: dict
     enabled: frozenset = frozenset()
+    untold: dict = field(default_factory=dict)
 
 
 @dataclass(frozen=True)
 class State:
-    """`cgroups` by path, `live` from a PID to (uid, path), `used` the PIDs that a process ever had."""
+    """`cgroups` by path, `live` from a PID to (uid, path), `used` the PIDs that a process ever had; the format in which it is written,
+    which is 2 or 4."""
     controllers: frozenset
     cgroups: dict
     live: dict
     used: frozenset
+    form: int = 2
 
 
 def text_of(path):
@@ -129,10 +124,35 @@ def available(state, path):
     return state.cgroups[path[:-1]].enabled if path else state.controllers
 
 
+def controllers_of(state):
+    """`cpu`, `memory`, `pids` and what else the root has: all others are off everywhere for good."""
+    return [c for c in ALL_CONTROLLERS if c in CONTROLLERS or c in state.controllers]
+
+
 def files_at(state, path):
-    """The limit files that belong at a path, in their order."""
+    """Those of the eight limit files that belong at a path, in their order."""
     brought = state.cgroups[path[:-1]].enabled if path else frozenset()
     return [file for file, (controller, *_) in LIMIT_FILES.items() if controller is None or controller in brought]
+
+
+def told_at(state, path):
+    """The limit files of a cgroup that are told of: the eight that stand, in their order, and the further ones by their names' bytes."""
+    values = state.cgroups[path].values
+    return [file for file in LIMIT_FILES if file in values] + sorted(values.keys() - LIMIT_FILES.keys())
+
+
+def further_stands(state, path, name):
+    """Whether a further limit file stands at a cgroup, told of or not."""
+    return bool(path) and (name == FREEZE or group_of(name) in available(state, path))
+
+
+def stands(state, path, name):
+    return name in state.cgroups[path].entries or files.is_further(name) and further_stands(state, path, name)
+
+
+def entry_of(cgroup, name):
+    """An entry that stands, which may be a further limit file that isn't told of."""
+    return cgroup.entries[name] if name in cgroup.entries else cgroup.untold.get(group_of(name), Entry())
 
 
 def default_of(file):
@@ -140,6 +160,8 @@ def default_of(file):
 
 
 def accepts(file, value):
+    if file not in LIMIT_FILES:
+        return True
     _, _, least, greatest, takes_max = LIMIT_FILES[file]
     return takes_max if value == MAX else least <= value <= greatest
 
@@ -154,11 +176,12 @@ def lives_at(state, path):
 
 
 # Operations: ("move", pid, path), ("control", path, ((sign, controller), ..)), ("mkdir", path), ("rmdir", path),
-# ("set", path, file, value), ("fork", parent, child), ("exit", pid), ("chmod", path, entry, mode).
+# ("set", path, file, value), where the value of a further limit file is its line, ("fork", parent, child), ("exit", pid),
+# ("chmod", path, entry, mode).
 
 
 def entry_bar(state, user, path, name):
-    return [] if writes(user, state.cgroups[path].entries[name]) else [f"no-access {text_of(path)} {name}"]
+    return [] if writes(user, entry_of(state.cgroups[path], name)) else [f"no-access {text_of(path)} {name}"]
 
 
 def bars(state, user, operation):
@@ -191,7 +214,7 @@ def effective(changes):
 def enabled_after(state, path, changes):
     last = effective(changes)
     enabled = state.cgroups[path].enabled
-    return frozenset(c for c in CONTROLLERS if last.get(c, "+" if c in enabled else "-") == "+")
+    return frozenset(c for c in ALL_CONTROLLERS if last.get(c, "+" if c in enabled else "-") == "+")
 
 
 def control_bars(state, user, path, changes):
@@ -199,11 +222,11 @@ def control_bars(state, user, path, changes):
         return missing(state, path)
     found = entry_bar(state, user, path, CONTROL)
     last = effective(changes)
-    for controller in CONTROLLERS:
+    for controller in [c for c in ALL_CONTROLLERS if c in last]:
         used = any(controller in state.cgroups[child].enabled for child in children(state, path))
-        if last.get(controller) == "+" and controller not in available(state, path):
+        if last[controller] == "+" and controller not in available(state, path):
             found.append(f"not-available {controller}")
-        if last.get(controller) == "-" and controller in state.cgroups[path].enabled and used:
+        if last[controller] == "-" and controller in state.cgroups[path].enabled and used:
             found.append(f"child-uses {controller}")
     if path and enabled_after(state, path, changes) - state.cgroups[path].enabled and lives_at(state, path):
         found.append(f"internal-process {text_of(path)}")
@@ -244,7 +267,7 @@ def rmdir_bars(state, user, path):
 
 def set_bars(state, user, path, file, value):
     found = missing(state, path)
-    if not found and file not in state.cgroups[path].values:
+    if not found and not stands(state, path, file):
         found.append(f"no-such-file {text_of(path)} {file}")
     elif not found:
         found += entry_bar(state, user, path, file)
@@ -264,9 +287,9 @@ def exit_bars(state, user, pid):
 def chmod_bars(state, user, path, name, _mode):
     if path not in state.cgroups:
         return missing(state, path)
-    if name not in state.cgroups[path].entries:
+    if not stands(state, path, name):
         return [f"no-such-file {text_of(path)} {name}"]
-    return [] if owns(user, state.cgroups[path].entries[name]) else [f"not-owner {text_of(path)} {name}"]
+    return [] if owns(user, entry_of(state.cgroups[path], name)) else [f"not-owner {text_of(path)} {name}"]
 
 
 BARS = {"move": move_bars, "control": control_bars, "mkdir": mkdir_bars, "rmdir": rmdir_bars, "set": set_bars,
@@ -286,28 +309,32 @@ def after_move(state, _user, pid, to):
     return replace(state, live={**state.live, pid: (state.live[pid][0], to)})
 
 
-def refitted(state, user, path):
-    """A cgroup with the limit files that belong at it: one that stands is kept, one that comes is the user's."""
+def refitted(state, user, path, came):
+    """A cgroup with the limit files that belong at it: one that stands is kept, one that comes is the user's, and of what goes all is
+    forgotten. `came` has what brings further files that weren't there."""
     old = state.cgroups[path]
-    entries = {name: old.entries[name] for name in STANDING}
-    values = {}
+    further = [file for file in old.values if file not in LIMIT_FILES and further_stands(state, path, file)]
+    entries = {name: old.entries[name] for name in (*STANDING, *further)}
+    values = {file: old.values[file] for file in further}
     for file in files_at(state, path):
         entries[file] = old.entries.get(file, made_by(user, FILE_MODE))
         values[file] = old.values.get(file, default_of(file))
-    return replace(old, entries=entries, values=values)
+    untold = {group: entry for group, entry in old.untold.items() if group == group_of(FREEZE) or group in available(state, path)}
+    return replace(old, entries=entries, values=values, untold={**untold, **{group: made_by(user, FILE_MODE) for group in came}})
 
 
 def after_control(state, user, path, changes):
+    came = enabled_after(state, path, changes) - state.cgroups[path].enabled
     state = with_cgroup(state, path, replace(state.cgroups[path], enabled=enabled_after(state, path, changes)))
     for child in children(state, path):
-        state = with_cgroup(state, child, refitted(state, user, child))
+        state = with_cgroup(state, child, refitted(state, user, child, came))
     return state
 
 
 def after_mkdir(state, user, path):
     entries = {DIR: made_by(user, DIR_MODE), PROCS: made_by(user, FILE_MODE), CONTROL: made_by(user, FILE_MODE)}
     state = with_cgroup(state, path, Cgroup(entries, {}))
-    return with_cgroup(state, path, refitted(state, user, path))
+    return with_cgroup(state, path, refitted(state, user, path, {group_of(FREEZE), *available(state, path)}))
 
 
 def after_rmdir(state, _user, path):
@@ -315,8 +342,10 @@ def after_rmdir(state, _user, path):
 
 
 def after_set(state, _user, path, file, value):
+    """A further limit file is told of from now on, and has the one line."""
     old = state.cgroups[path]
-    return with_cgroup(state, path, replace(old, values={**old.values, file: value}))
+    entries, value = {**old.entries, file: entry_of(old, file)}, value if file in LIMIT_FILES else (value,)
+    return with_cgroup(state, path, replace(old, entries=entries, values={**old.values, file: value}))
 
 
 def after_fork(state, _user, parent, child):
@@ -328,8 +357,10 @@ def after_exit(state, _user, pid):
 
 
 def after_chmod(state, _user, path, name, mode):
+    """A further limit file is told of from now on, and its value is what it was."""
     old = state.cgroups[path]
-    return with_cgroup(state, path, replace(old, entries={**old.entries, name: replace(old.entries[name], mode=mode)}))
+    values = old.values if name in old.entries else {**old.values, name: None}
+    return with_cgroup(state, path, replace(old, entries={**old.entries, name: replace(entry_of(old, name), mode=mode)}, values=values))
 
 
 NEXT = {"move": after_move, "control": after_control, "mkdir": after_mkdir, "rmdir": after_rmdir, "set": after_set,
@@ -358,6 +389,11 @@ def over(state, top):
     return {file: count for file, count in there.items() if values[file] != MAX and count > values[file]}
 
 
+def limits_of(state, top):
+    """The controllers whose files stand at a cgroup, and the values of limit files, where they aren't as they are."""
+    return available(state, top), {file: value for file, value in state.cgroups[top].values.items() if value is not None}
+
+
 def broken(limits, before, after, top):
     """The first thing that a step breaks of a subtree whose limits at the start of the run are given, or None."""
     if top not in after.cgroups:
@@ -365,7 +401,7 @@ def broken(limits, before, after, top):
     crossed = crossing(before, after, top)
     if crossed:
         return f"crossed {crossed[0]}"
-    if after.cgroups[top].values != limits:
+    if limits_of(after, top) != limits:
         return "limits"
     exceeded = over(after, top)
     if DESCENDANTS in exceeded:
@@ -375,7 +411,7 @@ def broken(limits, before, after, top):
 
 def verdict(states, top):
     """Over the states of a run, the first of which is its start."""
-    limits = states[0].cgroups[top].values
+    limits = limits_of(states[0], top)
     for number, after in enumerate(states):
         before = states[max(number - 1, 0)]
         # a step that left the state as it was breaks nothing
@@ -386,9 +422,10 @@ def verdict(states, top):
 
 
 def guarded(state, top):
-    """The guarded entries in order: each guard with the cgroup and the name of its entry."""
+    """The guarded entries in order: each guard with the cgroup and the name of its entry. Of further limit files those that are told of:
+    in a state of a text, and no command asks of another, the others are root's."""
     found = [("common-ancestor", path, PROCS) for path in upwards(top)[1:]]
-    found += [("limit-file", top, file) for file in LIMIT_FILES if file in state.cgroups[top].values]
+    found += [("limit-file", top, file) for file in told_at(state, top)]
     return found + [("parent-control", top[:-1], CONTROL), ("parent-dir", top[:-1], DIR)]
 
 
@@ -399,6 +436,8 @@ def failures(state, user, top):
 
 
 def other_value(file, value):
+    if file not in LIMIT_FILES:
+        return files.other_line(file, value)
     if file == "cpu.weight":
         return 1 if value == 100 else 100
     return 0 if value == MAX else MAX
@@ -406,9 +445,9 @@ def other_value(file, value):
 
 def plain_tries(state, top):
     yield []
-    for file in files_at(state, top):
+    for file in told_at(state, top):
         yield [("set", top, file, other_value(file, state.cgroups[top].values[file]))]
-    for controller, sign in itertools.product(CONTROLLERS, "-+"):
+    for controller, sign in itertools.product(controllers_of(state), "-+"):
         yield [("control", top[:-1], ((sign, controller),))]
     yield [("rmdir", top)]
     for pid in rising(state):

@@ -4,11 +4,14 @@ it so.
 import functools
 import itertools
 
-from . import rules
+from . import files, rules
 from .documents import Fault, document_of
 from .rules import Cgroup, Entry, State
 
-MOST_ROWS, LAST_ID = 4096, 2 ** 32 - 1
+LAST_ID = 2 ** 32 - 1
+# of each format how many cgroups and how many processes there may be
+MOST_ROWS = {1: 4096, 2: 4096, 4: 65536}
+MOST_FURTHER = 1024
 
 
 def is_a(value, kind):
@@ -30,19 +33,36 @@ def number(value):
     return is_a(value, int)
 
 
-def entry_form(form, holds_value):
+def value_form(value):
+    return number(value) or is_a(value, str)
+
+
+def further_value_form(value):
+    return value_form(value) or texts(value)
+
+
+def entry_form(form, value=None):
+    """A test of an entry's table, whose value, if it may have one, passes another test."""
     tests = {"uid": number, "mode": number}
-    if form == 2:
+    if form != 1:
         tests["gid"] = number
-    if holds_value:
-        tests["value"] = lambda value: number(value) or is_a(value, str)
+    if value:
+        tests["value"] = value
     return lambda table: has_form(table, {}, tests)
 
 
 def cgroup_form(form):
-    files = {name: entry_form(form, name in rules.LIMIT_FILES) for name in (rules.PROCS, rules.CONTROL, *rules.LIMIT_FILES)}
-    optional = {"enabled": texts, "dir": entry_form(form, False), "files": lambda table: has_form(table, {}, files)}
+    optional = {"enabled": texts, "dir": entry_form(form), "files": lambda table: has_files(form, table)}
     return lambda table: has_form(table, {"path": lambda value: is_a(value, str)}, optional)
+
+
+def has_files(form, table):
+    """Whether a value is a table of a cgroup's files, each of which has its form."""
+    tests = {name: entry_form(form) for name in (rules.PROCS, rules.CONTROL)}
+    tests.update((name, entry_form(form, value_form)) for name in rules.LIMIT_FILES)
+    further = [name for name in table if form == 4 and files.is_further(name)] if is_a(table, dict) else []
+    tests.update((name, entry_form(form, further_value_form)) for name in further)
+    return has_form(table, {}, tests) and len(further) <= MOST_FURTHER
 
 
 def rows_form(value):
@@ -60,18 +80,18 @@ def tree_of(data):
     if not has_form(document, {"format": number, "controllers": texts}, {"cgroup": rows_form, "process": rows_form}):
         raise Fault("tree shape top")
     form, rows, processes = document["format"], document.get("cgroup", []), document.get("process", [])
-    if form not in (1, 2):
+    if form not in MOST_ROWS:
         raise Fault("tree format")
-    if max(len(rows), len(processes)) > MOST_ROWS:
+    if max(len(rows), len(processes)) > MOST_ROWS[form]:
         raise Fault("tree too-many")
     first("shape cgroup", rows, lambda row: not cgroup_form(form)(row))
     first("shape process", processes, lambda row: not process_form(row))
-    if not set(document["controllers"]) <= set(rules.CONTROLLERS):
+    if not set(document["controllers"]) <= set(files.controllers_of(form)):
         raise Fault("tree bad-controller top")
     for (place, row), (what, is_bad) in itertools.product(enumerate(rows, 1), OWN_FAULTS):
         if is_bad(form, row):
             raise Fault(f"tree {what} cgroup {place}")
-    return state_of(document["controllers"], rows, processes)
+    return state_of(form, document["controllers"], rows, processes)
 
 
 def first(what, rows, is_bad):
@@ -85,8 +105,8 @@ def bad_path(_form, row):
     return rules.path_of(row["path"]) is None
 
 
-def bad_controller(_form, row):
-    return not set(row.get("enabled", [])) <= set(rules.CONTROLLERS)
+def bad_controller(form, row):
+    return not set(row.get("enabled", [])) <= set(files.controllers_of(form))
 
 
 def has_bad_entry(form, row):
@@ -107,32 +127,46 @@ def bad_entry(form, table):
 
 
 def bad_value(name, value):
+    if name not in rules.LIMIT_FILES:
+        return not files.lines_of(value) or not all(map(files.is_line, files.lines_of(value)))
     return not (value == rules.MAX or number(value)) or not rules.accepts(name, value)
 
 
-def state_of(controllers, rows, processes):
+def state_of(form, controllers, rows, processes):
     paths = [rules.path_of(row["path"]) for row in rows]
     at = {path: frozenset(row.get("enabled", [])) for path, row in zip(paths, rows)}
     numbered = list(enumerate(rows))
-    first("duplicate cgroup", numbered, lambda each: paths[each[0]] in paths[:each[0]])
+    firsts = {path: place for place, path in reversed(list(enumerate(paths)))}
+    first("duplicate cgroup", numbered, lambda each: firsts[paths[each[0]]] < each[0])
     if () not in at:
         raise Fault("tree no-root")
     first("no-parent cgroup", paths, lambda path: path and path[:-1] not in at)
     first("top-down cgroup", paths, lambda path: not at[path] <= (at[path[:-1]] if path else set(controllers)))
-    bare = State(frozenset(controllers), {path: Cgroup({}, {}, at[path]) for path in paths}, {}, frozenset())
-    limits = [set(row.get("files", {})) & rules.LIMIT_FILES.keys() for row in rows]
-    first("no-such-file cgroup", numbered, lambda each: not limits[each[0]] <= set(rules.files_at(bare, paths[each[0]])))
+    bare = State(frozenset(controllers), {path: Cgroup({}, {}, at[path]) for path in paths}, {}, frozenset(), max(form, 2))
+    first("no-such-file cgroup", numbered, lambda each: lacks_file(bare, paths[each[0]], each[1]))
     cgroups = {path: cgroup_of(bare, path, row) for path, row in zip(paths, rows)}
     live = live_of(cgroups, processes)
-    return State(frozenset(controllers), cgroups, live, frozenset(live))
+    return State(bare.controllers, cgroups, live, frozenset(live), bare.form)
+
+
+def further_of(row):
+    """The further limit files that a row names."""
+    return [name for name in row.get("files", {}) if name not in rules.LIMIT_FILES and name not in rules.STANDING]
+
+
+def lacks_file(bare, path, row):
+    """Whether a row names a limit file that doesn't stand at its path."""
+    limits = set(row.get("files", {})) & rules.LIMIT_FILES.keys()
+    return not limits <= set(rules.files_at(bare, path)) or not all(rules.further_stands(bare, path, name) for name in further_of(row))
 
 
 def cgroup_of(bare, path, row):
-    files = row.get("files", {})
+    said, further = row.get("files", {}), further_of(row)
     entries = {rules.DIR: entry_of(row.get("dir", {}), rules.DIR_MODE)}
-    for name in (rules.PROCS, rules.CONTROL, *rules.files_at(bare, path)):
-        entries[name] = entry_of(files.get(name, {}), rules.FILE_MODE)
-    values = {name: files.get(name, {}).get("value", rules.default_of(name)) for name in rules.files_at(bare, path)}
+    for name in (rules.PROCS, rules.CONTROL, *rules.files_at(bare, path), *further):
+        entries[name] = entry_of(said.get(name, {}), rules.FILE_MODE)
+    values = {name: said.get(name, {}).get("value", rules.default_of(name)) for name in rules.files_at(bare, path)}
+    values.update((name, files.lines_of(said[name].get("value"))) for name in further)
     return Cgroup(entries, values, bare.cgroups[path].enabled)
 
 

@@ -3,11 +3,11 @@ import functools
 import sys
 import types
 
-from second import commands, documents, explained, lasting, rules, settled, texts
+from second import commands, documents, explained, files, lasting, rules, settled, texts, written
 
 # in the order in which one takes from another: those before the one that is changed are the right model's own
-MODULES = {"documents": documents, "rules": rules, "lasting": lasting, "settled": settled, "explained": explained, "texts": texts,
-           "commands": commands}
+MODULES = {"files": files, "documents": documents, "rules": rules, "lasting": lasting, "settled": settled, "explained": explained,
+           "texts": texts, "written": written, "commands": commands}
 USERS = "return list(itertools.product(dict.fromkeys(call.users), dict.fromkeys(tops)))"
 MEMBER = 'return "group" if entry.gid in user[1] else "others"'
 LIVE_ITEMS = "for other, process in state.live.items() if other != pid}"
@@ -18,6 +18,8 @@ SHAPES = ['    first("shape cgroup", rows, lambda row: not cgroup_form(form)(row
           '    first("shape process", processes, lambda row: not process_form(row))\n']
 REFUSED_PLACES = ['("duplicate-pid", pid in live)', '("no-such-place", path not in cgroups)']
 OVER = ["DESCENDANTS: len(below(state, top))", "DEPTH: depth_below(state, top)"]
+FIRSTS = """firsts = {path: place for place, path in reversed(list(enumerate(paths)))}
+    first("duplicate cgroup", numbered, lambda each: firsts[paths[each[0]]] < each[0])"""
 MANY_GIDS = '        if len(gids) > MOST_GIDS:\n'
 
 
@@ -63,22 +65,23 @@ OF_RULES = {
     "what begins as the subtree's text is inside": (
         "return path[:len(top)] == top", "return text_of(path).startswith(text_of(top))"),
     "limits are compared with those at the end": (
-        "limits = states[0].cgroups[top].values", "limits = states[-1].cgroups.get(top, states[0].cgroups[top]).values"),
+        "limits = limits_of(states[0], top)", "limits = limits_of(states[-1] if top in states[-1].cgroups else states[0], top)"),
     "a limit file that goes is no change": (
-        "if after.cgroups[top].values != limits:", "if not after.cgroups[top].values.items() <= limits.items():"),
+        "if limits_of(after, top) != limits:", "if not limits_of(after, top)[1].items() <= limits[1].items():"),
     "of two counts the depth is told": ("if DESCENDANTS in exceeded:", "if DESCENDANTS in exceeded and DEPTH not in exceeded:"),
     "of two counts the depth is mended first": ("{%s, %s}" % (*OVER,), "{%s, %s}" % (*OVER[::-1],)),
     "who owns an entry doesn't reach it": ("return writes(user, entry) or owns(user, entry)", "return writes(user, entry)"),
     "of the common ancestors the parent is guarded alone": (
         'for path in upwards(top)[1:]]', 'for path in upwards(top)[1:2]]'),
     "limit files in the order of their names": (
-        "for file in LIMIT_FILES if file in state", "for file in sorted(LIMIT_FILES) if file in state"),
+        "[file for file in LIMIT_FILES if file in values] + sorted(values.keys() - LIMIT_FILES.keys())", "sorted(values)"),
     "the parent's directory is guarded first": (
         '[("parent-control", top[:-1], CONTROL), ("parent-dir", top[:-1], DIR)]',
         '[("parent-dir", top[:-1], DIR), ("parent-control", top[:-1], CONTROL)]'),
     "tries another weight": ("return 1 if value == 100 else 100", "return 100 if value == 1 else 1"),
     "tries to disable all before it enables": (
-        'controller, sign in itertools.product(CONTROLLERS, "-+")', 'sign, controller in itertools.product("-+", CONTROLLERS)'),
+        'controller, sign in itertools.product(controllers_of(state), "-+")',
+        'sign, controller in itertools.product("-+", controllers_of(state))'),
     "tries processes inside alone": ("if inside(path, top) != is_in)", "if is_in and not inside(path, top))"),
     "tries the first 4 processes": ("return sorted(state.live)", "return sorted(state.live)[:4]"),
     "tries paths in the order of their texts": (
@@ -108,7 +111,7 @@ OF_COMMANDS = {
     "a list is too long behind one operation more": ("if number > MOST_STEPS:", "if number > MOST_STEPS + 1:"),
     "a line of 8192 bytes is too long": ("if len(line) > LONGEST_LINE:", "if len(line) >= LONGEST_LINE:"),
     "a list is read whole first": (
-        'in lines_of(files[call.one("--ops")]):', 'in list(lines_of(files[call.one("--ops")])):'),
+        'in lines_of(given[call.one("--ops")], state.form):', 'in list(lines_of(given[call.one("--ops")], state.form)):'),
     "a value may be 2^64": ("int(word) < 2 ** 64", "int(word) <= 2 ** 64"),
     "a verdict counts what is accepted alone": ("states.append(state)", "states += [] if refusal else [state]"),
     "uid 0 is a fault without groups alone": ("if uid == 0:", "if uid == 0 and not gids:"),
@@ -116,7 +119,7 @@ OF_COMMANDS = {
     "33 groups are taken": ("if len(gids) > MOST_GIDS:", "if len(gids) > MOST_GIDS + 1:"),
     "the path is tested before the PID": (PID_BOUND, PID_BOUND + ' and rules.path_of(call.one("--to")) is not None'),
     "PID 4194303 is a fault": (PID_BOUND, PID_BOUND.replace("<= rules", "< rules")),
-    "words are tested before files are read": ("    tree = files.get(named)\n", "    test_arguments(call, call.subtrees())\n    tree = files.get(named)\n"),
+    "words are tested before files are read": ("    tree = given.get(named)\n", "    test_arguments(call, call.subtrees())\n    tree = given.get(named)\n"),
     "of the subtrees the root is a fault first": (
         "for word in subtrees]\n    return", 'for word in sorted(subtrees, key=lambda word: word != "/")]\n    return'),
     "advises all users of pairs with all their subtrees": ('zip(call.users, tops) if "--pairs" in call.given else ', ""),
@@ -160,7 +163,8 @@ OF_LASTING = {
     "no process is moved": ("all(takes_none(state, users, lasting, path) and", "all("),
     "of a user's reach owning is none": (
         "any(rules.reaches(user, entry) for user in users)", "any(rules.writes(user, entry) for user in users)"),
-    "the parent's controllers go unasked": ("if any((top[:-1], controller) not in lasting.on | lasting.off for controller in CONTROLLERS):",
+    "the parent's controllers go unasked": ("if any((top[:-1], controller) not in lasting.on | lasting.off "
+                                            "for controller in rules.controllers_of(state)):",
                                             "if False:"),
     "places beside the subtree go unasked": ("or rules.common(path, top) in edges]", "]"),
 }
@@ -236,20 +240,21 @@ OF_EXPLAINED = {
 }
 OF_TEXTS = {
     "format 1 has the group's bit": ("0 <= mode <= 0o777) or form == 1 and mode & 0o020 != 0", "0 <= mode <= 0o777)"),
-    "format 1 has gids": ("if form == 2:", "if form:"),
-    "4096 rows are too many": ("max(len(rows), len(processes)) > MOST_ROWS", "max(len(rows), len(processes)) >= MOST_ROWS"),
+    "format 1 has gids": ("if form != 1:", "if form:"),
+    "4096 rows are too many": ("max(len(rows), len(processes)) > MOST_ROWS[form]", "max(len(rows), len(processes)) >= MOST_ROWS[form]"),
     "the shape of processes is tested first": ("".join(SHAPES), "".join(SHAPES[::-1])),
     "tests of a row by itself go by the test": (
         "for (place, row), (what, is_bad) in itertools.product(enumerate(rows, 1), OWN_FAULTS):",
         "for (what, is_bad), (place, row) in itertools.product(OWN_FAULTS, enumerate(rows, 1)):"),
-    "of equal rows the first is a fault": ("in paths[:each[0]])", "in paths[each[0] + 1:])"),
+    "of equal rows the first is a fault": (FIRSTS, FIRSTS.replace("reversed(list(enumerate(paths)))", "enumerate(paths)").replace("<", ">")),
     "a row enables what its tree has": ("(at[path[:-1]] if path else set(controllers))", "set(controllers)"),
     "of a process the place is tested before its PID": (", ".join(REFUSED_PLACES), ", ".join(REFUSED_PLACES[::-1])),
     "a directory's mode is a file's": ('entry_of(row.get("dir", {}), rules.DIR_MODE)', 'entry_of(row.get("dir", {}), rules.FILE_MODE)'),
 }
+TOO_LONG = "len(data) > (MOST_LARGE if is_large(data) else MOST_BYTES)"
 OF_DOCUMENTS = {
     "a byte order mark is no TOML": ('.removeprefix("\\ufeff")', ""),
-    "16777216 bytes are too many": ("len(data) > MOST_BYTES", "len(data) >= MOST_BYTES"),
+    "16777216 bytes are too many": (TOO_LONG, TOO_LONG.replace("MOST_BYTES", "MOST_BYTES - 1")),
 }
 # of each kind the module, and the command without which a program isn't told from what is turned there
 KINDS = [("documents", "may", OF_DOCUMENTS), ("rules", "may", OF_RULES), ("lasting", "settle", OF_LASTING),
