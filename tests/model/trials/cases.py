@@ -2,11 +2,13 @@
 import random
 from dataclasses import dataclass, field
 
-from second import commands, documents, rules, texts
+from second import commands, documents, files, rules, texts
 from second.rules import text_of
-from trials import faults, small, spelling, trees
+from trials import faults, further, small, spelling, trees
 
 TREE, OPS, PAIRS = "tree.toml", "list.ops", "list.pairs"
+# among the commands that a program has: that it reads format 4
+FORMAT_4 = "format 4"
 
 
 @dataclass
@@ -35,41 +37,57 @@ class Case:
 
 
 def random_case(seed, number, known):
-    """The case of a seed and a number, of the commands that the program has."""
+    """The case of a seed and a number, of the commands that the program has, and of format 4 where that has it."""
     rng = random.Random(f"{seed} {number}")
+    # by numbers of its own, so that all other cases are the same with a program that hasn't format 4
+    wide = FORMAT_4 in known and random.Random(f"format {seed} {number}").random() < 0.4
     tree = trees.random_tree(rng)
-    parts = tree.document(rng)
-    faulty = rng.random() < 0.25
-    if faulty:
-        faults.turn_document(rng, parts)
-    data = spelling.document(rng, parts)
-    if rng.random() < 0.05:
-        data = faults.turn_bytes(rng, data)
-    if rng.random() < 0.006:
-        data += b"#" * (documents.MOST_BYTES + rng.choice([0, 0, 1]) - len(data))
+    data = text_of_tree(rng, tree, wide)
     able = [name for name in MAKERS if name.removesuffix(" alone") in known]
     command = rng.choices(able, [WEIGHTS[name] for name in able])[0]
     if "settle" in command and rng.random() < 0.75 or command == "explain" and rng.random() < 0.5:
         tree = trees.tree_of_state(rng, *[35] * (command in ("audit --settle", "advise --settle")))
+        if wide:
+            further.widen(rng, tree)
         data = spelling.document(rng, tree.document(rng))
     case = Case(MAKERS[command](rng, tree, state_of(data)))
     if command.startswith("replay"):
         case.files[OPS] = operations(rng, tree, data, case.words)
     if command == "advise --pairs":
         case.files[PAIRS] = pair_lines(rng, tree, state_of(data))
-    if rng.random() < 0.5:
-        case.stdin = data
-    else:
-        case.files[TREE] = data
-        case.words[1:1] = ["--tree", TREE]
-        if PAIRS in case.files and rng.random() < 0.3:
-            case.stdin = case.files.pop(PAIRS)
-            case.words[case.words.index(PAIRS)] = "-"
+    give_tree(rng, case, data)
     if rng.random() < 0.15:
         for _ in range(rng.choice([1, 1, 1, 2, 3])):
             turn_words(rng, case)
     case.full = not command.startswith("replay") and rng.random() < 0.01
     return case
+
+
+def text_of_tree(rng, tree, wide):
+    """A tree's text, of format 4 if that is asked for; at times a faulty one, or one of about as many bytes as may be."""
+    if wide:
+        further.widen(rng, tree)
+    parts = tree.document(rng)
+    if rng.random() < 0.25:
+        (further if wide and rng.random() < 0.6 else faults).turn_document(rng, parts)
+    data = spelling.document(rng, parts)
+    if rng.random() < 0.05:
+        data = faults.turn_bytes(rng, data)
+    if rng.random() < 0.006:
+        data += b"#" * (documents.MOST_BYTES + rng.choice([0, 0, 1]) - len(data))
+    return further.large_text(rng, parts) if wide and rng.random() < 0.02 else data
+
+
+def give_tree(rng, case, data):
+    """As standard input or as a file, beside pairs, which then may be standard input."""
+    if rng.random() < 0.5:
+        case.stdin = data
+        return
+    case.files[TREE] = data
+    case.words[1:1] = ["--tree", TREE]
+    if PAIRS in case.files and rng.random() < 0.3:
+        case.stdin = case.files.pop(PAIRS)
+        case.words[case.words.index(PAIRS)] = "-"
 
 
 def state_of(data):
@@ -266,7 +284,8 @@ def operations(rng, tree, data, words):
             state = rules.step(state, user, operation)[0]
             lines.append(commands.spelling(operation).encode("ascii"))
     if rng.random() < 0.16:
-        lines.insert(rng.randrange(len(lines) + 1), bad_line(rng, lines))
+        wide = state and state.form == 4 and rng.random() < 0.6
+        lines.insert(rng.randrange(len(lines) + 1), further.bad_line(rng) if wide else bad_line(rng, lines))
     return b"".join(line + b"\n" for line in lines) + (rng.choice([b"exit 7", b"x", b" "]) if rng.random() < 0.04 else b"")
 
 
@@ -294,11 +313,21 @@ def next_operation(rng, tree, state, user, last):
     if below and words[-1][0] == "+":
         child = rng.choice(below)
         file = rng.choice(rules.files_at(state, child))
+        if state.form == 4 and rng.random() < 0.7:
+            return further_operation(rng, state, child, rng.choice(further.NAMES[words[-1][1:]]))
         return rng.choice([("set", child, file, 1), ("chmod", child, file, 0o600)])
     return random_operation(rng, tree, state, user)
 
 
+def further_operation(rng, state, path, file):
+    if rng.random() < 0.6:
+        return "set", path, file, further.some_line(rng, state, path, file)
+    return "chmod", path, file, rng.choice([0o444, 0o600, 0o644, 0o666])
+
+
 def random_operation(rng, tree, state, user):
+    if state.form == 4 and rng.random() < 0.3:
+        return further_operation(rng, state, *further.some_file(rng, state))
     kind = rng.choices(list(OPERATIONS), [5, 6, 6, 4, 4, 3, 2, 4])[0]
     return (kind, *OPERATIONS[kind](rng, tree, state, user))
 
@@ -334,8 +363,9 @@ def some_control(rng, _tree, state, user):
     path = written_path(rng, state, user, rules.CONTROL)
     if path in state.cgroups and state.cgroups[path].enabled and rng.random() < 0.3:
         return path, (("-", rng.choice(sorted(state.cgroups[path].enabled))),)
-    able = [c for c in rules.CONTROLLERS if path in state.cgroups and c in rules.available(state, path)]
-    controllers = able if able and rng.random() < 0.7 else rules.CONTROLLERS
+    every = files.controllers_of(state.form)
+    able = [c for c in every if path in state.cgroups and c in rules.available(state, path)]
+    controllers = able if able and rng.random() < 0.7 else every
     return path, tuple((rng.choice("++-"), rng.choice(controllers)) for _ in range(rng.choice([0, 1, 1, 1, 2, 3, 4])))
 
 
@@ -355,6 +385,8 @@ def some_removal(rng, _tree, state, user):
 
 def some_value(rng, _tree, state, user):
     path, file = entry_where(rng, state, lambda entry: rules.writes(user, entry))
+    if files.is_further(file):
+        return path, file, further.some_line(rng, state, path, file)
     if file in rules.STANDING:
         file = rng.choice(list(rules.LIMIT_FILES)[:3])
     return path, file, rng.choice([rules.MAX, *trees.NUMBERS, 2 ** 63, 2 ** 64 - 1])

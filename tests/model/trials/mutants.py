@@ -256,10 +256,90 @@ OF_DOCUMENTS = {
     "a byte order mark is no TOML": ('.removeprefix("\\ufeff")', ""),
     "16777216 bytes are too many": (TOO_LONG, TOO_LONG.replace("MOST_BYTES", "MOST_BYTES - 1")),
 }
+# of format 4
+TOLD = "[file for file in LIMIT_FILES if file in values] + sorted(values.keys() - LIMIT_FILES.keys())"
+UNLIKE = "limits_of(after, top) != limits:"
+EVERY = "[c for c in ALL_CONTROLLERS if c in CONTROLLERS or c in state.controllers]"
+STANDS = "bool(path) and (name == FREEZE or group_of(name) in available(state, path))"
+OF_FILES_4 = {
+    "a name of 255 bytes is no limit file's": ("len(name) > LONGEST_FILE", "len(name) >= LONGEST_FILE"),
+    "a hugetlb file is known by all behind its first dot": ('(rest.partition(".")[2] if controller == "hugetlb" else rest) in', "rest in"),
+    "a file that tells is known by the end of its name": (
+        '(rest.partition(".")[2] if controller == "hugetlb" else rest) in', 'rest.rpartition(".")[2] in'),
+    "memory.reclaim is a limit": ('"reclaim", ', ""),
+    "memory.oom.group is a limit": (', "oom.group")', ")"),
+    "a line may have two spaces side by side": ('"" not in text.split(" ")', "text and text == text.strip()"),
+    "a line of 4095 bytes is none": ("len(text) <= most and", "len(text) < most and"),
+    "a set takes a line as long as a text's": ("LONGEST_SET = 255, 4095, 3800", "LONGEST_SET = 255, 4095, 4095"),
+    "an integer is another value than its digits": ("(str(value),)", "(value,)"),
+    "tries the same of every further file": ('TRIED.get(file, (MAX, "0"))', '(MAX, "0")'),
+    "tries the value that a further file has": ("return other if lines == (first,) else first", "return first"),
+    "tries by the first line of several": ("if lines == (first,) else", "if lines and lines[0] == first else"),
+    "cpu comes before cpuset": ('("cpuset", "cpu", "io", ', '("cpu", "cpuset", "io", '),
+}
+OF_RULES_4 = {
+    "a further file of which nothing is told isn't there": (
+        "in state.cgroups[path].entries or files.is_further(name) and further_stands(state, path, name)", "in state.cgroups[path].entries"),
+    "cgroup.freeze is at the root": (STANDS, "name == FREEZE or bool(path) and group_of(name) in available(state, path)"),
+    "a further file is where the root has its controller": (STANDS, STANDS.replace("available(state, path)", "state.controllers")),
+    "further files that come are root's": ("**{group: made_by(user, FILE_MODE) for group in came}", ""),
+    "what was told of a file stays where it goes": ("if file not in LIMIT_FILES and further_stands(state, path, file)]", "if file not in LIMIT_FILES]"),
+    "a controller without a named file goes unseen": ("return available(state, top), {file", "return (), {file"),
+    "a set of a file that is as it is changes nothing": (
+        UNLIKE, "limits_of(after, top)[0] != limits[0] or any(limits_of(after, top)[1].get(file) != value for file, value in limits[1].items()):"),
+    "a set adds a line": ("else (value,)", "else (*(old.values.get(file) or ()), value)"),
+    "further files are guarded before the eight": (
+        TOLD, "sorted(values.keys() - LIMIT_FILES.keys()) + [file for file in LIMIT_FILES if file in values]"),
+    "further files aren't guarded": (TOLD, "[file for file in LIMIT_FILES if file in values]"),
+    "further files come as a text has them": (TOLD, "[file for file in LIMIT_FILES if file in values] + [file for file in values if file not in LIMIT_FILES]"),
+    "three controllers are told and tried": (EVERY, "list(CONTROLLERS)"),
+    "nine controllers are told": (EVERY, "list(ALL_CONTROLLERS)"),
+    "three controllers bar a control": ("for controller in [c for c in ALL_CONTROLLERS if c in last]:", "for controller in [c for c in CONTROLLERS if c in last]:"),
+    "cpuset, cpu and pids let processes in": (
+        "if to and to in state.cgroups and state.cgroups[to].enabled:", 'if to and to in state.cgroups and state.cgroups[to].enabled - {"cpuset", "cpu", "pids"}:'),
+}
+OF_LASTING_4 = {
+    "io keeps processes out as memory does": (
+        BY_MEMORY, 'any(one in state.cgroups[path].enabled and is_on(state, users, lasting.on, path, one) for one in ("memory", "io"))'),
+    "the second row asks for the eight alone": (
+        "any(is_reached(state, users, top, file) for file in rules.told_at(state, top))", "any(is_reached(state, users, top, file) for file in rules.LIMIT_FILES)"),
+}
+OF_TEXTS_4 = {
+    "format 4 has 4096 rows": ("4: 65536}", "4: 4096}"),
+    "1024 further files are too many": ("len(further) <= MOST_FURTHER", "len(further) < MOST_FURTHER"),
+    "further files count for no number": (" and len(further) <= MOST_FURTHER", ""),
+    "an array is a value of the eight in shape": (
+        "(name, entry_form(form, value_form)) for name in rules.LIMIT_FILES", "(name, entry_form(form, further_value_form)) for name in rules.LIMIT_FILES"),
+    "an empty array is as it is": ("return not files.lines_of(value) or not", "return not"),
+    "a further file that is named needn't stand": (" or not all(rules.further_stands(bare, path, name) for name in further_of(row))", ""),
+    "a file that is named without a key isn't told of": (
+        "if name not in rules.LIMIT_FILES and name not in rules.STANDING]",
+        'if name not in rules.LIMIT_FILES and name not in rules.STANDING and row["files"][name]]'),
+    "format 2 has further files": ("form == 4 and files.is_further(name)", "files.is_further(name)"),
+}
+OF_DOCUMENTS_4 = {
+    "a large text has its format near its beginning": ("    begins = LARGE.match(data)\n", '    begins = LARGE.search(data[:200].replace(b"\\r", b""))\n'),
+    "a large text has controllers in any order and spelling": ("return begins[1] == b", "return True or b"),
+    "no text is large": ("MOST_LARGE if is_large(data) else", "MOST_LARGE if False else"),
+}
+OF_COMMANDS_4 = {
+    "a value of several words is none": ('[*rest[:2], " ".join(rest[2:])], line_word', "rest, line_word"),
+    "a chmod knows no further file": ("else limit_word(word, form)\n", "else limit_word(word, 2)\n"),
+    "a list for format 2 may name nine controllers": ("word[1:] in files.controllers_of(form)", "word[1:] in files.ALL_CONTROLLERS"),
+    "upgrade writes an array of one text": ("return value[0] if len(value) == 1 else list(value)", "return list(value)"),
+    "upgrade writes format 2 of every tree": ('"format": state.form', '"format": 2'),
+}
+OF_WRITTEN_4 = {
+    "a text with quotes is written with backslashes": ("    if \"'\" not in text:\n", "    if False:\n"),
+    "three quotes in a row are written as they are": ("""and '"' * 3 not in text:""", "or True:"),
+}
 # of each kind the module, and the command without which a program isn't told from what is turned there
 KINDS = [("documents", "may", OF_DOCUMENTS), ("rules", "may", OF_RULES), ("lasting", "settle", OF_LASTING),
          ("settled", "audit --settle", OF_SETTLED), ("explained", "explain", OF_EXPLAINED), ("texts", "may", OF_TEXTS),
          ("commands", "may", OF_COMMANDS), ("commands", "advise --settle", OF_SETTLED_ADVICE), ("commands", "explain", OF_EXPLAIN)]
+KINDS += [(module, "format 4", turns) for module, turns in (
+    ("files", OF_FILES_4), ("rules", OF_RULES_4), ("lasting", OF_LASTING_4), ("texts", OF_TEXTS_4), ("documents", OF_DOCUMENTS_4),
+    ("commands", OF_COMMANDS_4), ("written", OF_WRITTEN_4))]
 MUTANTS = {name: (module, *turn) for module, _, turns in KINDS for name, turn in turns.items()}
 
 
@@ -273,7 +353,7 @@ def shows(name, words):
     needed = next(command for _, command, turns in KINDS if name in turns)
     if needed == "settle":
         return not {"settle", "--settle", "explain"}.isdisjoint(words)
-    return needed == "may" or words[:1] == needed.split(" ")[:1] and {*needed.split(" ")} <= {*words}
+    return needed in ("may", "format 4") or words[:1] == needed.split(" ")[:1] and {*needed.split(" ")} <= {*words}
 
 
 @functools.lru_cache(maxsize=None)

@@ -10,10 +10,14 @@ import tempfile
 from second import commands, documents, rules
 
 SECONDS = 60
+# the second model's own name among programs
+ITSELF = "itself"
 
 
 def known_commands(program):
     """The commands that a program lists in its help, and those with an option where their help has it."""
+    if program == ITSELF:
+        return frozenset([*commands.OPTIONS, "audit --all", "advise --pairs", "audit --settle", "advise --settle"])
     lines = help_of(program)
     listed = lines[lines.index("Commands:") + 1:]
     names = {line.split()[0] for line in listed[:listed.index("")]} & commands.OPTIONS.keys()
@@ -92,6 +96,30 @@ class Room:
             if not agrees(told.get(head, []), alone):
                 return f"of {head} settle says {alone}"
         return ""
+
+
+class Itself:
+    """The second model in a program's place, of which nothing is known where more than one report is right."""
+
+    def __enter__(self):
+        return self
+
+    def __exit__(self, *_):
+        pass
+
+    def run(self, case):
+        expected = expected_of(case)
+        if expected is None or is_open(expected[0]):
+            return None
+        lines, status, fault = expected
+        return "".join(line + "\n" for line in lines).encode("ascii"), status, fault.encode() + b"\n" * bool(fault)
+
+    def further(self, _case, _written):
+        return ""
+
+
+def room_of(program):
+    return Itself() if program == ITSELF else Room(program)
 
 
 def expected_of(case, respond=commands.respond):

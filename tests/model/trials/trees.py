@@ -232,7 +232,7 @@ def share(rng, tree, path, name):
     gids = [*gids[:3], *gids[3:][-1:] * 4]
     entry = tree.entry(path, name)
     ways = [{"uid": uid}, {"uid": uid, "mode": 0o444}, {"uid": uid, "mode": 0o446}, {"mode": 0o646}, {"uid": 7, "mode": 0o602}]
-    if tree.form == 2:
+    if tree.form != 1:
         ways += [{"gid": gid, "mode": mode} for gid in [*gids, 77] for mode in (0o664, 0o666, 0o646, 0o620)]
         ways += [{"uid": uid, "gid": gid, "mode": mode} for gid in gids for mode in (0o464, 0o446, 0o664, 0o666)]
     entry.update(rng.choice(ways))
@@ -247,7 +247,7 @@ def scatter(rng, tree):
                 entry["uid"] = rng.choice(UIDS)
                 if rng.random() < 0.5:
                     entry["mode"] = rng.choice([0, 0o644, 0o646, 0o755, 0o444, 0o200, 0o002, 0o757, 0o555])
-                if tree.form == 2:
+                if tree.form != 1:
                     entry["gid"] = rng.choice(GIDS)
                     entry["mode"] = entry.get("mode", 0o644) | rng.choice([0, 0o020])
 
