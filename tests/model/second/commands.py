@@ -322,7 +322,8 @@ def settle(call, state, tops, _given, lines):
     user, top = call.users[0], tops[0]
     known = settled.known(state, user, top)
     if known is None:
-        lines.append(Open(lambda said, status: is_said(state.form, said, status, lambda answer: settled.is_right(state, user, top, answer))))
+        lines.append(Open(lambda said, status: is_said(
+            state.form, said, status, lambda answer: settled.is_right(state, user, top, answer))))
         return None
     lines += answer_lines(known)
     return STATUS[known[0]]

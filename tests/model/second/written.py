@@ -1,5 +1,5 @@
-"""A second model of Zirofen: the text that is written of a tree's document. Written from docs/FORMATS.md alone, and from no code of crates/;
-keep it so.
+"""A second model of Zirofen: the text that is written of a tree's document. Written from docs/FORMATS.md alone, and from no code of
+crates/; keep it so.
 """
 
 

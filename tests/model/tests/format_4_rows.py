@@ -196,11 +196,12 @@ ANSWERS = [
     (H, [OWN_CPU], "advise --uid 1000 --subtree /s", ["fails limit-file /s cpu.max 1000:0 644 owner", "chown /s cpu.max 0:0"], 1),
     (H, [(IO, '"io.max" = { gid = 50, mode = 0o664 }'), (CPU, '"memory.max" = { mode = 0o646 }\n"cgroup.freeze" = { mode = 0o666 }')],
      "advise --uid 1000:50 --subtree /s",
-     ["fails limit-file /s memory.max 0:0 646 others", "chmod /s memory.max 644", "fails limit-file /s cgroup.freeze 0:0 666 others", "chmod /s cgroup.freeze 664", "fails limit-file /s io.max 0:50 664 group", "chmod /s io.max 644"],
+     ["fails limit-file /s memory.max 0:0 646 others", "chmod /s memory.max 644", "fails limit-file /s cgroup.freeze 0:0 666 others",
+      "chmod /s cgroup.freeze 664", "fails limit-file /s io.max 0:50 664 group", "chmod /s io.max 644"],
      1),
     (H, [], "explain --uid 1000 --subtree /s", TOLD_OF_H, 0),
-    (P, [behind('path = "/p/s"', "[cgroup.files]", '"io.max" = {}', '"cgroup.freeze" = {}')], "explain --uid 1000 --subtree /p/s", TOLD_OF_P,
-     2),
+    (P, [behind('path = "/p/s"', "[cgroup.files]", '"io.max" = {}', '"cgroup.freeze" = {}')], "explain --uid 1000 --subtree /p/s",
+     TOLD_OF_P, 2),
 ]
 # of H operations, one after another, each with its outcome, by AS_ONE; at the end the subtree is kept
 OUTCOMES = [

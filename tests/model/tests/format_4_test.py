@@ -6,8 +6,8 @@ import sys
 import unittest
 
 sys.path.insert(0, os.path.dirname(os.path.dirname(os.path.abspath(__file__))))
-from second import commands, documents, files
-from trials import cases, programs
+from second import commands, documents, files, texts
+from trials import cases, further, programs, spelling, trees
 import format_4_rows as rows
 
 TWO = 'format = 2\ncontrollers = []\ncgroup = [{ path = "/" }, { path = "/s" }]\n'
@@ -92,15 +92,29 @@ class RowsTest(unittest.TestCase):
 
 class FormatTest(unittest.TestCase):
     def test_a_tree_of_format_2_says_the_same_in_format_4(self):
-        for number in range(150):
+        same = 0
+        for number in range(120):
             case = cases.random_case("format", number, frozenset(commands.OPTIONS) - {"upgrade"})
-            texts = [case.stdin, case.files.get(cases.TREE, b"")]
-            if any(b"format = 2" in text for text in texts) and programs.expected_of(case):
-                other = cases.Case(case.words, texts[0].replace(b"format = 2", b"format = 4"), dict(case.files), case.full)
-                if texts[1]:
-                    other.files[cases.TREE] = texts[1].replace(b"format = 2", b"format = 4")
-                if not has_fault(case):
-                    self.assertEqual(*(shown(each) for each in (case, other)), case.words)
+            said = programs.expected_of(case)
+            if said and not programs.is_open(said[0]) and not re.search("tree|bad-word", said[2]) and b"format = 2" in self.tree_of(case):
+                other = cases.Case(case.words, case.stdin.replace(b"format = 2", b"format = 4"), dict(case.files), case.full)
+                other.files.update((name, data.replace(b"format = 2", b"format = 4")) for name, data in case.files.items())
+                self.assertEqual(programs.expected_of(other), said)
+                same += 1
+        self.assertGreater(same, 20)
+
+    def tree_of(self, case):
+        return case.files.get(cases.TREE, case.stdin)
+
+    def test_random_trees_are_trees_and_written_anew_the_same(self):
+        for number in range(40):
+            rng = random.Random(number)
+            tree = trees.random_tree(rng)
+            further.widen(rng, tree)
+            state = texts.tree_of(spelling.document(rng, tree.document(rng)))
+            self.assertEqual(state.form, 4)
+            text = "".join(line + "\n" for line in commands.written.lines_of(commands.document_of(state)))
+            self.assertEqual(texts.tree_of(text.encode()), state)
 
     def test_texts_stand_in_the_first_marks_that_hold_them(self):
         for text, spelled in (("a", '"a"'), ("it's", '"it\'s"'), ('a"', "'a\"'"), ("a\\", "'a\\'"), ("'\"", '"""\'""""'),

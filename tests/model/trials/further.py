@@ -7,8 +7,8 @@ from trials.spelling import Raw
 NAMES = {
     "cgroup": [files.FREEZE],
     "cpuset": ["cpuset.cpus", "cpuset.cpus.exclusive", "cpuset.cpus.partition", "cpuset.mems"],
-    "cpu": ["cpu.max", "cpu.max", "cpu.idle", "cpu.max.burst", "cpu.weight.nice", "cpu..x", "cpu.later.stat", "cpu.it's", 'cpu.q"q', "cpu.q\"'\\",
-            "cpu." + 251 * "x"],
+    "cpu": ["cpu.max", "cpu.max", "cpu.idle", "cpu.max.burst", "cpu.weight.nice", "cpu..x", "cpu.later.stat", "cpu.it's", 'cpu.q"q',
+            "cpu.q\"'\\", "cpu." + 251 * "x"],
     "io": ["io.max", "io.max", "io.weight", "io.latency", "io.bfq.weight", "io.prio.class"],
     "memory": ["memory.swap.max", "memory.swap.max", "memory.zswap.max", "memory.zswap.writeback", "memory.later.current"],
     "hugetlb": ["hugetlb.2MB.max", "hugetlb.1GB.rsvd.max", "hugetlb.current", "hugetlb.a.b.current"],
@@ -18,14 +18,17 @@ NAMES = {
     "dmem": ["dmem.max", "dmem.low"],
 }
 # no limit, and no name of a file
-NONE = ["memory.oom.group", "memory.reclaim", "memory.stat", "cpu.pressure", "cgroup.kill", "cgroup.type", "cgroup.threads", "cpu.", "cpu", "io.a b",
-        "io.a/b", "hugetlb.2MB.current", "hugetlb..events", "net.max", "perf_event.max", ".max", "cpu." + 252 * "x", "cpuset.cpus.effective"]
-LINES = ["max", "0", "1", "5", "05", "+5", "-5", "max 100000", "50000 100000", "a b c d", "it's", 'a"b', "a\\b", "'\"", "'''\"", "'\"\"\"\\", "'\\", "~"]
+NONE = ["memory.oom.group", "memory.reclaim", "memory.stat", "cpu.pressure", "cgroup.kill", "cgroup.type", "cgroup.threads", "cpu.", "cpu",
+        "io.a b", "io.a/b", "hugetlb.2MB.current", "hugetlb..events", "net.max", "perf_event.max", ".max", "cpu." + 252 * "x",
+        "cpuset.cpus.effective"]
+LINES = ["max", "0", "1", "5", "05", "+5", "-5", "max 100000", "50000 100000", "a b c d", "it's", 'a"b', "a\\b", "'\"", "'''\"",
+         "'\"\"\"\\", "'\\", "~"]
 BAD_LINES = ["", " ", "1 ", " 1", "1  2", "1\t2", "1\n2", "é", "\x7f", 4096 * "x"]
 BAD_VALUES = [[], *BAD_LINES, *[["1", line] for line in BAD_LINES]]
 # how a text begins that is a large one, and what is near to that
-NEAR = [("format = 4", "format = 4 "), ("format = 4", "format=4"), ("format = 4", "format = 0o4"), ("format", " format"), ("format", "# x\nformat"),
-        ("controllers", "\ncontrollers"), ("controllers", "\ufeffcontrollers"), ('"', "'"), (", ", ","), ("[", "[ "), ("\n", "\r\n"), ("\n", "\n\n")]
+NEAR = [("format = 4", "format = 4 "), ("format = 4", "format=4"), ("format = 4", "format = 0o4"), ("format", " format"),
+        ("format", "# x\nformat"), ("controllers", "\ncontrollers"), ("controllers", "\ufeffcontrollers"), ('"', "'"), (", ", ","),
+        ("[", "[ "), ("\n", "\r\n"), ("\n", "\n\n")]
 
 
 def widen(rng, tree):
@@ -93,9 +96,10 @@ def some_line(rng, state, path, file):
 
 def bad_line(rng):
     """A line that is no operation's, or the longest one."""
-    return rng.choice([f"set / {rng.choice(NONE)} 1", f"chmod / {rng.choice(NONE)} 644", "set / cpu.max", f"set / cpu.max {rng.choice(BAD_LINES)}",
-                       "set / cpu.max " + rng.choice([3800, 3801]) * "x", "set / memory.max 5 6", "control / +perf_event", "set / memory.max -1",
-                       "chmod / cpu.max 0644"]).replace("\n", " ").encode()
+    line = rng.choice([f"set / {rng.choice(NONE)} 1", f"chmod / {rng.choice(NONE)} 644", "set / cpu.max",
+                       f"set / cpu.max {rng.choice(BAD_LINES)}", "set / cpu.max " + rng.choice([3800, 3801]) * "x", "set / memory.max 5 6",
+                       "control / +perf_event", "set / memory.max -1", "chmod / cpu.max 0644"])
+    return line.replace("\n", " ").encode()
 
 
 # Faults of a document
@@ -127,7 +131,8 @@ def bad_value(rng, parts):
 
 
 def bad_controller(rng, parts):
-    rng.choice([parts["controllers"], rng.choice(parts["cgroup"]).setdefault("enabled", [])]).append(rng.choice(["perf_event", "net_cls", "cgroup"]))
+    named = rng.choice([parts["controllers"], rng.choice(parts["cgroup"]).setdefault("enabled", [])])
+    named.append(rng.choice(["perf_event", "net_cls", "cgroup"]))
 
 
 def no_such_file(rng, parts):
@@ -146,8 +151,8 @@ def too_many(rng, parts):
     parts[rng.choice(["cgroup", "process"])] = Raw("[" + "1," * rng.choice([4097, 65536, 65537]) + "]")
 
 
-FAULTS = [no_limit, wrong_value, array_of_the_eight, many_files, *[bad_value] * 2, bad_controller, no_such_file, file_of_the_root, of_format_2,
-          of_format_2, too_many]
+FAULTS = [no_limit, wrong_value, array_of_the_eight, many_files, *[bad_value] * 2, bad_controller, no_such_file, file_of_the_root,
+          *[of_format_2] * 2, too_many]
 
 
 def turn_document(rng, parts):

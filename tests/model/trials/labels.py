@@ -1,8 +1,8 @@
 """What a case shows: its command, answer, guards, clauses and faults, each as a label that is counted."""
 import re
 
-from second import commands, rules
-from trials.cases import OPS, TREE, state_of
+from second import commands, documents, files, rules
+from trials.cases import FORMAT_4, OPS, TREE, state_of
 
 CLAUSES = {
     "move": ["ok", "no-such-cgroup", "no-access destination", "no-such-process", "no-access common ancestor", "internal-process"],
@@ -25,6 +25,15 @@ FAULTS = ["usage", "uid", "gid", "pid", "path", "subtree root", "subtree missing
           "too-many-steps", "read", "write", *("tree " + name for name in re.split(r",\s+", TREE_FAULTS))]
 STATUSES = {"may": 2, "check": 3, "audit": 3, "audit --all": 3, "replay": 2, "upgrade": 1, "advise": 2, "advise --pairs": 2, "settle": 3,
             "audit --settle": 3, "audit --all --settle": 3, "advise --settle": 2, "explain": 3}
+# of a tree of format 4
+FAULTS_4 = """bad-controller cgroup, bad-controller top, bad-entry cgroup, bad-value cgroup, no-such-file cgroup, shape cgroup, too-long,
+too-many, top-down cgroup"""
+WIDE = ["upgrade", "read past 16777216 bytes", "escapes by a further file", "escapes by an opened further file", "fails at a further file",
+        "holds at a further file", "broken limits",
+        *(f"set of a further file: {outcome}" for outcome in CLAUSES["set"][:4]),
+        *(f"chmod of a further file: {outcome}" for outcome in CLAUSES["chmod"]),
+        *(f"control of a further controller: {outcome}" for outcome in CLAUSES["control"]),
+        *(f"fault tree {name}" for name in re.split(r",\s+", FAULTS_4))]
 # what is told of a guarded entry, and of the second row
 BY = ["owner", "group", "others"]
 TOLD = ["holds stays spared", "holds stays upheld", "fails stays removed", "holds control on", "holds control off", "fails control turned",
@@ -50,6 +59,7 @@ def wanted(known):
         labels += [f"settle: {guard} fails first, then {kind}" for guard in SETTLED for kind in commands.STATUS]
     if "explain" in known:
         labels += [f"explain: {told}" for told in wanted_of_explain()]
+    labels += [f"format 4: {name}" for name in WIDE] if FORMAT_4 in known else []
     return labels + [f"fault: {name}" for name in FAULTS]
 
 
@@ -71,13 +81,51 @@ def labels_of(case, expected):
         found += replay_labels(case, lines)
     if not fault and name in LABELS:
         found += LABELS[name](case, lines)
+    if document_of(case).get("format") == 4:
+        found += sorted(f"format 4: {label}" for label in {*wide_labels(case, lines, fault)} & {*WIDE})
     return found
+
+
+def document_of(case):
+    """The document of a case's tree, or what is told of one that is too long."""
+    data = case.files.get(TREE, case.stdin)
+    try:
+        return documents.document_of(data)
+    except (documents.Fault, documents.Unsure):
+        return {"format": 4} if b"format = 4\n" in data[:200] and len(data) > documents.MOST_BYTES else {}
+
+
+def form_of(case):
+    return 4 if document_of(case).get("format") == 4 else 2
+
+
+def wide_labels(case, lines, fault):
+    """What comes up of a tree of format 4, and more."""
+    found = [re.sub(r" \d+$", "", fault.replace("fault:", "fault")), *case.words[:1]]
+    if len(case.files.get(TREE, case.stdin)) > documents.MOST_BYTES and not fault:
+        found.append("read past 16777216 bytes")
+    if case.words[:1] == ["replay"]:
+        found += [label for spelled, line in zip(case.files.get(OPS, b"").split(b"\n"), lines) for label in wide_operation(spelled, line)]
+        found += ["broken limits"] * any(line.startswith("broken") and line.endswith("limits") for line in lines)
+        return found
+    words = [line.split(" ") for line in lines if isinstance(line, str)]
+    opened = "an opened" if any(each[0] == "chmod" for each in words) else "a"
+    found += [f"escapes by {opened} further file" for each in words if each[0] == "set" and files.is_further(each[2])]
+    return found + [f"{each[0]} at a further file" for each in words if each[1:2] == ["limit-file"] and files.is_further(each[3])]
+
+
+def wide_operation(spelled, line):
+    kind, *words = commands.operation_of(spelled, 4) or [""]
+    if kind == "control" and any(controller not in files.CONTROLLERS for _, controller in words[1]):
+        yield f"control of a further controller: {outcome_of((kind,), line)}"
+    if kind in ("set", "chmod") and files.is_further(words[1]):
+        yield f"{kind} of a further file: {outcome_of((kind,), line)}"
 
 
 def replay_labels(case, lines):
     found = set()
     for spelled, line in zip(case.files[OPS].split(b"\n"), lines):
-        operation = commands.operation_of(spelled)
+        operation = commands.operation_of(spelled, form_of(case))
         if operation:
             found.add(f"operation {operation[0]}: {outcome_of(operation[:1] + operation[1:], line)}")
     if lines and lines[-1].startswith(("kept", "broken")):

@@ -119,7 +119,8 @@ OF_COMMANDS = {
     "33 groups are taken": ("if len(gids) > MOST_GIDS:", "if len(gids) > MOST_GIDS + 1:"),
     "the path is tested before the PID": (PID_BOUND, PID_BOUND + ' and rules.path_of(call.one("--to")) is not None'),
     "PID 4194303 is a fault": (PID_BOUND, PID_BOUND.replace("<= rules", "< rules")),
-    "words are tested before files are read": ("    tree = given.get(named)\n", "    test_arguments(call, call.subtrees())\n    tree = given.get(named)\n"),
+    "words are tested before files are read": (
+        "    tree = given.get(named)\n", "    test_arguments(call, call.subtrees())\n    tree = given.get(named)\n"),
     "of the subtrees the root is a fault first": (
         "for word in subtrees]\n    return", 'for word in sorted(subtrees, key=lambda word: word != "/")]\n    return'),
     "advises all users of pairs with all their subtrees": ('zip(call.users, tops) if "--pairs" in call.given else ', ""),
@@ -178,7 +179,8 @@ OF_SETTLED = {
     "the second row is asked of one user at a time": (
         "(None if holds or answers[user][0] ==", "(None if is_contained(state, [user], top) or answers[user][0] =="),
     "who is left unsettled is listed though the second row holds": ("(None if holds or answers", "(None if answers"),
-    "who is listed is named by the last guard that fails": (LISTED, "else (answers[user][0], *rules.failures(state, user, top)[-1][:2])) for"),
+    "who is listed is named by the last guard that fails": (
+        LISTED, "else (answers[user][0], *rules.failures(state, user, top)[-1][:2])) for"),
     "who is listed is named by the first guard that fails for one of all": (
         LISTED, "else (answers[user][0], *[each[:2] for each in rules.guarded(state, top) if lasting.is_reached(state, others, *each[1:])][0])) for"),
     "a list goes on behind what it breaks": ('startswith(f"broken {len(operations)} ")', 'startswith(f"broken {len(operations) - 1} ")'),
@@ -225,14 +227,18 @@ OF_EXPLAINED = {
         "return would_stay_off(state, users, path[:-1], controller) if path else", "return False if path else"),
     "a move into the subtree goes by the parent alone": ("if (doors if", "if (top[:-1] in doors if"),
     "a move out of the subtree goes by any cgroup above": ("else rules.common(path, top) in doors)", "else doors)"),
-    "a move leads to what is below the subtree, and not to itself": ("rules.inside(path, top) else", "rules.inside(path, top) and path != top else"),
-    "cgroups of moves in the order of their texts": ("in sorted(state.cgroups) if (doors", "in sorted(state.cgroups, key=text_of) if (doors"),
+    "a move leads to what is below the subtree, and not to itself": (
+        "rules.inside(path, top) else", "rules.inside(path, top) and path != top else"),
+    "cgroups of moves in the order of their texts": (
+        "in sorted(state.cgroups) if (doors", "in sorted(state.cgroups, key=text_of) if (doors"),
     "a move is kept out by whatever a cgroup enables": (
         "lasting.takes_none(state, users, found, path)", "state.cgroups[path].enabled"),
-    "enabling is told before what is spared": ('return "enabling" if lasting', 'return "enabling" if "memory" in state.cgroups[path].enabled or lasting'),
+    "enabling is told before what is spared": (
+        'return "enabling" if lasting', 'return "enabling" if "memory" in state.cgroups[path].enabled or lasting'),
     "a cgroup is full by what is there": ("lasting.is_full(state, users, found, path)", "rules.limit_bars(state, path)"),
     "a cgroup is shut by one of two": (HOLDS_SHUT, HOLDS_SHUT.replace(" and ", " or ")),
-    "counts the subtree among its descendants": ("DESCENDANTS: len(rules.below(state, top)),", "DESCENDANTS: len(rules.below(state, top)) + 1,"),
+    "counts the subtree among its descendants": (
+        "DESCENDANTS: len(rules.below(state, top)),", "DESCENDANTS: len(rules.below(state, top)) + 1,"),
     "counts levels from the subtree's own": ("DEPTH: rules.depth_below(state, top)}", "DEPTH: rules.depth_below(state, top) + 1}"),
     "counts children for descendants": ("len(rules.below(state, top)),", "len(rules.children(state, top)),"),
     "a limit that is reached is passed": (
@@ -246,7 +252,8 @@ OF_TEXTS = {
     "tests of a row by itself go by the test": (
         "for (place, row), (what, is_bad) in itertools.product(enumerate(rows, 1), OWN_FAULTS):",
         "for (what, is_bad), (place, row) in itertools.product(OWN_FAULTS, enumerate(rows, 1)):"),
-    "of equal rows the first is a fault": (FIRSTS, FIRSTS.replace("reversed(list(enumerate(paths)))", "enumerate(paths)").replace("<", ">")),
+    "of equal rows the first is a fault": (
+        FIRSTS, FIRSTS.replace("reversed(list(enumerate(paths)))", "enumerate(paths)").replace("<", ">")),
     "a row enables what its tree has": ("(at[path[:-1]] if path else set(controllers))", "set(controllers)"),
     "of a process the place is tested before its PID": (", ".join(REFUSED_PLACES), ", ".join(REFUSED_PLACES[::-1])),
     "a directory's mode is a file's": ('entry_of(row.get("dir", {}), rules.DIR_MODE)', 'entry_of(row.get("dir", {}), rules.FILE_MODE)'),
@@ -283,33 +290,40 @@ OF_RULES_4 = {
     "cgroup.freeze is at the root": (STANDS, "name == FREEZE or bool(path) and group_of(name) in available(state, path)"),
     "a further file is where the root has its controller": (STANDS, STANDS.replace("available(state, path)", "state.controllers")),
     "further files that come are root's": ("**{group: made_by(user, FILE_MODE) for group in came}", ""),
-    "what was told of a file stays where it goes": ("if file not in LIMIT_FILES and further_stands(state, path, file)]", "if file not in LIMIT_FILES]"),
+    "what was told of a file stays where it goes": (
+        "if file not in LIMIT_FILES and further_stands(state, path, file)]", "if file not in LIMIT_FILES]"),
     "a controller without a named file goes unseen": ("return available(state, top), {file", "return (), {file"),
     "a set of a file that is as it is changes nothing": (
-        UNLIKE, "limits_of(after, top)[0] != limits[0] or any(limits_of(after, top)[1].get(file) != value for file, value in limits[1].items()):"),
+        UNLIKE, "limits_of(after, top)[0] != limits[0] or "
+        "any(limits_of(after, top)[1].get(file) != value for file, value in limits[1].items()):"),
     "a set adds a line": ("else (value,)", "else (*(old.values.get(file) or ()), value)"),
     "further files are guarded before the eight": (
         TOLD, "sorted(values.keys() - LIMIT_FILES.keys()) + [file for file in LIMIT_FILES if file in values]"),
     "further files aren't guarded": (TOLD, "[file for file in LIMIT_FILES if file in values]"),
-    "further files come as a text has them": (TOLD, "[file for file in LIMIT_FILES if file in values] + [file for file in values if file not in LIMIT_FILES]"),
+    "further files come as a text has them": (
+        TOLD, "[file for file in LIMIT_FILES if file in values] + [file for file in values if file not in LIMIT_FILES]"),
     "three controllers are told and tried": (EVERY, "list(CONTROLLERS)"),
     "nine controllers are told": (EVERY, "list(ALL_CONTROLLERS)"),
-    "three controllers bar a control": ("for controller in [c for c in ALL_CONTROLLERS if c in last]:", "for controller in [c for c in CONTROLLERS if c in last]:"),
+    "three controllers bar a control": (
+        "for controller in [c for c in ALL_CONTROLLERS if c in last]:", "for controller in [c for c in CONTROLLERS if c in last]:"),
     "cpuset, cpu and pids let processes in": (
-        "if to and to in state.cgroups and state.cgroups[to].enabled:", 'if to and to in state.cgroups and state.cgroups[to].enabled - {"cpuset", "cpu", "pids"}:'),
+        "if to and to in state.cgroups and state.cgroups[to].enabled:",
+        'if to and to in state.cgroups and state.cgroups[to].enabled - {"cpuset", "cpu", "pids"}:'),
 }
 OF_LASTING_4 = {
     "io keeps processes out as memory does": (
         BY_MEMORY, 'any(one in state.cgroups[path].enabled and is_on(state, users, lasting.on, path, one) for one in ("memory", "io"))'),
     "the second row asks for the eight alone": (
-        "any(is_reached(state, users, top, file) for file in rules.told_at(state, top))", "any(is_reached(state, users, top, file) for file in rules.LIMIT_FILES)"),
+        "any(is_reached(state, users, top, file) for file in rules.told_at(state, top))",
+        "any(is_reached(state, users, top, file) for file in rules.LIMIT_FILES)"),
 }
 OF_TEXTS_4 = {
     "format 4 has 4096 rows": ("4: 65536}", "4: 4096}"),
     "1024 further files are too many": ("len(further) <= MOST_FURTHER", "len(further) < MOST_FURTHER"),
     "further files count for no number": (" and len(further) <= MOST_FURTHER", ""),
     "an array is a value of the eight in shape": (
-        "(name, entry_form(form, value_form)) for name in rules.LIMIT_FILES", "(name, entry_form(form, further_value_form)) for name in rules.LIMIT_FILES"),
+        "(name, entry_form(form, value_form)) for name in rules.LIMIT_FILES",
+        "(name, entry_form(form, further_value_form)) for name in rules.LIMIT_FILES"),
     "an empty array is as it is": ("return not files.lines_of(value) or not", "return not"),
     "a further file that is named needn't stand": (" or not all(rules.further_stands(bare, path, name) for name in further_of(row))", ""),
     "a file that is named without a key isn't told of": (
@@ -318,7 +332,8 @@ OF_TEXTS_4 = {
     "format 2 has further files": ("form == 4 and files.is_further(name)", "files.is_further(name)"),
 }
 OF_DOCUMENTS_4 = {
-    "a large text has its format near its beginning": ("    begins = LARGE.match(data)\n", '    begins = LARGE.search(data[:200].replace(b"\\r", b""))\n'),
+    "a large text has its format near its beginning": (
+        "    begins = LARGE.match(data)\n", '    begins = LARGE.search(data[:200].replace(b"\\r", b""))\n'),
     "a large text has controllers in any order and spelling": ("return begins[1] == b", "return True or b"),
     "no text is large": ("MOST_LARGE if is_large(data) else", "MOST_LARGE if False else"),
 }
