@@ -11,7 +11,7 @@ sys.path.insert(0, os.path.dirname(os.path.dirname(os.path.abspath(__file__))))
 from second import commands, rules
 from trials import cases, labels, programs, spelling, trees, mutants
 
-ALL = frozenset([*commands.OPTIONS, "audit --all", "advise --pairs", "audit --settle", "advise --settle"])
+ALL = frozenset([*commands.OPTIONS, "audit --all", "advise --pairs", "audit --settle", "advise --settle", cases.FORMAT_4])
 EXAMPLES = os.path.join(os.path.dirname(os.path.abspath(__file__)), "../../../examples")
 
 

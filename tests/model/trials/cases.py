@@ -52,7 +52,7 @@ def random_case(seed, number, known):
         data = spelling.document(rng, tree.document(rng))
     case = Case(MAKERS[command](rng, tree, state_of(data)))
     if command.startswith("replay"):
-        case.files[OPS] = operations(rng, tree, data, case.words)
+        case.files[OPS] = operations(rng, tree, data, case.words, wide)
     if command == "advise --pairs":
         case.files[PAIRS] = pair_lines(rng, tree, state_of(data))
     give_tree(rng, case, data)
@@ -64,8 +64,8 @@ def random_case(seed, number, known):
 
 
 def text_of_tree(rng, tree, wide):
-    """A tree's text, of format 4 if that is asked for; at times a faulty one, or one of about as many bytes as may be."""
-    if wide:
+    """A tree's text, mostly of format 4 if that is asked for; at times a faulty one, or one of about as many bytes as may be."""
+    if wide and rng.random() < 0.9:
         further.widen(rng, tree)
     parts = tree.document(rng)
     if rng.random() < 0.25:
@@ -270,7 +270,7 @@ WEIGHTS = {"may": 14, "check": 30, "audit": 12, "audit --all": 12, "advise": 14,
 # Operations
 
 
-def operations(rng, tree, data, words):
+def operations(rng, tree, data, words, wide=False):
     """A list of operations, most of which are chosen in the tree that those before them leave."""
     if rng.random() < 0.018:
         count = rng.choice([commands.MOST_STEPS, commands.MOST_STEPS + 1]) if rng.random() < 0.85 else commands.MOST_STEPS - 1
@@ -284,8 +284,10 @@ def operations(rng, tree, data, words):
             state = rules.step(state, user, operation)[0]
             lines.append(commands.spelling(operation).encode("ascii"))
     if rng.random() < 0.16:
-        wide = state and state.form == 4 and rng.random() < 0.6
-        lines.insert(rng.randrange(len(lines) + 1), further.bad_line(rng) if wide else bad_line(rng, lines))
+        near = further.bad_line(rng) if wide and rng.random() < 0.6 else bad_line(rng, lines)
+        lines.insert(rng.randrange(len(lines) + 1), near)
+    if wide and tree.form != 4:
+        lines.insert(rng.randrange(len(lines) + 1), further.later_line(rng))
     return b"".join(line + b"\n" for line in lines) + (rng.choice([b"exit 7", b"x", b" "]) if rng.random() < 0.04 else b"")
 
 

@@ -18,8 +18,8 @@ NAMES = {
     "dmem": ["dmem.max", "dmem.low"],
 }
 # no limit, and no name of a file
-NONE = ["memory.oom.group", "memory.reclaim", "memory.stat", "cpu.pressure", "cgroup.kill", "cgroup.type", "cgroup.threads", "cpu.", "cpu",
-        "io.a b", "io.a/b", "hugetlb.2MB.current", "hugetlb..events", "net.max", "perf_event.max", ".max", "cpu." + 252 * "x",
+NONE = [*3 * ["memory.oom.group", "memory.reclaim"], "memory.stat", "cpu.pressure", "cgroup.kill", "cgroup.type", "cgroup.threads", "cpu.",
+        "cpu", "io.a b", "io.a/b", "hugetlb.2MB.current", "hugetlb..events", "net.max", "perf_event.max", ".max", "cpu." + 252 * "x",
         "cpuset.cpus.effective"]
 LINES = ["max", "0", "1", "5", "05", "+5", "-5", "max 100000", "50000 100000", "a b c d", "it's", 'a"b', "a\\b", "'\"", "'''\"",
          "'\"\"\"\\", "'\\", "~"]
@@ -97,9 +97,14 @@ def some_line(rng, state, path, file):
 def bad_line(rng):
     """A line that is no operation's, or the longest one."""
     line = rng.choice([f"set / {rng.choice(NONE)} 1", f"chmod / {rng.choice(NONE)} 644", "set / cpu.max",
-                       f"set / cpu.max {rng.choice(BAD_LINES)}", "set / cpu.max " + rng.choice([3800, 3801]) * "x", "set / memory.max 5 6",
-                       "control / +perf_event", "set / memory.max -1", "chmod / cpu.max 0644"])
+                       f"set / cpu.max {rng.choice(BAD_LINES)}", *4 * ["set / cpu.max " + rng.choice([3800, 3801]) * "x"],
+                       "set / memory.max 5 6", "control / +perf_event", "set / memory.max -1", "chmod / cpu.max 0644"])
     return line.replace("\n", " ").encode()
+
+
+def later_line(rng):
+    """A line that is an operation's in format 4 alone."""
+    return rng.choice([b"control / +io", b"control / -cpuset", b"set / cpu.max 1", b"chmod / cgroup.freeze 644"])
 
 
 # Faults of a document
@@ -151,7 +156,7 @@ def too_many(rng, parts):
     parts[rng.choice(["cgroup", "process"])] = Raw("[" + "1," * rng.choice([4097, 65536, 65537]) + "]")
 
 
-FAULTS = [no_limit, wrong_value, array_of_the_eight, many_files, *[bad_value] * 2, bad_controller, no_such_file, file_of_the_root,
+FAULTS = [*[no_limit] * 3, wrong_value, array_of_the_eight, many_files, *[bad_value] * 2, bad_controller, no_such_file, file_of_the_root,
           *[of_format_2] * 2, too_many]
 
 
