@@ -173,7 +173,7 @@ def turn_document(rng, parts):
 
 def large_text(rng, parts):
     """A text of about as many bytes as one may have that isn't large, which mostly begins as a large one."""
-    named = parts.get("controllers", [])
+    named = parts["controllers"] if isinstance(parts.get("controllers"), list) else []
     ordered = [c for c in files.ALL_CONTROLLERS if c in named] if rng.random() < 0.7 else [c for c in named if isinstance(c, str)]
     begins = "controllers = [" + ", ".join(f'"{c}"' for c in ordered) + "]\nformat = 4\n" if rng.random() < 0.7 else "format = 4\n"
     rest = {key: value for key, value in parts.items() if not begins.startswith(key) and key != "format"}
