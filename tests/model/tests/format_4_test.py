@@ -41,10 +41,9 @@ class RowsTest(unittest.TestCase):
     def test_sizes(self):
         for begins, read in rows.BEGINNINGS:
             self.assertEqual(documents.is_large(begins), read, begins)
-            for most, large in ((documents.MOST_BYTES, read), (documents.MOST_LARGE, False)):
-                if not large:
-                    with self.assertRaisesRegex(documents.Fault, "too-long"):
-                        documents.document_of(begins + b"#" * (most + 1 - len(begins)))
+            most = documents.MOST_LARGE if read else documents.MOST_BYTES
+            with self.assertRaisesRegex(documents.Fault, "too-long"):
+                documents.document_of(begins + b"#" * (most + 1 - len(begins)))
         begins, _ = rows.BEGINNINGS[0]
         self.assertEqual(documents.document_of(begins + b"#" * (documents.MOST_BYTES + 1)), {"format": 4})
         self.assertEqual(documents.document_of(b"\n" + begins + b"#" * (documents.MOST_BYTES - 1 - len(begins))), {"format": 4})
