@@ -278,7 +278,7 @@ OF_FILES_4 = {
     "a line may have two spaces side by side": ('"" not in text.split(" ")', "text and text == text.strip()"),
     "a line of 4095 bytes is none": ("len(text) <= most and", "len(text) < most and"),
     "a set takes a line as long as a text's": ("LONGEST_SET = 255, 4095, 3800", "LONGEST_SET = 255, 4095, 4095"),
-    "an integer is another value than its digits": ("(str(value),)", "(value,)"),
+    "an integer's line has its sign": ("(str(value),)", '(value if isinstance(value, str) else f"{value:+}",)'),
     "tries the same of every further file": ('TRIED.get(file, (MAX, "0"))', '(MAX, "0")'),
     "tries the value that a further file has": ("return other if lines == (first,) else first", "return first"),
     "tries by the first line of several": ("if lines == (first,) else", "if lines and lines[0] == first else"),
