@@ -349,11 +349,12 @@ class Repository(unittest.TestCase):
         self.assertFalse({"cg_format", "cg_text", "cg_check", "cg_tries", "cg_indexed"} & {crate for crate, _ in reached})
 
     def test_check_reaches_what_its_clauses_do(self):
-        contained, report = (self.reached("cg_cli::check::check_bytes", it) for it in ("contained", "report"))
+        contained, report, stranger = (self.reached("cg_cli::check::check_bytes", it) for it in ("contained", "report", "stranger"))
         self.assertLessEqual({("cg_format", "IsTextOf"), ("cg_model", "IsContained")}, contained)
         self.assertNotIn(("cg_model", "tries"), contained)
         self.assertIn(("cg_model", "tries"), report)
-        self.assertEqual(self.reached("cg_cli::check::check_bytes"), contained | report)
+        self.assertNotIn(("cg_model", "bars"), stranger)
+        self.assertEqual(self.reached("cg_cli::check::check_bytes"), contained | report | stranger)
 
     def test_how_it_is_kept_is_never_reached(self):
         for name in ("check::check_bytes", "audit::audit_bytes", "may::may_bytes", "replay::replay_bytes", "replay::replay_from"):
