@@ -69,9 +69,6 @@ alone_said text uid gids user st is_user reads stranger is result =
 
 -- ---- the uids and gids of a tree
 
-pub added_none : (known : Known) → AreAdded known known []
-added_none known entries of = subst (λ all. AreOfEntries known all []) (sym (append-nil entries)) of
-
 pub added_both : (before between after : Known) (more others : List Entry) → AreAdded before between more → AreAdded between after others
     → AreAdded before after (more ++ others)
 added_both before between after more others first second entries of =
@@ -170,9 +167,6 @@ left_none owner known entries owners left none of = record {
   gids = of.gids;
 }
 
-pub known_none : (known : Known) → known.uids.keys ≡ [] → known.gids.keys ≡ [] → AreOfEntries known [] []
-known_none known uids gids = record { uids = λ uid. ap (list_any _) uids; gids = λ gid. ap (list_any _) gids }
-
 -- ---- what is known of a user
 
 pub stranger_is : (st : State) (known : Known) → AreOfEntries known (tree_entries st) (all_owners st) → (user : Identity)
@@ -183,9 +177,3 @@ stranger_is st known of user =
     any_gid : (gids : List ℕ) → list_any (contains nat_cmp known.gids) gids ≡ list_any (has_gid (tree_entries st)) gids
     any_gid [] = refl
     any_gid (gid ∷ gids) = λ i. of.gids gid i || any_gid gids i
-
-pub first_is : (st : State) (known : Known) → AreOfEntries known (tree_entries st) (all_owners st) → (users : List Identity)
-    → option_map (λ user. user.uid)
-    (find (λ user. not (contains nat_cmp known.uids user.uid || list_any (contains nat_cmp known.gids) user.gids)) users)
-    ≡ first_stranger st users
-first_is st known of users = λ i. option_map (λ user. user.uid) (find (λ user. stranger_is st known of user i) users)

@@ -1,11 +1,9 @@
 -- What a search for marks passes over says nothing of a mode.
-use Rattle.std.proofs.Common.{◌≡◌, ◌∙◌, ◌<◌, ◌-◌, ℕ, zero, suc, Bool, true, false, cond, List, [], ◌∷◌, length, refl, ap, sym, subst, arith}
+use Rattle.std.proofs.Common.{◌≡◌, ◌∙◌, ◌<◌, ℕ, zero, suc, Bool, true, false, cond, List, [], ◌∷◌, refl, ap, sym, subst, arith}
 use Rattle.std.specs.Prelude.{◌&&◌, ◌||◌, not, nat_eq, Some, None, codes, take, drop, option_and_then}
 use Rattle.std.specs.Cmp.Lexicographic.{pointwise}
 use Rattle.std.specs.Option.{option_or}
 use Rattle.std.proofs.lemmas.Bool.{eqb-true}
-use Rattle.std.proofs.lemmas.List.{take_rest}
-use Rattle.std.proofs.Math.Seq.{drop-length}
 use Rattle.memchr.specs.Find.{Passes, is_byte, is_byte2}
 use Rattle.cg_help.specs.Modes.{behind, unspaced, number_at, mode_at, is_comment_behind, spelled_from}
 
@@ -67,7 +65,3 @@ ended [] (suc at) met = refl
 ended (byte ∷ rest) zero met =
     subst (λ b. spelled_from false (b ∷ rest) ≡ spelled_from true (b ∷ rest)) (sym (eqb-true byte 10 met)) refl
 ended (byte ∷ rest) (suc at) met = ended rest at met
-
--- a slice from the end
-pub slice_end : (text : List ℕ) → take (length text - length text) (drop (length text) text) ≡ []
-slice_end text = take_rest text (length text) ∙ drop-length text
