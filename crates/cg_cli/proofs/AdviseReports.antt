@@ -16,13 +16,11 @@ use Rattle.cg_model.specs.Checks.{subtree_faults}
 use Rattle.cg_model.specs.Guards.{IsSubtree, GuardsHold, failures, is_guarded}
 use Rattle.cg_model.specs.Several.{AreContained}
 use Rattle.cg_model.specs.Mends.{Pair}
-use Rattle.cg_model.specs.declared.fault.CheckFault.{CheckFault}
 use Rattle.cg_model.specs.declared.guard.Failed.{Failed}
-use Rattle.cg_model.proofs.ClauseLaws.{none_of_first}
 use Rattle.cg_model.proofs.Lists.{all-append, all-each}
 use Rattle.cg_check.specs.Listed.{is_guarded_of_all}
 use Rattle.cg_check.proofs.Checking.{no_fault}
-use Rattle.cg_check.proofs.Pairs.{none-element, not-none}
+use Rattle.cg_check.proofs.Pairs.{none-element}
 use Rattle.cg_check.proofs.AllContained.{guarded-are-contained}
 use Rattle.cg_advice.specs.AdviceLines.{is_pair_guarded, pairs_lines, advice_lines}
 use Rattle.cg_advice.specs.Ways.{pair_of}

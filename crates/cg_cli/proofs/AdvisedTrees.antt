@@ -1,5 +1,5 @@
 -- The tree with the changes of the advice made: the subtrees are there, and contained.
-use Rattle.std.proofs.Common.{◌≡◌, ◌≢◌, ◌<◌, true, zero, suc, List, [], ◌∷◌, length, get_or, Option, Some, None, is_some, option_map, option_and_then, refl, sym, ap, ◌∙◌, arith}
+use Rattle.std.proofs.Common.{◌≡◌, ◌≢◌, List, [], ◌∷◌, get_or, Option, Some, None, is_some, option_map, option_and_then, refl, sym, ap, ◌∙◌, arith}
 use Rattle.std.specs.List.{All, Contains}
 use Rattle.std.proofs.lemmas.List.Elements.{All-contains, Contains-get_or}
 use Rattle.cg_cgroup.specs.Paths.{Names}

@@ -1,5 +1,5 @@
 -- Pairs told one after another, and what the report on them is where it ends early.
-use Rattle.std.proofs.Common.{◌≡◌, ◌≢◌, ℕ, ◌+◌, ◌<◌, ◌⊎◌, inl, inr, ◌||◌, Bool, true, false, cond, List, [], ◌∷◌, ◌++◌, length, get_or, take, drop, map, take_all, ◌≤◌, not}
+use Rattle.std.proofs.Common.{◌≡◌, ◌≢◌, ℕ, ◌+◌, ◌<◌, inl, inr, ◌||◌, Bool, true, false, cond, List, [], ◌∷◌, ◌++◌, length, get_or, take, drop, map, take_all, ◌≤◌, not}
 use Rattle.std.proofs.Common.{Option, Some, None, Result, Ok, Err, IsErrAnd, refl, sym, ap, ◌∙◌, subst, append_assoc, append-nil}
 use Rattle.std.specs.List.{All, list_any, flat_map}
 use Rattle.std.specs.Io.KnownBytes.{Appends}
@@ -19,22 +19,21 @@ use Rattle.cg_model.specs.Once.{once}
 use Rattle.cg_model.specs.declared.answer.Answer.{Answer}
 use Rattle.cg_model.specs.declared.answer.Answer.TheVariants.{Contained, Escapes, Unsettled}
 use Rattle.cg_model.specs.declared.fault.CheckFault.{CheckFault}
-use Rattle.cg_model.specs.declared.fault.CheckFault.TheVariants.{RootSubtree, NoSuchSubtree, NoMemory as CheckNoMemory}
+use Rattle.cg_model.specs.declared.fault.CheckFault.TheVariants.{RootSubtree, NoSuchSubtree}
 use Rattle.cg_advice.specs.Ways.{pair_of}
 use Rattle.cg_advice.specs.declared.pair.Pair.{Pair as PairOfBoth}
 use Rattle.cg_advice.proofs.Gathering.{one_more, map-append}
 use Rattle.cg_explain.specs.PairExplained.{pair_lines}
 use Rattle.cg_format.specs.Readings.{Reading}
-use Rattle.cg_cli.specs.Advising.{pair_with, all_pairs}
+use Rattle.cg_cli.specs.Advising.{all_pairs}
 use Rattle.cg_cli.specs.AllPairs.{is_escape, worse, read_then}
-use Rattle.cg_cli.specs.Asking.{read_in_turn, named_read, read_takes_memory, IsMet, IsKeptOnce}
+use Rattle.cg_cli.specs.Asking.{named_read, read_takes_memory, IsMet, IsKeptOnce}
 use Rattle.cg_cli.specs.Audits.{users_read, paths_read}
 use Rattle.cg_cli.specs.Containment.{in_call, answer_status}
 use Rattle.cg_cli.specs.May.{tree_read}
 use Rattle.cg_cli.specs.Once.{same_user}
-use Rattle.cg_cli.specs.Reports.{takes_memory}
 use Rattle.cg_cli.specs.Settled.{IsSettledFault}
-use Rattle.cg_cli.specs.Explaining.{told_status, told_text, pair_told, IsTold, AreTold, AreFrontTold, TellsPair, TellsPairs, pairs_asked, explain_asked, ReportsTold}
+use Rattle.cg_cli.specs.Explaining.{told_status, told_text, pair_told, IsTold, TellsPair, TellsPairs, pairs_asked, explain_asked, ReportsTold}
 use Rattle.streams.specs.Written.{AppendsPart}
 use Rattle.cg_faults.specs.Faults.{lifted_check}
 use Rattle.cg_faults.specs.declared.fault.CliFault.{CliFault}

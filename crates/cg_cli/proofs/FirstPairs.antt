@@ -1,5 +1,5 @@
 -- The first of the pairs that are listed, and what is said of it.
-use Rattle.std.proofs.Common.{◌≡◌, ℕ, ◌+◌, ◌<◌, ◌≤◌, false, List, [], ◌∷◌, ◌++◌, length, get_or, drop, drop-cons, add-one, Option, Some, None, Ok, refl, sym, ap, ◌∙◌, subst, arith}
+use Rattle.std.proofs.Common.{◌≡◌, ℕ, ◌+◌, ◌<◌, ◌≤◌, false, List, [], ◌∷◌, ◌++◌, length, get_or, drop, drop-cons, add-one, Some, None, Ok, refl, sym, ap, ◌∙◌, subst, arith}
 use Rattle.std.specs.Prelude.{slice_get}
 use Rattle.std.specs.List.{All, flat_map}
 use Rattle.std.proofs.lemmas.List.{drop_all}
@@ -11,7 +11,7 @@ use Rattle.cg_model.specs.Checks.{subtree_faults}
 use Rattle.cg_model.specs.Listed.{Listed, listed_unless_contained, is_contained}
 use Rattle.cg_model.specs.declared.answer.Answer.{Answer}
 use Rattle.cg_model.specs.declared.answer.Answer.TheVariants.{Contained, Escapes, Unsettled}
-use Rattle.cg_report.specs.AnswerLines.{answer_text, IsShown}
+use Rattle.cg_report.specs.AnswerLines.{answer_text}
 use Rattle.cg_report.specs.AuditLines.{pair_line}
 use Rattle.cg_cli.specs.declared.answers.audited.Found.{Found}
 use Rattle.cg_cli.specs.Containment.{answer_status}

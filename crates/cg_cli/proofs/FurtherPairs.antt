@@ -1,6 +1,6 @@
 -- What is listed where the second row of guards is asked, and lists are planned, is no less than may be listed.
-use Rattle.std.proofs.Common.{◌≡◌, ◌≢◌, ℕ, ◌<◌, Bool, true, false, List, [], ◌∷◌, length, get_or, Option, Some, None, Result, Ok, Err, refl, sym, ap, ◌∙◌, subst, arith}
-use Rattle.std.specs.List.{All, flat_map}
+use Rattle.std.proofs.Common.{◌≡◌, ℕ, ◌<◌, Bool, true, false, List, length, get_or, Option, Some, None, Result, Ok, Err, refl, sym, ap, ◌∙◌, subst}
+use Rattle.std.specs.List.{flat_map}
 use Rattle.cg_cgroup.specs.Paths.{Names, same_path}
 use Rattle.cg_cgroup.specs.Identity.{Identity}
 use Rattle.cg_model.specs.States.{State}
@@ -24,10 +24,10 @@ use Rattle.cg_check.proofs.Checking.{no_fault}
 use Rattle.cg_check.proofs.Pairs.{none-element}
 use Rattle.cg_format.specs.Readings.{Reading, IsReading, OnText}
 use Rattle.cg_format.specs.TextOf.{IsTextOf}
-use Rattle.cg_cli.specs.Audited.{has_list, without_list, IsKnownFrom, AreKnown, AreKnownWithEach}
+use Rattle.cg_cli.specs.Audited.{has_list, without_list, IsKnownFrom, AreKnownWithEach}
 use Rattle.cg_cli.specs.Audits.{users_read, paths_read}
 use Rattle.cg_cli.specs.Asking.{read_in_turn}
-use Rattle.cg_cli.specs.FurtherPairs.{not_listed, listed_from, AreFurther, MayList, ListsOn, ListsFurther, ReportsFurther}
+use Rattle.cg_cli.specs.FurtherPairs.{AreFurther, MayList, ListsOn, ListsFurther, ReportsFurther}
 use Rattle.cg_cli.specs.May.{tree_read}
 use Rattle.cg_cli.specs.Once.{same_user}
 use Rattle.cg_cli.specs.SettledPairs.{MayBeFound, MayFollow, MayReport, ReportsSettled}

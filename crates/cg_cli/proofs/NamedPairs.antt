@@ -1,20 +1,18 @@
 -- Pairs that are named one by one: each subtree, and the users named with it.
-use Rattle.std.proofs.Common.{◌≡◌, ◌≢◌, ℕ, zero, suc, ◌+◌, ◌<◌, ◌≤◌, true, false, Bool, cond, List, [], ◌∷◌, ◌++◌, map, length, take, get_or, Option, Some, None, Ok, refl, ap, sym, subst, ◌∙◌, add-one, arith}
+use Rattle.std.proofs.Common.{◌≡◌, ◌≢◌, ℕ, zero, suc, ◌+◌, ◌<◌, ◌≤◌, true, false, cond, List, [], ◌∷◌, ◌++◌, map, length, take, get_or, None, Ok, refl, ap, sym, subst, ◌∙◌, add-one, arith}
 use Rattle.std.specs.List.{All, AllByRecursion, Contains, filter, flat_map}
 use Rattle.std.proofs.lemmas.List.Elements.{All-from_recursion, recursion_from_All, All-contains}
 use Rattle.cg_cgroup.specs.Paths.{Names, same_path}
 use Rattle.cg_cgroup.specs.Identity.{Identity}
-use Rattle.cg_cgroup.specs.Users.{IsUser}
 use Rattle.cg_cgroup.proofs.PathOrder.{same_path-is, same_path_refl}
 use Rattle.cg_model.specs.States.{State}
 use Rattle.cg_model.specs.WellFormed.{IsWellFormed}
 use Rattle.cg_model.specs.Clauses.{first}
 use Rattle.cg_model.specs.Checks.{subtree_faults}
 use Rattle.cg_model.specs.Guards.{IsSubtree, GuardsHold, failures}
-use Rattle.cg_model.specs.Several.{AreContained}
 use Rattle.cg_model.specs.Mends.{Pair, advised}
 use Rattle.cg_check.proofs.Checking.{no_fault}
-use Rattle.cg_check.proofs.Pairs.{none-element, not-none}
+use Rattle.cg_check.proofs.Pairs.{none-element}
 use Rattle.cg_check.proofs.AllContained.{guarded-are-contained}
 use Rattle.cg_advice.specs.AdviceLines.{is_pair_guarded, advice_lines}
 use Rattle.cg_advice.specs.Ways.{pair_of}

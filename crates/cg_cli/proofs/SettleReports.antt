@@ -1,10 +1,10 @@
 -- What is said where more is known than check tells.
-use Rattle.std.proofs.Common.{◌≡◌, ◌≢◌, ℕ, true, false, List, [], ◌∷◌, Option, Some, None, Result, Ok, Err, length, refl, ap, sym, ◌∙◌, subst, inl, inr}
-use Rattle.cg_cgroup.specs.Paths.{Names, is_root}
+use Rattle.std.proofs.Common.{◌≡◌, ◌≢◌, true, false, [], ◌∷◌, Option, Some, None, Result, Ok, Err, length, refl, ap, sym, ◌∙◌, subst, inl, inr}
+use Rattle.cg_cgroup.specs.Paths.{Names}
 use Rattle.cg_cgroup.specs.Identity.{Identity}
 use Rattle.cg_model.specs.States.{State}
-use Rattle.cg_model.specs.WellFormed.{IsWellFormed, has_row}
-use Rattle.cg_model.specs.Clauses.{unless, first}
+use Rattle.cg_model.specs.WellFormed.{IsWellFormed}
+use Rattle.cg_model.specs.Clauses.{first}
 use Rattle.cg_model.specs.Guards.{IsSubtree}
 use Rattle.cg_model.specs.Answers.{answer}
 use Rattle.cg_model.specs.Checks.{subtree_faults, unless_fault, checked}
@@ -21,9 +21,8 @@ use Rattle.cg_report.specs.AnswerLines.{IsShown}
 use Rattle.cg_report.proofs.Shown.{answer_is_shown}
 use Rattle.cg_cli.specs.Containment.{in_call, answer_report, subtree_report}
 use Rattle.cg_faults.specs.Faults.{lifted_check}
-use Rattle.cg_cli.specs.Reports.{Said, Report, fault_report, takes_memory}
+use Rattle.cg_cli.specs.Reports.{Report, fault_report, takes_memory}
 use Rattle.cg_cli.specs.Settling.{SaysOn, FurtherSays, IsFurther}
-use Rattle.cg_faults.specs.declared.fault.CliFault.{CliFault}
 use Rattle.cg_cli.proofs.Asked.{kept_on, more_on}
 
 module _ (st : State) (user : Identity) (subtree : Names) where

@@ -1,10 +1,10 @@
 -- The rows of users as pairs, and the report on these.
-use Rattle.std.proofs.Common.{◌≡◌, ◌≢◌, ℕ, zero, suc, ◌+◌, ◌<◌, ◌≤◌, Bool, true, false, List, [], ◌∷◌, ◌++◌, length, get_or, take, take_all, drop}
+use Rattle.std.proofs.Common.{◌≡◌, ◌≢◌, ℕ, zero, suc, ◌+◌, ◌<◌, ◌≤◌, Bool, true, List, [], ◌∷◌, ◌++◌, length, get_or, take, take_all, drop}
 use Rattle.std.proofs.Common.{drop-cons, add-one, Option, Some, None, Result, Ok, Err, IfOk, IsErrAnd, refl, sym, ap, ◌∙◌, subst}
 use Rattle.std.proofs.Common.{append_assoc, append-nil, arith}
 use Rattle.std.specs.List.{All, flat_map}
 use Rattle.std.specs.Io.KnownBytes.{Appends}
-use Rattle.std.proofs.KnownBytes.{Appends-trans, Keeps-refl}
+use Rattle.std.proofs.KnownBytes.{Keeps-refl}
 use Rattle.std.proofs.lemmas.List.{take_more, length-take-le, get_or_default, drop_all}
 use Rattle.std.proofs.lemmas.List.Concat.{flat_map-append}
 use Rattle.std.proofs.lemmas.List.Elements.{All-append, All-nil, All-cons}
@@ -13,7 +13,7 @@ use Rattle.cg_cgroup.specs.Identity.{Identity}
 use Rattle.cg_model.specs.States.{State}
 use Rattle.cg_model.specs.Clauses.{first}
 use Rattle.cg_model.specs.Checks.{subtree_faults}
-use Rattle.cg_model.specs.Listed.{Listed, listed_unless_contained, is_contained}
+use Rattle.cg_model.specs.Listed.{Listed, listed_unless_contained}
 use Rattle.cg_model.specs.Answers.{answer}
 use Rattle.cg_model.specs.Once.{once}
 use Rattle.cg_model.specs.WellFormed.{IsWellFormed}
@@ -24,10 +24,10 @@ use Rattle.cg_model.specs.declared.answer.Answer.TheVariants.{Contained, Escapes
 use Rattle.cg_check.proofs.Checking.{checked-answer, no_fault}
 use Rattle.cg_check.proofs.Pairs.{none-element}
 use Rattle.cg_cli.specs.declared.answers.audited.Found.{Found}
-use Rattle.cg_cli.specs.Audited.{IsKnownFrom, AreKnownWithEach, UnlistedAreSettled}
+use Rattle.cg_cli.specs.Audited.{IsKnownFrom}
 use Rattle.cg_cli.specs.FurtherPairs.{listed_with, listed_from, ReportsFirst}
 use Rattle.cg_cli.specs.FoundPlaces.{found_one}
-use Rattle.cg_cli.specs.ListedRows.{row_of, AreRows, AreListed}
+use Rattle.cg_cli.specs.ListedRows.{row_of, AreListed}
 use Rattle.cg_cli.proofs.Knowing.{some_known, all-unlisted_settled}
 use Rattle.cg_report.specs.AnswerLines.{IsShown}
 use Rattle.cg_report.proofs.Shown.{answers_are_shown}

@@ -1,22 +1,18 @@
 -- Users of whom a tree says nothing.
-use Rattle.std.proofs.Common.{◌≡◌, ◌∙◌, ℕ, ◌+◌, ◌<◌, Bool, true, false, not, ◌||◌, ◌&&◌, nat_eq, cond, List, [], ◌∷◌, ◌++◌, length, take, get_or, map, Option, Some, None, Result, Ok, Err, refl, sym, ap, subst, append_assoc, append-nil}
+use Rattle.std.proofs.Common.{◌≡◌, ◌∙◌, ℕ, ◌+◌, ◌<◌, Bool, true, false, not, ◌||◌, ◌&&◌, nat_eq, cond, List, [], ◌∷◌, ◌++◌, length, take, get_or, map, Option, Result, Ok, Err, refl, sym, ap, subst, append_assoc, append-nil}
 use Rattle.std.specs.Prelude.{IfOk, OnOk}
 use Rattle.std.specs.BTreeSet.{contains}
-use Rattle.std.specs.Cmp.{unsigned_tied, nat_eq_equiv}
-use Rattle.std.specs.List.{list_any, flat_map, find}
-use Rattle.std.specs.Option.{option_map}
+use Rattle.std.specs.Cmp.{unsigned_tied}
+use Rattle.std.specs.List.{list_any, flat_map}
 use Rattle.std.specs.Ordering.{nat_cmp, eq_by_cmp}
 use Rattle.std.proofs.lemmas.List.{take_more}
-use Rattle.std.proofs.lemmas.List.Folds.{list_any-append}
 use Rattle.std.proofs.lemmas.Grind.{flat_map-append}
 use Rattle.cg_cgroup.specs.Identity.{Identity}
 use Rattle.cg_cgroup.specs.Paths.{Names}
-use Rattle.cg_cgroup.specs.Users.{has_bit}
 use Rattle.cg_cgroup.specs.declared.user.Entry.{Entry}
 use Rattle.cg_model.specs.Once.{once}
 use Rattle.cg_model.specs.States.{State}
 use Rattle.cg_format.specs.Readings.{Reading, IsReading}
-use Rattle.cg_format.specs.TextOf.{IsTextOf}
 use Rattle.cg_cli.specs.Arguments.{user_read}
 use Rattle.cg_cli.specs.Asking.{read_in_turn, named_read, IsKeptOnce}
 use Rattle.cg_cli.specs.Audits.{read_before, users_read, paths_read}

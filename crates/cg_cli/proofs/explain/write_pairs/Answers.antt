@@ -1,4 +1,4 @@
-use Rattle.std.proofs.Common.{sym, ap, subst, arith}
+use Rattle.std.proofs.Common.{sym, subst, arith}
 use Rattle.std.proofs.lemmas.Result.{err_from_is_err_and}
 use Rattle.cg_model.specs.Guards.{IsSubtree}
 use Rattle.cg_advice.specs.declared.pair.Pair.{Pair as PairOfBoth}

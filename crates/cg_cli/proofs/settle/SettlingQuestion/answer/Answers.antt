@@ -1,5 +1,4 @@
-use Rattle.std.proofs.Common.{refl}
-use Rattle.cg_cli.proofs.SettleReports.{says_found, says_fault, settled_is_shown}
+use Rattle.cg_cli.proofs.SettleReports.{settled_is_shown}
 use Rattle.cg_cli.proofs.settle.SettlingQuestion.answer.Goals as goal
 
 pub answer_text-requires : goal.answer_text-requires

@@ -1,4 +1,4 @@
-use Rattle.std.proofs.Common.{◌+◌, take, [], sym, subst}
+use Rattle.std.proofs.Common.{take, [], sym, subst}
 use Rattle.std.specs.List.{flat_map}
 use Rattle.cg_cli.specs.Known.{AreOfEntries}
 use Rattle.cg_cli.specs.Strangers.{entries_of}
