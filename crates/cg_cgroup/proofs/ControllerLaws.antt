@@ -1,12 +1,14 @@
 -- Sets of controllers, read controller by controller, whichever and however many they are.
 use Rattle.std.proofs.Common.{◌≡◌, ℕ, ◌<◌, Bool, true, false, not, ◌&&◌, ◌||◌, cond, refl, sym, ap, subst, ◌∙◌, nat_eq, arith, eqb-true, true≢false}
 use Rattle.std.proofs.Common.{List, [], ◌∷◌, length, map, get_or, zero, suc}
+use Rattle.std.specs.Prelude.{slice_set}
 use Rattle.std.proofs.lemmas.Bool.{and_parts, and_from}
-use Rattle.std.specs.List.{list_all, AllByRecursion}
+use Rattle.std.proofs.lemmas.List.{get_or-set_same, get_or-set_other}
+use Rattle.std.specs.List.{list_all, list_any, AllByRecursion}
 use mathlib.Core.HLevel.{is_prop→PathP}
 use native.Mathlib.Nat.{ℕ_set}
 use Rattle.cg_cgroup.proofs.Places.{numbers, held_all}
-use Rattle.cg_cgroup.specs.Files.{all_controllers, controller_kind, same_controller, enables, set_by, with_controller, enables_nothing, is_within}
+use Rattle.cg_cgroup.specs.Files.{all_controllers, format_2_controllers, controller_kind, same_controller, is_in_format_2, enables, set_by, with_controller, no_controllers, enables_nothing, is_within, is_of_format_2}
 use Rattle.cg_cgroup.specs.declared.files.Controller.{Controller}
 use Rattle.cg_cgroup.specs.declared.files.Controller.TheVariants.{Cpu}
 use Rattle.cg_cgroup.specs.declared.controllers.ControllerSet.{ControllerSet}
@@ -66,6 +68,23 @@ pub all_controllers_pass : (test : Controller → Bool) → ((controller : Contr
     → list_all test all_controllers ≡ true
 all_controllers_pass test h = all_pass test h all_controllers
 
+-- ---- those of formats 1 and 2
+
+each_among : (P : Controller → Type 0) (controller : Controller) (controllers : List Controller) → AllByRecursion P controllers
+    → list_any (same_controller controller) controllers ≡ true → P controller
+each_among P controller [] all found = absurd (true≢false (sym found))
+each_among P controller (front ∷ controllers) all found =
+    elim (same_controller controller front) as
+    (λ same. same_controller controller front ≡ same → (same || list_any (same_controller controller) controllers) ≡ true → P controller) [
+      | true ↦ λ same _. subst P (sym (same_controller-true controller front same)) all.0
+      | false ↦ λ _ later. each_among P controller controllers all.1 later
+    ] refl found
+
+-- what holds of all that are listed there holds of each that is one of them
+pub each_in_format_2 : (P : Controller → Type 0) → AllByRecursion P format_2_controllers → (controller : Controller)
+    → is_in_format_2 controller ≡ true → P controller
+each_in_format_2 P all controller is = each_among P controller format_2_controllers all is
+
 -- ---- sets
 
 pub enables-set_by : (test : Controller → Bool) (controller : Controller) → enables (set_by test) controller ≡ test controller
@@ -91,6 +110,28 @@ flags_are set = ap (λ count. map (λ n. get_or set.flags n false) (numbers coun
 pub same_set : (set other : ControllerSet) → ((controller : Controller) → enables set controller ≡ enables other controller) → set ≡ other
 same_set set other h =
     same_flags set other (sym (flags_are set) ∙ (λ i. map (λ controller. h controller i) all_controllers) ∙ flags_are other)
+
+-- the set with one flag set
+pub flag_set : (set new : ControllerSet) (controller : Controller) (on : Bool)
+    → new.flags ≡ slice_set set.flags (controller_kind controller).number on → new ≡ with_controller set controller on
+flag_set set new controller on is =
+    same_set new (with_controller set controller on) (λ other.
+    ap (λ flags. get_or flags (controller_kind other).number false) is ∙ read other ∙ sym (enables-with_controller set controller on other))
+  where
+    number : ℕ
+    number = (controller_kind controller).number
+
+    read : (other : Controller)
+        → get_or (slice_set set.flags number on) (controller_kind other).number false
+        ≡ cond (same_controller controller other) on (enables set other)
+    read other =
+        elim (same_controller controller other) as (λ b. same_controller controller other ≡ b
+        → get_or (slice_set set.flags number on) (controller_kind other).number false ≡ cond b on (enables set other)) [
+          | true ↦ λ e.
+              ap (λ at. get_or (slice_set set.flags number on) at false) (sym (eqb-true number (controller_kind other).number e))
+              ∙ get_or-set_same set.flags number on false (omega (arith, number_within controller, set.whole))
+          | false ↦ λ e. get_or-set_other set.flags number (controller_kind other).number on false (grind (arith, e))
+        ] refl
 
 pub set_by-enables : (set : ControllerSet) → set_by (enables set) ≡ set
 set_by-enables set = same_set (set_by (enables set)) set (enables-set_by (enables set))
@@ -124,3 +165,17 @@ pub is_within-each : (set other : ControllerSet)
 is_within-each set other h =
     all_controllers_pass (λ controller. not (enables set controller) || enables other controller)
     (λ controller. off_or_on _ _ (h controller))
+
+-- a set of controllers of formats 1 and 2 has no others
+pub enables-format_2 : (set : ControllerSet) → is_of_format_2 set ≡ true → (controller : Controller) → enables set controller ≡ true
+    → is_in_format_2 controller ≡ true
+enables-format_2 set h controller e =
+    sym (enables-set_by is_in_format_2 controller) ∙ is_within-enables set (set_by is_in_format_2) h controller e
+
+pub format_2-each : (set : ControllerSet)
+    → ((controller : Controller) → enables set controller ≡ true → is_in_format_2 controller ≡ true) → is_of_format_2 set ≡ true
+format_2-each set h =
+    is_within-each set (set_by is_in_format_2) (λ controller e. enables-set_by is_in_format_2 controller ∙ h controller e)
+
+pub format_2-none : is_of_format_2 no_controllers ≡ true
+format_2-none = refl

@@ -1,17 +1,19 @@
 -- The names of controllers, limit files and entries: no two are equal, and what is found by a name has that name.
-use Rattle.std.proofs.Common.{◌≡◌, ◌≢◌, ℕ, Bool, true, false, cond, List, [], ◌∷◌, refl, sym, ap, ◌∙◌}
+use Rattle.std.proofs.Common.{◌≡◌, ◌≢◌, ℕ, Bool, true, false, ◌||◌, cond, List, [], ◌∷◌, refl, sym, ap, ◌∙◌}
 use Rattle.std.specs.Prelude.{Option, Some, None, IfSome, IfNone}
-use Rattle.std.specs.List.{find}
+use Rattle.std.specs.List.{find, list_any}
 use Rattle.std.specs.Cmp.Lexicographic.{bytes_decides}
 use Rattle.std.proofs.lemmas.Option.{none-some, same_Some}
+use Rattle.std.proofs.Math.Bool.{or-true}
 use Rattle.cg_cgroup.specs.Paths.{same_name}
-use Rattle.cg_cgroup.specs.Files.{AreNames, all_controllers, all_files, all_entries, controller_name, controller_named, file_name, file_named, entry_text, entry_named}
+use Rattle.cg_cgroup.specs.Files.{AreNames, all_controllers, format_2_controllers, all_files, all_entries, controller_name, controller_named, same_controller, is_in_format_2, named_in_format_2, file_name, file_named, entry_text, entry_named}
 use Rattle.cg_cgroup.specs.declared.files.Controller.{Controller}
 use Rattle.cg_cgroup.specs.declared.files.Controller.TheVariants.{Cpu}
 use Rattle.cg_cgroup.specs.declared.files.LimitFile.{LimitFile}
 use Rattle.cg_cgroup.specs.declared.files.LimitFile.TheVariants.{MaxDescendants}
 use Rattle.cg_cgroup.specs.declared.files.EntryName.{EntryName}
 use Rattle.cg_cgroup.specs.declared.files.EntryName.TheVariants.{Dir, Procs, SubtreeControl, File}
+use Rattle.cg_cgroup.proofs.ControllerLaws.{same_controller-refl, each_in_format_2}
 
 find_passes : {A : Type 0} (test : A → Bool) (xs : List A) (x : A) → find test xs ≡ Some x → test x ≡ true
 find_passes test [] x h = absurd (none-some x h)
@@ -53,6 +55,39 @@ file_names = are_names file_name all_files found_file
 
 pub entry_names : AreNames entry_text entry_named
 entry_names = are_names entry_text all_entries found_entry
+
+-- ---- controllers of formats 1 and 2
+
+find_among : (test : Controller → Bool) (controllers : List Controller) (controller : Controller) → find test controllers ≡ Some controller
+    → list_any (same_controller controller) controllers ≡ true
+find_among test [] controller h = absurd (none-some controller h)
+find_among test (front ∷ controllers) controller h =
+    elim (test front) as
+    (λ b. cond b (Some front) (find test controllers) ≡ Some controller
+    → list_any (same_controller controller) (front ∷ controllers) ≡ true) [
+      | true ↦ λ found.
+          ap (λ one. same_controller controller one || list_any (same_controller controller) controllers) (same_Some front controller found)
+          ∙ ap (λ same. same || list_any (same_controller controller) controllers) (same_controller-refl controller)
+      | false ↦ λ found.
+          ap (λ later. same_controller controller front || later) (find_among test controllers controller found)
+          ∙ or-true (same_controller controller front)
+    ] h
+
+pub again_in_format_2 : (controller : Controller) → is_in_format_2 controller ≡ true
+    → named_in_format_2 (controller_name controller) ≡ Some controller
+again_in_format_2 controller is =
+    each_in_format_2 (λ controller. named_in_format_2 (controller_name controller) ≡ Some controller) (refl, (refl, (refl, tt)))
+    controller is
+
+pub name_in_format_2 : (text : List ℕ) (controller : Controller) → named_in_format_2 text ≡ Some controller
+    → text ≡ controller_name controller
+name_in_format_2 text controller h =
+    (bytes_decides text (controller_name controller)).0
+    (find_passes (λ one. same_name text (controller_name one)) format_2_controllers controller h)
+
+pub known_in_format_2 : (text : List ℕ) (controller : Controller) → named_in_format_2 text ≡ Some controller
+    → is_in_format_2 controller ≡ true
+known_in_format_2 text controller h = find_among (λ one. same_name text (controller_name one)) format_2_controllers controller h
 
 -- a text by which nothing is found is no name
 pub unnamed : {A : Type 0} {name : A → List ℕ} {look_up : List ℕ → Option A} → AreNames name look_up → (text : List ℕ) → look_up text ≡ None

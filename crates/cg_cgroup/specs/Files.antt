@@ -1,10 +1,10 @@
 -- Controllers and limit files: how they are found by their names, where they stand, and the values that they take.
 use Rattle.std.specs.Prelude.{◌≡◌, ℕ, Bool, true, false, ◌&&◌, ◌||◌, not, nat_eq, nat_le, cond, get_or, map, List, ◌∷◌, Option, Some, None, codes}
-use Rattle.std.specs.List.{find, list_all}
+use Rattle.std.specs.List.{find, list_all, list_any}
 use Rattle.std.proofs.Common.{refl}
 use Rattle.cg_cgroup.specs.Paths.{same_name}
 use Rattle.cg_cgroup.specs.Texts as texts
-pub use Rattle.cg_cgroup.specs.Kinds.{all_controllers, controller_kind, controller_name, all_files, file_name, kind_of, brought_files, place_of}
+pub use Rattle.cg_cgroup.specs.Kinds.{all_controllers, format_2_controllers, controller_kind, controller_name, all_files, file_name, kind_of, brought_files, place_of}
 use Rattle.cg_cgroup.specs.declared.files.Limit.{Limit}
 use Rattle.cg_cgroup.specs.declared.files.Limit.TheVariants.{Max, At}
 use Rattle.cg_cgroup.specs.declared.files.Controller.{Controller}
@@ -26,6 +26,13 @@ controller_named text = find (λ controller. same_name text (controller_name con
 abbrev pub same_controller : Controller → Controller → Bool
 same_controller controller other = nat_eq (controller_kind controller).number (controller_kind other).number
 
+abbrev pub is_in_format_2 : Controller → Bool
+is_in_format_2 controller = list_any (same_controller controller) format_2_controllers
+
+-- the controller of a name in texts of formats 1 and 2, and in operation lines
+abbrev pub named_in_format_2 : List ℕ → Option Controller
+named_in_format_2 text = find (λ controller. same_name text (controller_name controller)) format_2_controllers
+
 -- a set has a flag for each controller, at its number
 abbrev pub enables : ControllerSet → Controller → Bool
 enables set controller = get_or set.flags (controller_kind controller).number false
@@ -46,6 +53,10 @@ enables_nothing set = list_all (λ controller. not (enables set controller)) all
 -- each controller of the first set is in the second
 abbrev pub is_within : ControllerSet → ControllerSet → Bool
 is_within set other = list_all (λ controller. not (enables set controller) || enables other controller) all_controllers
+
+-- each controller of the set is one of formats 1 and 2
+abbrev pub is_of_format_2 : ControllerSet → Bool
+is_of_format_2 set = is_within set (set_by is_in_format_2)
 
 abbrev pub same_file : LimitFile → LimitFile → Bool
 same_file file other = nat_eq (kind_of file).number (kind_of other).number

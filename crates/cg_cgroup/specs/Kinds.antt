@@ -3,13 +3,17 @@ use Rattle.std.specs.Prelude.{ℕ, ◌-◌, Bool, true, false, List, [], ◌∷�
 use Rattle.cg_cgroup.specs.declared.files.Limit.{Limit}
 use Rattle.cg_cgroup.specs.declared.files.Limit.TheVariants.{Max, At}
 use Rattle.cg_cgroup.specs.declared.files.Controller.{Controller}
-use Rattle.cg_cgroup.specs.declared.files.Controller.TheVariants.{Cpu, Memory, Pids}
+use Rattle.cg_cgroup.specs.declared.files.Controller.TheVariants.{Cpuset, Cpu, Io, Memory, Hugetlb, Pids, Rdma, Misc, Dmem}
 use Rattle.cg_cgroup.specs.declared.files.LimitFile.{LimitFile}
 use Rattle.cg_cgroup.specs.declared.files.LimitFile.TheVariants.{MaxDescendants, MaxDepth, CpuWeight, MemoryMin, MemoryLow, MemoryHigh, MemoryMax, PidsMax}
 
 -- Own: the order used everywhere.
 abbrev pub all_controllers : List Controller
-all_controllers = Cpu ∷ Memory ∷ Pids ∷ []
+all_controllers = Cpuset ∷ Cpu ∷ Io ∷ Memory ∷ Hugetlb ∷ Pids ∷ Rdma ∷ Misc ∷ Dmem ∷ []
+
+-- Own: those that texts of formats 1 and 2, and operation lines, know: the ones that bring a limit file.
+abbrev pub format_2_controllers : List Controller
+format_2_controllers = Cpu ∷ Memory ∷ Pids ∷ []
 
 -- A controller: its number in that order, and its name.
 pub record ControllerKind : Type 0 where
@@ -17,9 +21,15 @@ pub record ControllerKind : Type 0 where
   pub name : List ℕ
 
 abbrev pub controller_kind : Controller → ControllerKind
-controller_kind Cpu = record { number = 0; name = codes "cpu" }
-controller_kind Memory = record { number = 1; name = codes "memory" }
-controller_kind Pids = record { number = 2; name = codes "pids" }
+controller_kind Cpuset = record { number = 0; name = codes "cpuset" }
+controller_kind Cpu = record { number = 1; name = codes "cpu" }
+controller_kind Io = record { number = 2; name = codes "io" }
+controller_kind Memory = record { number = 3; name = codes "memory" }
+controller_kind Hugetlb = record { number = 4; name = codes "hugetlb" }
+controller_kind Pids = record { number = 5; name = codes "pids" }
+controller_kind Rdma = record { number = 6; name = codes "rdma" }
+controller_kind Misc = record { number = 7; name = codes "misc" }
+controller_kind Dmem = record { number = 8; name = codes "dmem" }
 
 abbrev pub controller_name : Controller → List ℕ
 controller_name controller = (controller_kind controller).name

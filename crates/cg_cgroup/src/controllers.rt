@@ -5,7 +5,7 @@ ghost use Rattle.cg_cgroup.specs.Kinds.{all_controllers};
 use crate::files::Controller;
 
 /// How many controllers there are.
-pub const CONTROLLER_COUNT: usize = 3;
+pub const CONTROLLER_COUNT: usize = 9;
 
 /// A set of controllers: a flag for each, in their order.
 #[derive(Clone, Copy, Debug, PartialEq, Eq)]
@@ -47,7 +47,7 @@ impl ControllerSet {
         ensures { result ≡ with_controller self controller on }
     {
         let mut flags = self.flags;
-        flags[controller as usize] = on;
+        flags[controller.number()] = on;
         ControllerSet { flags }
     }
 

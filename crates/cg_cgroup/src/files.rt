@@ -2,8 +2,9 @@
 ghost use Rattle.std.specs.Prelude.{ℕ, ◌≡◌, ◌≢◌, ◌<◌, ◌≤◌, true, false, length, IfSome, IfNone};
 ghost use Rattle.std.specs.List.{find};
 ghost use Rattle.cg_cgroup.specs.Paths.{same_name};
-ghost use Rattle.cg_cgroup.specs.Files.{kind_of, brought_files, place_of, controller_of, default_value, accepts, stands_under, all_controllers, all_files, AreNames, controller_name, controller_named, file_name, file_named, entry_text, entry_named};
+ghost use Rattle.cg_cgroup.specs.Files.{kind_of, brought_files, place_of, controller_of, default_value, accepts, stands_under, all_controllers, format_2_controllers, controller_kind, all_files, AreNames, controller_name, controller_named, is_in_format_2, named_in_format_2, file_name, file_named, entry_text, entry_named};
 
+use crate::controllers::CONTROLLER_COUNT;
 pub use crate::controllers::ControllerSet;
 
 /// The value of a limit file: `max`, or a number.
@@ -16,23 +17,60 @@ pub enum Limit {
 /// The controllers of the profile, in the order used everywhere.
 #[derive(Clone, Copy, Debug, PartialEq, Eq)]
 pub enum Controller {
+    Cpuset,
     Cpu,
+    Io,
     Memory,
+    Hugetlb,
     Pids,
+    Rdma,
+    Misc,
+    Dmem,
 }
 
 impl Controller {
     /// The controllers, in their order.
-    pub const ALL: [Controller; 3] = [Controller::Cpu, Controller::Memory, Controller::Pids];
+    pub const ALL: [Controller; CONTROLLER_COUNT] = [
+        Controller::Cpuset,
+        Controller::Cpu,
+        Controller::Io,
+        Controller::Memory,
+        Controller::Hugetlb,
+        Controller::Pids,
+        Controller::Rdma,
+        Controller::Misc,
+        Controller::Dmem,
+    ];
+
+    /// Those that texts of formats 1 and 2, and operation lines, know: the ones that bring a limit file.
+    pub const IN_FORMAT_2: [Controller; 3] = [
+        Controller::Cpu,
+        Controller::Memory,
+        Controller::Pids,
+    ];
+
+    /// The number in their order, from 0.
+    pub(crate) fn number(self) -> usize
+        ensures number { result ≡ (controller_kind self).number }
+        ensures within { result < length all_controllers }
+    {
+        self as usize
+    }
 
     /// The name.
     pub fn name(self) -> &'static str
         ensures { result.now ≡ controller_name self }
     {
         match self {
+            Controller::Cpuset => "cpuset",
             Controller::Cpu => "cpu",
+            Controller::Io => "io",
             Controller::Memory => "memory",
+            Controller::Hugetlb => "hugetlb",
             Controller::Pids => "pids",
+            Controller::Rdma => "rdma",
+            Controller::Misc => "misc",
+            Controller::Dmem => "dmem",
         }
     }
 
@@ -41,6 +79,33 @@ impl Controller {
         ensures found { result ≡ controller_named text.now }
         ensures named { IfSome result (λ controller. text.now ≡ controller_name controller) }
         ensures unnamed { IfNone result ((controller : Controller) → text.now ≢ controller_name controller) }
+    {
+        match text {
+            "cpuset" => Some(Controller::Cpuset),
+            "cpu" => Some(Controller::Cpu),
+            "io" => Some(Controller::Io),
+            "memory" => Some(Controller::Memory),
+            "hugetlb" => Some(Controller::Hugetlb),
+            "pids" => Some(Controller::Pids),
+            "rdma" => Some(Controller::Rdma),
+            "misc" => Some(Controller::Misc),
+            "dmem" => Some(Controller::Dmem),
+            _ => None,
+        }
+    }
+
+    /// Whether the controller is among `IN_FORMAT_2`.
+    pub fn is_in_format_2(self) -> bool
+        ensures { result ≡ is_in_format_2 self }
+    {
+        Self::IN_FORMAT_2.iter().any(|known| self == *known)
+    }
+
+    /// The controller of a name among `IN_FORMAT_2`, where it is one.
+    pub fn from_format_2(text: &str) -> Option<Controller>
+        ensures found { result ≡ named_in_format_2 text.now }
+        ensures named { IfSome result (λ controller. text.now ≡ controller_name controller) }
+        ensures known { IfSome result (λ controller. is_in_format_2 controller ≡ true) }
     {
         match text {
             "cpu" => Some(Controller::Cpu),
@@ -280,6 +345,7 @@ impl EntryName {
 /// The order of the listed controllers and limit files is the one used everywhere.
 pub fn all_are_listed()
     ensures controllers { Controller.ALL ≡ all_controllers }
+    ensures in_format_2 { Controller.IN_FORMAT_2 ≡ format_2_controllers }
     ensures files { LimitFile.ALL ≡ all_files }
     ensures brought { LimitFile.BROUGHT ≡ brought_files }
 {}

@@ -67,8 +67,8 @@ module _ (st : State) (user : Identity) (subtree : Names) (whole : IsUnbroken st
 
   exact-controls : AllByRecursion Exact (control_tries subtree)
   exact-controls =
-      all-control_tries Exact subtree (λ on controller.
-      record { exact = control_try st user subtree on controller whole formed sub; tried = tt })
+      all-control_tries Exact subtree (λ on controller known.
+      record { exact = control_try st user subtree on controller whole formed sub known; tried = tt })
 
   exact-moves : AllByRecursion Exact (move_tries st subtree)
   exact-moves =

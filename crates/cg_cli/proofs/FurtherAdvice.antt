@@ -1,7 +1,7 @@
 -- Where the second row of guards is asked first, the advice says no less than it may.
-use Rattle.std.proofs.Common.{◌≡◌, ℕ, zero, suc, ◌+◌, ◌<◌, ◌≤◌, Bool, true, false, ◌&&◌, cond, List, [], ◌∷◌, ◌++◌, length, get_or, take, take_all, take-suc, add-one, Option, Some, None, Result, Ok, Err, refl, sym, ap, ◌∙◌, subst, inl, inr, arith}
+use Rattle.std.proofs.Common.{◌≡◌, ℕ, Bool, true, false, cond, List, [], ◌∷◌, length, get_or, Option, Some, None, Result, Ok, Err, refl, sym, ◌∙◌, subst, inl, inr, arith}
 use Rattle.std.specs.Prelude.{◌⊎◌}
-use Rattle.std.specs.List.{All, list_all, flat_map}
+use Rattle.std.specs.List.{All, flat_map}
 use Rattle.std.proofs.lemmas.List.Elements.{All-from_recursion}
 use Rattle.cg_cgroup.specs.Paths.{Names, same_path}
 use Rattle.cg_cgroup.specs.Identity.{Identity}
@@ -40,52 +40,17 @@ use Rattle.cg_faults.specs.declared.fault.CliFault.{CliFault}
 
 -- ---- the subtrees one after another
 
-all_more : {A : Type 0} (test : A → Bool) (xs : List A) (i : ℕ) (x : A) → i < length xs → x ≡ get_or xs i x
-    → list_all test (take i xs) ≡ true → test x ≡ true → list_all test (take (i + 1) xs) ≡ true
-all_more {A} test xs i x within is so_far here =
-    let more : take (i + 1) xs ≡ take i xs ++ get_or xs i x ∷ [] = rw add-one (take-suc xs i x within) in
-    ap (list_all test) more ∙ behind (take i xs) so_far
-  where
-    behind : (ys : List A) → list_all test ys ≡ true → list_all test (ys ++ get_or xs i x ∷ []) ≡ true
-    behind [] all = ap (λ b. b && true) (ap test (sym is) ∙ here)
-    behind (y ∷ ys) all = by_test (test y) (behind ys) all
-      where
-        by_test : (b : Bool) → (list_all test ys ≡ true → list_all test (ys ++ get_or xs i x ∷ []) ≡ true)
-            → b && list_all test ys ≡ true → b && list_all test (ys ++ get_or xs i x ∷ []) ≡ true
-        by_test true later rest = later rest
-        by_test false later never = never
-
 module _ (st : State) (users : List Identity) (subtrees : List Names) where
-  pub held_more : (i : ℕ) (subtree : Names) (holds : Bool) → i < length subtrees → subtree ≡ get_or subtrees i subtree
-      → are_held st users (take i subtrees) ≡ true → holds ≡ second_row st users subtree → holds ≡ true
-      → are_held st users (take (i + 1) subtrees) ≡ true
-  held_more i subtree holds within is so_far row true_is =
-      all_more (second_row st users) subtrees i subtree within is so_far (sym row ∙ true_is)
-
-  pub held_all : (i : ℕ) → length subtrees ≤ i → are_held st users (take i subtrees) ≡ true → true ≡ are_held st users subtrees
-  held_all i low all = sym (subst (λ l. are_held st users l ≡ true) (take_all i subtrees (omega (arith, low))) all)
-
-  pub held_fails : (i : ℕ) (subtree : Names) (holds : Bool) → i < length subtrees → subtree ≡ get_or subtrees i subtree
-      → holds ≡ second_row st users subtree → holds ≡ false → false ≡ are_held st users subtrees
-  held_fails i subtree holds within is row fails = sym (one_fails subtrees i within is (sym row ∙ fails))
+  pub held_none : length subtrees ≡ 0 → true ≡ are_held st users subtrees
+  held_none short = by_list subtrees short
     where
-      one_fails : (xs : List Names) (k : ℕ) → k < length xs → subtree ≡ get_or xs k subtree → second_row st users subtree ≡ false
-          → are_held st users xs ≡ false
-      one_fails [] k low at none = absurd (omega (arith, low))
-      one_fails (x ∷ xs) zero low at none = ap (λ b. b && are_held st users xs) (ap (second_row st users) (sym at) ∙ none)
-      one_fails (x ∷ xs) (suc k) low at none =
-          by_test (second_row st users x) (one_fails xs k (omega (arith, low)) at none)
-        where
-          by_test : (b : Bool) → are_held st users xs ≡ false → b && are_held st users xs ≡ false
-          by_test true later = later
-          by_test false later = refl
+      by_list : (xs : List Names) → length xs ≡ 0 → true ≡ are_held st users xs
+      by_list [] none = refl
+      by_list (x ∷ xs) none = absurd (omega (arith, none))
 
   module _ (none : first (flat_map (subtree_faults st) subtrees) ≡ None) where
     pub sub_at : All (IsSubtree st) subtrees
     sub_at k d within = no_fault st (get_or subtrees k d) (sym (none-element (subtree_faults st) subtrees k d within none))
-
-    pub sub_here : (i : ℕ) (subtree : Names) → i < length subtrees → subtree ≡ get_or subtrees i subtree → IsSubtree st subtree
-    sub_here i subtree within is = subst (IsSubtree st) (sym is) (sub_at i subtree within)
 
 -- ---- what is said
 

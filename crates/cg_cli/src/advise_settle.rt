@@ -22,7 +22,7 @@ use cg_check::first_fault;
 use cg_faults::fault::CliFault;
 use cg_model::fault::CheckFault;
 use cg_model::hierarchy::Hierarchy;
-use cg_second::row::second_row;
+use cg_second::row::second_rows;
 use std::alloc::Global;
 use std::io::Write;
 
@@ -108,11 +108,8 @@ fn are_held<H: Hierarchy>(
     requires there { first (flat_map (subtree_faults (H.state tree.now)) subtrees.now) ≡ None }
     ensures { IfOk result (λ held. held ≡ are_held (H.state tree.now) users.now subtrees.now) }
 {
-    for subtree in subtrees {
-        let holds = second_row(alloc, tree, users, subtree)?;
-        if !holds {
-            return Ok(false);
-        }
+    if subtrees.is_empty() {
+        return Ok(true);
     }
-    Ok(true)
+    second_rows(alloc, tree, users, subtrees)
 }

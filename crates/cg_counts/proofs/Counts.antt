@@ -82,6 +82,7 @@ module _ (sets : FinMap path_cmp ControllerSet) (p : Names) where
 uses-after : (had has : ControllerSet) (uses : Uses) (controller : Controller)
     → uses_of (uses_after had has uses) controller
     ≡ more_if (enables has controller) (less_if (enables had controller) (uses_of uses controller))
+unfolding uses_then
 uses-after had has uses controller = mapped_at (uses_then had has uses) 0 controller
 
 exact : (was is : Bool) (n r : ℕ) → n ≡ cond was (1 + r) r → r < 9223372036854775808 → more_if is (less_if was n) ≡ cond is (1 + r) r

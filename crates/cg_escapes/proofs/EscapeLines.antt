@@ -119,8 +119,8 @@ module _ (st : State) (user : Identity) (subtree : Names) (formed : IsWellFormed
 
   written-controls : AllByRecursion AreWritten (control_tries subtree)
   written-controls =
-      all-control_tries AreWritten subtree (λ on controller.
-      (((IsPath-take subtree (length subtree - 1) path, omega arith), tt), omega arith))
+      all-control_tries AreWritten subtree (λ on controller known.
+      ((((IsPath-take subtree (length subtree - 1) path, ap (λ b. b && true) known), omega arith), tt), omega arith))
 
   written-moves : AllByRecursion AreWritten (move_tries st subtree)
   written-moves =

@@ -1,5 +1,6 @@
 mod Telling
 mod Holding
 mod Within
+mod Untold
 mod Meeting
 mod Placing

@@ -1,11 +1,12 @@
 -- The second row holds where all is met that is asked.
-use Rattle.std.proofs.Common.{◌≡◌, ◌⊎◌, inl, inr, Bool, true, false, not, ◌&&◌, ◌||◌, cond, List, [], ◌∷◌, ◌++◌, length, Some, None, is_some, refl, sym, ap, ◌∙◌}
-use Rattle.std.specs.List.{list_all, flat_map}
-use Rattle.std.proofs.lemmas.Bool.{cases_Bool}
+use Rattle.std.proofs.Common.{◌≡◌, ◌⊎◌, inl, inr, Bool, true, false, not, ◌&&◌, ◌||◌, cond, List, [], ◌∷◌, ◌++◌, length, map, Some, None, is_some, refl, sym, ap, ◌∙◌}
+use Rattle.std.specs.List.{list_all, flat_map, filter}
+use Rattle.std.proofs.lemmas.Bool.{cases_Bool, or_parts}
+use Rattle.std.proofs.Math.Bool.{or-true}
 use Rattle.cg_cgroup.specs.Paths.{Names, is_root, parent}
 use Rattle.cg_cgroup.specs.Identity.{Identity}
+use Rattle.cg_cgroup.specs.Files.{all_controllers, is_in_format_2, enables}
 use Rattle.cg_cgroup.specs.declared.files.Controller.{Controller}
-use Rattle.cg_cgroup.specs.declared.files.Controller.TheVariants.{Cpu, Memory, Pids}
 use Rattle.cg_model.specs.States.{State, paths_of}
 use Rattle.cg_model.specs.WellFormed.{IsWellFormed}
 use Rattle.cg_model.specs.Limits.{fits_descendants, fits_depth}
@@ -15,6 +16,7 @@ use Rattle.cg_second.specs.Anchors.{is_anchored}
 use Rattle.cg_second.specs.Exposed.{is_off_to, is_exposed, is_shut_or_apart}
 use Rattle.cg_second.proofs.Staying.{off-above}
 use Rattle.cg_second.proofs.Edges.{closed-is}
+use Rattle.cg_explain.proofs.Untold.{off_everywhere}
 use Rattle.cg_cgroup.specs.declared.files.EntryName.TheVariants.{Dir, Procs}
 use Rattle.cg_second.specs.Lasting.{is_reached}
 use Rattle.cg_explain.specs.declared.second.Staying.TheVariants.{Spared as SparedStaying, Upheld}
@@ -23,8 +25,8 @@ use Rattle.cg_explain.specs.declared.second.Taking.TheVariants.{Spared as Spared
 use Rattle.cg_explain.specs.declared.second.Growing.TheVariants.{Spared as SparedGrowing, Full}
 use Rattle.cg_explain.specs.declared.second.Place.{Place}
 use Rattle.cg_explain.specs.declared.second.Asked.{Asked}
-use Rattle.cg_explain.specs.declared.second.Asked.TheVariants.{Shut}
-use Rattle.cg_explain.specs.SecondRow.{why_stays, why_control, place_with, place_asked, spares_files, second_row_asked, is_met}
+use Rattle.cg_explain.specs.declared.second.Asked.TheVariants.{Files, Shut}
+use Rattle.cg_explain.specs.SecondRow.{why_stays, why_control, control_asked, is_told, place_with, place_asked, spares_files, second_row_asked, is_met}
 
 some-is : {A : Type 0} (b : Bool) (x : A) → is_some (cond b (Some x) None) ≡ b
 some-is true x = refl
@@ -35,15 +37,16 @@ either-is true other x y = refl
 either-is false true x y = refl
 either-is false false x y = refl
 
-regroup : (stays cpu memory pids files closed within : Bool)
-    → ((stays && (cpu && (memory && (pids && (files && closed))))) && within)
-    ≡ (stays && ((cpu && (memory && (pids && true))) && (files && (closed && within))))
-regroup false cpu memory pids files closed within = refl
-regroup true false memory pids files closed within = refl
-regroup true true false pids files closed within = refl
-regroup true true true false files closed within = refl
-regroup true true true true false closed within = refl
-regroup true true true true true closed within = refl
+regroup : (stays controls files closed within : Bool)
+    → ((stays && (controls && (files && closed))) && within) ≡ (stays && (controls && (files && (closed && within))))
+regroup false controls files closed within = refl
+regroup true false files closed within = refl
+regroup true true false closed within = refl
+regroup true true true closed within = refl
+
+one-more : (one others behind : Bool) → (one && (others && behind)) ≡ ((one && others) && behind)
+one-more true others behind = refl
+one-more false others behind = refl
 
 one-place : (exposed : Bool) (place : Place) (takes grows : Bool) (rest : List Asked) (others : Bool)
     → is_some place.takes_none ≡ takes → is_some place.grows_none ≡ grows → list_all is_met rest ≡ others
@@ -80,14 +83,13 @@ module _ (st : State) (users : List Identity) (subtree : Names) where
   -- what is asked behind that it stays, and what the row tests then
   abbrev asked_behind : Bool
   asked_behind =
-      is_some (why_control st users subtree Cpu)
-      && (is_some (why_control st users subtree Memory)
-      && (is_some (why_control st users subtree Pids)
-      && (spares_files st users subtree && list_all is_met (flat_map (place_asked st users subtree) (paths_of st)))))
+      list_all is_met (map (control_asked st users subtree) (filter (is_told st) all_controllers)
+      ++ Files (spares_files st users subtree)
+      ∷ flat_map (place_asked st users subtree) (paths_of st))
 
   abbrev tested_behind : Bool
   tested_behind =
-      (holds_at Cpu && (holds_at Memory && (holds_at Pids && true)))
+      list_all holds_at all_controllers
       && (spares_files st users subtree && (is_closed_to st users (greatest st users) subtree (length subtree) && fits))
 
   module _ (formed : IsWellFormed st) (not_root : is_root subtree ≡ false) where
@@ -98,12 +100,42 @@ module _ (st : State) (users : List Identity) (subtree : Names) where
         ∙ ap (λ b. (greatest st users).on (parent subtree) controller || b)
         (sym (off-above st users formed subtree controller stays not_root))
 
+    -- a controller of which nothing is told stays off
+    untold-holds : (greatest st users).stays subtree ≡ true → (controller : Controller) → is_told st controller ≡ false
+        → holds_at controller ≡ true
+    untold-holds stays controller untold =
+        let none = (or_parts (is_in_format_2 controller) (enables st.controllers controller) untold).1 in
+        let off = off-above st users formed subtree controller stays not_root
+        ∙ off_everywhere st formed controller none users subtree (length subtree) in
+        ap (λ b. (greatest st users).on (parent subtree) controller || b) off
+        ∙ or-true ((greatest st users).on (parent subtree) controller)
+
+    controls-are : (greatest st users).stays subtree ≡ true → (controllers : List Controller) (rest : List Asked) (behind : Bool)
+        → list_all is_met rest ≡ behind
+        → list_all is_met (map (control_asked st users subtree) (filter (is_told st) controllers) ++ rest)
+        ≡ (list_all holds_at controllers && behind)
+    controls-are stays [] rest behind more = more
+    controls-are stays (controller ∷ controllers) rest behind more =
+        let told : List Controller = filter (is_told st) controllers in
+        elim (is_told st controller) as (λ b. is_told st controller ≡ b
+        → list_all is_met (map (control_asked st users subtree) (cond b (controller ∷ told) told) ++ rest)
+        ≡ ((holds_at controller && list_all holds_at controllers) && behind)) [
+          | true ↦ λ _.
+              (λ i. control-is stays controller i && controls-are stays controllers rest behind more i)
+              ∙ one-more (holds_at controller) (list_all holds_at controllers) behind
+          | false ↦ λ untold.
+              controls-are stays controllers rest behind more
+              ∙ sym (ap (λ b. (b && list_all holds_at controllers) && behind) (untold-holds stays controller untold))
+        ] refl
+
     by_stay : ((greatest st users).stays subtree ≡ true) ⊎ ((greatest st users).stays subtree ≡ false)
         → ((is_some (why_stays st users subtree) && asked_behind) && fits) ≡ ((greatest st users).stays subtree && tested_behind)
     by_stay (inl stays) =
-        (λ i. (stay-is i && (control-is stays Cpu i && (control-is stays Memory i && (control-is stays Pids i
-        && (spares_files st users subtree && closed-where-met i))))) && fits)
-        ∙ regroup ((greatest st users).stays subtree) (holds_at Cpu) (holds_at Memory) (holds_at Pids) (spares_files st users subtree)
+        (λ i. (stay-is i && controls-are stays all_controllers
+        (Files (spares_files st users subtree) ∷ flat_map (place_asked st users subtree) (paths_of st))
+        (spares_files st users subtree && is_closed_to st users (greatest st users) subtree (length subtree))
+        (ap (λ b. spares_files st users subtree && b) closed-where-met) i) && fits)
+        ∙ regroup ((greatest st users).stays subtree) (list_all holds_at all_controllers) (spares_files st users subtree)
         (is_closed_to st users (greatest st users) subtree (length subtree)) fits
     by_stay (inr gone) =
         ap (λ b. (b && asked_behind) && fits) (stay-is ∙ gone) ∙ sym (ap (λ b. b && tested_behind) gone)

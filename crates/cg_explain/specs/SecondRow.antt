@@ -1,9 +1,9 @@
 -- What the second row of guards asks of a subtree against some users, one thing after another, and by what it is so.
-use Rattle.std.specs.Prelude.{Bool, ◌&&◌, not, cond, List, [], ◌∷◌, ◌++◌, map, length, Option, Some, None, is_some}
-use Rattle.std.specs.List.{list_all, flat_map}
+use Rattle.std.specs.Prelude.{Bool, ◌&&◌, ◌||◌, not, cond, List, [], ◌∷◌, ◌++◌, map, length, Option, Some, None, is_some}
+use Rattle.std.specs.List.{list_all, flat_map, filter}
 use Rattle.cg_cgroup.specs.Paths.{Names, parent}
 use Rattle.cg_cgroup.specs.Identity.{Identity}
-use Rattle.cg_cgroup.specs.Files.{all_controllers, all_files}
+use Rattle.cg_cgroup.specs.Files.{all_controllers, is_in_format_2, enables, all_files}
 use Rattle.cg_cgroup.specs.declared.files.Controller.{Controller}
 use Rattle.cg_cgroup.specs.declared.files.EntryName.TheVariants.{Dir, Procs, File}
 use Rattle.cg_model.specs.States.{State, paths_of}
@@ -57,6 +57,10 @@ place_asked st users subtree path =
 abbrev pub control_asked : State → List Identity → Names → Controller → Asked
 control_asked st users subtree controller = Control controller (why_control st users subtree controller)
 
+-- those that bring a limit file are told of, and what else the root has
+abbrev pub is_told : State → Controller → Bool
+is_told st controller = is_in_format_2 controller || enables st.controllers controller
+
 abbrev pub spares_files : State → List Identity → Names → Bool
 spares_files st users subtree = list_all (λ file. not (is_reached st users subtree (File file))) all_files
 
@@ -64,7 +68,7 @@ spares_files st users subtree = list_all (λ file. not (is_reached st users subt
 abbrev pub second_row_asked : State → List Identity → Names → List Asked
 second_row_asked st users subtree =
     Stays (why_stays st users subtree)
-    ∷ map (control_asked st users subtree) all_controllers
+    ∷ map (control_asked st users subtree) (filter (is_told st) all_controllers)
     ++ Files (spares_files st users subtree)
     ∷ flat_map (place_asked st users subtree) (paths_of st)
 

@@ -4,7 +4,7 @@ use Rattle.cg_cgroup.specs.Options.{◌>>=◌}
 use Rattle.cg_cgroup.specs.Paths.{Names, same_name, path_at, same_path}
 use Rattle.cg_cgroup.specs.Numbers.{is_pid, is_mode}
 use Rattle.cg_cgroup.specs.Users.{has_bit}
-use Rattle.cg_cgroup.specs.Files.{controller_named, with_controller, no_controllers, default_value, accepts, entry_text}
+use Rattle.cg_cgroup.specs.Files.{named_in_format_2, with_controller, no_controllers, default_value, accepts, entry_text}
 use Rattle.cg_cgroup.specs.declared.user.Entry.{Entry}
 use Rattle.cg_cgroup.specs.declared.files.Limit.{Limit}
 use Rattle.cg_cgroup.specs.declared.files.Limit.TheVariants.{Max as NoLimit, At}
@@ -46,7 +46,7 @@ accepted file value = cond (accepts file value) (Some value) None
 -- the controllers that texts name, beside those of a set
 abbrev pub controllers_from : ControllerSet → List (List ℕ) → Option ControllerSet
 controllers_from controllers [] = Some controllers
-controllers_from controllers (text ∷ texts) = option_and_then (λ controller. controllers_from (with_controller controllers controller true) texts) (controller_named text)
+controllers_from controllers (text ∷ texts) = option_and_then (λ controller. controllers_from (with_controller controllers controller true) texts) (named_in_format_2 text)
 
 abbrev pub controllers_read : List (List ℕ) → Option ControllerSet
 controllers_read texts = controllers_from no_controllers texts

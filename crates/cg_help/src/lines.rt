@@ -99,7 +99,10 @@ fn names_at(alloc: Global, operation: &str, index: usize) -> Result<Vec<&'static
         ("set", 2) => file_names(alloc),
         ("chmod", 2) => entry_names(alloc),
         ("control", place) if 2 <= place => {
-            Vec::from_slice(alloc, &Controller::ALL.map(|controller| controller.name()))
+            Vec::from_slice(
+                alloc,
+                &Controller::IN_FORMAT_2.map(|controller| controller.name()),
+            )
         }
         _ => Ok(Vec::new(alloc)),
     }

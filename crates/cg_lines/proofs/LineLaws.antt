@@ -17,13 +17,13 @@ use Rattle.cg_cgroup.proofs.NameLaws.{file_names, entry_names}
 use Rattle.cg_model.specs.declared.changes.Change.{Change}
 use Rattle.cg_model.specs.declared.operation.Op.{Op}
 use Rattle.cg_model.specs.declared.operation.Op.TheVariants.{Move, Control, Mkdir, Rmdir, Set, Fork, Exit, Chmod}
-use Rattle.cg_lines.specs.OperationLines.{change_word, limit_word, mode_word, words, spelling, IsInRange, IsLimitInRange}
+use Rattle.cg_lines.specs.OperationLines.{change_word, are_in_format_2, limit_word, mode_word, words, spelling, IsInRange, IsLimitInRange}
 use Rattle.cg_lines.specs.LineReading.{is_space, cut, two_words, three_words, pid_at, limit_at, mode_at, changes_at, move_at, control_from, control_at, mkdir_at, rmdir_at, set_at, fork_at, exit_at, chmod_at, operation_named, operation_at, ReadsAs}
 use Rattle.cg_cgroup.specs.Options.{◌>>=◌}
 use Rattle.cg_lines.specs.declared.lines.fault.LineFault.{LineFault}
 use Rattle.cg_lines.specs.declared.lines.fault.LineFault.TheVariants.{BadWord}
 use Rattle.cg_lines.proofs.LineWords.{is_word, are_words, cut_word, cut_none, cut_parts, split_joined, IsAscii-joined}
-use Rattle.cg_lines.proofs.LineSpelled.{bind_some, bind_at, chosen, decimal_word, path_word, file_word, entry_word, changes_words, limit_is_word, mode_is_word, small_pid, pid_takes, pid_again, limit_takes, limit_again, mode_takes, mode_again, changes_takes, changes_again}
+use Rattle.cg_lines.proofs.LineSpelled.{bind_some, bind_at, chosen, decimal_word, path_word, file_word, entry_word, changes_words, limit_is_word, mode_is_word, small_pid, pid_takes, pid_again, limit_takes, limit_again, mode_takes, mode_again, changes_takes, changes_known, changes_again}
 
 -- ---- what is read
 
@@ -187,13 +187,13 @@ control_from_takes text None op e h =
     let at = bind_some (path_at text) (λ at. Some (Control at [])) op h in
     let q = path_at-is text at.0 at.1 in
     taken (codes "control") text (Control at.0 []) op (same_Some (Control at.0 []) op at.2)
-    (q.0, behind (codes "control") text (path_text at.0) (sym q.1))
+    ((q.0, refl), behind (codes "control") text (path_text at.0) (sym q.1))
 control_from_takes text (Some words) op e h =
     let at = bind_some (path_at words.0) (λ at. changes_at (slice_split is_space words.1) >>= λ changes. Some (Control at changes)) op h in
     let changes = bind_some (changes_at (slice_split is_space words.1)) (λ changes. Some (Control at.0 changes)) op at.2 in
     let q = path_at-is words.0 at.0 at.1 in
     taken (codes "control") text (Control at.0 changes.0) op (same_Some (Control at.0 changes.0) op changes.2) (
-      q.0,
+      (q.0, changes_known (slice_split is_space words.1) changes.0 changes.1),
       behind (codes "control") text (join_with_byte 32 (path_text at.0 ∷ map change_word changes.0))
           (cut_parts text words e ∙ control_text at.0 words changes.0 q.1 changes.1),
     )
@@ -259,7 +259,7 @@ line_words (Move pid to) h =
     and_from (is_word (decimal pid)) _ (decimal_word pid (small_pid pid h.0))
     (and_from (is_word (path_text to)) true (path_word to h.1) refl)
 line_words (Control at changes) h =
-    and_from (is_word (path_text at)) (are_words (map change_word changes)) (path_word at h) (changes_words changes)
+    and_from (is_word (path_text at)) (are_words (map change_word changes)) (path_word at h.0) (changes_words changes)
 line_words (Mkdir path) h = and_from (is_word (path_text path)) true (path_word path h) refl
 line_words (Rmdir path) h = and_from (is_word (path_text path)) true (path_word path h) refl
 line_words (Set at file value) h =
@@ -277,20 +277,20 @@ line_words (Chmod at entry mode) h =
 pub line_utf8 : (op : Op) → IsInRange op → IsUtf8 (spelling op)
 line_utf8 op h = IsUtf8-from_ascii (spelling op) (IsAscii-joined (words op) (line_words op h))
 
-control_again : (at : Names) (changes : List Change) → IsPath at
+control_again : (at : Names) (changes : List Change) → IsPath at → are_in_format_2 changes ≡ true
     → control_at (join_with_byte 32 (path_text at ∷ map change_word changes)) ≡ Some (Control at changes)
 unfolding control_at
-control_again at [] h =
+control_again at [] h known =
     ap (control_from (path_text at)) (cut_none (path_text at) (path_word at h))
     ∙ ap (λ (o : Option Names). o >>= λ at. Some (Control at [])) (path_at-text at h)
-control_again at (change ∷ changes) h =
+control_again at (change ∷ changes) h known =
     let rest = join_with_byte 32 (map change_word (change ∷ changes)) in
     ap (control_from (path_text at ++ (32 ∷ rest))) (cut_word (path_text at) rest (path_word at h))
     ∙ ap (λ (o : Option Names). o >>= λ at. changes_at (slice_split is_space rest) >>= λ changes. Some (Control at changes))
     (path_at-text at h)
     ∙ ap (λ (ws : List (List ℕ)). changes_at ws >>= λ changes. Some (Control at changes))
     (split_joined (change_word change) (map change_word changes) (changes_words (change ∷ changes)))
-    ∙ ap (λ (o : Option (List Change)). o >>= λ changes. Some (Control at changes)) (changes_again (change ∷ changes))
+    ∙ ap (λ (o : Option (List Change)). o >>= λ changes. Some (Control at changes)) (changes_again (change ∷ changes) known)
 
 -- a name, a space and what the operation of that name reads
 named_again : (name text : List ℕ) (op : Op) → is_word name ≡ true → operation_named name text ≡ Some op
@@ -303,7 +303,7 @@ named_again name text op w h =
 pub line_again : (op : Op) → IsInRange op → operation_at (spelling op) ≡ Some op
 unfolding operation_named move_at mkdir_at rmdir_at set_at fork_at exit_at chmod_at
 line_again (Move pid to) h = named_again (codes "move") _ (Move pid to) refl (two_again pids paths Move pid to h.0 h.1)
-line_again (Control at changes) h = named_again (codes "control") _ (Control at changes) refl (control_again at changes h)
+line_again (Control at changes) h = named_again (codes "control") _ (Control at changes) refl (control_again at changes h.0 h.1)
 line_again (Mkdir path) h = named_again (codes "mkdir") _ (Mkdir path) refl (one_again paths Mkdir path h)
 line_again (Rmdir path) h = named_again (codes "rmdir") _ (Rmdir path) refl (one_again paths Rmdir path h)
 line_again (Set at file value) h =

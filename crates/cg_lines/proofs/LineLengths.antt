@@ -7,7 +7,7 @@ use Rattle.std.proofs.lemmas.Bool.{and_parts, ltb-true, ne_eqb}
 use Rattle.std.proofs.lemmas.Fmt.{length-decimal-le}
 use Rattle.std.proofs.lemmas.List.Elements.{All-nil, All-cons}
 use Rattle.cg_cgroup.specs.Paths.{Names, path_text, IsPath}
-use Rattle.cg_cgroup.specs.Files.{controller_name, file_name, entry_text}
+use Rattle.cg_cgroup.specs.Files.{controller_name, is_in_format_2, file_name, entry_text}
 use Rattle.cg_cgroup.specs.declared.files.Limit.{Limit}
 use Rattle.cg_cgroup.specs.declared.files.Limit.TheVariants.{Max, At}
 use Rattle.cg_cgroup.specs.declared.files.LimitFile.{LimitFile}
@@ -15,13 +15,13 @@ use Rattle.cg_cgroup.specs.declared.files.LimitFile.TheVariants.{MaxDescendants}
 use Rattle.cg_cgroup.specs.declared.files.EntryName.{EntryName}
 use Rattle.cg_cgroup.specs.declared.files.EntryName.TheVariants.{Dir, Procs, SubtreeControl, File}
 use Rattle.cg_cgroup.specs.declared.files.Controller.{Controller}
-use Rattle.cg_cgroup.specs.declared.files.Controller.TheVariants.{Cpu}
+use Rattle.cg_cgroup.proofs.ControllerLaws.{each_in_format_2}
 use Rattle.cg_cgroup.proofs.PathEnds.{path_bytes}
 use Rattle.cg_cgroup.specs.Numbers.{is_pid}
 use Rattle.cg_model.specs.declared.changes.Change.{Change}
 use Rattle.cg_model.specs.declared.operation.Op.{Op}
 use Rattle.cg_model.specs.declared.operation.Op.TheVariants.{Move, Control, Mkdir, Rmdir, Set, Fork, Exit, Chmod}
-use Rattle.cg_lines.specs.OperationLines.{change_word, limit_word, mode_word, words, spelling, IsInRange, IsLimitInRange}
+use Rattle.cg_lines.specs.OperationLines.{change_word, are_in_format_2, limit_word, mode_word, words, spelling, IsInRange, IsLimitInRange}
 use Rattle.cg_lines.specs.LineLengths.{HasFewChanges}
 use Rattle.cg_lines.proofs.LineWords.{is_graphic, is_word, are_words}
 use Rattle.cg_lines.proofs.LineSpelled.{small_pid}
@@ -53,9 +53,10 @@ limit_length : (value : Limit) → IsLimitInRange value → length (limit_word v
 limit_length Max h = omega arith
 limit_length (At value) h = number_length value h
 
-controller_length : (controller : Controller) → length (controller_name controller) ≤ 6
-controller_length Cpu = omega arith
-controller_length controller = omega arith
+controller_length : (controller : Controller) → is_in_format_2 controller ≡ true → length (controller_name controller) ≤ 6
+controller_length controller known =
+    each_in_format_2 (λ controller. length (controller_name controller) ≤ 6) (omega arith, (omega arith, (omega arith, tt)))
+    controller known
 
 -- two texts with a byte between them
 between : (first second : List ℕ) → length (first ++ (32 ∷ second)) ≡ length first + 1 + length second
@@ -71,12 +72,13 @@ three name first second third =
     let m = between name (first ++ (32 ∷ (second ++ (32 ∷ third)))) in
     omega (arith, l, m)
 
-changes_length : (word : List ℕ) (changes : List Change)
+changes_length : (word : List ℕ) (changes : List Change) → are_in_format_2 changes ≡ true
     → length (join_with_byte 32 (word ∷ map change_word changes)) ≤ length word + 8 * length changes
-changes_length word [] = omega arith
-changes_length word (change ∷ changes) =
-    let rest = changes_length (change_word change) changes in
-    let one = controller_length change.controller in
+changes_length word [] known = omega arith
+changes_length word (change ∷ changes) known =
+    let parts = and_parts (is_in_format_2 change.controller) (are_in_format_2 changes) known in
+    let rest = changes_length (change_word change) changes parts.1 in
+    let one = controller_length change.controller parts.0 in
     let l = between word (join_with_byte 32 (change_word change ∷ map change_word changes)) in
     omega (arith, rest, one, l)
 
@@ -84,8 +86,8 @@ changes_length word (change ∷ changes) =
 pub line_length : (op : Op) → IsInRange op → HasFewChanges op → length (spelling op) ≤ 8192
 line_length (Move pid to) h few = omega (arith, pid_length pid h.0, path_length to h.1, two (codes "move") (decimal pid) (path_text to))
 line_length (Control at changes) h few =
-    let a = path_length at h in
-    let l = changes_length (path_text at) changes in
+    let a = path_length at h.0 in
+    let l = changes_length (path_text at) changes h.1 in
     let m = between (codes "control") (join_with_byte 32 (path_text at ∷ map change_word changes)) in
     omega (arith, a, few, l, m)
 line_length (Mkdir path) h few = omega (arith, path_length path h, between (codes "mkdir") (path_text path))

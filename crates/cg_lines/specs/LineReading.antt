@@ -6,7 +6,7 @@ use Rattle.std.specs.Str.Parse.{digits_value}
 use Rattle.std.specs.Fmt.{decimal}
 use Rattle.cg_cgroup.specs.Paths.{same_name, path_at}
 use Rattle.cg_cgroup.specs.Numbers.{pid_of, mode_of}
-use Rattle.cg_cgroup.specs.Files.{controller_named, file_named, entry_named}
+use Rattle.cg_cgroup.specs.Files.{named_in_format_2, file_named, entry_named}
 use Rattle.cg_cgroup.specs.declared.files.Limit.{Limit}
 use Rattle.cg_cgroup.specs.declared.files.Limit.TheVariants.{Max, At}
 use Rattle.cg_model.specs.declared.changes.Change.{Change}
@@ -62,7 +62,7 @@ unfoldable pub change_at : List ℕ → Option Change
 change_at [] = None
 change_at (sign ∷ name) = do
   on ← sign_at sign
-  controller ← controller_named name
+  controller ← named_in_format_2 name
   Some (record { on = on; controller = controller })
 
 abbrev pub changes_at : List (List ℕ) → Option (List Change)

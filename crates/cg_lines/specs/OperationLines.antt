@@ -1,10 +1,10 @@
 -- Operation lines: the words of each operation, with one space between them. Own.
-use Rattle.std.specs.Prelude.{◌≡◌, ℕ, ◌+◌, ◌/◌, ◌%◌, ◌^◌, ◌<◌, ◌≤◌, true, cond, List, [], ◌∷◌, length, map, codes}
-use Rattle.std.specs.List.{AllByRecursion, join_with_byte}
+use Rattle.std.specs.Prelude.{◌≡◌, ℕ, ◌+◌, ◌/◌, ◌%◌, ◌^◌, ◌<◌, ◌≤◌, Bool, true, cond, List, [], ◌∷◌, length, map, codes}
+use Rattle.std.specs.List.{AllByRecursion, list_all, join_with_byte}
 use Rattle.std.specs.Fmt.{decimal}
 use Rattle.cg_cgroup.specs.Paths.{path_text, IsPath}
 use Rattle.cg_cgroup.specs.Numbers.{is_pid, is_mode}
-use Rattle.cg_cgroup.specs.Files.{controller_name, file_name, entry_text}
+use Rattle.cg_cgroup.specs.Files.{controller_name, is_in_format_2, file_name, entry_text}
 use Rattle.cg_cgroup.specs.declared.files.Limit.{Limit}
 use Rattle.cg_cgroup.specs.declared.files.Limit.TheVariants.{Max, At}
 use Rattle.cg_model.specs.declared.changes.Change.{Change}
@@ -42,10 +42,18 @@ abbrev pub IsLimitInRange : Limit → Type 0
 IsLimitInRange Max = Unit {0}
 IsLimitInRange (At value) = value < 2 ^ 64
 
--- What an operation of the program can hold: paths that are paths, PIDs and modes in their ranges, values below 2 ^ 64.
+-- the controllers are those that lines know
+abbrev pub are_in_format_2 : List Change → Bool
+are_in_format_2 changes = list_all (λ change. is_in_format_2 change.controller) changes
+
+abbrev pub IsInFormat2 : Op → Type 0
+IsInFormat2 (Control at changes) = are_in_format_2 changes ≡ true
+IsInFormat2 op = Unit {0}
+
+-- What an operation that a line knows can hold: paths that are paths, PIDs and modes in their ranges, values below 2 ^ 64.
 abbrev pub IsInRange : Op → Type 0
 IsInRange (Move pid to) = (is_pid pid ≡ true) × IsPath to
-IsInRange (Control at changes) = IsPath at
+IsInRange (Control at changes) = IsPath at × (are_in_format_2 changes ≡ true)
 IsInRange (Mkdir path) = IsPath path
 IsInRange (Rmdir path) = IsPath path
 IsInRange (Set at file value) = IsPath at × IsLimitInRange value

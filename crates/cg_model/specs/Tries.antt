@@ -5,7 +5,7 @@ use Rattle.std.specs.Fmt.{decimal}
 use Rattle.cg_cgroup.specs.Paths.{Names, inside, parent, path_text}
 use Rattle.cg_cgroup.specs.Identity.{Identity}
 use Rattle.cg_cgroup.specs.Users.{writes, owns, opened}
-use Rattle.cg_cgroup.specs.Files.{all_files, all_controllers}
+use Rattle.cg_cgroup.specs.Files.{all_files, format_2_controllers}
 use Rattle.cg_cgroup.specs.declared.files.Limit.{Limit}
 use Rattle.cg_cgroup.specs.declared.files.Limit.TheVariants.{Max, At}
 use Rattle.cg_cgroup.specs.declared.files.LimitFile.{LimitFile}
@@ -35,12 +35,12 @@ set_tries st subtree =
 abbrev pub change_of : Bool → Controller → Change
 change_of on controller = record { on = on; controller = controller }
 
--- each controller off and on for the children of the subtree's parent
+-- each controller that brings a limit file off and on for the children of the subtree's parent
 abbrev pub control_tries : Names → List (List Op)
 control_tries subtree =
     flat_map (λ controller.
     (Control (parent subtree) (change_of false controller ∷ []) ∷ [])
-    ∷ (Control (parent subtree) (change_of true controller ∷ []) ∷ []) ∷ []) all_controllers
+    ∷ (Control (parent subtree) (change_of true controller ∷ []) ∷ []) ∷ []) format_2_controllers
 
 -- the paths on the other side of the subtree's edge than a place
 abbrev pub across : State → Names → Names → List Names

@@ -28,7 +28,7 @@ abbrev pub available_at : State → Names → ControllerSet
 available_at st path = cond (is_root path) st.controllers (enabled_at st (parent path))
 
 -- Whether processes may be at a path: it is there, and is the root or enables nothing.
--- No Internal Process Constraint. Own: for all three controllers.
+-- No Internal Process Constraint. Own: for all controllers.
 abbrev pub may_hold : State → Names → Bool
 may_hold st path = elim (row_at st path) [ None ↦ false | Some row ↦ is_root path || enables_nothing row.enabled ]
 

@@ -9,3 +9,4 @@ pub mod Puts
 pub mod Listed
 pub mod Depths
 pub mod Seen
+pub mod Mapped

@@ -94,7 +94,7 @@ abbrev pub less_if : Bool → ℕ → ℕ
 less_if so n = cond so (tallied Fewer n) n
 
 -- once a child that enabled `had` enables `has`
-abbrev pub uses_then : ControllerSet → ControllerSet → Uses → Controller → ℕ
+unfoldable pub uses_then : ControllerSet → ControllerSet → Uses → Controller → ℕ
 uses_then had has uses controller = more_if (enables has controller) (less_if (enables had controller) (uses_of uses controller))
 
 abbrev pub uses_after : ControllerSet → ControllerSet → Uses → Uses

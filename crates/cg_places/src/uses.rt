@@ -41,6 +41,7 @@ impl Uses {
     }
 
     /// Those of a controller then.
+    #[tactic(auto, unfolding(crate::specs::Nodes::uses_then))]
     fn then(self, controller: Controller, had: ControllerSet, has: ControllerSet) -> u64
         ensures { result ≡ uses_then had has self controller }
     {

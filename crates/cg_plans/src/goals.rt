@@ -55,7 +55,7 @@ fn add_controls<H: Hierarchy>(planner: &Planner<H>, goals: &mut Vec<Op>) -> Resu
     let Some(parent) = planner.tree.get(planner.subtree, len) else {
         return Ok(());
     };
-    for controller in Controller::ALL {
+    for controller in Controller::IN_FORMAT_2 {
         let on = !parent.enabled.contains(controller);
         let mut changes = Changes::new(planner.alloc);
         changes.push(Change { on, controller })?;

@@ -12,6 +12,7 @@ use Rattle.std.proofs.lemmas.Bool.{and_from}
 use Rattle.std.proofs.lemmas.List.{length-map}
 use Rattle.toml.specs.Data.{Members, table, as_table}
 use Rattle.cg_cgroup.specs.Paths.{Names, path_cmp, same_path}
+use Rattle.cg_cgroup.specs.Files.{is_of_format_2}
 use Rattle.cg_cgroup.specs.declared.cgroup.Cgroup.{Cgroup}
 use Rattle.cg_cgroup.specs.declared.process.Process.{Process}
 use Rattle.cg_cgroup.proofs.PathOrder.{path_cmp_total, path_cmp-IsAntisymmetric, same_path-ties}
@@ -27,6 +28,7 @@ use Rattle.cg_format.specs.TreeTexts.{longest_text, document_of}
 use Rattle.cg_format.specs.declared.format.Format.TheVariants.{Two}
 use Rattle.cg_print.specs.Documents.{cgroup_table, process_table, tree_document}
 use Rattle.cg_print.specs.Carried.{IsNamedRow, IsNamedProcess, IsKept, IsCarried}
+use Rattle.cg_print.proofs.KnownRows.{format_2-row}
 use Rattle.cg_print.proofs.Entries.{entries_there, held_there}
 use Rattle.cg_print.proofs.FormBack.{cgroup_in_form, process_in_form, top_in_form}
 use Rattle.cg_print.proofs.SaidBack.{path_back, enabled_back, entry_back, value_back, files_back, pid_back, uid_back, place_back, format_back, controllers_back, cgroups_back, processes_back}
@@ -115,15 +117,16 @@ module _ (st : State) (kept : IsKept st) where
   abbrev process_written : ℕ × Process → Members
   process_written e = process_table e.0 e.1
 
-  row_back : (e : Names × Cgroup) → row_at st e.0 ≡ Some e.1 → IsNamedRow e.0 e.1 → IsRowOf Two st (row_written e)
-  row_back e there at =
+  row_back : is_of_format_2 st.controllers ≡ true → (e : Names × Cgroup) → row_at st e.0 ≡ Some e.1 → IsNamedRow e.0 e.1
+      → IsRowOf Two st (row_written e)
+  row_back known e there at =
       let formed = kept.formed.rows e.0 e.1 there in
       record {
         path = e.0;
         cgroup = e.1;
         there = there;
         named = path_back e.0 e.1 at;
-        enabled = enabled_back e.0 e.1;
+        enabled = enabled_back e.0 e.1 (format_2-row st kept.formed known e.0 e.1 there);
         entries = entry_back e.0 e.1 (enabled_above st e.0) at formed;
         values = value_back e.0 e.1 (enabled_above st e.0) at formed;
         files = files_back e.0 e.1 (enabled_above st e.0) at formed;
@@ -162,7 +165,7 @@ module _ (st : State) (kept : IsKept st) where
   pub document_back : IsCarried st → IsDocumentOf st (tree_document st)
   document_back carried =
       let rows =
-      all-both _ _ (λ (e : Names × Cgroup). IsRowOf Two st (row_written e)) row_back cgroups
+      all-both _ _ (λ (e : Names × Cgroup). IsRowOf Two st (row_written e)) (row_back carried.controllers) cgroups
       (entries_there path_cmp path_cmp_total st.rows) kept.rows in
       let processes =
       all-both _ _ (λ (e : ℕ × Process). IsProcessOf st (process_written e)) process_back live
@@ -170,7 +173,7 @@ module _ (st : State) (kept : IsKept st) where
       record {
         format = Two;
         form = in_form carried;
-        controllers = controllers_back st;
+        controllers = controllers_back st carried.controllers;
         cgroups = subst (AllByRecursion (IsRowOf Two st)) (sym rows_are) (all_written row_written (IsRowOf Two st) cgroups rows);
         paths = λ path. ap (count_by (has_path path)) rows_are
             ∙ each_once path_cmp_total row_written (has_path path) path st.rows

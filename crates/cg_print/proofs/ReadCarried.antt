@@ -1,5 +1,5 @@
 -- What a text says can be carried by a text: it has no more cgroups and processes than the text has tables.
-use Rattle.std.proofs.Common.{◌≡◌, ℕ, ◌+◌, ◌≤◌, Bool, true, false, cond, List, [], ◌∷◌, length, Ordering, codes, Option, Some, None, is_some, refl, sym, ap, ◌∙◌, arith}
+use Rattle.std.proofs.Common.{◌≡◌, ℕ, ◌+◌, ◌≤◌, Bool, true, false, cond, List, [], ◌∷◌, length, Ordering, codes, Option, Some, None, is_some, option_and_then, refl, sym, ap, ◌∙◌, arith}
 use Rattle.std.specs.Prelude.{◌||◌, count_by, filter_map}
 use Rattle.std.specs.List.{cons_option, AllByRecursion, list_any}
 use Rattle.std.specs.Ordering.{eq_by_cmp}
@@ -7,10 +7,16 @@ use Rattle.std.specs.Cmp.{IsTotalOrder, Equal-is, nat_cmp_total}
 use Rattle.std.specs.FinMap as finite
 use Rattle.std.specs.FinMap.{FinMap, IsAntisymmetric, get, entries, find, nat_cmp-IsAntisymmetric}
 use Rattle.toml.specs.Data.{Data, Members, as_table}
+use Rattle.std.proofs.lemmas.Option.{none-some, same_Some}
+use Rattle.cg_cgroup.specs.Files.{same_controller, is_in_format_2, is_of_format_2, named_in_format_2, enables, with_controller, no_controllers}
+use Rattle.cg_cgroup.specs.declared.files.Controller.{Controller}
+use Rattle.cg_cgroup.specs.declared.controllers.ControllerSet.{ControllerSet}
+use Rattle.cg_cgroup.proofs.ControllerLaws.{same_controller-true, enables-with_controller, enables-format_2, format_2-each, format_2-none}
+use Rattle.cg_cgroup.proofs.NameLaws.{known_in_format_2}
 use Rattle.cg_cgroup.proofs.PathOrder.{path_cmp_total, path_cmp-IsAntisymmetric}
 use Rattle.cg_model.specs.States.{State}
 use Rattle.cg_model.proofs.Lists.{all-each}
-use Rattle.cg_format.specs.Said.{elements_at, tables_at, has_path}
+use Rattle.cg_format.specs.Said.{controllers_from, elements_at, texts_at, tables_at, has_path}
 use Rattle.cg_format.specs.TextOf.{IsRowOf, IsProcessOf, has_pid, IsTextOf}
 use Rattle.cg_format.specs.declared.format.Format.{Format}
 use Rattle.cg_format.proofs.Cuts.{any_counted}
@@ -98,6 +104,32 @@ module _ (st : State) where
   process_entry : (row : Members) → IsProcessOf st row → IsOfEntry st.live has_pid row
   process_entry row is = record { key = is.pid; held = is.process; there = is.there; ties = pid_ties row is.pid is.named }
 
+-- ---- the controllers
+
+format_2-with : (set : ControllerSet) (controller : Controller) → is_of_format_2 set ≡ true → is_in_format_2 controller ≡ true
+    → is_of_format_2 (with_controller set controller true) ≡ true
+format_2-with set controller known one =
+    format_2-each (with_controller set controller true) (λ other on.
+    elim (same_controller controller other) as
+    (λ b. same_controller controller other ≡ b → cond b true (enables set other) ≡ true → is_in_format_2 other ≡ true) [
+      | true ↦ λ same _. sym (ap is_in_format_2 (same_controller-true controller other same)) ∙ one
+      | false ↦ λ _ held. enables-format_2 set known other held
+    ] refl (sym (enables-with_controller set controller true other) ∙ on))
+
+known_from : (set : ControllerSet) (texts : List (List ℕ)) (found : ControllerSet) → is_of_format_2 set ≡ true
+    → controllers_from set texts ≡ Some found → is_of_format_2 found ≡ true
+known_from set [] found known h = sym (ap is_of_format_2 (same_Some set found h)) ∙ known
+known_from set (text ∷ texts) found known h =
+    elim (named_in_format_2 text) as
+    (λ one. named_in_format_2 text ≡ one
+    → option_and_then (λ controller. controllers_from (with_controller set controller true) texts) one ≡ Some found
+    → is_of_format_2 found ≡ true) [
+      | None ↦ λ _ none. absurd (none-some found none)
+      | Some controller ↦ λ is more.
+          known_from (with_controller set controller true) texts found
+          (format_2-with set controller known (known_in_format_2 text controller is)) more
+    ] refl h
+
 pub read_carried : (text : List ℕ) (st : State) → IsTextOf st text → IsCarried st
 read_carried text st is =
     let rows : List Members = tables_at (codes "cgroup") is.document in
@@ -109,5 +141,6 @@ read_carried text st is =
     record {
       cgroups = omega (arith, is.says.form.few_cgroups, tables_at_most (elements_at (codes "cgroup") is.document), cgroups);
       processes = omega (arith, is.says.form.few_processes, tables_at_most (elements_at (codes "process") is.document), processes);
+      controllers = known_from no_controllers (texts_at (codes "controllers") is.document) st.controllers format_2-none is.says.controllers;
       used = is.says.used;
     }

@@ -6,7 +6,7 @@ use Rattle.toml.specs.View.{items_of}
 use Rattle.cg_cgroup.specs.Options.{◌>>=◌}
 use Rattle.cg_cgroup.specs.Paths.{Names, IsPath}
 use Rattle.cg_cgroup.specs.Texts as texts
-use Rattle.cg_cgroup.specs.Files.{accepts}
+use Rattle.cg_cgroup.specs.Files.{accepts, is_of_format_2}
 use Rattle.cg_cgroup.specs.Cgroups.{file_of, entry_in}
 use Rattle.cg_cgroup.specs.declared.user.Entry.{Entry}
 use Rattle.cg_cgroup.specs.declared.files.Limit.{Limit}
@@ -77,9 +77,9 @@ texts_again : (names : List (List ℕ)) → filter_map as_str (elements (items_o
 texts_again [] = refl
 texts_again (name ∷ names) = ap (λ rest. name ∷ rest) (texts_again names)
 
-controllers_again : (set : ControllerSet)
+controllers_again : (set : ControllerSet) → is_of_format_2 set ≡ true
     → controllers_read (filter_map as_str (elements (items_of (map_list string (names_in set))))) ≡ Some set
-controllers_again set = ap controllers_read (texts_again (names_in set)) ∙ set_again set
+controllers_again set known = ap controllers_read (texts_again (names_in set)) ∙ set_again set known
 
 -- ---- the entries of a cgroup
 
@@ -114,9 +114,10 @@ pub path_back : (path : Names) (row : Cgroup) → IsNamedRow path row → path_s
 unfolding cgroup_table with_key
 path_back path row at = path_at-text path at.path
 
-pub enabled_back : (path : Names) (row : Cgroup) → controllers_said (codes "enabled") (cgroup_table path row) ≡ Some row.enabled
+pub enabled_back : (path : Names) (row : Cgroup) → is_of_format_2 row.enabled ≡ true
+    → controllers_said (codes "enabled") (cgroup_table path row) ≡ Some row.enabled
 unfolding cgroup_table with_key
-enabled_back path row = controllers_again row.enabled
+enabled_back path row known = controllers_again row.enabled known
 
 module _ (path : Names) (row : Cgroup) (above : ControllerSet) (at : IsNamedRow path row) (formed : IsFormedRow above row) where
   owner_again : (name : EntryName) (entry : Entry) → entry_in row name ≡ Some entry
@@ -177,9 +178,10 @@ module _ (st : State) where
   unfolding tree_document with_key
   format_back = refl
 
-  pub controllers_back : controllers_said (codes "controllers") (tree_document st) ≡ Some st.controllers
+  pub controllers_back : is_of_format_2 st.controllers ≡ true
+      → controllers_said (codes "controllers") (tree_document st) ≡ Some st.controllers
   unfolding tree_document with_key
-  controllers_back = controllers_again st.controllers
+  controllers_back known = controllers_again st.controllers known
 
   pub cgroups_back : elements_at (codes "cgroup") (tree_document st) ≡ cgroups_written st
   unfolding tree_document with_key

@@ -4,6 +4,7 @@ use Rattle.std.specs.List.{AllByRecursion}
 use Rattle.std.specs.FinMap as map
 use Rattle.cg_cgroup.specs.Paths.{Names, IsPath}
 use Rattle.cg_cgroup.specs.Numbers.{is_pid}
+use Rattle.cg_cgroup.specs.Files.{is_of_format_2}
 use Rattle.cg_cgroup.specs.Cgroups.{file_of, entry_in}
 use Rattle.cg_cgroup.specs.declared.user.Entry.{Entry}
 use Rattle.cg_cgroup.specs.declared.files.EntryName.{EntryName}
@@ -53,10 +54,12 @@ pub record IsKept (st : State) : Type 0 where
   pub rows : AreNamedRows (map.entries st.rows)
   pub live : AreNamedProcesses (map.entries st.live)
 
--- Few enough cgroups and processes; and a PID that isn't live was never used, as a text has no word for it.
+-- Few enough cgroups and processes; no controller that texts don't know; and a PID that isn't live was never used, as a text
+-- has no word for it.
 pub record IsCarried (st : State) : Type 0 where
   pub cgroups : length (map.entries st.rows) ≤ most_rows
   pub processes : length (map.entries st.live) ≤ most_rows
+  pub controllers : is_of_format_2 st.controllers ≡ true
   pub used : (pid : ℕ) → is_used st pid ≡ is_some (process_at st pid)
 
 -- the tree's text is longer than a tree text may be

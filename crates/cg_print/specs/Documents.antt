@@ -8,7 +8,7 @@ use Rattle.toml.specs.Text.{IsDocumentText}
 use Rattle.toml.specs.View.{items_of}
 use Rattle.cg_cgroup.specs.Paths.{Names, path_text}
 use Rattle.cg_cgroup.specs.Texts as texts
-use Rattle.cg_cgroup.specs.Files.{all_controllers, controller_name, enables, all_files, file_name}
+use Rattle.cg_cgroup.specs.Files.{format_2_controllers, controller_name, enables, all_files, file_name}
 use Rattle.cg_cgroup.specs.Cgroups.{file_of}
 use Rattle.cg_cgroup.specs.declared.user.Entry.{Entry}
 use Rattle.cg_cgroup.specs.declared.files.Limit.{Limit}
@@ -24,9 +24,9 @@ use Rattle.cg_print.specs.Keys.{with_key, with_optional}
 abbrev pub number : ℕ → Data
 number n = integer (pos n)
 
--- the names of the controllers of a set, in their order
+-- the names of the controllers of a set that texts know, in their order
 abbrev pub names_in : ControllerSet → List (List ℕ)
-names_in set = map_list controller_name (filter (enables set) all_controllers)
+names_in set = map_list controller_name (filter (enables set) format_2_controllers)
 
 abbrev pub texts_array : List (List ℕ) → Data
 texts_array texts = array (items_of (map_list string texts))

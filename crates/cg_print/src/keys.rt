@@ -38,12 +38,12 @@ pub(crate) fn path_value(alloc: Global, path: &Path) -> Result<Value, NoMemory>
     Ok(Value::string(alloc, path.prefix(path.depth()))?)
 }
 
-/// The names of the controllers of a set, in their order. Fails where memory is wanted.
+/// The names of the controllers of a set that texts know, in their order. Fails where memory is wanted.
 pub(crate) fn names_array(alloc: Global, set: ControllerSet) -> Result<Value, NoMemory>
     ensures { IfOk result (λ names. view names ≡ texts_array (names_in set)) }
 {
     let mut names = Vec::new(alloc);
-    for controller in Controller::ALL {
+    for controller in Controller::IN_FORMAT_2 {
         if set.contains(controller) {
             names.push(Value::string(alloc, controller.name())?)?;
         }

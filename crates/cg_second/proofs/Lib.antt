@@ -18,3 +18,4 @@ pub mod Crowds
 pub mod Edges
 pub mod Levels
 pub mod Closing
+pub mod Rows

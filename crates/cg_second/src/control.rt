@@ -51,8 +51,8 @@ fn is_held<H: Hierarchy>(survey: &Survey<H>, subtree: &Path, controller: Control
     ensures { result ≡ ((greatest (H.state survey.now.tree.now) survey.now.users.now).on (parent subtree.now) controller
         || (greatest (H.state survey.now.tree.now) survey.now.users.now).off (parent subtree.now) controller) }
 {
-    stays_on(survey, subtree, subtree.depth() - 1, controller)
-        || stays_off(survey, subtree, controller)
+    stays_off(survey, subtree, controller)
+        || stays_on(survey, subtree, subtree.depth() - 1, controller)
 }
 
 /// Whether a controller stays on at the cgroup of the first `len` names of a path.

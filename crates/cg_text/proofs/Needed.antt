@@ -9,7 +9,7 @@ use Rattle.cg_cgroup.specs.declared.files.LimitFile.{LimitFile}
 use Rattle.cg_cgroup.proofs.AllFiles.{each_passes}
 use Rattle.cg_cgroup.proofs.ControllerLaws.{enables-set_by, same_controller-refl, same_controller-true, is_within-each, is_within-enables}
 use Rattle.cg_format.proofs.TablesSay.{all_so}
-use Rattle.cg_text.specs.Rows.{is_of, needed_where}
+use Rattle.cg_text.specs.Rows.{is_of, needs, needed_where}
 
 none_of : {A : Type 0} (test : A → Bool) (xs : List A) → list_all (λ x. not (test x)) xs ≡ true → list_any test xs ≡ false
 none_of test [] h = refl
@@ -40,6 +40,7 @@ module _ (named : LimitFile → Bool) (above : ControllerSet) where
       ] refl
 
   all_are : list_all passes all_files ≡ true → is_within (needed_where named) above ≡ true
+  unfolding needs
   all_are all =
       is_within-each (needed_where named) above (λ controller on.
       elim (enables above controller) as (λ b. enables above controller ≡ b → b ≡ true) [
@@ -48,18 +49,19 @@ module _ (named : LimitFile → Bool) (above : ControllerSet) where
             let none = none_of (names_of controller) all_files
             (all_so (λ file. not (names_of controller file))
             (λ file. unnamed controller off (controller_of file) (named file) (each_passes passes all file)) all_files) in
-            absurd (true≢false (sym on ∙ enables-set_by (λ c. list_any (names_of c) all_files) controller ∙ none))
+            absurd (true≢false (sym on ∙ enables-set_by (needs named) controller ∙ none))
       ] refl)
 
   -- a named file's controller is needed
   stands_of : is_within (needed_where named) above ≡ true → (file : LimitFile) (own : Option Controller) → controller_of file ≡ own
       → (is_named : Bool) → named file ≡ is_named
       → (not is_named || elim own [ None ↦ true | Some c ↦ enables above c ]) ≡ true
+  unfolding needs
   stands_of within file own is false h = refl
   stands_of within file None is true h = refl
   stands_of within file (Some own) is true h =
       is_within-enables (needed_where named) above within own
-      (enables-set_by (λ c. list_any (names_of c) all_files) own
+      (enables-set_by (needs named) own
       ∙ (elim (list_any (names_of own) all_files) as (λ b. list_any (names_of own) all_files ≡ b → b ≡ true) [
         | true ↦ λ _. refl
         | false ↦ λ none.

@@ -53,9 +53,13 @@ names entries file = is_some (table_in entries (File file))
 abbrev pub is_of : Controller → LimitFile → Bool
 is_of controller file = elim (controller_of file) [ None ↦ false | Some own ↦ same_controller own controller ]
 
+-- whether a file of a controller passes
+unfoldable pub needs : (LimitFile → Bool) → Controller → Bool
+needs named controller = list_any (λ file. is_of controller file && named file) all_files
+
 -- the controllers of which a file passes
 abbrev pub needed_where : (LimitFile → Bool) → ControllerSet
-needed_where named = set_by (λ controller. list_any (λ file. is_of controller file && named file) all_files)
+needed_where named = set_by (needs named)
 
 -- the controllers whose files are named
 abbrev pub needed_by : Entries → ControllerSet

@@ -3,7 +3,7 @@ use Rattle.std.proofs.Common.{◌≡◌, Bool, true, false, cond, not, ◌&&◌,
 use Rattle.std.specs.List.{AllByRecursion}
 use Rattle.cg_cgroup.specs.Paths.{Names, parent, is_root}
 use Rattle.cg_cgroup.specs.Identity.{Identity}
-use Rattle.cg_cgroup.specs.Files.{enables, same_controller, stands_under, no_controllers}
+use Rattle.cg_cgroup.specs.Files.{enables, same_controller, is_in_format_2, stands_under, no_controllers}
 use Rattle.cg_cgroup.specs.Cgroups.{file_of}
 use Rattle.cg_cgroup.specs.declared.files.Controller.{Controller}
 use Rattle.cg_cgroup.specs.declared.files.Controller.TheVariants.{Cpu, Memory, Pids}
@@ -11,7 +11,7 @@ use Rattle.cg_cgroup.specs.declared.controllers.ControllerSet.{ControllerSet}
 use Rattle.cg_cgroup.specs.declared.files.LimitFile.{LimitFile}
 use Rattle.cg_cgroup.specs.declared.files.LimitFile.TheVariants.{CpuWeight, MemoryMax, PidsMax}
 use Rattle.cg_cgroup.proofs.Options.{some_value, is_some-mapped}
-use Rattle.cg_cgroup.proofs.ControllerLaws.{same_set, same_controller-true}
+use Rattle.cg_cgroup.proofs.ControllerLaws.{same_set, same_controller-true, each_in_format_2}
 use Rattle.cg_model.specs.States.{State, row_at, file_at}
 use Rattle.cg_model.specs.WellFormed.{IsWellFormed, has_row, enabled_at}
 use Rattle.cg_model.proofs.StateCounts.{paths_of-with_enabled, count_below-same_paths, depth_below-same_paths}
@@ -49,25 +49,24 @@ value_stands st path file = ap is_some (value_at-file st path file) ∙ is_some-
 
 -- ---- changes
 
--- a file of the controller
+-- a file of a controller that brings one
 abbrev file_by : Controller → LimitFile
 file_by Cpu = CpuWeight
-file_by Memory = MemoryMax
 file_by Pids = PidsMax
+file_by controller = MemoryMax
 
-stands-file_by : (enabled : ControllerSet) (controller : Controller)
+stands-file_by : (enabled : ControllerSet) (controller : Controller) → is_in_format_2 controller ≡ true
     → stands_under enabled (file_by controller) ≡ enables enabled controller
-stands-file_by enabled Cpu = refl
-stands-file_by enabled Memory = refl
-stands-file_by enabled Pids = refl
+stands-file_by enabled controller known =
+    each_in_format_2 (λ controller. stands_under enabled (file_by controller) ≡ enables enabled controller)
+    (refl, (refl, (refl, tt))) controller known
 
 abbrev enabled_by : Bool → Controller → ControllerSet → ControllerSet
 enabled_by on controller enabled = enabled_after enabled (change_of on controller ∷ [])
 
 now_enabled : (on : Bool) (controller : Controller) (enabled : ControllerSet) → enables (enabled_by on controller enabled) controller ≡ on
 now_enabled on Cpu enabled = refl
-now_enabled on Memory enabled = refl
-now_enabled on Pids enabled = refl
+now_enabled on controller enabled = refl
 
 negated : (b : Bool) → not b ≡ false → true ≡ b
 negated true h = refl
@@ -104,7 +103,7 @@ toggled false false h e = true≢false (sym h)
 -- ---- the try
 
 module _ (st : State) (user : Identity) (subtree : Names) (on : Bool) (controller : Controller) (whole : IsUnbroken st subtree)
-    (formed : IsWellFormed st) (there : IsSubtree st subtree) where
+    (formed : IsWellFormed st) (there : IsSubtree st subtree) (known : is_in_format_2 controller ≡ true) where
   abbrev op : Op
   op = Control (parent subtree) (change_of on controller ∷ [])
 
@@ -122,10 +121,10 @@ module _ (st : State) (user : Identity) (subtree : Names) (on : Bool) (controlle
       let here = has_row-with_enabled st (parent subtree) (enabled_by on controller above) user subtree ∙ there.0 in
       let enabled =
       enabled_at-with_enabled-same st (parent subtree) (enabled_by on controller above) user (formed.parents subtree there.0) in
-      let before = value_stands st subtree file ∙ stands st subtree file formed there.0 there.1 ∙ stands-file_by above controller in
+      let before = value_stands st subtree file ∙ stands st subtree file formed there.0 there.1 ∙ stands-file_by above controller known in
       let after =
       value_stands new subtree file ∙ stands new subtree file later here there.1
-      ∙ stands-file_by (enabled_at new (parent subtree)) controller
+      ∙ stands-file_by (enabled_at new (parent subtree)) controller known
       ∙ ap (λ (e : ControllerSet). enables e controller) enabled ∙ now_enabled on controller above in
       toggled on (enables above controller) changes (sym before ∙ ap is_some (limits_stay st st new subtree none file) ∙ after)
 
@@ -164,9 +163,10 @@ module _ (st : State) (user : Identity) (subtree : Names) (on : Bool) (controlle
 
 -- what holds of each change of one controller holds of all that are tried
 pub all-control_tries : (P : List Op → Type 0) (subtree : Names)
-    → ((on : Bool) (controller : Controller) → P (Control (parent subtree) (change_of on controller ∷ []) ∷ []))
+    → ((on : Bool) (controller : Controller) → is_in_format_2 controller ≡ true
+    → P (Control (parent subtree) (change_of on controller ∷ []) ∷ []))
     → AllByRecursion P (control_tries subtree)
 all-control_tries P subtree each = (
-  each false Cpu,
-  (each true Cpu, (each false Memory, (each true Memory, (each false Pids, (each true Pids, tt))))),
+  each false Cpu refl,
+  (each true Cpu refl, (each false Memory refl, (each true Memory refl, (each false Pids refl, (each true Pids refl, tt))))),
 )

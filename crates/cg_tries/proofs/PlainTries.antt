@@ -6,12 +6,13 @@ use Rattle.std.proofs.Math.Bool.{and-true, and-false}
 use Rattle.std.proofs.lemmas.Bool.{cases_lt}
 use Rattle.cg_cgroup.specs.Paths.{Names, parent, inside, common}
 use Rattle.cg_cgroup.specs.Identity.{Identity}
-use Rattle.cg_cgroup.specs.Files.{all_files, all_controllers, enables}
+use Rattle.cg_cgroup.specs.Files.{all_files, format_2_controllers, is_in_format_2, enables}
 use Rattle.cg_cgroup.specs.Users.{writes}
 use Rattle.cg_cgroup.proofs.PathLaws.{common-take_first, common-inside_first, common-inside_second, common_comm, inside-length}
 use Rattle.cg_cgroup.specs.declared.files.Limit.{Limit}
 use Rattle.cg_cgroup.specs.declared.files.LimitFile.{LimitFile}
 use Rattle.cg_cgroup.specs.declared.files.Controller.{Controller}
+use Rattle.cg_cgroup.specs.declared.files.Controller.TheVariants.{Cpu, Memory, Pids}
 use Rattle.cg_model.specs.States.{State, row_at, place_at, paths_of, pids_of}
 use Rattle.cg_model.specs.WellFormed.{IsWellFormed, enabled_at}
 use Rattle.cg_model.specs.Clauses.{present}
@@ -29,7 +30,7 @@ use Rattle.cg_tries.specs.Finding.{allowed, if_allowed, first_given, set_of, fir
 use Rattle.cg_tries.proofs.Seen.{is_empty, breaks-run}
 use Rattle.cg_tries.proofs.Single.{set_try, rmdir_try}
 use Rattle.cg_tries.proofs.Controls.{control_try}
-use Rattle.cg_tries.proofs.Moves.{find-flat_map, first_given-same, first_move-is}
+use Rattle.cg_tries.proofs.Moves.{find-flat_map, first_given-same, first_given-each, first_move-is}
 use Rattle.cg_tries.proofs.ProbeWalk.{unwritten}
 use Rattle.cg_tries.proofs.ProbeLaws.{first_probe-is}
 
@@ -70,12 +71,12 @@ module _ (st : State) (user : Identity) (subtree : Names) (whole : IsUnbroken st
     with_effect off on false controller =
         (λ i. cond (and-false off i) (Some (change false controller ∷ [])) (cond (and-true on i) (Some (change true controller ∷ [])) None))
 
-    one_control : (controller : Controller)
+    one_control : (controller : Controller) → is_in_format_2 controller ≡ true
         → find (breaks st user subtree) ((change false controller ∷ []) ∷ (change true controller ∷ []) ∷ [])
         ≡ control_of st user subtree controller
-    one_control controller =
-        (λ i. cond (control_try st user subtree false controller whole formed there i) (Some (change false controller ∷ []))
-        (cond (control_try st user subtree true controller whole formed there i) (Some (change true controller ∷ [])) None))
+    one_control controller known =
+        (λ i. cond (control_try st user subtree false controller whole formed there known i) (Some (change false controller ∷ []))
+        (cond (control_try st user subtree true controller whole formed there known i) (Some (change true controller ∷ [])) None))
         ∙ with_effect (allowed st user (change false controller)) (allowed st user (change true controller))
         (enables (enabled_at st (parent subtree)) controller) controller
         ∙ elim (enables (enabled_at st (parent subtree)) controller) as
@@ -88,8 +89,11 @@ module _ (st : State) (user : Identity) (subtree : Names) (whole : IsUnbroken st
     first_control-is : find (breaks st user subtree) (control_tries subtree) ≡ first_control st user subtree
     first_control-is =
         find-flat_map (breaks st user subtree) (λ controller. (change false controller ∷ []) ∷ (change true controller ∷ []) ∷ [])
-        all_controllers
-        ∙ first_given-same _ (control_of st user subtree) all_controllers one_control
+        format_2_controllers
+        ∙ first_given-each
+        (λ controller. find (breaks st user subtree) ((change false controller ∷ []) ∷ (change true controller ∷ []) ∷ []))
+        (control_of st user subtree) format_2_controllers
+        (one_control Cpu refl, (one_control Memory refl, (one_control Pids refl, tt)))
 
     pub plain-is : find (breaks st user subtree) (plain_tries st subtree)
         ≡ option_or (first_write st user subtree) (first_passage st user subtree)

@@ -5,7 +5,7 @@ use Rattle.std.specs.Option.{option_map, option_or}
 use Rattle.cg_cgroup.specs.Paths.{Names, inside, is_root, parent, path_text}
 use Rattle.cg_cgroup.specs.Identity.{Identity}
 use Rattle.cg_cgroup.specs.Users.{writes}
-use Rattle.cg_cgroup.specs.Files.{all_files, all_controllers, enables, enables_nothing}
+use Rattle.cg_cgroup.specs.Files.{all_files, format_2_controllers, enables, enables_nothing}
 use Rattle.cg_cgroup.specs.declared.files.Limit.{Limit}
 use Rattle.cg_cgroup.specs.declared.files.Limit.TheVariants.{Max, At}
 use Rattle.cg_cgroup.specs.declared.files.LimitFile.{LimitFile}
@@ -46,7 +46,7 @@ control_of st user subtree controller =
     if_allowed st user (Control (parent subtree) (change_of (not (enables (enabled_at st (parent subtree)) controller)) controller ∷ []))
 
 abbrev pub first_control : State → Identity → Names → Option (List Op)
-first_control st user subtree = first_given (control_of st user subtree) all_controllers
+first_control st user subtree = first_given (control_of st user subtree) format_2_controllers
 
 -- the first of these, or the removal
 abbrev pub first_write : State → Identity → Names → Option (List Op)

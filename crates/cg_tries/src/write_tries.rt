@@ -107,7 +107,7 @@ fn first_control<H: Hierarchy>(asker: &Asker<H>) -> Result<Option<Operations>, N
     requires { is_root asker.now.subtree.now ≡ false }
     ensures { IfOk result (λ found. found ≡ first_control (H.state asker.now.tree.now) asker.now.user.now asker.now.subtree.now) }
 {
-    for controller in Controller::ALL {
+    for controller in Controller::IN_FORMAT_2 {
         if let Some(found) = control_of(asker, controller)? {
             return Ok(Some(found));
         }

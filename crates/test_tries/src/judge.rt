@@ -175,7 +175,7 @@ fn writes(alloc: Global, tree: &Rows, subtree: &Path) -> Result<Vec<Vec<Op>>, No
             tries.push(only(alloc, Op::Set { at, file, value })?)?;
         }
     }
-    for controller in Controller::ALL {
+    for controller in Controller::IN_FORMAT_2 {
         for on in [false, true] {
             let at = subtree.try_prefix(alloc, subtree.depth().saturating_sub(1))?;
             let mut changes = Changes::new(alloc);

@@ -66,7 +66,7 @@ fn control(alloc: Global, random: &mut Random, tree: &Rows) -> Result<Op, NoMemo
     let mut changes = Changes::new(alloc);
     changes.push(Change {
         on: random.below(3) > 0,
-        controller: random.one_of(&Controller::ALL, Controller::Cpu),
+        controller: random.one_of(&Controller::IN_FORMAT_2, Controller::Cpu),
     })?;
     Ok(Op::Control { at, changes })
 }
@@ -108,7 +108,7 @@ fn enabling(alloc: Global, text: &str, controllers: &[Controller]) -> Result<Op,
 /// How trees begin: a chain of two cgroups, of which the upper one enables and is written by many, and a process at its end.
 fn beginning(alloc: Global, random: &mut Random, place: u32) -> Result<Op, PathFault> {
     match place {
-        0 => enabling(alloc, "/", &Controller::ALL),
+        0 => enabling(alloc, "/", &Controller::IN_FORMAT_2),
         1 => {
             let path = Path::parse(alloc, "/a")?;
             Ok(Op::Mkdir { path })
@@ -170,7 +170,7 @@ fn users() -> Option<[User; 3]> {
 /// A random tree: what some random steps of these users leave of a root that is the first user's, with three processes.
 fn tree(alloc: Global, random: &mut Random, users: &[User]) -> Result<Rows, PathFault> {
     let all = ControllerSet {
-        flags: [true, true, true],
+        flags: [false, true, false, true, false, true, false, false, false],
     };
     let Some(keeper) = users.first() else {
         return Err(PathFault::BadPath);

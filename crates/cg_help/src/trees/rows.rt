@@ -10,7 +10,7 @@ use toml::Table;
 
 /// Which text of `controllers` or `enabled` is no controller.
 pub(super) fn controller_said(alloc: Global, key: &str, text: &str) -> Result<String, AllocError> {
-    let names = Controller::ALL.map(|controller| controller.name());
+    let names = Controller::IN_FORMAT_2.map(|controller| controller.name());
     let shown = quoted(alloc, text)?;
     match nearest_of(alloc, text, &names)? {
         Some(name) => format!(in alloc;

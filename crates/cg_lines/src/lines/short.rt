@@ -1,31 +1,48 @@
 //! Whether the line of an operation is short enough to be read again.
-ghost use Rattle.std.specs.Prelude.{◌≡◌, ◌↔◌, true, IsTrue};
+ghost use Rattle.std.specs.Prelude.{◌≡◌, ◌↔◌, ◌&&◌, nat_le, length, true, IsTrue};
 ghost use Rattle.cg_cgroup.specs.Numbers.{is_pid, is_mode};
 ghost use Rattle.cg_cgroup.specs.Paths.{IsPath};
 ghost use Rattle.cg_lines.specs.LineLengths.{HasFewChanges};
-ghost use Rattle.cg_lines.specs.OperationLines.{HasLine, IsInRange, IsLimitInRange};
+ghost use Rattle.cg_lines.specs.OperationLines.{HasLine, IsInFormat2, IsInRange, IsLimitInRange, are_in_format_2};
 
 use cg_cgroup::files::Limit;
 use cg_cgroup::path::Path;
 use cg_cgroup::process::Pid;
 use cg_cgroup::user::Mode;
+use cg_model::changes::Change;
 use cg_model::operation::Op;
 
-/// Whether an operation has at most 511 changes, as all have but some of `control`. Then its line has at most 8192 bytes.
+/// Whether an operation has at most 511 changes, each of a controller that lines know, as all have but some of `control`.
+/// Then it has a line, of at most 8192 bytes.
 pub fn has_short_line(op: &Op) -> bool
-    ensures few { IsTrue result ↔ HasFewChanges op.now }
+    ensures few { IsTrue result ↔ (IsInFormat2 op.now × HasFewChanges op.now) }
     ensures line { result ≡ true → HasLine op.now }
 {
     hold(op);
     match op {
-        Op::Control { changes, .. } => changes.as_slice().len() <= 511,
+        Op::Control { changes, .. } => are_spelled(changes.as_slice()),
         _ => true,
     }
 }
 
-/// What an operation holds is in range, as all that can be held is.
+/// Whether lines know the controllers of so few changes that a line can hold them.
+fn are_spelled(changes: &[Change]) -> bool
+    ensures { result ≡ (are_in_format_2 changes.now && nat_le (length changes.now) 511) }
+{
+    are_in_format_2(changes) && changes.len() <= 511
+}
+
+fn are_in_format_2(changes: &[Change]) -> bool
+    ensures { result ≡ are_in_format_2 changes.now }
+{
+    changes
+        .iter()
+        .all(|change| change.controller.is_in_format_2())
+}
+
+/// What an operation holds is in range, as all that can be held is, where lines know its controllers.
 fn hold(op: &Op)
-    ensures { IsInRange op.now }
+    ensures { IsInFormat2 op.now → IsInRange op.now }
 {
     match op {
         Op::Move { pid, to } => {

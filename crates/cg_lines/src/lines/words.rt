@@ -79,6 +79,6 @@ pub fn change_of(word: &str) -> Option<Change>
         Some(name) => (true, name),
         None => (false, word.strip_prefix('-')?),
     };
-    let controller = Controller::from_name(name)?;
+    let controller = Controller::from_format_2(name)?;
     Some(Change { on, controller })
 }

@@ -1,10 +1,10 @@
 //! Writing an operation as its line.
-ghost use Rattle.std.specs.Prelude.{◌≡◌, ◌++◌, [], ◌∷◌, IfOk, OnOk};
+ghost use Rattle.std.specs.Prelude.{◌≡◌, ◌++◌, true, [], ◌∷◌, IfOk, OnOk};
 ghost use Rattle.std.specs.String.{string_bytes};
 ghost use Rattle.std.specs.List.{flat_map};
 ghost use Rattle.cg_cgroup.specs.Paths.{path_text, IsPath};
 ghost use Rattle.cg_model.specs.declared.operation.Op.TheVariants.{Move, Control, Mkdir, Rmdir, Set, Fork, Exit, Chmod};
-ghost use Rattle.cg_lines.specs.OperationLines.{change_word, limit_word, mode_word, spelling, IsInRange};
+ghost use Rattle.cg_lines.specs.OperationLines.{change_word, limit_word, mode_word, spelling, are_in_format_2, IsInFormat2, IsInRange};
 
 use cg_cgroup::files::{EntryName, Limit, LimitFile};
 use cg_cgroup::memory::NoMemory;
@@ -50,7 +50,7 @@ fn push_changes(line: &mut String, changes: &[Change]) -> Result<(), NoMemory>
 
 fn control_line(alloc: Global, at: &Path, changes: &Changes) -> Result<String, NoMemory>
     ensures text { IfOk result (λ line. string_bytes line ≡ spelling (Control at.now changes.now) ++ 10 ∷ []) }
-    ensures held { IsInRange (Control at.now changes.now) }
+    ensures held { are_in_format_2 changes.now ≡ true → IsInRange (Control at.now changes.now) }
 {
     let at = whole(at);
     let mut line = format!(in alloc; "control {at}")?;
@@ -118,7 +118,7 @@ fn chmod_line(alloc: Global, at: &Path, entry: EntryName, mode: Mode) -> Result<
 
 fn line_of(alloc: Global, op: &Op) -> Result<String, NoMemory>
     ensures text { IfOk result (λ line. string_bytes line ≡ spelling op.now ++ 10 ∷ []) }
-    ensures held { IsInRange op.now }
+    ensures held { IsInFormat2 op.now → IsInRange op.now }
 {
     match op {
         Op::Move { pid, to } => move_line(alloc, *pid, to),
@@ -133,10 +133,10 @@ fn line_of(alloc: Global, op: &Op) -> Result<String, NoMemory>
 }
 
 /// The line of an operation, and a newline. `read_op` of the line gives the operation back, where it has at most 8192
-/// bytes.
+/// bytes and names no controller but those of format 2.
 pub fn op_text(alloc: Global, op: &Op) -> Result<Vec<u8>, NoMemory>
     ensures text { IfOk result (λ text. text.items ≡ spelling op.now ++ 10 ∷ []) }
-    ensures held { IsInRange op.now }
+    ensures held { IsInFormat2 op.now → IsInRange op.now }
 {
     Ok(line_of(alloc, op)?.into_bytes())
 }

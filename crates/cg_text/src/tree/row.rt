@@ -1,10 +1,10 @@
 //! A cgroup's row, read into what the tree keeps of it.
-ghost use Rattle.std.specs.Prelude.{◌≡◌, ◌≤◌, true, ◌&&◌, length, map, filter_map, Some, is_some};
+ghost use Rattle.std.specs.Prelude.{◌≡◌, ◌≤◌, true, length, map, filter_map, Some, is_some};
 ghost use Rattle.std.specs.Option.{option_map};
-ghost use Rattle.std.specs.List.{list_all, list_any};
+ghost use Rattle.std.specs.List.{list_all};
 ghost use Rattle.toml.specs.Data.{Members, as_table};
 ghost use Rattle.toml.specs.View.{view, table_view};
-ghost use Rattle.cg_cgroup.specs.Files.{all_files, brought_files};
+ghost use Rattle.cg_cgroup.specs.Files.{brought_files};
 ghost use Rattle.cg_cgroup.specs.declared.files.EntryName.TheVariants.{File};
 ghost use Rattle.cg_model.specs.Clauses.{first};
 ghost use Rattle.cg_format.specs.declared.fault.Place.TheVariants.{Cgroup as AtCgroup};
@@ -12,7 +12,7 @@ ghost use Rattle.cg_format.specs.declared.fault.TreeFault.TheVariants.{BadEntry,
 ghost use Rattle.cg_format.specs.Form.{most_rows};
 ghost use Rattle.cg_format.specs.TextFaults.{each_cgroup, row_faults};
 ghost use Rattle.cg_text.specs.Faults.{Passes, or_fault};
-ghost use Rattle.cg_text.specs.Rows.{table_in, owner_in, limit_in, entry_with, is_of, names, needed_by, file_in, entry_faults, IsCgroupOf, IsReadAs, AreReadAs};
+ghost use Rattle.cg_text.specs.Rows.{table_in, owner_in, limit_in, entry_with, is_of, names, needs, needed_by, file_in, entry_faults, IsCgroupOf, IsReadAs, AreReadAs};
 
 use crate::tree::form::row_number;
 use crate::tree::said::{controllers_at, limit_of, owner_of, path_at, table_at};
@@ -103,8 +103,9 @@ impl<'a> Entries<'a> {
     }
 
     /// Whether a file of a controller is named.
+    #[tactic(auto, unfolding(crate::specs::Rows::needs))]
     fn needs(self, controller: Controller) -> bool
-        ensures { result ≡ list_any (λ file. is_of controller file && names self.entry file) all_files }
+        ensures { result ≡ needs (names self.entry) controller }
     {
         LimitFile::ALL
             .iter()

@@ -102,7 +102,7 @@ pub fn controllers_at(table: &Table, key: &str) -> Option<ControllerSet>
     let mut controllers = ControllerSet::none();
     for element in elements {
         if let Some(text) = element.as_str() {
-            controllers = controllers.with(Controller::from_name(text)?, true);
+            controllers = controllers.with(Controller::from_format_2(text)?, true);
         }
     }
     Some(controllers)

@@ -13,6 +13,10 @@ pub const NAMED: [(LimitFile, &str); 8] = [
     (LimitFile::PidsMax, "pids.max"),
 ];
 
+const CONTROLLERS: [&str; 9] = [
+    "cpuset", "cpu", "io", "memory", "hugetlb", "pids", "rdma", "misc", "dmem",
+];
+
 #[test]
 fn names_are_the_kernels(rt: HostRuntime) {
     for (file, (wanted, name)) in LimitFile::ALL.iter().zip(NAMED) {
@@ -21,9 +25,12 @@ fn names_are_the_kernels(rt: HostRuntime) {
         assert_eq!(rt; LimitFile::from_name(name), Some(wanted));
         assert_eq!(rt; EntryName::from_name(name), Some(EntryName::File(wanted)));
     }
-    for (controller, name) in Controller::ALL.iter().zip(["cpu", "memory", "pids"]) {
+    for (controller, name) in Controller::ALL.iter().zip(CONTROLLERS) {
         assert_eq!(rt; controller.name(), name);
         assert_eq!(rt; Controller::from_name(name), Some(*controller));
+        let known = name == "cpu" || name == "memory" || name == "pids";
+        assert_eq!(rt; controller.is_in_format_2(), known);
+        assert_eq!(rt; Controller::from_format_2(name).is_some(), known);
     }
     assert_eq!(rt; EntryName::Dir.name(), "dir");
     assert_eq!(rt;

@@ -1,28 +1,18 @@
-use Rattle.std.proofs.Common.{arith}
-use Rattle.cg_check.proofs.Pairs.{not-none}
-use Rattle.cg_cli.proofs.FurtherAdvice.{held_more, held_all, held_fails, sub_here}
+use Rattle.std.proofs.Common.{List, length, nat_eq, ap, sym, ◌∙◌}
+use Rattle.std.proofs.lemmas.Bool.{eqb-true}
+use Rattle.cg_cgroup.specs.Paths.{Names}
+use Rattle.cg_cli.proofs.FurtherAdvice.{sub_at, held_none}
 use Rattle.cg_cli.proofs.advise_settle.are_held.Goals as goal
 
-pub second_row-requires : goal.second_row-requires
-second_row-requires g c = record {
-  formed = c.requires.formed (not-none c.args.subtrees.now c.loop-subtree.subtree-index c.loop-subtree-test.true);
-  subtree =
-      sub_here (g.H.Hierarchy.state c.args.tree.now) c.args.users.now c.args.subtrees.now c.requires.there c.loop-subtree.subtree-index
-      c.subtree-item.result c.loop-subtree-test.true c.subtree-item.is;
+pub second_rows-requires : goal.second_rows-requires
+second_rows-requires g c = record {
+  formed =
+      c.requires.formed (λ none.
+      let same = c.if-is_empty.ensures ∙ ap (λ (l : List Names). nat_eq (length l) 0) none in
+      let never : ⊥ = cc in never);
+  subtrees = sub_at (g.H.Hierarchy.state c.args.tree.now) c.args.users.now c.args.subtrees.now c.requires.there;
 }
 
-pub loop-subtree-preserved : goal.loop-subtree-preserved
-loop-subtree-preserved g c =
-    held_more (g.H.Hierarchy.state c.args.tree.now) c.args.users.now c.args.subtrees.now c.loop-subtree.subtree-index
-    c.subtree-item.result c.in_ok-holds.holds c.loop-subtree-test.true c.subtree-item.is c.loop-subtree.invariant c.in_ok-holds.ensures
-    c.if-not-holds.false
-
-pub returns-then-not-holds : goal.returns-then-not-holds
-returns-then-not-holds g c =
-    held_fails (g.H.Hierarchy.state c.args.tree.now) c.args.users.now c.args.subtrees.now c.loop-subtree.subtree-index
-    c.subtree-item.result c.in_ok-holds.holds c.loop-subtree-test.true c.subtree-item.is c.in_ok-holds.ensures c.if-not-holds.true
-
-pub returns : goal.returns
-returns g c =
-    held_all (g.H.Hierarchy.state c.args.tree.now) c.args.users.now c.args.subtrees.now c.loop-subtree.subtree-index
-    (omega (arith, c.loop-subtree-test.false)) c.loop-subtree.invariant
+pub returns-then-is_empty : goal.returns-then-is_empty
+returns-then-is_empty g c =
+    held_none (g.H.Hierarchy.state c.args.tree.now) c.args.users.now c.args.subtrees.now (eqb-true _ 0 (sym c.if-is_empty.ensures))

@@ -117,7 +117,7 @@ pub(super) fn bad_controller<'d>(place: Place, row: &'d Table) -> Option<Found<'
 fn no_controller(elements: &[Value]) -> Option<&str> {
     for element in elements {
         if let Some(text) = element.as_str() {
-            if Controller::from_name(text).is_none() {
+            if Controller::from_format_2(text).is_none() {
                 return Some(text);
             }
         }

@@ -1,5 +1,5 @@
 use Rattle.std.proofs.Common.{◌≡◌, drop}
-use Rattle.cg_cgroup.specs.Files.{all_controllers}
+use Rattle.cg_cgroup.specs.Files.{format_2_controllers}
 use Rattle.cg_tries.specs.Finding.{first_given, control_of}
 use Rattle.cg_tries.proofs.write_tries.first_control.Given as goal
 
@@ -7,4 +7,4 @@ use Rattle.cg_tries.proofs.write_tries.first_control.Given as goal
 abbrev pub invariant-loop-controller : goal.invariant-loop-controller
 invariant-loop-controller g l =
     let change = control_of (g.H.Hierarchy.state l.asker.tree.now) l.asker.user.now l.asker.subtree.now in
-    first_given change (drop l.controller-index all_controllers) ≡ first_given change all_controllers
+    first_given change (drop l.controller-index format_2_controllers) ≡ first_given change format_2_controllers

@@ -15,7 +15,7 @@ use std::test::Fail;
 use test_trees::texts::{DELEGATION, PARENT_DELEGATED};
 
 const MEMORY: ControllerSet = ControllerSet {
-    flags: [false, true, false],
+    flags: [false, false, false, true, false, false, false, false, false],
 };
 
 fn directory(uid: u32) -> Entry {
@@ -50,9 +50,7 @@ fn plain() -> Cgroup {
         max_descendants: limit(0, Limit::Max),
         max_depth: limit(0, Limit::Max),
         files: BroughtFiles::none(),
-        enabled: ControllerSet {
-            flags: [false, false, false],
-        },
+        enabled: ControllerSet::none(),
     }
 }
 
@@ -134,7 +132,7 @@ fn the_delegation_example(rt: HostRuntime) -> Result<(), Fail> {
     let alloc = rt.alloc();
     let tree = read_tree(alloc, DELEGATION)?;
     let all = ControllerSet {
-        flags: [true, true, true],
+        flags: [false, true, false, true, false, true, false, false, false],
     };
     assert_eq!(rt; tree.controllers(), all);
     assert_eq!(rt;

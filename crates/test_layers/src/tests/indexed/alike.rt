@@ -33,7 +33,9 @@ fn answers_on<H: Hierarchy>(tree: &H, path: &Path, len: usize) -> Option<Answers
         has_child: tree.has_child(path, len),
         has_live: tree.has_live(path, len),
         enabled_below: ControllerSet {
-            flags: Controller::ALL.map(|controller| tree.child_enables(path, len, controller)),
+            flags: Controller::ALL.map(|controller| {
+                controller.is_in_format_2() && tree.child_enables(path, len, controller)
+            }),
         },
         count_below: tree.count_below(path, len),
         depth_below: tree.depth_below(path, len),

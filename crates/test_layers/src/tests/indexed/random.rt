@@ -92,7 +92,7 @@ fn control(alloc: Global, at: Path, random: &mut Random) -> Result<Op, PathFault
     for _change in 0..=random.below(3) {
         changes.push(Change {
             on: random.below(3) > 0,
-            controller: random.one_of(&Controller::ALL, Controller::Cpu),
+            controller: random.one_of(&Controller::IN_FORMAT_2, Controller::Cpu),
         })?;
     }
     Ok(Op::Control { at, changes })

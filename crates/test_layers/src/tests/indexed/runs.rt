@@ -18,9 +18,9 @@ use std::process::Abort;
 use std::test::Fail;
 use test_trees::random::Random;
 
-/// All controllers.
+/// The controllers that bring limit files.
 const ALL: ControllerSet = ControllerSet {
-    flags: [true, true, true],
+    flags: [false, true, false, true, false, true, false, false, false],
 };
 
 /// Adds a process at the root, where the root may hold it.

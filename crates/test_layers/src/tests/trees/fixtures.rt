@@ -328,14 +328,14 @@ pub fn end<H: Hierarchy>(tree: &mut H, number: u32) -> Result<bool, Fail> {
     Ok(end_process(tree, Pid::new(number).ok_or("no PID")?))
 }
 
-/// All controllers.
+/// The controllers that texts know.
 pub const ALL: ControllerSet = ControllerSet {
-    flags: [true, true, true],
+    flags: [false, true, false, true, false, true, false, false, false],
 };
 
 /// Memory alone.
 pub const MEMORY: ControllerSet = ControllerSet {
-    flags: [false, true, false],
+    flags: [false, false, false, true, false, false, false, false, false],
 };
 
 /// A tree with a root alone, of these owners, where the root has these controllers.
