@@ -1,14 +1,20 @@
 -- Users of whom a tree says nothing.
-use Rattle.std.proofs.Common.{◌≡◌, ◌∙◌, ℕ, ◌+◌, ◌<◌, Bool, true, false, not, ◌||◌, ◌&&◌, nat_eq, cond, List, [], ◌∷◌, ◌++◌, length, take, get_or, map, Option, Result, Ok, Err, refl, sym, ap, subst, append_assoc, append-nil}
+use Rattle.std.proofs.Common.{◌≡◌, ◌∙◌, ℕ, ◌+◌, ◌<◌, Bool, true, false, not, ◌||◌, ◌&&◌, nat_eq, cond, List, [], ◌∷◌, ◌++◌, length, take, get_or, map, Option, Result, Ok, Err}
+use Rattle.std.proofs.Common.{refl, sym, ap, subst, append_assoc, append-nil, arith}
 use Rattle.std.specs.Prelude.{IfOk, OnOk}
 use Rattle.std.specs.BTreeSet.{contains}
+use Rattle.std.specs.FinMap as finmap
 use Rattle.std.specs.Cmp.{unsigned_tied}
 use Rattle.std.specs.List.{list_any, flat_map}
 use Rattle.std.specs.Ordering.{nat_cmp, eq_by_cmp}
 use Rattle.std.proofs.lemmas.List.{take_more}
+use Rattle.std.proofs.lemmas.List.Folds.{list_any-append}
 use Rattle.std.proofs.lemmas.Grind.{flat_map-append}
 use Rattle.cg_cgroup.specs.Identity.{Identity}
 use Rattle.cg_cgroup.specs.Paths.{Names}
+use Rattle.cg_cgroup.specs.Files.{all_files}
+use Rattle.cg_cgroup.specs.Users.{owns, in_group, has_bit}
+use Rattle.cg_cgroup.specs.declared.cgroup.Cgroup.{Cgroup}
 use Rattle.cg_cgroup.specs.declared.user.Entry.{Entry}
 use Rattle.cg_model.specs.Once.{once}
 use Rattle.cg_model.specs.States.{State}
@@ -16,10 +22,10 @@ use Rattle.cg_format.specs.Readings.{Reading, IsReading}
 use Rattle.cg_cli.specs.Arguments.{user_read}
 use Rattle.cg_cli.specs.Asking.{read_in_turn, named_read, IsKeptOnce}
 use Rattle.cg_cli.specs.Audits.{read_before, users_read, paths_read}
-use Rattle.cg_cli.specs.Known.{AreOfEntries, AreAdded}
+use Rattle.cg_cli.specs.Known.{AreOfEntries, AreAdded, speaks_of}
 use Rattle.cg_cli.specs.May.{tree_read}
 use Rattle.cg_cli.specs.Once.{same_user}
-use Rattle.cg_cli.specs.Strangers.{tree_entries, all_owners, has_uid, has_gid, is_stranger, first_stranger, IsFirstStranger}
+use Rattle.cg_cli.specs.Strangers.{file_entries, entries_of, tree_entries, all_owners, has_uid, has_gid, is_stranger, first_stranger, IsFirstStranger}
 use Rattle.cg_cli.specs.declared.strangers.Known.{Known}
 use Rattle.cg_cli.proofs.ReportLaws.{same_Ok}
 use Rattle.cg_faults.specs.declared.fault.CliFault.{CliFault}
@@ -173,3 +179,93 @@ stranger_is st known of user =
     any_gid : (gids : List ℕ) → list_any (contains nat_cmp known.gids) gids ≡ list_any (has_gid (tree_entries st)) gids
     any_gid [] = refl
     any_gid (gid ∷ gids) = λ i. of.gids gid i || any_gid gids i
+
+-- ---- what speaks of one user
+
+-- either of two, of which the first is asked first
+pub by_first : (a b whole first : Bool) → a || b ≡ whole → first ≡ a → first ≡ true → first ≡ whole
+by_first a b whole first is same holds = holds ∙ ap (λ x. x || b) (sym holds ∙ same) ∙ is
+
+pub by_second : (a b whole first second : Bool) → a || b ≡ whole → first ≡ a → first ≡ false → second ≡ b → second ≡ whole
+by_second a b whole first second is same fails others = others ∙ ap (λ x. x || b) (sym fails ∙ same) ∙ is
+
+swapped : (x y : ℕ) → nat_eq x y ≡ nat_eq y x
+swapped x y = grind arith
+
+-- two pairs of which one holds
+paired : (a b c d : Bool) → (a || b) || (c || d) ≡ (a || c) || (b || d)
+paired true b c d = refl
+paired false true true d = refl
+paired false true false d = refl
+paired false false c d = refl
+
+last_second : (a b c : Bool) → (a || b) || c ≡ (a || c) || b
+last_second true b c = refl
+last_second false true true = refl
+last_second false true false = refl
+last_second false false true = refl
+last_second false false false = refl
+
+any_flat : {A B : Type 0} (test : B → Bool) (f : A → List B) (xs : List A)
+    → list_any test (flat_map f xs) ≡ list_any (λ x. list_any test (f x)) xs
+any_flat test f [] = refl
+any_flat test f (x ∷ xs) = list_any-append test (f x) (flat_map f xs) ∙ ap (λ rest. list_any test (f x) || rest) (any_flat test f xs)
+
+-- of a cgroup the entries that each has, and its limit files
+pub in_cgroup : (cgroup : Cgroup) (user : Identity)
+    → (speaks_of user cgroup.dir || speaks_of user cgroup.procs || speaks_of user cgroup.subtree_control)
+    || list_any (λ file. list_any (speaks_of user) (file_entries cgroup file)) all_files ≡ list_any (speaks_of user) (entries_of cgroup)
+in_cgroup cgroup user =
+    in_turn_of (speaks_of user cgroup.dir) (speaks_of user cgroup.procs) (speaks_of user cgroup.subtree_control)
+    (list_any (λ file. list_any (speaks_of user) (file_entries cgroup file)) all_files)
+    ∙ ap (λ files. speaks_of user cgroup.dir || (speaks_of user cgroup.procs || (speaks_of user cgroup.subtree_control || files)))
+    (sym (any_flat (speaks_of user) (file_entries cgroup) all_files))
+  where
+    in_turn_of : (a b c d : Bool) → (a || b || c) || d ≡ a || (b || (c || d))
+    in_turn_of true b c d = refl
+    in_turn_of false true c d = refl
+    in_turn_of false false c d = refl
+
+-- one of some gids writes an entry as its group, or one of the entries behind it
+gids_more : (entry : Entry) (entries : List Entry) (gids : List ℕ)
+    → list_any (has_gid (entry ∷ entries)) gids
+    ≡ has_bit entry.mode 16 && list_any (λ own. nat_eq own entry.gid) gids || list_any (has_gid entries) gids
+gids_more entry entries gids = by_bit (has_bit entry.mode 16) gids
+  where
+    by_bit : (bit : Bool) (gids : List ℕ)
+        → list_any (λ gid. nat_eq entry.gid gid && bit || has_gid entries gid) gids
+        ≡ bit && list_any (λ own. nat_eq own entry.gid) gids || list_any (has_gid entries) gids
+    by_bit true [] = refl
+    by_bit false [] = refl
+    by_bit true (gid ∷ gids) =
+        let groups = list_any (λ own. nat_eq own entry.gid) gids in
+        let others = list_any (has_gid entries) gids in
+        (λ i. (and_true (nat_eq entry.gid gid) i || has_gid entries gid) || by_bit true gids i)
+        ∙ paired (nat_eq entry.gid gid) (has_gid entries gid) groups others
+        ∙ ap (λ is. (is || groups) || (has_gid entries gid || others)) (swapped entry.gid gid)
+    by_bit false (gid ∷ gids) = (λ i. (and_false (nat_eq entry.gid gid) i || has_gid entries gid) || by_bit false gids i)
+
+-- Some entries speak of a user where their uid owns one of them or one of their gids writes one.
+in_entries : (user : Identity) (entries : List Entry)
+    → list_any (speaks_of user) entries ≡ list_any (λ entry. nat_eq entry.uid user.uid) entries || list_any (has_gid entries) user.gids
+in_entries user [] = none user.gids
+  where
+    none : (gids : List ℕ) → false ≡ list_any (has_gid []) gids
+    none [] = refl
+    none (gid ∷ gids) = none gids
+in_entries user (entry ∷ entries) =
+    let owned = list_any (λ one. nat_eq one.uid user.uid) entries in
+    ap (λ rest. speaks_of user entry || rest) (in_entries user entries)
+    ∙ paired (owns user entry) (has_bit entry.mode 16 && in_group user entry.gid) owned (list_any (has_gid entries) user.gids)
+    ∙ ap (λ groups. (owns user entry || owned) || groups) (sym (gids_more entry entries user.gids))
+
+-- A tree says something of a user where one of its entries or one of its processes does.
+pub in_tree : (st : State) (user : Identity)
+    → list_any (λ row. list_any (speaks_of user) (entries_of row.1)) (finmap.entries st.rows)
+    || list_any (λ row. nat_eq row.1.uid user.uid) (finmap.entries st.live)
+    ≡ has_uid (tree_entries st) (all_owners st) user.uid || list_any (has_gid (tree_entries st)) user.gids
+in_tree st user =
+    (λ i. (sym (any_flat (speaks_of user) (λ row. entries_of row.1) (finmap.entries st.rows)) ∙ in_entries user (tree_entries st)) i
+    || any_owner (λ row. row.1.uid) (finmap.entries st.live) user.uid i)
+    ∙ last_second (list_any (λ entry. nat_eq entry.uid user.uid) (tree_entries st)) (list_any (has_gid (tree_entries st)) user.gids)
+    (list_any (λ owner. nat_eq owner user.uid) (all_owners st))

@@ -1,8 +1,10 @@
 -- How an answer is found: nobody has to believe it.
 -- The uids and gids of which a tree says something.
-use Rattle.std.specs.Prelude.{◌≡◌, ℕ, List, [], ◌++◌}
+use Rattle.std.specs.Prelude.{◌≡◌, ℕ, Bool, ◌&&◌, ◌||◌, List, [], ◌++◌}
 use Rattle.std.specs.Ordering.{nat_cmp}
 use Rattle.std.specs.BTreeSet.{contains}
+use Rattle.cg_cgroup.specs.Identity.{Identity}
+use Rattle.cg_cgroup.specs.Users.{owns, in_group, has_bit}
 use Rattle.cg_cgroup.specs.declared.user.Entry.{Entry}
 use Rattle.cg_cli.specs.Strangers.{has_uid, has_gid}
 use Rattle.cg_cli.specs.declared.strangers.Known.{Known}
@@ -15,3 +17,7 @@ pub record AreOfEntries (known : Known) (entries : List Entry) (owners : List �
 -- those of more entries behind some
 abbrev pub AreAdded : Known → Known → List Entry → Type 0
 AreAdded old new more = (entries : List Entry) → AreOfEntries old entries [] → AreOfEntries new (entries ++ more) []
+
+-- whether an entry speaks of a user: their uid owns it, or one of their gids writes it as its group
+abbrev pub speaks_of : Identity → Entry → Bool
+speaks_of user entry = owns user entry || has_bit entry.mode 16 && in_group user entry.gid

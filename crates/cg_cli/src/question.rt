@@ -63,7 +63,7 @@ pub fn ask<Q: Question, W: Write>(
     let user = read_user(user)?;
     let subtree = read_path(alloc, subtree)?;
     let tree = read_tree(alloc, tree)?;
-    *stranger = if_stranger(alloc, &tree, &user)?;
+    *stranger = if_stranger(&tree, &user);
     let said = question.answer(alloc, &tree, &user, &subtree)?;
     write_said(out, said)
 }

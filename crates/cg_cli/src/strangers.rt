@@ -1,17 +1,20 @@
 //! Users of whom a tree says nothing: most of them were named by mistake.
-ghost use Rattle.std.specs.Prelude.{◌≡◌, ◌||◌, [], ◌∷◌, IfOk, OnOk, not};
+ghost use Rattle.std.specs.Prelude.{◌≡◌, ◌||◌, [], ◌∷◌, IfOk, OnOk, not, nat_eq};
 ghost use Rattle.std.specs.BTreeSet.{contains};
+ghost use Rattle.std.specs.FinMap as finmap;
 ghost use Rattle.std.specs.List.{flat_map, find, list_any};
 ghost use Rattle.std.specs.Option.{option_map};
 ghost use Rattle.std.specs.Ordering.{nat_cmp};
 ghost use Rattle.cg_cgroup.specs.Files.{all_files};
-ghost use Rattle.cg_cli.specs.Strangers.{file_entries, entries_of, tree_entries, all_owners, first_stranger};
-ghost use Rattle.cg_cli.specs.Known.{AreOfEntries, AreAdded};
+ghost use Rattle.cg_cli.specs.Strangers.{file_entries, entries_of, tree_entries, all_owners, is_stranger, first_stranger};
+ghost use Rattle.cg_cli.specs.Known.{AreOfEntries, AreAdded, speaks_of};
 
 use cg_cgroup::cgroup::Cgroup;
 use cg_cgroup::files::LimitFile;
 use cg_cgroup::memory::NoMemory;
+use cg_cgroup::path::Path;
 use cg_cgroup::user::{Entry, User};
+use cg_rows::processes::Processes;
 use cg_rows::rows::Rows;
 use std::alloc::Global;
 use std::collections::BTreeSet;
@@ -126,13 +129,75 @@ fn first_beside(known: &Known, users: &[User]) -> Option<u32>
 }
 
 /// The uid of a user of whom a tree says nothing.
-pub(crate) fn if_stranger(alloc: Global, tree: &Rows, user: &User) -> Result<Option<u32>, NoMemory>
-    ensures { IfOk result (λ stranger. stranger ≡ first_stranger tree.now (user.now ∷ [])) }
+pub(crate) fn if_stranger(tree: &Rows, user: &User) -> Option<u32>
+    ensures { result ≡ first_stranger tree.now (user.now ∷ []) }
 {
-    let known = Known::of(alloc, tree)?;
-    if known.has(user) {
-        Ok(None)
+    if is_known(tree, user) {
+        None
     } else {
-        Ok(Some(user.uid()))
+        Some(user.uid())
     }
+}
+
+/// Whether a tree says something of a user. It goes over the tree up to the first that does, and takes no memory.
+fn is_known(tree: &Rows, user: &User) -> bool
+    ensures { not result ≡ is_stranger tree.now user.now }
+{
+    any_cgroup_speaks(tree.entries(), user) || any_process_of(tree.processes(), user.uid())
+}
+
+/// Whether one of some processes is a uid's.
+fn any_process_of(processes: &Processes, uid: u32) -> bool
+    ensures { result ≡ list_any (λ row. nat_eq row.1.uid uid) (finmap.entries processes.now.live) }
+{
+    processes.iter().any(|(_, process)| process.uid == uid)
+}
+
+/// Whether an entry of one of some cgroups speaks of a user.
+fn any_cgroup_speaks(rows: &[(Path, Cgroup)], user: &User) -> bool
+    ensures { result ≡ list_any (λ row. list_any (speaks_of user.now) (entries_of row.1)) rows.now }
+{
+    rows.iter().any(|row| cgroup_speaks(&row.1, user))
+}
+
+/// Whether an entry of a cgroup does.
+fn cgroup_speaks(cgroup: &Cgroup, user: &User) -> bool
+    ensures { result ≡ list_any (speaks_of user.now) (entries_of cgroup.now) }
+{
+    any_standing_speaks(cgroup, user) || any_file_speaks(cgroup, user)
+}
+
+/// Whether one of the entries that each cgroup has does.
+fn any_standing_speaks(cgroup: &Cgroup, user: &User) -> bool
+    ensures { result ≡ (speaks_of user.now cgroup.now.dir || speaks_of user.now cgroup.now.procs || speaks_of user.now cgroup.now.subtree_control) }
+{
+    speaks_of(&cgroup.dir, user)
+        || speaks_of(&cgroup.procs, user)
+        || speaks_of(&cgroup.subtree_control, user)
+}
+
+/// Whether one of a cgroup's limit files does.
+fn any_file_speaks(cgroup: &Cgroup, user: &User) -> bool
+    ensures { result ≡ list_any (λ file. list_any (speaks_of user.now) (file_entries cgroup.now file)) all_files }
+{
+    LimitFile::ALL
+        .iter()
+        .any(|file| file_speaks(cgroup, *file, user))
+}
+
+/// Whether a limit file does, where it is there.
+fn file_speaks(cgroup: &Cgroup, file: LimitFile, user: &User) -> bool
+    ensures { result ≡ list_any (speaks_of user.now) (file_entries cgroup.now file) }
+{
+    match cgroup.file(file) {
+        Some(held) => speaks_of(&held.entry, user),
+        None => false,
+    }
+}
+
+/// Whether an entry speaks of a user: they own it, or one of their groups writes it.
+fn speaks_of(entry: &Entry, user: &User) -> bool
+    ensures { result ≡ speaks_of user.now entry.now }
+{
+    user.owns(entry) || (entry.mode & 0o020 == 0o020 && user.in_group(entry.gid))
 }

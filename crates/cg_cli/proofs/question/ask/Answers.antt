@@ -1,8 +1,7 @@
-use Rattle.std.proofs.Common.{[], Ok, refl, sym, rules}
+use Rattle.std.proofs.Common.{[], Ok, sym, rules}
 use Rattle.cg_cgroup.specs.Identity.{Identity}
 use Rattle.cg_cgroup.specs.Paths.{Names}
 use Rattle.cg_model.specs.States.{State}
-use Rattle.cg_model.specs.declared.fault.CheckFault.TheVariants.{NoMemory}
 use Rattle.cg_cli.specs.Containment.{asked_report}
 use Rattle.cg_cli.specs.Reports.{Report}
 use Rattle.cg_cli.proofs.Asked.{some_said, said_of_read, fault_said}
@@ -82,18 +81,8 @@ returns-clause-contained g c none st who path of_text of_user of_path =
     IsContained (c.in_ok-said.ensures.contained (said_status _ _ _ _ _ 0 c.write_said.ensures none)) st who path
     (reading_is bytes (Ok st) of_text) of_user of_path
 
-pub returns-in_err-stranger-clause-report : goal.returns-in_err-stranger-clause-report
-returns-in_err-stranger-clause-report g c =
-    let user = c.in_ok-user.user in
-    let path = c.in_ok-subtree.subtree in
-    on_text c.args.tree.now (λ read is.
-    fault_said read c.args.user.uid c.args.user.gids.now c.args.subtree.now (g.Q.Question.says c.args.question.now) user path
-    c.in_ok-tree.tree (sym {a = Ok user} c.in_ok-user.ensures) c.in_ok-subtree.ensures (c.in_ok-tree.ensures.read read is)
-    (c.requires c.in_ok-tree.tree user path) NoMemory (λ other. absurd (other refl)) (g.W.Write.contents c.args.out.now)
-    c.from_residual-in_err-stranger.result c.from_residual-in_err-stranger.ensures.1)
-
 pub returns-clause-stranger : goal.returns-clause-stranger
 returns-clause-stranger g c =
     let user = c.in_ok-user.user in
     alone_said c.args.tree.now c.args.user.uid c.args.user.gids.now user c.in_ok-tree.tree (sym {a = Ok user} c.in_ok-user.ensures)
-    c.in_ok-tree.ensures.read _ c.in_ok-stranger.ensures _
+    c.in_ok-tree.ensures.read _ c.if_stranger.ensures _
