@@ -12,7 +12,6 @@ use Rattle.std.proofs.lemmas.Bool.{and_from}
 use Rattle.std.proofs.lemmas.List.{length-map}
 use Rattle.toml.specs.Data.{Members, table, as_table}
 use Rattle.cg_cgroup.specs.Paths.{Names, path_cmp, same_path}
-use Rattle.cg_cgroup.specs.Files.{is_of_format_2}
 use Rattle.cg_cgroup.specs.declared.cgroup.Cgroup.{Cgroup}
 use Rattle.cg_cgroup.specs.declared.process.Process.{Process}
 use Rattle.cg_cgroup.proofs.PathOrder.{path_cmp_total, path_cmp-IsAntisymmetric, same_path-ties}
@@ -117,19 +116,20 @@ module _ (st : State) (kept : IsKept st) where
   abbrev process_written : ℕ × Process → Members
   process_written e = process_table e.0 e.1
 
-  row_back : is_of_format_2 st.controllers ≡ true → (e : Names × Cgroup) → row_at st e.0 ≡ Some e.1 → IsNamedRow e.0 e.1
+  row_back : IsCarried st → (e : Names × Cgroup) → row_at st e.0 ≡ Some e.1 → IsNamedRow e.0 e.1
       → IsRowOf Two st (row_written e)
-  row_back known e there at =
+  row_back carried e there at =
       let formed = kept.formed.rows e.0 e.1 there in
       record {
         path = e.0;
         cgroup = e.1;
         there = there;
         named = path_back e.0 e.1 at;
-        enabled = enabled_back e.0 e.1 (format_2-row st kept.formed known e.0 e.1 there);
+        enabled = enabled_back e.0 e.1 (format_2-row st kept.formed carried.controllers e.0 e.1 there);
         entries = entry_back e.0 e.1 (enabled_above st e.0) at formed;
         values = value_back e.0 e.1 (enabled_above st e.0) at formed;
         files = files_back e.0 e.1 (enabled_above st e.0) at formed;
+        others = carried.others e.0 e.1 there;
       }
 
   process_back : (e : ℕ × Process) → process_at st e.0 ≡ Some e.1 → IsNamedProcess e.0 e.1 → IsProcessOf st (process_written e)
@@ -165,7 +165,7 @@ module _ (st : State) (kept : IsKept st) where
   pub document_back : IsCarried st → IsDocumentOf st (tree_document st)
   document_back carried =
       let rows =
-      all-both _ _ (λ (e : Names × Cgroup). IsRowOf Two st (row_written e)) (row_back carried.controllers) cgroups
+      all-both _ _ (λ (e : Names × Cgroup). IsRowOf Two st (row_written e)) (row_back carried) cgroups
       (entries_there path_cmp path_cmp_total st.rows) kept.rows in
       let processes =
       all-both _ _ (λ (e : ℕ × Process). IsProcessOf st (process_written e)) process_back live
