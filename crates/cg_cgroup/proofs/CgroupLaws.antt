@@ -1,6 +1,6 @@
 -- What the entries, files and values of a cgroup are after each change, and those of a new cgroup.
 use Rattle.std.proofs.Common.{◌≡◌, ◌≢◌, ℕ, ◌<◌, Bool, true, false, cond, refl, sym, ap, ◌∙◌, nat_eq, arith, eqb-true}
-use Rattle.std.proofs.Common.{List, [], ◌∷◌, length, map, get_or}
+use Rattle.std.proofs.Common.{length, map, get_or}
 use Rattle.std.specs.Prelude.{Option, Some, None, is_some, unwrap_or}
 use Rattle.std.proofs.lemmas.List.{get_or-set_same, get_or-set_other}
 use mathlib.Core.HLevel.{is_prop→PathP}
@@ -94,6 +94,16 @@ same_others old new same =
     λ i. record {
       entries = same i;
       whole = is_prop→PathP (λ j. length (same j) ≡ length all_controllers) (λ j. ℕ_set _ _) new.whole old.whole i;
+    }
+
+-- a row with the same files in place of its own
+pub same_refitted : (row : Cgroup) (files new_files : BroughtFiles) (others new_others : OtherFiles)
+    → new_files.entries ≡ files.entries → new_others.entries ≡ others.entries
+    → record row { files = new_files; others = new_others } ≡ record row { files = files; others = others }
+same_refitted row files new_files others new_others same_files_held same_others_held =
+    λ i. record row {
+      files = same_brought files new_files same_files_held i;
+      others = same_others others new_others same_others_held i;
     }
 
 -- those that a row has, in the order of the controllers

@@ -1,5 +1,5 @@
 -- Sets of controllers, read controller by controller, whichever and however many they are.
-use Rattle.std.proofs.Common.{◌≡◌, ℕ, ◌<◌, Bool, true, false, not, ◌&&◌, ◌||◌, cond, refl, sym, ap, subst, ◌∙◌, nat_eq, arith, eqb-true, true≢false}
+use Rattle.std.proofs.Common.{◌≡◌, ℕ, ◌<◌, Bool, true, false, not, ◌||◌, cond, refl, sym, ap, subst, ◌∙◌, arith, eqb-true, true≢false}
 use Rattle.std.proofs.Common.{List, [], ◌∷◌, length, map, get_or, zero, suc}
 use Rattle.std.specs.Prelude.{slice_set}
 use Rattle.std.proofs.lemmas.Bool.{and_parts, and_from}
