@@ -12,7 +12,6 @@ use Rattle.cg_model.specs.Answers.{answer}
 use Rattle.cg_model.specs.AllAnswers.{all_answers}
 use Rattle.cg_model.specs.declared.answer.Answer.{Answer}
 use Rattle.cg_model.specs.declared.answer.AllAnswer.{AllAnswer}
-use Rattle.cg_model.specs.declared.answer.AllAnswer.TheVariants as all
 
 -- Own: the root isn't asked about, nor a cgroup that isn't there.
 abbrev pub subtree_faults : State → Names → List CheckFault

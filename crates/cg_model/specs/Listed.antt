@@ -7,7 +7,6 @@ use Rattle.cg_model.specs.States.{State}
 use Rattle.cg_model.specs.Answers.{answer}
 use Rattle.cg_model.specs.declared.answer.Answer.{Answer}
 use Rattle.cg_model.specs.declared.answer.Answer.TheVariants.{Contained, Escapes, Unsettled}
-use Rattle.cg_model.specs.declared.answer.AllAnswer.TheVariants as all
 
 -- A pair that isn't contained, and its answer.
 pub record Listed : Type 0 where

@@ -7,7 +7,7 @@ use Rattle.cg_model.specs.States.{State}
 use Rattle.cg_model.specs.Steps.{after}
 use Rattle.cg_model.specs.Limits.{limits_in}
 use Rattle.cg_model.specs.declared.operation.Op.{Op}
-use Rattle.cg_model.specs.Verdicts.{broken_since, or_later, verdict}
+use Rattle.cg_model.specs.Verdicts.{broken_since, or_later}
 use Rattle.cg_model.specs.declared.verdict.Clause.{Clause}
 use Rattle.cg_model.specs.declared.verdict.Verdict.{Verdict}
 use Rattle.cg_model.specs.declared.verdict.Verdict.TheVariants.{Kept, Broken}
