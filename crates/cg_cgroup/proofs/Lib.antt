@@ -9,6 +9,7 @@ pub mod Options
 pub mod PathAt
 pub mod PathLaws
 mod Places
+pub mod Mapped
 pub mod CgroupLaws
 pub mod AllFiles
 pub mod NameLaws

@@ -2,5 +2,6 @@ mod Telling
 mod Holding
 mod Within
 mod Untold
+mod Told
 mod Meeting
 mod Placing

@@ -26,7 +26,7 @@ use Rattle.cg_explain.specs.declared.second.Growing.TheVariants.{Spared as Spare
 use Rattle.cg_explain.specs.declared.second.Place.{Place}
 use Rattle.cg_explain.specs.declared.second.Asked.{Asked}
 use Rattle.cg_explain.specs.declared.second.Asked.TheVariants.{Files, Shut}
-use Rattle.cg_explain.specs.SecondRow.{why_stays, why_control, control_asked, is_told, place_with, place_asked, spares_files, second_row_asked, is_met}
+use Rattle.cg_explain.specs.SecondRow.{why_stays, why_control, control_asked, is_told, controls_asked, place_with, place_asked, spares_files, second_row_asked, is_met}
 
 some-is : {A : Type 0} (b : Bool) (x : A) → is_some (cond b (Some x) None) ≡ b
 some-is true x = refl
@@ -83,7 +83,7 @@ module _ (st : State) (users : List Identity) (subtree : Names) where
   -- what is asked behind that it stays, and what the row tests then
   abbrev asked_behind : Bool
   asked_behind =
-      list_all is_met (map (control_asked st users subtree) (filter (is_told st) all_controllers)
+      list_all is_met (controls_asked st users subtree
       ++ Files (spares_files st users subtree)
       ∷ flat_map (place_asked st users subtree) (paths_of st))
 
@@ -130,6 +130,7 @@ module _ (st : State) (users : List Identity) (subtree : Names) where
 
     by_stay : ((greatest st users).stays subtree ≡ true) ⊎ ((greatest st users).stays subtree ≡ false)
         → ((is_some (why_stays st users subtree) && asked_behind) && fits) ≡ ((greatest st users).stays subtree && tested_behind)
+    unfolding controls_asked
     by_stay (inl stays) =
         (λ i. (stay-is i && controls-are stays all_controllers
         (Files (spares_files st users subtree) ∷ flat_map (place_asked st users subtree) (paths_of st))

@@ -61,6 +61,10 @@ control_asked st users subtree controller = Control controller (why_control st u
 abbrev pub is_told : State → Controller → Bool
 is_told st controller = is_in_format_2 controller || enables st.controllers controller
 
+-- each of them
+unfoldable pub controls_asked : State → List Identity → Names → List Asked
+controls_asked st users subtree = map (control_asked st users subtree) (filter (is_told st) all_controllers)
+
 abbrev pub spares_files : State → List Identity → Names → Bool
 spares_files st users subtree = list_all (λ file. not (is_reached st users subtree (File file))) all_files
 
@@ -68,7 +72,7 @@ spares_files st users subtree = list_all (λ file. not (is_reached st users subt
 abbrev pub second_row_asked : State → List Identity → Names → List Asked
 second_row_asked st users subtree =
     Stays (why_stays st users subtree)
-    ∷ map (control_asked st users subtree) (filter (is_told st) all_controllers)
+    ∷ controls_asked st users subtree
     ++ Files (spares_files st users subtree)
     ∷ flat_map (place_asked st users subtree) (paths_of st)
 

@@ -1,8 +1,7 @@
 //! What the second row of guards asks of a subtree, and by what it is so.
-ghost use Rattle.std.specs.Prelude.{◌≡◌, ◌<◌, ◌++◌, false, length, map, slice_index_or, [], IfOk, OnOk};
-ghost use Rattle.std.specs.List.{flat_map, filter};
+ghost use Rattle.std.specs.Prelude.{◌≡◌, ◌<◌, ◌++◌, false, length, slice_index_or, [], IfOk, OnOk};
+ghost use Rattle.std.specs.List.{flat_map};
 ghost use Rattle.cg_cgroup.specs.Paths.{is_root};
-ghost use Rattle.cg_cgroup.specs.Files.{all_controllers};
 ghost use Rattle.cg_model.specs.WellFormed.{IsWellFormed};
 ghost use Rattle.cg_model.specs.Guards.{IsSubtree};
 ghost use Rattle.cg_second.specs.Greatest.{greatest};
@@ -10,7 +9,7 @@ ghost use Rattle.cg_second.specs.Judged.{is_full_to, takes_none, grows_none};
 ghost use Rattle.cg_second.specs.Lasting.{is_reached};
 ghost use Rattle.cg_second.specs.Counts.{IsSurvey};
 ghost use Rattle.cg_second.specs.Exposed.{is_passed_to};
-ghost use Rattle.cg_explain.specs.SecondRow.{is_met, why_stays, why_control, why_takes, why_grows, place_with, place_asked, control_asked, is_told, second_row_asked};
+ghost use Rattle.cg_explain.specs.SecondRow.{is_met, why_stays, why_control, why_takes, why_grows, place_with, place_asked, controls_asked, is_told, second_row_asked};
 
 use cg_cgroup::files::{Controller, EntryName};
 use cg_cgroup::memory::NoMemory;
@@ -143,9 +142,7 @@ fn push_controls<H: Hierarchy>(
 ) -> Result<(), NoMemory>
     requires survey { IsSurvey (H.state survey.now.tree.now) survey.now.users.now survey.now.paths.items survey.now.ends.items survey.now.kept.items survey.now.fixed.items }
     requires not_root { is_root subtree.now ≡ false }
-    ensures { OnOk result (row.new.items ≡ row.old.items
-        ++ map (control_asked (H.state survey.now.tree.now) survey.now.users.now subtree.now)
-        (filter (is_told (H.state survey.now.tree.now)) all_controllers)) }
+    ensures { OnOk result (row.new.items ≡ row.old.items ++ controls_asked (H.state survey.now.tree.now) survey.now.users.now subtree.now) }
 {
     for controller in Controller::ALL {
         if is_told(survey, controller) {

@@ -8,6 +8,7 @@ pub mod FormedParts
 pub mod FormedReshaped
 pub mod FormedTree
 pub mod FormedEnabled
+pub mod RootControllers
 pub mod StateEntries
 pub mod FormedLaws
 pub mod TreeLaws

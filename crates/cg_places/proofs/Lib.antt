@@ -9,4 +9,3 @@ pub mod Puts
 pub mod Listed
 pub mod Depths
 pub mod Seen
-pub mod Mapped

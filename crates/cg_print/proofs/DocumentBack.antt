@@ -12,13 +12,16 @@ use Rattle.std.proofs.lemmas.Bool.{and_from}
 use Rattle.std.proofs.lemmas.List.{length-map}
 use Rattle.toml.specs.Data.{Members, table, as_table}
 use Rattle.cg_cgroup.specs.Paths.{Names, path_cmp, same_path}
+use Rattle.cg_cgroup.specs.Files.{is_of_format_2}
 use Rattle.cg_cgroup.specs.declared.cgroup.Cgroup.{Cgroup}
 use Rattle.cg_cgroup.specs.declared.process.Process.{Process}
+use Rattle.cg_cgroup.proofs.ControllerLaws.{enables-format_2, format_2-each}
 use Rattle.cg_cgroup.proofs.PathOrder.{path_cmp_total, path_cmp-IsAntisymmetric, same_path-ties}
 use Rattle.cg_model.specs.States.{State, row_at, process_at}
 use Rattle.cg_model.specs.WellFormed.{enabled_above}
 use Rattle.cg_model.proofs.FormedParts.{may_hold-row}
 use Rattle.cg_model.proofs.Lists.{all-both, all-each}
+use Rattle.cg_model.proofs.RootControllers.{root_has}
 use Rattle.cg_model.proofs.MapLaws.{first_of_both, second_of_both, is_less}
 use Rattle.cg_format.specs.Form.{Key, is_table, row_keys, live_keys}
 use Rattle.cg_format.specs.Said.{tables_at, path_said, has_path, pid_said}
@@ -27,7 +30,6 @@ use Rattle.cg_format.specs.TreeTexts.{longest_text, document_of}
 use Rattle.cg_format.specs.declared.format.Format.TheVariants.{Two}
 use Rattle.cg_print.specs.Documents.{cgroup_table, process_table, tree_document}
 use Rattle.cg_print.specs.Carried.{IsNamedRow, IsNamedProcess, IsKept, IsCarried}
-use Rattle.cg_print.proofs.KnownRows.{format_2-row}
 use Rattle.cg_print.proofs.Entries.{entries_there, held_there}
 use Rattle.cg_print.proofs.FormBack.{cgroup_in_form, process_in_form, top_in_form}
 use Rattle.cg_print.proofs.SaidBack.{path_back, enabled_back, entry_back, value_back, files_back, pid_back, uid_back, place_back, format_back, controllers_back, cgroups_back, processes_back}
@@ -116,6 +118,13 @@ module _ (st : State) (kept : IsKept st) where
   abbrev process_written : ℕ × Process → Members
   process_written e = process_table e.0 e.1
 
+  -- a cgroup enables no controller that texts don't know, where the root has none
+  row_known : is_of_format_2 st.controllers ≡ true → (path : Names) (row : Cgroup) → row_at st path ≡ Some row
+      → is_of_format_2 row.enabled ≡ true
+  row_known known path row there =
+      format_2-each row.enabled (λ controller on.
+      enables-format_2 st.controllers known controller (root_has st kept.formed controller path row there on))
+
   row_back : IsCarried st → (e : Names × Cgroup) → row_at st e.0 ≡ Some e.1 → IsNamedRow e.0 e.1
       → IsRowOf Two st (row_written e)
   row_back carried e there at =
@@ -125,7 +134,7 @@ module _ (st : State) (kept : IsKept st) where
         cgroup = e.1;
         there = there;
         named = path_back e.0 e.1 at;
-        enabled = enabled_back e.0 e.1 (format_2-row st kept.formed carried.controllers e.0 e.1 there);
+        enabled = enabled_back e.0 e.1 (row_known carried.controllers e.0 e.1 there);
         entries = entry_back e.0 e.1 (enabled_above st e.0) at formed;
         values = value_back e.0 e.1 (enabled_above st e.0) at formed;
         files = files_back e.0 e.1 (enabled_above st e.0) at formed;

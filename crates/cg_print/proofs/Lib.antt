@@ -6,6 +6,5 @@ pub mod ReadCarried
 pub mod FormBack
 mod ControllersBack
 pub mod SaidBack
-mod KnownRows
 pub mod DocumentBack
 pub mod Spelling

@@ -1,5 +1,5 @@
 -- The least level at which a limit lets nobody make a cgroup, from one cgroup to the next in the order of their paths.
-use Rattle.std.proofs.Common.{◌≡◌, ℕ, zero, suc, ◌+◌, ◌-◌, ◌≤◌, ◌<◌, Bool, true, false, not, ◌&&◌, ◌||◌, List, [], ◌∷◌, ◌++◌, length, take, get_or, min, refl, sym, ap, ◌∙◌, true≢false, ⊎_elim, arith, take_all, take-take, lt-ltb, length-take-le}
+use Rattle.std.proofs.Common.{◌≡◌, ℕ, zero, suc, ◌+◌, ◌-◌, ◌≤◌, ◌<◌, Bool, true, false, not, ◌&&◌, ◌||◌, List, [], ◌∷◌, ◌++◌, length, take, get_or, min, refl, sym, ap, ◌∙◌, ⊎_elim, arith, take_all, take-take, lt-ltb, length-take-le}
 use Rattle.std.specs.Prelude.{nat_le, Option, Some, None}
 use Rattle.std.proofs.lemmas.Bool.{and_parts, and_from, or_left, or_right, cases_lt, ltb-true, le-leb, lt-leb}
 use Rattle.std.proofs.lemmas.List.{get_or_append_left, get_or_at, get_or-take, length-append}

@@ -13,7 +13,6 @@ use Rattle.cg_cgroup.specs.Paths.{Names, path_cmp, same_path, is_root, parent}
 use Rattle.cg_cgroup.specs.Files.{all_files, no_controllers, is_within, stands_under}
 use Rattle.cg_cgroup.specs.declared.controllers.ControllerSet.{ControllerSet}
 use Rattle.cg_cgroup.specs.declared.files.EntryName.TheVariants.{File}
-use Rattle.cg_cgroup.specs.declared.files.LimitFile.{LimitFile}
 use Rattle.cg_cgroup.proofs.PathOrder.{path_cmp_total, same_path-ties, same_path-is, same_path_refl, same_path_comm}
 use Rattle.cg_cgroup.proofs.PathParents.{inside-take, is_root-is, parent-other}
 use Rattle.cg_cgroup.proofs.PathLaws.{inside-first}

@@ -1,5 +1,5 @@
 -- The reader's processes are those of their tables, and its fault is the first of the clauses on them.
-use Rattle.std.proofs.Common.{◌≡◌, ℕ, ◌+◌, ◌≤◌, Bool, true, false, not, cond, ◌||◌, List, [], ◌∷◌, ◌++◌, length, take, map as map_list, codes, Option, Some, None, is_some, option_map, option_and_then, refl, sym, ap, subst, ◌∙◌, true≢false, arith}
+use Rattle.std.proofs.Common.{◌≡◌, ℕ, ◌+◌, ◌≤◌, Bool, true, false, cond, ◌||◌, List, [], ◌∷◌, ◌++◌, length, take, map as map_list, codes, Option, Some, None, is_some, option_map, option_and_then, refl, sym, ap, subst, ◌∙◌, true≢false, arith}
 use Rattle.std.specs.Prelude.{find, filter_map, nat_eq}
 use Rattle.std.specs.List.{list_all, list_any}
 use Rattle.std.specs.Map.{lookup}
@@ -85,11 +85,9 @@ module _ (tables : List Members) (cgroups : map.FinMap path_cmp Cgroup) (among :
       (sym (among.enabled at))
 
 -- below the root no process is where something is enabled
-pub barred_place : (root nothing : Bool) (place : Place) → not root ≡ true → not nothing ≡ true
+pub barred_place : (root nothing : Bool) (place : Place) → root ≡ false → nothing ≡ false
     → first (unless (root || nothing) (InternalProcess place)) ≡ Some (InternalProcess place)
-barred_place true nothing place below more = absurd (true≢false (sym below))
-barred_place false true place below more = absurd (true≢false (sym more))
-barred_place false false place below more = refl
+barred_place root nothing place below more = λ i. first (unless (below i || more i) (InternalProcess place))
 
 -- what a look-up of all names of a path gives
 pub got_whole : {X : Type 0} (cgroups : map.FinMap path_cmp X) (at : Names) (depth : ℕ) (found : Option X)

@@ -5,7 +5,7 @@ use Rattle.cg_cgroup.specs.Files.{all_controllers}
 use Rattle.cg_cgroup.specs.declared.files.Controller.TheVariants.{Cpu}
 use Rattle.cg_places.specs.Nodes.{uses_then, uses_after}
 use Rattle.cg_places.specs.declared.uses.Uses.{Uses}
-use Rattle.cg_places.proofs.Mapped.{mapped}
+use Rattle.cg_cgroup.proofs.Mapped.{mapped}
 use Rattle.cg_places.proofs.uses.Uses.after.Goals as goal
 
 same_uses : (uses other : Uses) → uses.counts ≡ other.counts → uses ≡ other

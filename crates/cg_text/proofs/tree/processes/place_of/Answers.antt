@@ -1,4 +1,4 @@
-use Rattle.std.proofs.Common.{not, sym, ap, ◌∙◌}
+use Rattle.std.proofs.Common.{sym, ap, ◌∙◌}
 use Rattle.std.specs.Option.{option_copied}
 use Rattle.toml.specs.View.{table_view}
 use Rattle.cg_text.proofs.RowLaws.{passed_on}
@@ -22,5 +22,4 @@ returns-then-not-is_empty c = λ tables among other.
     at_place tables c.args.cgroups.now among c.args.place (table_view c.args.row.now) c.in_ok-at.at c.in_ok-at.ensures.1
     ∙ ap (place_fault c.args.place c.in_ok-at.at) (got_whole c.args.cgroups.now c.in_ok-at.at c.depth.result
     (option_copied c.get.result) c.get.ensures c.depth.ensures.depth ∙ ap option_copied c.in-Some.is)
-    ∙ barred_place _ _ c.args.place (ap not (sym c.is_root.ensures) ∙ c.if-not-is_root.true)
-    (ap not (sym c.is_empty.ensures) ∙ c.if-not-is_empty.true)
+    ∙ barred_place _ _ c.args.place (sym c.is_root.ensures ∙ c.if-not-is_root.true) (sym c.is_empty.ensures ∙ c.if-not-is_empty.true)
