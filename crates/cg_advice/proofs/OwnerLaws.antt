@@ -2,9 +2,10 @@
 use Rattle.std.proofs.Common.{◌≡◌, ℕ, ◌≤◌, Bool, true, false, cond, ◌&&◌, refl, sym, ap, ◌∙◌, subst, Option, Some, None, is_some, option_map, option_and_then}
 use Rattle.cg_cgroup.specs.Paths.{Names, same_path}
 use Rattle.cg_cgroup.specs.Files.{same_entry, accepts}
-use Rattle.cg_cgroup.specs.Cgroups.{file_of, entry_in, value_in}
+use Rattle.cg_cgroup.specs.Cgroups.{file_of, other_in, entry_in, value_in}
 use Rattle.cg_cgroup.specs.declared.user.Entry.{Entry}
 use Rattle.cg_cgroup.specs.declared.controllers.ControllerSet.{ControllerSet}
+use Rattle.cg_cgroup.specs.declared.files.Controller.{Controller}
 use Rattle.cg_cgroup.specs.declared.files.LimitFile.{LimitFile}
 use Rattle.cg_cgroup.specs.declared.files.EntryName.{EntryName}
 use Rattle.cg_cgroup.specs.declared.files.EntryName.TheVariants.{Dir, Procs, SubtreeControl, File}
@@ -12,7 +13,7 @@ use Rattle.cg_cgroup.specs.declared.files.LimitFile.TheVariants.{MaxDescendants}
 use Rattle.cg_cgroup.specs.declared.cgroup.LimitEntry.{LimitEntry}
 use Rattle.cg_cgroup.specs.declared.cgroup.Cgroup.{Cgroup}
 use Rattle.cg_cgroup.proofs.Options.{mapped_from, is_some-mapped}
-use Rattle.cg_cgroup.proofs.CgroupLaws.{file_of-with_file, rest-with_file}
+use Rattle.cg_cgroup.proofs.CgroupLaws.{file_of-with_file, other_in-with_file, rest-with_file}
 use Rattle.cg_cgroup.proofs.PathOrder.{path_cmp_total}
 use Rattle.cg_model.specs.States.{State, row_at, entry_at, value_at, paths_of}
 use Rattle.cg_model.specs.WellFormed.{IsFormedRow, IsWellFormed, enabled_at}
@@ -46,6 +47,11 @@ module _ (uid gid : ℕ) (row : Cgroup) where
   file_of-with_owner_in Procs MaxDescendants = refl
   file_of-with_owner_in SubtreeControl MaxDescendants = refl
   file_of-with_owner_in name file = refl
+
+  other_in-with_owner_in : (name : EntryName) (controller : Controller)
+      → other_in (with_owner_in name uid gid row) controller ≡ other_in row controller
+  other_in-with_owner_in (File file) controller = other_in-with_file file (with_file_owned_by uid gid) row controller
+  other_in-with_owner_in name controller = refl
 
   enabled-with_owner_in : (name : EntryName) → (with_owner_in name uid gid row).enabled ≡ row.enabled
   enabled-with_owner_in (File file) = (rest-with_file file (with_file_owned_by uid gid) row).enabled
@@ -82,6 +88,7 @@ formed_row-with_owner_in : (above : ControllerSet) (name : EntryName) (uid gid :
 formed_row-with_owner_in above name uid gid row formed = record {
   files = λ file. ap is_some (file_of-with_owner_in uid gid row name file)
       ∙ is_some-changed (same_entry name (File file)) (with_file_owned_by uid gid) (file_of row file) ∙ formed.files file;
+  others = λ controller. ap is_some (other_in-with_owner_in uid gid row name controller) ∙ formed.others controller;
   values = λ file held is.
       of_changed (λ (x : LimitEntry). accepts file x.value ≡ true) (same_entry name (File file)) (with_file_owned_by uid gid)
       (file_of row file)

@@ -8,9 +8,13 @@ use native.Mathlib.Nat.{ℕ_set}
 use Rattle.std.specs.Option.{option_map}
 use Rattle.std.proofs.lemmas.Option.{same_Some}
 use Rattle.cg_cgroup.specs.Identity.{Identity}
-use Rattle.cg_cgroup.specs.Files.{all_files, brought_files, kind_of, place_of, accepts, default_value, stands_under, same_file, same_entry}
-use Rattle.cg_cgroup.specs.Cgroups.{held_at, with_held, file_of, entry_in, value_in, with_file, with_value_of, with_value_in, with_mode_of, with_file_mode_of, with_mode_in, file_made_by, refitted, with_files_of, cgroup_made_by}
+use Rattle.cg_cgroup.specs.Files.{all_files, all_controllers, controller_kind, brought_files, kind_of, place_of, accepts, default_value, enables, stands_under, same_file, same_entry}
+use Rattle.cg_cgroup.specs.Users.{entry_made_by}
+use Rattle.cg_cgroup.specs.Cgroups.{held_at, with_held, file_of, other_in, entry_in, value_in, with_file, with_value_of, with_value_in, with_mode_of, with_file_mode_of, with_mode_in, file_made_by, refitted, refitted_other, others_under, with_files_of, cgroup_made_by}
+use Rattle.cg_cgroup.specs.declared.user.Entry.{Entry}
 use Rattle.cg_cgroup.specs.declared.files.Limit.{Limit}
+use Rattle.cg_cgroup.specs.declared.files.Controller.{Controller}
+use Rattle.cg_cgroup.specs.declared.files.Controller.TheVariants.{Cpu}
 use Rattle.cg_cgroup.specs.declared.controllers.ControllerSet.{ControllerSet}
 use Rattle.cg_cgroup.specs.declared.files.LimitFile.{LimitFile}
 use Rattle.cg_cgroup.specs.declared.files.LimitFile.TheVariants.{MaxDescendants, MaxDepth, CpuWeight}
@@ -18,8 +22,10 @@ use Rattle.cg_cgroup.specs.declared.files.EntryName.{EntryName}
 use Rattle.cg_cgroup.specs.declared.files.EntryName.TheVariants.{Dir, Procs, SubtreeControl, File}
 use Rattle.cg_cgroup.specs.declared.cgroup.LimitEntry.{LimitEntry}
 use Rattle.cg_cgroup.specs.declared.brought.BroughtFiles.{BroughtFiles}
+use Rattle.cg_cgroup.specs.declared.others.OtherFiles.{OtherFiles}
 use Rattle.cg_cgroup.specs.declared.cgroup.Cgroup.{Cgroup}
 use Rattle.cg_cgroup.proofs.Places.{numbers, held_all}
+use Rattle.cg_cgroup.proofs.ControllerLaws.{mapped_at}
 
 -- ---- names
 
@@ -81,6 +87,56 @@ entries_are row =
     ap (λ count. map (λ place. get_or row.files.entries place None) (numbers count)) (sym row.files.whole)
     ∙ held_all row.files.entries None
 
+-- ---- the other files that controllers bring
+
+pub same_others : (old new : OtherFiles) → new.entries ≡ old.entries → new ≡ old
+same_others old new same =
+    λ i. record {
+      entries = same i;
+      whole = is_prop→PathP (λ j. length (same j) ≡ length all_controllers) (λ j. ℕ_set _ _) new.whole old.whole i;
+    }
+
+-- a row with the same files in place of its own
+pub same_refitted : (row : Cgroup) (files new_files : BroughtFiles) (others new_others : OtherFiles)
+    → new_files.entries ≡ files.entries → new_others.entries ≡ others.entries
+    → record row { files = new_files; others = new_others } ≡ record row { files = files; others = others }
+same_refitted row files new_files others new_others same_files_held same_others_held =
+    λ i. record row {
+      files = same_brought files new_files same_files_held i;
+      others = same_others others new_others same_others_held i;
+    }
+
+-- those that a row has, in the order of the controllers
+others_are : (row : Cgroup) → map (other_in row) all_controllers ≡ row.others.entries
+others_are row =
+    ap (λ count. map (λ n. get_or row.others.entries n None) (numbers count)) (sym row.others.whole)
+    ∙ held_all row.others.entries None
+
+is_some-cond : {A : Type 0} (b : Bool) (x : A) → is_some (cond b (Some x) None) ≡ b
+is_some-cond true x = refl
+is_some-cond false x = refl
+
+-- those below a cgroup that enables these, where all have one entry
+pub other_in-under : (enabled : ControllerSet) (entry : Entry) (row : Cgroup) → row.others ≡ others_under enabled entry
+    → (controller : Controller) → other_in row controller ≡ cond (enables enabled controller) (Some entry) None
+other_in-under enabled entry row is controller =
+    ap (λ (others : OtherFiles). get_or others.entries (controller_kind controller).number None) is
+    ∙ mapped_at (λ controller. cond (enables enabled controller) (Some entry) None) None controller
+
+pub stands-under : (enabled : ControllerSet) (entry : Entry) (row : Cgroup) → row.others ≡ others_under enabled entry
+    → (controller : Controller) → is_some (other_in row controller) ≡ enables enabled controller
+stands-under enabled entry row is controller =
+    ap is_some (other_in-under enabled entry row is controller) ∙ is_some-cond (enables enabled controller) entry
+
+some_one : {A : Type 0} (b : Bool) (x y : A) → cond b (Some x) None ≡ Some y → y ≡ x
+some_one true x y h = sym (same_Some x y h)
+some_one false x y h = cc
+
+pub entry-under : (enabled : ControllerSet) (entry : Entry) (row : Cgroup) → row.others ≡ others_under enabled entry
+    → (controller : Controller) (other : Entry) → other_in row controller ≡ Some other → other ≡ entry
+entry-under enabled entry row is controller other has =
+    some_one (enables enabled controller) entry other (sym (other_in-under enabled entry row is controller) ∙ has)
+
 -- ---- one limit file changed
 
 pub file_of-with_file : (file : LimitFile) (f : LimitEntry → LimitEntry) (row : Cgroup) (other : LimitFile)
@@ -105,11 +161,17 @@ pub record SameRest (old new : Cgroup) : Type 0 where
   pub dir : new.dir ≡ old.dir
   pub procs : new.procs ≡ old.procs
   pub subtree_control : new.subtree_control ≡ old.subtree_control
+  pub freeze : new.freeze ≡ old.freeze
   pub enabled : new.enabled ≡ old.enabled
 
 pub rest-with_file : (file : LimitFile) (f : LimitEntry → LimitEntry) (row : Cgroup) → SameRest row (with_file file f row)
-rest-with_file MaxDescendants f row = record { dir = refl; procs = refl; subtree_control = refl; enabled = refl }
-rest-with_file file f row = record { dir = refl; procs = refl; subtree_control = refl; enabled = refl }
+rest-with_file MaxDescendants f row = record { dir = refl; procs = refl; subtree_control = refl; freeze = refl; enabled = refl }
+rest-with_file file f row = record { dir = refl; procs = refl; subtree_control = refl; freeze = refl; enabled = refl }
+
+pub other_in-with_file : (file : LimitFile) (f : LimitEntry → LimitEntry) (row : Cgroup) (controller : Controller)
+    → other_in (with_file file f row) controller ≡ other_in row controller
+other_in-with_file MaxDescendants f row controller = refl
+other_in-with_file file f row controller = refl
 
 entry_part : (b : Bool) (f : LimitEntry → LimitEntry) (o : Option LimitEntry) → ((x : LimitEntry) → (f x).entry ≡ x.entry)
     → option_map (λ x. x.entry) (cond b (option_map f o) o) ≡ option_map (λ x. x.entry) o
@@ -124,6 +186,10 @@ file_of-with_value_in file value row other = file_of-with_file file (with_value_
 
 pub enabled-with_value_in : (file : LimitFile) (value : Limit) (row : Cgroup) → (with_value_in file value row).enabled ≡ row.enabled
 enabled-with_value_in file value row = (rest-with_file file (with_value_of value) row).enabled
+
+pub other_in-with_value_in : (file : LimitFile) (value : Limit) (row : Cgroup) (controller : Controller)
+    → other_in (with_value_in file value row) controller ≡ other_in row controller
+other_in-with_value_in file value row controller = other_in-with_file file (with_value_of value) row controller
 
 pub entry_in-with_value_in : (file : LimitFile) (value : Limit) (row : Cgroup) (name : EntryName)
     → entry_in (with_value_in file value row) name ≡ entry_in row name
@@ -174,6 +240,11 @@ pub enabled-with_mode_in : (name : EntryName) (mode : ℕ) (row : Cgroup) → (w
 enabled-with_mode_in (File file) mode row = (rest-with_file file (with_file_mode_of mode) row).enabled
 enabled-with_mode_in name mode row = refl
 
+pub other_in-with_mode_in : (name : EntryName) (mode : ℕ) (row : Cgroup) (controller : Controller)
+    → other_in (with_mode_in name mode row) controller ≡ other_in row controller
+other_in-with_mode_in (File file) mode row controller = other_in-with_file file (with_file_mode_of mode) row controller
+other_in-with_mode_in name mode row controller = refl
+
 pub value_in-with_mode_in : (name : EntryName) (mode : ℕ) (row : Cgroup) (file : LimitFile)
     → value_in (with_mode_in name mode row) file ≡ value_in row file
 value_in-with_mode_in name mode row file =
@@ -201,10 +272,6 @@ pub file_of-with_files_of : (enabled : ControllerSet) (user : Identity) (row : C
 file_of-with_files_of enabled user row MaxDescendants = refl
 file_of-with_files_of enabled user row file = refl
 
-is_some-cond : {A : Type 0} (b : Bool) (x : A) → is_some (cond b (Some x) None) ≡ b
-is_some-cond true x = refl
-is_some-cond false x = refl
-
 -- limit files stand exactly where they belong
 pub stands-with_files_of : (enabled : ControllerSet) (user : Identity) (row : Cgroup) (file : LimitFile)
     → is_some (file_of (with_files_of enabled user row) file) ≡ stands_under enabled file
@@ -224,30 +291,59 @@ pub same-with_files_of : (enabled : ControllerSet) (user : Identity) (row : Cgro
 same-with_files_of enabled user row file h =
     file_of-with_files_of enabled user row file ∙ stays (file_of row file) (stands_under enabled file) (file_made_by user file) h
 
+pub other_in-with_files_of : (enabled : ControllerSet) (user : Identity) (row : Cgroup) (controller : Controller)
+    → other_in (with_files_of enabled user row) controller ≡ refitted_other enabled user controller (other_in row controller)
+other_in-with_files_of enabled user row controller =
+    mapped_at (λ controller. refitted_other enabled user controller (other_in row controller)) None controller
+
+-- the other files stand exactly where they belong
+pub stands-other : (enabled : ControllerSet) (user : Identity) (row : Cgroup) (controller : Controller)
+    → is_some (other_in (with_files_of enabled user row) controller) ≡ enables enabled controller
+stands-other enabled user row controller =
+    ap is_some (other_in-with_files_of enabled user row controller)
+    ∙ is_some-cond (enables enabled controller) (unwrap_or (other_in row controller) (entry_made_by user 420))
+
+-- those of a row that already stand where they belong all stay
+pub same-other : (enabled : ControllerSet) (user : Identity) (row : Cgroup) (controller : Controller)
+    → is_some (other_in row controller) ≡ enables enabled controller
+    → other_in (with_files_of enabled user row) controller ≡ other_in row controller
+same-other enabled user row controller h =
+    other_in-with_files_of enabled user row controller
+    ∙ stays (other_in row controller) (enables enabled controller) (entry_made_by user 420) h
+
 -- rows with the same entries, files and controllers are one
-pub same_cgroup : (old new : Cgroup) → SameRest old new → ((file : LimitFile) → file_of new file ≡ file_of old file) → new ≡ old
-same_cgroup old new rest files =
+pub same_cgroup : (old new : Cgroup) → SameRest old new → ((file : LimitFile) → file_of new file ≡ file_of old file)
+    → ((controller : Controller) → other_in new controller ≡ other_in old controller) → new ≡ old
+same_cgroup old new rest files others =
     let max_descendants : new.max_descendants ≡ old.max_descendants =
     same_Some new.max_descendants old.max_descendants (files MaxDescendants) in
     let max_depth : new.max_depth ≡ old.max_depth = same_Some new.max_depth old.max_depth (files MaxDepth) in
     let brought : new.files ≡ old.files =
     same_brought old.files new.files (sym (entries_are new) ∙ (λ i. map (λ file. files file i) brought_files) ∙ entries_are old) in
+    let beyond : new.others ≡ old.others =
+    same_others old.others new.others
+    (sym (others_are new) ∙ (λ i. map (λ controller. others controller i) all_controllers) ∙ others_are old) in
     λ i. record {
       dir = rest.dir i;
       procs = rest.procs i;
       subtree_control = rest.subtree_control i;
       max_descendants = max_descendants i;
       max_depth = max_depth i;
+      freeze = rest.freeze i;
       files = brought i;
+      others = beyond i;
       enabled = rest.enabled i;
     }
 
 -- where each file already stands as it belongs, nothing changes
 pub with_files_of-same : (enabled : ControllerSet) (user : Identity) (row : Cgroup)
-    → ((file : LimitFile) → is_some (file_of row file) ≡ stands_under enabled file) → with_files_of enabled user row ≡ row
-with_files_of-same enabled user row stands =
-    same_cgroup row (with_files_of enabled user row) (record { dir = refl; procs = refl; subtree_control = refl; enabled = refl })
+    → ((file : LimitFile) → is_some (file_of row file) ≡ stands_under enabled file)
+    → ((controller : Controller) → is_some (other_in row controller) ≡ enables enabled controller) → with_files_of enabled user row ≡ row
+with_files_of-same enabled user row stands others =
+    same_cgroup row (with_files_of enabled user row)
+    (record { dir = refl; procs = refl; subtree_control = refl; freeze = refl; enabled = refl })
     (λ file. same-with_files_of enabled user row file (stands file))
+    (λ controller. same-other enabled user row controller (others controller))
 
 -- ---- a new cgroup
 
@@ -260,6 +356,16 @@ pub stands-cgroup_made_by : (user : Identity) (enabled : ControllerSet) (file : 
     → is_some (file_of (cgroup_made_by user enabled) file) ≡ stands_under enabled file
 stands-cgroup_made_by user enabled file =
     ap is_some (file_of-cgroup_made_by user enabled file) ∙ is_some-cond (stands_under enabled file) (file_made_by user file)
+
+pub other_in-cgroup_made_by : (user : Identity) (enabled : ControllerSet) (controller : Controller)
+    → other_in (cgroup_made_by user enabled) controller ≡ cond (enables enabled controller) (Some (entry_made_by user 420)) None
+other_in-cgroup_made_by user enabled Cpu = refl
+other_in-cgroup_made_by user enabled controller = refl
+
+pub stands-other-made : (user : Identity) (enabled : ControllerSet) (controller : Controller)
+    → is_some (other_in (cgroup_made_by user enabled) controller) ≡ enables enabled controller
+stands-other-made user enabled controller =
+    ap is_some (other_in-cgroup_made_by user enabled controller) ∙ is_some-cond (enables enabled controller) (entry_made_by user 420)
 
 -- ---- values that are accepted
 

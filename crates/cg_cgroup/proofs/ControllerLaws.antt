@@ -5,6 +5,7 @@ use Rattle.std.specs.Prelude.{slice_set}
 use Rattle.std.proofs.lemmas.Bool.{and_parts, and_from}
 use Rattle.std.proofs.lemmas.List.{get_or-set_same, get_or-set_other}
 use Rattle.std.specs.List.{list_all, list_any, AllByRecursion}
+use mathlib.Core.Bool.{beq}
 use mathlib.Core.HLevel.{is_prop→PathP}
 use native.Mathlib.Nat.{ℕ_set}
 use Rattle.cg_cgroup.proofs.Places.{numbers, held_all}
@@ -84,6 +85,18 @@ each_among P controller (front ∷ controllers) all found =
 pub each_in_format_2 : (P : Controller → Type 0) → AllByRecursion P format_2_controllers → (controller : Controller)
     → is_in_format_2 controller ≡ true → P controller
 each_in_format_2 P all controller is = each_among P controller format_2_controllers all is
+
+-- ---- flags
+
+pub flag_same : (x y : Bool) → beq x y ≡ true → x ≡ y
+flag_same true true e = refl
+flag_same true false e = cc
+flag_same false true e = cc
+flag_same false false e = refl
+
+pub flag_itself : (x : Bool) → beq x x ≡ true
+flag_itself true = refl
+flag_itself false = refl
 
 -- ---- sets
 

@@ -5,9 +5,10 @@ pub use Rattle.cg_cgroup.specs.Users.{entry_made_by}
 use Rattle.cg_cgroup.specs.Identity.{Identity}
 use Rattle.std.proofs.Common.{◌∙◌, refl}
 use Rattle.std.proofs.lemmas.List.{length-set}
-use Rattle.cg_cgroup.specs.Files.{brought_files, place_of, default_value, stands_under, no_controllers}
+use Rattle.cg_cgroup.specs.Files.{all_controllers, controller_kind, brought_files, place_of, default_value, enables, stands_under, no_controllers}
 use Rattle.cg_cgroup.specs.declared.user.Entry.{Entry}
 use Rattle.cg_cgroup.specs.declared.files.Limit.{Limit}
+use Rattle.cg_cgroup.specs.declared.files.Controller.{Controller}
 use Rattle.cg_cgroup.specs.declared.controllers.ControllerSet.{ControllerSet}
 use Rattle.cg_cgroup.specs.declared.files.LimitFile.{LimitFile}
 use Rattle.cg_cgroup.specs.declared.files.LimitFile.TheVariants.{MaxDescendants, MaxDepth}
@@ -15,6 +16,7 @@ use Rattle.cg_cgroup.specs.declared.files.EntryName.{EntryName}
 use Rattle.cg_cgroup.specs.declared.files.EntryName.TheVariants.{Dir, Procs, SubtreeControl, File}
 use Rattle.cg_cgroup.specs.declared.cgroup.LimitEntry.{LimitEntry}
 use Rattle.cg_cgroup.specs.declared.brought.BroughtFiles.{BroughtFiles}
+use Rattle.cg_cgroup.specs.declared.others.OtherFiles.{OtherFiles}
 use Rattle.cg_cgroup.specs.declared.cgroup.Cgroup.{Cgroup}
 
 -- the files that controllers bring, each by its place, where it stands
@@ -31,6 +33,21 @@ abbrev pub file_of : Cgroup → LimitFile → Option LimitEntry
 file_of row MaxDescendants = Some row.max_descendants
 file_of row MaxDepth = Some row.max_depth
 file_of row file = held_at row.files (place_of file)
+
+-- the entry of the other limit files that a controller brings, where they stand
+abbrev pub other_in : Cgroup → Controller → Option Entry
+other_in row controller = get_or row.others.entries (controller_kind controller).number None
+
+abbrev pub others_by : (Controller → Option Entry) → OtherFiles
+others_by held = record { entries = map held all_controllers; whole = refl }
+
+-- those below a cgroup that enables these, all with the same entry
+abbrev pub others_under : ControllerSet → Entry → OtherFiles
+others_under enabled entry = others_by (λ controller. cond (enables enabled controller) (Some entry) None)
+
+-- Own: a file of which nothing is said is root's, with mode 0o644.
+abbrev pub root_file : Entry
+root_file = record { uid = 0; gid = 0; mode = 420 }
 
 -- the entry of a directory or file, where it is there
 abbrev pub entry_in : Cgroup → EntryName → Option Entry
@@ -78,8 +95,15 @@ file_made_by user file = record { entry = entry_made_by user 420; value = defaul
 abbrev pub refitted : ControllerSet → Identity → LimitFile → Option LimitEntry → Option LimitEntry
 refitted enabled user file had = cond (stands_under enabled file) (Some (unwrap_or had (file_made_by user file))) None
 
+-- The same of the other files that a controller brings. Own: so are these a user's, with mode 0o644.
+abbrev pub refitted_other : ControllerSet → Identity → Controller → Option Entry → Option Entry
+refitted_other enabled user controller had = cond (enables enabled controller) (Some (unwrap_or had (entry_made_by user 420))) None
+
 abbrev pub with_files_of : ControllerSet → Identity → Cgroup → Cgroup
-with_files_of enabled user row = record row { files = files_by (λ file. refitted enabled user file (file_of row file)) }
+with_files_of enabled user row = record row {
+  files = files_by (λ file. refitted enabled user file (file_of row file));
+  others = others_by (λ controller. refitted_other enabled user controller (other_in row controller));
+}
 
 -- A new cgroup of a user under a parent that enables these. Own: its directory has mode 0o755, its files 0o644.
 abbrev pub cgroup_made_by : Identity → ControllerSet → Cgroup
@@ -89,6 +113,8 @@ cgroup_made_by user enabled = with_files_of enabled user (record {
   subtree_control = entry_made_by user 420;
   max_descendants = file_made_by user MaxDescendants;
   max_depth = file_made_by user MaxDepth;
+  freeze = entry_made_by user 420;
   files = files_by (λ file. None);
+  others = others_by (λ controller. None);
   enabled = no_controllers;
 })

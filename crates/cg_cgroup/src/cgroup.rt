@@ -1,10 +1,12 @@
 //! One cgroup: its entries, its limits and what it enables for its children.
 ghost use Rattle.std.specs.Prelude.{◌≡◌, map};
-ghost use Rattle.cg_cgroup.specs.Files.{brought_files};
-ghost use Rattle.cg_cgroup.specs.Cgroups.{file_of, entry_in, value_in, with_value_in, with_value_of, with_mode_in, with_file_mode_of, file_made_by, refitted, with_files_of, cgroup_made_by};
+ghost use Rattle.cg_cgroup.specs.Files.{all_controllers, brought_files};
+ghost use Rattle.cg_cgroup.specs.Cgroups.{file_of, entry_in, value_in, with_value_in, with_value_of, with_mode_in, with_file_mode_of, file_made_by, refitted, refitted_other, other_in, with_files_of, cgroup_made_by};
 
 use crate::brought::BroughtFiles;
-use crate::files::{BROUGHT_COUNT, ControllerSet, EntryName, Limit, LimitFile};
+use crate::controllers::CONTROLLER_COUNT;
+use crate::files::{BROUGHT_COUNT, Controller, ControllerSet, EntryName, Limit, LimitFile};
+use crate::others::OtherFiles;
 use crate::user::{Entry, Mode, User};
 
 /// A limit file: its owner and mode, and its value.
@@ -50,7 +52,10 @@ pub struct Cgroup {
     pub subtree_control: Entry,
     pub max_descendants: LimitEntry,
     pub max_depth: LimitEntry,
+    /// `cgroup.freeze`, which stands at each cgroup but the root: what the root has here isn't looked at.
+    pub freeze: Entry,
     pub files: BroughtFiles,
+    pub others: OtherFiles,
     pub enabled: ControllerSet,
 }
 
@@ -66,7 +71,9 @@ impl Cgroup {
             subtree_control: Entry::made_by(user, Mode::FILE),
             max_descendants: LimitEntry::made_by(user, LimitFile::MaxDescendants),
             max_depth: LimitEntry::made_by(user, LimitFile::MaxDepth),
+            freeze: Entry::made_by(user, Mode::FILE),
             files: BroughtFiles::none(),
+            others: OtherFiles::none(),
             enabled: ControllerSet::none(),
         };
         cgroup.refit(enabled, user);
@@ -82,6 +89,13 @@ impl Cgroup {
             LimitFile::MaxDepth => Some(self.max_depth),
             _ => self.files.get(file.place()),
         }
+    }
+
+    /// The owner, group and mode of the other limit files that a controller brings, where they stand.
+    pub fn other(&self, controller: Controller) -> Option<Entry>
+        ensures { result ≡ other_in self.now controller }
+    {
+        self.others.get(controller)
     }
 
     /// The owner, group and mode of an entry, where it is there.
@@ -145,6 +159,9 @@ impl Cgroup {
         self.files = BroughtFiles {
             entries: refitted_files(self, enabled, user),
         };
+        self.others = OtherFiles {
+            entries: refitted_others(self, enabled, user),
+        };
     }
 }
 
@@ -172,4 +189,35 @@ fn refitted(
         return None;
     }
     Some(held.unwrap_or(LimitEntry::made_by(user, file)))
+}
+
+/// The other files that controllers bring, as a parent that enables these has them.
+fn refitted_others(
+    cgroup: &Cgroup,
+    enabled: ControllerSet,
+    user: &User,
+) -> [Option<Entry>; CONTROLLER_COUNT]
+    ensures { result ≡ map (λ controller. refitted_other enabled user.now controller (other_in cgroup.now controller)) all_controllers }
+{
+    Controller::ALL.map(|controller| refitted_other(
+        cgroup.other(controller),
+        controller,
+        enabled,
+        user,
+    ))
+}
+
+/// The other files that a controller brings: as they were, new ones, or none.
+fn refitted_other(
+    held: Option<Entry>,
+    controller: Controller,
+    enabled: ControllerSet,
+    user: &User,
+) -> Option<Entry>
+    ensures { result ≡ refitted_other enabled user.now controller held }
+{
+    if !enabled.contains(controller) {
+        return None;
+    }
+    Some(held.unwrap_or(Entry::made_by(user, Mode::FILE)))
 }

@@ -6,6 +6,7 @@ pub mod cgroup;
 pub mod controllers;
 pub mod files;
 pub mod memory;
+pub mod others;
 pub mod path;
 pub mod process;
 pub mod user;

@@ -15,6 +15,13 @@ pub struct Entry {
 }
 
 impl Entry {
+    /// The entry of a file of which nothing is said: root's, with mode 0o644.
+    pub const ROOT_FILE: Entry = Entry {
+        uid: 0,
+        gid: 0,
+        mode: 0o644,
+    };
+
     /// The entry of what a user makes: it is theirs, and their primary group's, or group 0's where they have none.
     pub fn made_by(user: &User, mode: Mode) -> Entry
         ensures { result ≡ entry_made_by user.now mode }

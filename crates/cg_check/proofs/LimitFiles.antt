@@ -32,7 +32,7 @@ use Rattle.cg_model.specs.declared.outcome.Refusal.{Refusal}
 use Rattle.cg_model.specs.declared.outcome.Refusal.TheVariants.{NoSuchCgroup, NoSuchFile, NoAccess, BadValue, NotOwner}
 use Rattle.cg_model.proofs.ClauseLaws.{no_parts, no_unless, no_present}
 use Rattle.cg_model.proofs.StepFormed.{after-allowed}
-use Rattle.cg_model.specs.Limits.{limits, fits_descendants, fits_depth}
+use Rattle.cg_model.specs.Limits.{fits_descendants, fits_depth}
 use Rattle.cg_model.specs.Guards.{Guarded, ancestor, ancestors, limit_file, limit_files, parent_control, parent_dir, guarded_entries, guarded_entry, entry_failures, over_failures, failures}
 use Rattle.cg_model.specs.declared.guard.Guard.TheVariants.{AlreadyOver, LimitFile as LimitFileGuard}
 use Rattle.cg_model.specs.declared.guard.Failed.{Failed}
@@ -237,7 +237,7 @@ with-opening P (op ∷ before) ops all = all.1.0
 
 module _ (st : State) (user : Identity) (subtree : Names) (file : LimitFile) (entry : Entry)
     (is : entry_at st subtree (File file) ≡ Some entry) (reached : reaches user entry ≡ true) where
-  opened-set : (value : Limit) → limits st subtree file ≡ Some value
+  opened-set : (value : Limit) → value_at st subtree file ≡ Some value
       → breaks st user subtree (opening st user subtree ++ Set subtree file (other_value file value) ∷ []) ≡ true
   opened-set value has =
       let new = opened_state st user subtree in
@@ -264,11 +264,11 @@ module _ (st : State) (user : Identity) (subtree : Names) (file : LimitFile) (en
       all-left after (set_tries st subtree) (control_tries subtree)
       (all-left after (set_tries st subtree ++ control_tries subtree) _ plain.1) in
       let one =
-      each_file (λ f. AllByRecursion after (present (limits st subtree f) (λ value. (Set subtree f (other_value f value) ∷ []) ∷ [])))
-      (all-unflat after (λ f. present (limits st subtree f) (λ value. (Set subtree f (other_value f value) ∷ []) ∷ [])) all_files sets)
+      each_file (λ f. AllByRecursion after (present (value_at st subtree f) (λ value. (Set subtree f (other_value f value) ∷ []) ∷ [])))
+      (all-unflat after (λ f. present (value_at st subtree f) (λ value. (Set subtree f (other_value f value) ∷ []) ∷ [])) all_files sets)
       file in
       let held = mapped_from (λ (f : LimitEntry). f.entry) (file_at st subtree file) entry (sym (entry_at-file st subtree file) ∙ is) in
-      let has : limits st subtree file ≡ Some held.0.value = value_at-file st subtree file ∙ ap (option_map (λ f. f.value)) held.1 in
+      let has : value_at st subtree file ≡ Some held.0.value = value_at-file st subtree file ∙ ap (option_map (λ f. f.value)) held.1 in
       let this : AllByRecursion after ((Set subtree file (other_value file held.0.value) ∷ []) ∷ []) =
       subst (λ found. AllByRecursion after (present found (λ value. (Set subtree file (other_value file value) ∷ []) ∷ []))) has one in
       true≢false (sym (opened-set held.0.value has) ∙ this.0)

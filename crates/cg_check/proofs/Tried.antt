@@ -6,11 +6,10 @@ use Rattle.std.specs.List.{AllByRecursion}
 use Rattle.cg_cgroup.specs.Paths.{Name, Names, parent, inside, path_text}
 use Rattle.cg_cgroup.specs.Identity.{Identity}
 use Rattle.cg_cgroup.specs.Files.{all_files}
-use Rattle.cg_model.specs.States.{State, place_at, paths_of, pids_of}
+use Rattle.cg_model.specs.States.{State, place_at, paths_of, pids_of, value_at}
 use Rattle.cg_model.specs.WellFormed.{IsWellFormed, has_row, enabled_at}
 use Rattle.cg_model.specs.declared.operation.Op.{Op}
 use Rattle.cg_model.specs.declared.operation.Op.TheVariants.{Move, Control, Mkdir, Rmdir, Set, Fork, Exit, Chmod}
-use Rattle.cg_model.specs.Limits.{limits}
 use Rattle.cg_model.specs.Guards.{IsSubtree}
 use Rattle.cg_model.specs.Tries.{other_value, set_tries, control_tries, across, move_tries, probe, numbers_from, free_probe, is_inside, probe_tries_at, probe_tries, plain_tries}
 use Rattle.cg_model.specs.Escapes.{breaks}
@@ -62,13 +61,13 @@ module _ (st : State) (user : Identity) (subtree : Names) (whole : IsUnbroken st
   exact-sets : AllByRecursion Exact (set_tries st subtree)
   exact-sets =
       all-flat_map Exact _ all_files (λ file.
-      all-present Exact (limits st subtree file) (λ value. (Set subtree file (other_value file value) ∷ []) ∷ []) (λ value is.
+      all-present Exact (value_at st subtree file) (λ value. (Set subtree file (other_value file value) ∷ []) ∷ []) (λ value is.
       (record { exact = with_true _ _ (set_try st user subtree file value whole is); tried = tt }, tt)))
 
   exact-controls : AllByRecursion Exact (control_tries subtree)
   exact-controls =
       all-control_tries Exact subtree (λ on controller known.
-      record { exact = control_try st user subtree on controller whole formed sub known; tried = tt })
+      record { exact = control_try st user subtree on controller whole formed sub; tried = tt })
 
   exact-moves : AllByRecursion Exact (move_tries st subtree)
   exact-moves =

@@ -1,5 +1,5 @@
 -- A user's opening leaves everything but modes, and what they wrote they still write.
-use Rattle.std.proofs.Common.{◌≡◌, ℕ, Bool, true, false, cond, ◌&&◌, List, [], ◌∷◌, ◌++◌, refl, sym, ap, ◌∙◌, subst, Option, Some, option_map}
+use Rattle.std.proofs.Common.{◌≡◌, ℕ, Bool, true, false, cond, ◌&&◌, List, [], ◌∷◌, ◌++◌, refl, sym, ap, ◌∙◌, subst, Option, Some, option_map, is_some}
 use Rattle.std.proofs.lemmas.Bool.{and_parts}
 use Rattle.std.specs.List.{AllByRecursion}
 use Rattle.std.specs.FinMap as map
@@ -9,11 +9,12 @@ use Rattle.cg_cgroup.specs.Users.{writes, owns, has_bit}
 use Rattle.cg_cgroup.specs.Files.{same_entry}
 use Rattle.cg_cgroup.specs.Cgroups.{with_mode_of}
 use Rattle.cg_cgroup.specs.declared.user.Entry.{Entry}
+use Rattle.cg_cgroup.specs.declared.files.Controller.{Controller}
 use Rattle.cg_cgroup.specs.declared.files.LimitFile.{LimitFile}
 use Rattle.cg_cgroup.specs.declared.files.EntryName.{EntryName}
 use Rattle.cg_cgroup.proofs.PathOrder.{same_path-is}
 use Rattle.cg_cgroup.proofs.CgroupLaws.{same_entry-true}
-use Rattle.cg_model.specs.States.{State, entry_at, value_at, paths_of}
+use Rattle.cg_model.specs.States.{State, entry_at, value_at, other_at, paths_of}
 use Rattle.cg_model.specs.WellFormed.{has_row, enabled_at}
 use Rattle.cg_model.proofs.StateEntries.{entry_at-with_mode}
 use Rattle.cg_model.proofs.StateCounts.{paths_of-with_mode, count_below-same_paths, depth_below-same_paths}
@@ -23,7 +24,7 @@ use Rattle.cg_model.specs.declared.operation.Op.{Op}
 use Rattle.cg_model.specs.declared.operation.Op.TheVariants.{Chmod}
 use Rattle.cg_model.proofs.ClauseLaws.{no_parts, no_unless, no_present}
 use Rattle.cg_model.proofs.StepFormed.{after-by}
-use Rattle.cg_model.proofs.StepEffects.{has_row-after, value_at-after, enabled_at-after}
+use Rattle.cg_model.proofs.StepEffects.{has_row-after, value_at-after, other_at-after, enabled_at-after}
 use Rattle.cg_model.specs.Held.{by_user}
 use Rattle.cg_model.specs.Escapes.{breaks}
 use Rattle.cg_tries.proofs.Seen.{IsAlike, breaks-alike_first}
@@ -43,6 +44,7 @@ pub record IsWider (user : Identity) (st new : State) : Type 0 where
   pub paths : paths_of new ≡ paths_of st
   pub here : (path : Names) → has_row new path ≡ has_row st path
   pub values : (path : Names) (file : LimitFile) → value_at new path file ≡ value_at st path file
+  pub others : (path : Names) (controller : Controller) → other_at new path controller ≡ other_at st path controller
   pub enabled : (path : Names) → enabled_at new path ≡ enabled_at st path
   pub stays : (path : Names) (name : EntryName) (entry : Entry) → entry_at st path name ≡ Some entry
       → Stays user entry (entry_at new path name)
@@ -55,6 +57,7 @@ wider-itself user st = record {
   paths = refl;
   here = λ path. refl;
   values = λ path file. refl;
+  others = λ path controller. refl;
   enabled = λ path. refl;
   stays = λ path name entry is. record { now = entry; is = is; owned = refl; written = λ h. h };
 }
@@ -97,6 +100,7 @@ module _ (user : Identity) (st new : State) (wider : IsWider user st new) (at : 
         wider.paths;
     here = λ path. has_row-after new user (Chmod at name mode) path refl ∙ wider.here path;
     values = λ path file. value_at-after new user (Chmod at name mode) path file refl ∙ wider.values path file;
+    others = λ path controller. other_at-after new user (Chmod at name mode) path controller refl ∙ wider.others path controller;
     enabled = λ path. enabled_at-after new user (Chmod at name mode) path refl ∙ wider.enabled path;
     stays = λ path other entry is.
         after-by new user (Chmod at name mode) (λ s. Stays user entry (entry_at s path other))
@@ -116,7 +120,10 @@ wider-all user st new (op ∷ ops) wider all = wider-all user st (after new user
 
 pub alike-wider : (user : Identity) (st new : State) (subtree : Names) → IsWider user st new → IsAlike st new subtree
 alike-wider user st new subtree wider = λ i. record {
-  limits = λ file. wider.values subtree file i;
+  limits = record {
+    values = λ file. wider.values subtree file i;
+    others = λ controller. is_some (wider.others subtree controller i);
+  };
   count = count_below-same_paths st new wider.paths subtree i;
   depth = depth_below-same_paths st new wider.paths subtree i;
   pids = map.keys (wider.live i);

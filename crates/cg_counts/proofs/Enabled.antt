@@ -1,5 +1,5 @@
 -- What a cgroup enables changes, and with it the files of its children.
-use Rattle.std.proofs.Common.{◌≡◌, ℕ, ◌+◌, ◌<◌, Bool, true, false, cond, ◌&&◌, not, nat_eq, nat_lt, List, length, refl, sym, ap, ◌∙◌, true≢false, Some, None, Option, is_some, unwrap_or, arith, eq-eqb, eqb-true}
+use Rattle.std.proofs.Common.{◌≡◌, ℕ, ◌+◌, ◌<◌, Bool, true, false, cond, ◌&&◌, not, nat_eq, nat_lt, List, length, refl, sym, ap, ◌∙◌, true≢false, Some, None, Option, is_some, unwrap_or, arith, eq-eqb, eqb-true, subst}
 use Rattle.std.specs.Prelude.{slice_set}
 use Rattle.std.proofs.lemmas.List.{length-set}
 use Rattle.std.specs.Cmp.{first_so, second_so}
@@ -8,28 +8,28 @@ use Rattle.std.specs.FinMap.{FinMap}
 use Rattle.cg_cgroup.specs.Paths.{Names, path_cmp, same_path, inside, below, is_child, parent, is_root}
 use Rattle.cg_cgroup.specs.Identity.{Identity}
 use Rattle.cg_cgroup.specs.Files.{enables, controller_of, stands_under}
-use Rattle.cg_cgroup.specs.Cgroups.{file_of, file_made_by, with_files_of, cgroup_made_by}
+use Rattle.cg_cgroup.specs.Users.{entry_made_by}
+use Rattle.cg_cgroup.specs.Cgroups.{file_of, other_in, file_made_by, with_files_of, cgroup_made_by}
 use Rattle.cg_cgroup.specs.declared.files.Controller.{Controller}
 use Rattle.cg_cgroup.specs.declared.files.Controller.TheVariants.{Cpu}
-use Rattle.cg_cgroup.specs.declared.cgroup.LimitEntry.{LimitEntry}
 use Rattle.cg_cgroup.specs.declared.controllers.ControllerSet.{ControllerSet}
 use Rattle.cg_cgroup.specs.declared.files.LimitFile.{LimitFile}
 use Rattle.cg_cgroup.specs.declared.files.LimitFile.TheVariants.{MaxDescendants, MaxDepth}
 use Rattle.cg_cgroup.specs.declared.cgroup.Cgroup.{Cgroup}
 use Rattle.cg_model.specs.States.{enabling, enabling_these}
-use Rattle.cg_cgroup.proofs.ControllerLaws.{enables-set_by}
+use Rattle.cg_cgroup.proofs.ControllerLaws.{enables-set_by, mapped_at}
 use Rattle.cg_cgroup.proofs.PathOrder.{same_path-is, same_path_refl, same_path_comm, path_cmp-IsAntisymmetric}
 use Rattle.cg_cgroup.proofs.PathParents.{length-parent, is_child-parent, parent-is_child, is_root-is_child, parent-root}
-use Rattle.cg_cgroup.proofs.CgroupLaws.{same_cgroup}
+use Rattle.cg_cgroup.proofs.CgroupLaws.{same_cgroup, other_in-with_files_of, other_in-cgroup_made_by}
 use Rattle.cg_cgroup.proofs.Options.{same_some}
 use Rattle.std.specs.Cmp.Derive.{both_true}
 use Rattle.std.proofs.lemmas.Bool.{lt-ltb}
 use Rattle.cg_model.proofs.MapLaws.{entry_any, list_any-map}
 use Rattle.cg_model.proofs.FormedEnabled.{is_child-itself}
 use Rattle.cg_places.specs.Links.{link_at}
-use Rattle.cg_places.specs.Nodes.{Node, node_at, uses_of, recounted, enabling_node, enabled_at, differs, differing, with_files_from, refitted_node, links_to, Refits}
+use Rattle.cg_places.specs.Nodes.{Node, node_at, uses_of, recounted, enabling_node, enabled_at, differs, differing, other_from, with_files_from, refitted_node, links_to, Refits}
 use Rattle.cg_places.specs.Values.{values_of}
-use Rattle.cg_counts.specs.Kept.{held_of, enabled_of, child_uses, AreKept, enabling_held, change_each_held}
+use Rattle.cg_counts.specs.Kept.{held_of, enabled_of, IsFitted, child_uses, AreKept, enabling_held, change_each_held}
 use Rattle.cg_places.specs.declared.links.Link.{Link}
 use Rattle.cg_counts.proofs.Kin.{kin_of_either}
 use Rattle.cg_places.proofs.Counted.{any-count}
@@ -58,10 +58,7 @@ file_from false true (Some x) made h = absurd (true≢false h)
 file_from false false None made h = refl
 file_from false false (Some x) made h = absurd (true≢false h)
 
-abbrev pub IsFitted : ControllerSet → Cgroup → Type 0
-IsFitted above row = (file : LimitFile) → is_some (file_of row file) ≡ stands_under above file
-
-controller_taken : (controller : Controller) (had enabled : ControllerSet) (held : Option LimitEntry) (made : LimitEntry)
+controller_taken : {A : Type 0} (controller : Controller) (had enabled : ControllerSet) (held : Option A) (made : A)
     → is_some held ≡ enables had controller
     → cond (enables (differing had enabled) controller) (cond (enables enabled controller) (Some made) None) held
     ≡ cond (enables enabled controller) (Some (unwrap_or held made)) None
@@ -80,13 +77,26 @@ file_taken had enabled user row MaxDepth fitted = refl
 file_taken had enabled user row file fitted =
     controller_taken (unwrap_or (controller_of file) Cpu) had enabled (file_of row file) (file_made_by user file) fitted
 
+other_taken : (had enabled : ControllerSet) (user : Identity) (row : Cgroup) (controller : Controller)
+    → is_some (other_in row controller) ≡ enables had controller
+    → other_in (with_files_from (differing had enabled) (cgroup_made_by user enabled) row) controller
+    ≡ other_in (with_files_of enabled user row) controller
+unfolding with_files_from
+other_taken had enabled user row controller fitted =
+    mapped_at (other_from (differing had enabled) (cgroup_made_by user enabled) row) None controller
+    ∙ ap (λ made. cond (enables (differing had enabled) controller) made (other_in row controller))
+    (other_in-cgroup_made_by user enabled controller)
+    ∙ controller_taken controller had enabled (other_in row controller) (entry_made_by user 420) fitted
+    ∙ sym (other_in-with_files_of enabled user row controller)
+
 files_from : (had enabled : ControllerSet) (user : Identity) (row : Cgroup) → IsFitted had row
     → with_files_from (differing had enabled) (cgroup_made_by user enabled) row ≡ with_files_of enabled user row
 unfolding with_files_from
 files_from had enabled user row fitted =
     same_cgroup (with_files_of enabled user row) (with_files_from (differing had enabled) (cgroup_made_by user enabled) row)
-    (record { dir = refl; procs = refl; subtree_control = refl; enabled = refl })
-    (λ file. file_taken had enabled user row file (fitted file))
+    (record { dir = refl; procs = refl; subtree_control = refl; freeze = refl; enabled = refl })
+    (λ file. file_taken had enabled user row file (fitted.files file))
+    (λ controller. other_taken had enabled user row controller (fitted.others controller))
 
 module _ (places : FinMap path_cmp ℕ) (links : List Link) (nodes : List Node) (kept : AreKept places links nodes)
     (few : map.len places < 9223372036854775808) (p : Names) (i : ℕ) (is : map.get places p ≡ Some i)
@@ -398,19 +408,20 @@ module _ (places : FinMap path_cmp ℕ) (links : List Link) (nodes : List Node) 
 
     -- also once the path's own set has changed
     fitted_after : (q : Names) (j : ℕ) → map.get places q ≡ Some j → is_child p q ≡ true → IsFitted had (node_at after j).cgroup
-    fitted_after q j has child file =
-        ap (λ r. is_some (file_of r file)) (cgroup_after q j has)
-        ∙ elim (same_path q p) as (λ b.
-        is_some (file_of (cond b (enabling_these enabled (node_at nodes j).cgroup) (node_at nodes j).cgroup) file)
-        ≡ is_some (file_of (node_at nodes j).cgroup file)) [
-          | true ↦ files_stay (node_at nodes j).cgroup file
-          | false ↦ refl
-        ]
-        ∙ fitted q j has child file
+    fitted_after q j has child =
+        let row = (node_at nodes j).cgroup in
+        subst (IsFitted had) (sym (cgroup_after q j has))
+        (elim (same_path q p) as (λ b. IsFitted had (cond b (enabling_these enabled row) row)) [
+          | true ↦ fitted_still row (fitted q j has child)
+          | false ↦ fitted q j has child
+        ])
       where
         files_stay : (row : Cgroup) (f : LimitFile) → is_some (file_of (enabling_these enabled row) f) ≡ is_some (file_of row f)
         files_stay row MaxDescendants = refl
         files_stay row file = refl
+
+        fitted_still : (row : Cgroup) → IsFitted had row → IsFitted had (enabling_these enabled row)
+        fitted_still row fitted = record { files = λ file. files_stay row file ∙ fitted.files file; others = fitted.others }
 
     refitted : (last : List Node) → Refits links i changed fresh after last → (q : Names) (j : ℕ) → map.get places q ≡ Some j
         → node_at last j ≡ cond (is_child p q) (fitted_node enabled user (node_at after j)) (node_at after j)

@@ -1,14 +1,12 @@
 -- What is read of kept cgroups.
-use Rattle.std.proofs.Common.{◌≡◌, ℕ, ◌<◌, ◌-◌, Bool, true, false, ◌&&◌, nat_lt, List, length, take, count_by, sym, ap, ◌∙◌, Some, None, is_some, option_map, arith}
+use Rattle.std.proofs.Common.{◌≡◌, ℕ, ◌<◌, ◌-◌, Bool, true, false, ◌&&◌, nat_lt, List, length, take, count_by, sym, ap, subst, ◌∙◌, Some, None, is_some, option_map, arith}
 use Rattle.std.specs.List.{list_any}
 use Rattle.std.specs.FinMap as map
 use Rattle.std.specs.FinMap.{FinMap}
 use Rattle.cg_cgroup.specs.Paths.{Names, path_cmp, below, is_child}
-use Rattle.cg_cgroup.specs.Files.{enables, stands_under}
-use Rattle.cg_cgroup.specs.Cgroups.{file_of}
+use Rattle.cg_cgroup.specs.Files.{enables}
 use Rattle.cg_cgroup.specs.declared.files.Controller.{Controller}
 use Rattle.cg_cgroup.specs.declared.controllers.ControllerSet.{ControllerSet}
-use Rattle.cg_cgroup.specs.declared.files.LimitFile.{LimitFile}
 use Rattle.cg_cgroup.specs.declared.cgroup.Cgroup.{Cgroup}
 use Rattle.cg_model.specs.States.{row_at, paths_of, count_below, child_enables}
 use Rattle.cg_model.specs.WellFormed.{has_row}
@@ -19,7 +17,7 @@ use Rattle.cg_model.proofs.FormedParts.{enabled_at-row}
 use Rattle.cg_places.specs.Links.{link_at, is_full_link}
 use Rattle.cg_places.specs.Nodes.{Node, node_at}
 use Rattle.cg_places.specs.Values.{values_of, map_values}
-use Rattle.cg_counts.specs.Kept.{Held, held_of, enabled_of, AreFittedBelow, cgroups_of, tree_of, child_uses, AreKept}
+use Rattle.cg_counts.specs.Kept.{Held, held_of, enabled_of, IsFitted, AreFittedBelow, cgroups_of, tree_of, child_uses, AreKept}
 use Rattle.cg_places.specs.declared.links.Link.{Link}
 use Rattle.cg_places.proofs.Counted.{any-count}
 use Rattle.cg_places.proofs.Values.{entries-mapped, get-mapped, keys-mapped, get-values, keys-values, same_maps, option_map-twice}
@@ -40,12 +38,11 @@ module _ (places : FinMap path_cmp ℕ) (nodes : List Node) (m : FinMap path_cmp
 
   -- a child's files stand as its parent has them
   pub fitted_is : (p : Names) (i : ℕ) → map.get places p ≡ Some i → AreFittedBelow (tree_of m) p → (q : Names) (j : ℕ)
-      → map.get places q ≡ Some j → is_child p q ≡ true
-      → (file : LimitFile) → is_some (file_of (node_at nodes j).cgroup file) ≡ stands_under (node_at nodes i).cgroup.enabled file
-  fitted_is p i is fitted q j has child file =
-      fitted q (node_at nodes j).cgroup child (row_is q ∙ ap (option_map (λ k. (node_at nodes k).cgroup)) has) file
-      ∙ ap (λ set. stands_under set file)
+      → map.get places q ≡ Some j → is_child p q ≡ true → IsFitted (node_at nodes i).cgroup.enabled (node_at nodes j).cgroup
+  fitted_is p i is fitted q j has child =
+      subst (λ (set : ControllerSet). IsFitted set (node_at nodes j).cgroup)
       (enabled_at-row (tree_of m) p (node_at nodes i).cgroup (row_is p ∙ ap (option_map (λ k. (node_at nodes k).cgroup)) is))
+      (fitted q (node_at nodes j).cgroup child (row_is q ∙ ap (option_map (λ k. (node_at nodes k).cgroup)) has))
 
   pub is_placed : (q : Names) → has_row (tree_of m) q ≡ true → map.contains_key places q ≡ true
   is_placed q there = sym (there_is q) ∙ there

@@ -6,7 +6,7 @@ use Rattle.std.specs.FinSet as set
 use Rattle.cg_cgroup.specs.Paths.{Names, path_cmp, below, is_child}
 use Rattle.cg_cgroup.specs.Identity.{Identity}
 use Rattle.cg_cgroup.specs.Files.{no_controllers, enables, stands_under}
-use Rattle.cg_cgroup.specs.Cgroups.{file_of}
+use Rattle.cg_cgroup.specs.Cgroups.{file_of, other_in}
 use Rattle.cg_model.specs.States.{State, row_at, enabling}
 use Rattle.cg_model.specs.WellFormed.{enabled_at}
 use Rattle.cg_cgroup.specs.declared.files.Controller.{Controller}
@@ -68,9 +68,14 @@ change_held held path f = elim (map.get held path) [ None ↦ held | Some h ↦ 
 abbrev pub change_each_held : (Names → Held → Held) → map.FinMap path_cmp Held → map.FinMap path_cmp Held
 change_each_held f held = map.from_sorted (map_list (λ e. (e.0, f e.0 e.1)) (map.entries held))
 
+-- the limit files of a cgroup stand as a parent that enables these has them
+pub record IsFitted (above : ControllerSet) (row : Cgroup) : Type 0 where
+  pub files : (file : LimitFile) → is_some (file_of row file) ≡ stands_under above file
+  pub others : (controller : Controller) → is_some (other_in row controller) ≡ enables above controller
+
 -- The limit files of a cgroup's children stand as it has them.
 abbrev pub AreFittedBelow : State → Names → Type 0
-AreFittedBelow st path = (q : Names) (row : Cgroup) → is_child path q ≡ true → row_at st q ≡ Some row → (file : LimitFile) → is_some (file_of row file) ≡ stands_under (enabled_at st path) file
+AreFittedBelow st path = (q : Names) (row : Cgroup) → is_child path q ≡ true → row_at st q ≡ Some row → IsFitted (enabled_at st path) row
 
 abbrev pub cgroups_of : map.FinMap path_cmp Held → map.FinMap path_cmp Cgroup
 cgroups_of held = map_values (λ h. h.cgroup) held

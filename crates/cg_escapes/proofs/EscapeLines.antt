@@ -25,12 +25,11 @@ use Rattle.cg_cgroup.proofs.PathOrder.{path_cmp_total}
 use Rattle.cg_cgroup.proofs.PathNames.{IsPath-push, IsPath-take}
 use Rattle.cg_cgroup.proofs.PathEnds.{path_bytes}
 use Rattle.cg_cgroup.proofs.UserLaws.{opened-le}
-use Rattle.cg_model.specs.States.{State, row_at, place_at, paths_of, pids_of}
+use Rattle.cg_model.specs.States.{State, row_at, place_at, paths_of, pids_of, value_at}
 use Rattle.cg_model.specs.WellFormed.{IsWellFormed}
 use Rattle.cg_model.specs.Clauses.{present}
 use Rattle.cg_model.specs.declared.operation.Op.{Op}
 use Rattle.cg_model.specs.declared.operation.Op.TheVariants.{Move, Mkdir, Rmdir, Set, Chmod}
-use Rattle.cg_model.specs.Limits.{limits}
 use Rattle.cg_model.specs.Guards.{Guarded, ancestors, limit_files, parent_control, parent_dir, guarded_entries, guarded_entry, IsSubtree, failures}
 use Rattle.cg_model.specs.Tries.{other_value, set_tries, control_tries, across, move_tries, probe, free_probe, is_inside, probe_tries_at, probe_tries, plain_tries, opening_of, opening, with_opening, tries}
 use Rattle.cg_model.specs.Escapes.{breaks, first_escape}
@@ -114,7 +113,7 @@ module _ (st : State) (user : Identity) (subtree : Names) (formed : IsWellFormed
   written-sets : AllByRecursion AreWritten (set_tries st subtree)
   written-sets =
       all-flat_map AreWritten _ all_files (λ file.
-      all-present AreWritten (limits st subtree file) (λ value. (Set subtree file (other_value file value) ∷ []) ∷ []) (λ value is.
+      all-present AreWritten (value_at st subtree file) (λ value. (Set subtree file (other_value file value) ∷ []) ∷ []) (λ value is.
       (((((path, other_held file value), tt), tt), omega arith), tt)))
 
   written-controls : AllByRecursion AreWritten (control_tries subtree)

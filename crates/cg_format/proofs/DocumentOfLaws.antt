@@ -183,6 +183,7 @@ module _ (format : Format) (document : Members) (controllers : ControllerSet) (e
         let at = table_at path cgroup is in
         record {
           files = at.entry.files path (enabled_above st path) at.named (over_is no_controllers path at.stands.parent_there);
+          others = at.entry.others path (enabled_above st path) at.named (over_is no_controllers path at.stands.parent_there);
           values = λ file held there. value_accepted file at.table held.value (at.entry.values file held there);
           modes = λ name entry there. entry_small format at.table name entry (at.entry.entries name entry there);
         }
@@ -211,6 +212,7 @@ module _ (format : Format) (document : Members) (controllers : ControllerSet) (e
           values = entry.values;
           files = files_named row cgroup.0 (λ file named. entry.files path above said.named above_is file
               ∙ implied (is_named (File file) row) (stands_under above file) (stands.brought above above_is file) named);
+          others = entry.roots;
         }
       where
         files_named : (row : Members) (cgroup : Cgroup) → ((file : LimitFile) → is_named (File file) row ≡ true

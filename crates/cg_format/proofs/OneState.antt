@@ -9,10 +9,11 @@ use Rattle.cg_model.proofs.Lists.{all-both, find-all, find-passes}
 use Rattle.toml.specs.Data.{Members}
 use Rattle.cg_cgroup.specs.Paths.{Names, IsPath, same_path, is_root, parent, path_at}
 use Rattle.cg_cgroup.specs.Numbers.{is_pid}
-use Rattle.cg_cgroup.specs.Files.{no_controllers, stands_under}
-use Rattle.cg_cgroup.specs.Cgroups.{file_of, entry_in}
+use Rattle.cg_cgroup.specs.Files.{enables, no_controllers, stands_under}
+use Rattle.cg_cgroup.specs.Cgroups.{file_of, other_in, entry_in}
 use Rattle.cg_cgroup.specs.declared.user.Entry.{Entry}
 use Rattle.cg_cgroup.specs.declared.controllers.ControllerSet.{ControllerSet}
+use Rattle.cg_cgroup.specs.declared.files.Controller.{Controller}
 use Rattle.cg_cgroup.specs.declared.files.LimitFile.{LimitFile}
 use Rattle.cg_cgroup.specs.declared.files.EntryName.{EntryName}
 use Rattle.cg_cgroup.specs.declared.files.EntryName.TheVariants.{Dir, Procs, SubtreeControl, File}
@@ -89,10 +90,12 @@ module _ (format : Format) (st other : State) (row : Members) (is : IsRowOf form
     dir = same_entry Dir is.cgroup.dir also.cgroup.dir refl refl;
     procs = same_entry Procs is.cgroup.procs also.cgroup.procs refl refl;
     subtree_control = same_entry SubtreeControl is.cgroup.subtree_control also.cgroup.subtree_control refl refl;
+    freeze = is.others.freeze ∙ sym also.others.freeze;
     enabled = same_enabled;
   }
 
-  module _ (stand : (file : LimitFile) → is_some (file_of is.cgroup file) ≡ is_some (file_of also.cgroup file)) where
+  module _ (stand : (file : LimitFile) → is_some (file_of is.cgroup file) ≡ is_some (file_of also.cgroup file))
+      (stand_too : (controller : Controller) → is_some (other_in is.cgroup controller) ≡ is_some (other_in also.cgroup controller)) where
     same_file : (file : LimitFile) (one two : Option LimitEntry) → file_of is.cgroup file ≡ one → file_of also.cgroup file ≡ two
         → is_some one ≡ is_some two → one ≡ two
     same_file file None None here there stands = refl
@@ -104,10 +107,20 @@ module _ (format : Format) (st other : State) (row : Members) (is : IsRowOf form
         let value : one.value ≡ two.value = same_some one.value two.value (sym (is.values file one here) ∙ also.values file two there) in
         λ i. Some (record { entry = entry i; value = value i })
 
+    same_other : (controller : Controller) (one two : Option Entry) → other_in is.cgroup controller ≡ one
+        → other_in also.cgroup controller ≡ two → is_some one ≡ is_some two → one ≡ two
+    same_other controller None None here there stands = refl
+    same_other controller None (Some two) here there stands = cc
+    same_other controller (Some one) None here there stands = cc
+    same_other controller (Some one) (Some two) here there stands =
+        ap Some (is.others.others controller one here ∙ sym (also.others.others controller two there))
+
     one_cgroup : is.cgroup ≡ also.cgroup
     one_cgroup =
         same_cgroup also.cgroup is.cgroup same_rest
         (λ file. same_file file (file_of is.cgroup file) (file_of also.cgroup file) refl refl (stand file))
+        (λ controller. same_other controller (other_in is.cgroup controller) (other_in also.cgroup controller) refl refl
+        (stand_too controller))
 
 one_process : (st other : State) (row : Members) (is : IsProcessOf st row) (also : IsProcessOf other row) → is.process ≡ also.process
 one_process st other row is also =
@@ -165,7 +178,13 @@ module _ (format : Format) (st other : State) (tables : List Members)
         ∙ ap (λ path. stands_under (enabled_above st path) file) (sym named)
         ∙ ap (λ set. stands_under (cond (is_root path) no_controllers set) file) (same_enabled_at (parent path))
         ∙ ap (λ path. stands_under (enabled_above other path) file) named_also
-        ∙ sym ((formed_also.rows also.path also.cgroup also.there).files file))))
+        ∙ sym ((formed_also.rows also.path also.cgroup also.there).files file))
+        (λ controller.
+        (formed.rows is.path is.cgroup is.there).others controller
+        ∙ ap (λ path. enables (enabled_above st path) controller) (sym named)
+        ∙ ap (λ set. enables (cond (is_root path) no_controllers set) controller) (same_enabled_at (parent path))
+        ∙ ap (λ path. enables (enabled_above other path) controller) named_also
+        ∙ sym ((formed_also.rows also.path also.cgroup also.there).others controller))))
 
 module _ (st other : State) (lives : List Members)
     (here : AllByRecursion (IsProcessOf st) lives) (there : AllByRecursion (IsProcessOf other) lives)

@@ -13,8 +13,9 @@ use Rattle.std.specs.FinSet.{contains-from_list}
 use Rattle.std.proofs.lemmas.Bool.{leb-true}
 use Rattle.toml.specs.Data.{Members}
 use Rattle.cg_cgroup.specs.Paths.{Names, path_cmp, same_path}
-use Rattle.cg_cgroup.specs.Files.{no_controllers, stands_under}
-use Rattle.cg_cgroup.specs.Cgroups.{file_of, files_by, entry_in}
+use Rattle.cg_cgroup.specs.Files.{enables, no_controllers, stands_under}
+use Rattle.cg_cgroup.specs.Cgroups.{file_of, files_by, others_under, root_file, entry_in}
+use Rattle.cg_cgroup.proofs.CgroupLaws.{stands-under, entry-under}
 use Rattle.cg_cgroup.proofs.Options.{same_some}
 use Rattle.cg_cgroup.proofs.PathOrder.{path_cmp_total, path_cmp-IsAntisymmetric, same_path-ties}
 use Rattle.cg_cgroup.specs.declared.controllers.ControllerSet.{ControllerSet}
@@ -67,7 +68,9 @@ module _ (format : Format) (row : Members) (says : SaysCgroup format row) (above
     subtree_control = says.owner SubtreeControl;
     max_descendants = held MaxDescendants;
     max_depth = held MaxDepth;
+    freeze = root_file;
     files = files_by standing;
+    others = others_under above root_file;
     enabled = says.enabled;
   }
 
@@ -102,6 +105,11 @@ module _ (format : Format) (row : Members) (says : SaysCgroup format row) (above
         let sets : other ≡ above = same other (ap (over (Some no_controllers) tables) (sym own) ∙ is) in
         ap is_some (file_is file) ∙ stands (stands_under above file) (held file)
         ∙ ap (λ (set : ControllerSet). stands_under set file) (sym sets);
+    others = λ path other said is controller.
+        let own : path ≡ says.path = same_some path says.path (sym said ∙ says.named) in
+        let sets : other ≡ above = same other (ap (over (Some no_controllers) tables) (sym own) ∙ is) in
+        stands-under above root_file cgroup_of refl controller ∙ ap (λ (set : ControllerSet). enables set controller) (sym sets);
+    roots = record { freeze = refl; others = entry-under above root_file cgroup_of refl };
   }
 
 -- ---- the cgroups

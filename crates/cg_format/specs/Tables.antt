@@ -10,17 +10,18 @@ use Rattle.std.specs.FinMap.{is_sorted}
 use Rattle.std.specs.FinSet as set
 use Rattle.toml.specs.Data.{Members}
 use Rattle.cg_cgroup.specs.Paths.{Names, path_cmp, same_path}
-use Rattle.cg_cgroup.specs.Files.{no_controllers, stands_under}
-use Rattle.cg_cgroup.specs.Cgroups.{file_of, entry_in}
+use Rattle.cg_cgroup.specs.Files.{enables, no_controllers, stands_under}
+use Rattle.cg_cgroup.specs.Cgroups.{file_of, other_in, entry_in}
 use Rattle.cg_cgroup.specs.declared.user.Entry.{Entry}
 use Rattle.cg_cgroup.specs.declared.controllers.ControllerSet.{ControllerSet}
 use Rattle.cg_cgroup.specs.declared.files.EntryName.{EntryName}
+use Rattle.cg_cgroup.specs.declared.files.Controller.{Controller}
 use Rattle.cg_cgroup.specs.declared.files.LimitFile.{LimitFile}
 use Rattle.cg_cgroup.specs.declared.cgroup.LimitEntry.{LimitEntry}
 use Rattle.cg_cgroup.specs.declared.cgroup.Cgroup.{Cgroup}
 use Rattle.cg_cgroup.specs.declared.process.Process.{Process}
 use Rattle.cg_format.specs.Said.{path_said, controllers_said, entry_said, value_said, has_path, pid_said, uid_said}
-use Rattle.cg_format.specs.TextOf.{has_pid}
+use Rattle.cg_format.specs.TextOf.{OthersAreRoots, has_pid}
 use Rattle.cg_format.specs.TextFaults.{is_there, enabled_there, over}
 use Rattle.cg_format.specs.declared.format.Format.{Format}
 
@@ -33,6 +34,9 @@ pub record IsEntryOf (format : Format) (tables : List Members) (table : Members)
   pub values : (file : LimitFile) (held : LimitEntry) → file_of cgroup file ≡ Some held → value_said table file ≡ Some held.value
   pub files : (path : Names) (above : ControllerSet) → path_said (codes "path") table ≡ Some path → over (Some no_controllers) tables path ≡ Some above
       → (file : LimitFile) → is_some (file_of cgroup file) ≡ stands_under above file
+  pub others : (path : Names) (above : ControllerSet) → path_said (codes "path") table ≡ Some path → over (Some no_controllers) tables path ≡ Some above
+      → (controller : Controller) → is_some (other_in cgroup controller) ≡ enables above controller
+  pub roots : OthersAreRoots cgroup
 
 -- the entries rise by their paths, and are those of the tables
 pub record AreEntriesOf (format : Format) (tables : List Members) (entries : List (Names × Cgroup)) : Type 0 where

@@ -3,8 +3,9 @@ use Rattle.std.specs.Prelude.{◌≡◌, ℕ, ◌≤◌, Bool, true, false, cond
 use Rattle.std.specs.List.{AllByRecursion, list_all}
 use Rattle.toml.specs.Data.{Members, table}
 use Rattle.cg_cgroup.specs.Paths.{Names}
-use Rattle.cg_cgroup.specs.Cgroups.{file_of, entry_in}
+use Rattle.cg_cgroup.specs.Cgroups.{file_of, other_in, entry_in, root_file}
 use Rattle.cg_cgroup.specs.declared.user.Entry.{Entry}
+use Rattle.cg_cgroup.specs.declared.files.Controller.{Controller}
 use Rattle.cg_cgroup.specs.declared.files.LimitFile.{LimitFile}
 use Rattle.cg_cgroup.specs.declared.files.EntryName.{EntryName}
 use Rattle.cg_cgroup.specs.declared.cgroup.LimitEntry.{LimitEntry}
@@ -26,6 +27,11 @@ pub record IsInForm (kind : Format) (document : Members) : Type 0 where
   pub cgroups : list_all (is_table (row_keys kind)) (elements_at (codes "cgroup") document) ≡ true
   pub processes : list_all (is_table live_keys) (elements_at (codes "process") document) ≡ true
 
+-- The limit files that no text of formats 1 and 2 names are root's, with mode 0o644.
+pub record OthersAreRoots (cgroup : Cgroup) : Type 0 where
+  pub freeze : cgroup.freeze ≡ root_file
+  pub others : (controller : Controller) (entry : Entry) → other_in cgroup controller ≡ Some entry → entry ≡ root_file
+
 -- A cgroup of the state is as the table says, and has each file that the table names.
 pub record IsRowOf (format : Format) (st : State) (row : Members) : Type 0 where
   pub path : Names
@@ -36,6 +42,7 @@ pub record IsRowOf (format : Format) (st : State) (row : Members) : Type 0 where
   pub entries : (name : EntryName) (entry : Entry) → entry_in cgroup name ≡ Some entry → entry_said format row name ≡ Some entry
   pub values : (file : LimitFile) (held : LimitEntry) → file_of cgroup file ≡ Some held → value_said row file ≡ Some held.value
   pub files : (name : EntryName) → is_named name row ≡ true → is_some (entry_in cgroup name) ≡ true
+  pub others : OthersAreRoots cgroup
 
 -- A live process of the state is as the table says.
 pub record IsProcessOf (st : State) (row : Members) : Type 0 where

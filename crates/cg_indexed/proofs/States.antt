@@ -5,7 +5,7 @@ use Rattle.std.specs.FinMap as map
 use Rattle.std.specs.FinMap.{FinMap}
 use Rattle.cg_cgroup.specs.Paths.{Names, path_cmp, same_path, is_child, is_root, parent}
 use Rattle.cg_cgroup.specs.Identity.{Identity}
-use Rattle.cg_cgroup.specs.Files.{stands_under, no_controllers}
+use Rattle.cg_cgroup.specs.Files.{enables, stands_under, no_controllers}
 use Rattle.cg_cgroup.specs.Cgroups.{with_files_of}
 use Rattle.cg_cgroup.specs.declared.controllers.ControllerSet.{ControllerSet}
 use Rattle.cg_cgroup.specs.declared.cgroup.Cgroup.{Cgroup}
@@ -78,11 +78,15 @@ enabled_there held p row new is same =
 -- ---- what a path enables and its children's files
 
 pub fitted_formed : (st : State) → IsWellFormed st → (p : Names) → AreFittedBelow st p
-fitted_formed st formed p q row child has file =
+fitted_formed st formed p q row child has =
     let above : enabled_above st q ≡ enabled_at st p =
     ap (λ b. cond b no_controllers (enabled_at st (parent q))) (is_root-is_child p q child)
     ∙ ap (enabled_at st) (parent-is_child p q child) in
-    (formed.rows q row has).files file ∙ ap (λ set. stands_under set file) above
+    let of_row = formed.rows q row has in
+    record {
+      files = λ file. of_row.files file ∙ ap (λ set. stands_under set file) above;
+      others = λ controller. of_row.others controller ∙ ap (λ set. enables set controller) above;
+    }
 
 -- where what a path enables stays, all stays
 pub nothing_enabled : (st : State) → IsWellFormed st → (p : Names) (row : Cgroup) (enabled : ControllerSet) (user : Identity)
@@ -107,8 +111,11 @@ nothing_enabled st formed p row enabled user is same =
           | false ↦ λ e.
               elim (is_child p q) as (λ b. is_child p q ≡ b → cond b (with_files_of enabled user r) r ≡ r) [
                 | true ↦
-                    λ child. with_files_of-same enabled user r (λ file. fitted_formed st formed p q r child has file
-                    ∙ ap (λ set. stands_under set file) (enabled_at-row st p row is ∙ same))
+                    λ child.
+                    let fitted = fitted_formed st formed p q r child has in
+                    let above = enabled_at-row st p row is ∙ same in
+                    with_files_of-same enabled user r (λ file. fitted.files file ∙ ap (λ set. stands_under set file) above)
+                    (λ controller. fitted.others controller ∙ ap (λ set. enables set controller) above)
                 | false ↦ λ not_child. refl
               ] refl
         ] refl

@@ -6,17 +6,18 @@ use Rattle.cg_cgroup.specs.Identity.{Identity}
 use Rattle.cg_cgroup.specs.Cgroups.{value_in}
 use Rattle.cg_cgroup.specs.declared.files.Limit.{Limit}
 use Rattle.cg_cgroup.specs.declared.files.Limit.TheVariants.{Max, At}
+use Rattle.cg_cgroup.specs.declared.files.LimitFile.{LimitFile}
 use Rattle.cg_cgroup.specs.declared.files.LimitFile.TheVariants.{MaxDescendants, MaxDepth}
 use Rattle.cg_cgroup.specs.declared.cgroup.Cgroup.{Cgroup}
 use Rattle.cg_cgroup.proofs.Options.{some_value}
 use Rattle.cg_cgroup.proofs.PathParents.{inside-is}
-use Rattle.cg_model.specs.States.{State, row_at, process_at, paths_of, count_below, depth_below, with_row, without_row}
+use Rattle.cg_model.specs.States.{State, row_at, process_at, paths_of, count_below, depth_below, with_row, without_row, value_at}
 use Rattle.cg_model.specs.WellFormed.{has_row, enabled_at}
 use Rattle.cg_model.proofs.StateCounts.{paths_of-with_value, paths_of-with_mode, paths_of-with_enabled, count_below-same_paths, depth_below-same_paths, count_below-with_row, depth_below-with_row, count_below-without_row, depth_below-without_row}
 use Rattle.cg_model.specs.Changes.{enabled_after}
 use Rattle.cg_model.specs.Clauses.{unless}
 use Rattle.cg_model.specs.Bars.{bars, level_bars, limit_bars, row_above, mkdir_bars}
-use Rattle.cg_model.specs.Limits.{is_under, Limits, limits, fits_descendants, fits_depth}
+use Rattle.cg_model.specs.Limits.{is_under, limits, fits_descendants, fits_depth}
 use Rattle.cg_model.specs.Next.{next}
 use Rattle.cg_model.specs.Steps.{after}
 use Rattle.cg_model.specs.declared.operation.Op.{Op}
@@ -30,7 +31,7 @@ use Rattle.cg_model.proofs.StepEffects.{fork-by}
 
 -- ---- limits that may stand or not
 
-abbrev FitIn : State → Names → Limits → Type 0
+abbrev FitIn : State → Names → (LimitFile → Option Limit) → Type 0
 FitIn st subtree values =
     (fits_in (count_below st subtree) (values MaxDescendants) ≡ true) × (fits_in (depth_below st subtree) (values MaxDepth) ≡ true)
 
@@ -44,19 +45,21 @@ most-in count (Some (At most)) within = le-leb count most (within most refl)
 
 -- a count fits exactly where it is no more than a limit that is a number
 module _ (st : State) (subtree : Names) where
-  pub descendants-most : fits_descendants st subtree ≡ true → (most : ℕ) → limits st subtree MaxDescendants ≡ Some (At most)
+  pub descendants-most : fits_descendants st subtree ≡ true → (most : ℕ) → value_at st subtree MaxDescendants ≡ Some (At most)
       → count_below st subtree ≤ most
-  descendants-most h = in-most (count_below st subtree) (limits st subtree MaxDescendants) (sym (descendants-limit st subtree) ∙ h)
+  descendants-most h = in-most (count_below st subtree) (value_at st subtree MaxDescendants) (sym (descendants-limit st subtree) ∙ h)
 
-  pub most-descendants : ((most : ℕ) → limits st subtree MaxDescendants ≡ Some (At most) → count_below st subtree ≤ most)
+  pub most-descendants : ((most : ℕ) → value_at st subtree MaxDescendants ≡ Some (At most) → count_below st subtree ≤ most)
       → fits_descendants st subtree ≡ true
-  most-descendants within = descendants-limit st subtree ∙ most-in (count_below st subtree) (limits st subtree MaxDescendants) within
+  most-descendants within = descendants-limit st subtree ∙ most-in (count_below st subtree) (value_at st subtree MaxDescendants) within
 
-  pub depth-most : fits_depth st subtree ≡ true → (most : ℕ) → limits st subtree MaxDepth ≡ Some (At most) → depth_below st subtree ≤ most
-  depth-most h = in-most (depth_below st subtree) (limits st subtree MaxDepth) (sym (depth-limit st subtree) ∙ h)
+  pub depth-most : fits_depth st subtree ≡ true → (most : ℕ) → value_at st subtree MaxDepth ≡ Some (At most)
+      → depth_below st subtree ≤ most
+  depth-most h = in-most (depth_below st subtree) (value_at st subtree MaxDepth) (sym (depth-limit st subtree) ∙ h)
 
-  pub most-depth : ((most : ℕ) → limits st subtree MaxDepth ≡ Some (At most) → depth_below st subtree ≤ most) → fits_depth st subtree ≡ true
-  most-depth within = depth-limit st subtree ∙ most-in (depth_below st subtree) (limits st subtree MaxDepth) within
+  pub most-depth : ((most : ℕ) → value_at st subtree MaxDepth ≡ Some (At most) → depth_below st subtree ≤ most)
+      → fits_depth st subtree ≡ true
+  most-depth within = depth-limit st subtree ∙ most-in (depth_below st subtree) (value_at st subtree MaxDepth) within
 
 fewer : (less count : ℕ) (limit : Option Limit) → less ≤ count → fits_in count limit ≡ true → fits_in less limit ≡ true
 fewer less count None le h = refl
@@ -116,28 +119,28 @@ module _ (st : State) (user : Identity) (subtree path : Names) (there : has_row 
         (unless (is_under (length path - 1 - length subtree) row.max_depth.value) (DepthLimit (length subtree))) level in
         (ap (λ p. is_under (count_below st p) row.max_descendants.value) (sym at) ∙ no_unless _ _ both.0, no_unless _ _ both.1)
 
-    fits-with_row : (made : Cgroup) → FitIn st subtree (limits st subtree) → FitIn (with_row st path made) subtree (limits st subtree)
+    fits-with_row : (made : Cgroup) → FitIn st subtree (value_at st subtree) → FitIn (with_row st path made) subtree (value_at st subtree)
     fits-with_row made fits =
         let row = some_value (row_at st subtree) there in
-        let most : limits st subtree MaxDescendants ≡ Some row.0.max_descendants.value =
+        let most : value_at st subtree MaxDescendants ≡ Some row.0.max_descendants.value =
         ap (option_and_then (λ r. value_in r MaxDescendants)) row.1 in
-        let deepest : limits st subtree MaxDepth ≡ Some row.0.max_depth.value = ap (option_and_then (λ r. value_in r MaxDepth)) row.1 in (
-          ap (λ n. fits_in n (limits st subtree MaxDescendants)) (count_below-with_row st path made absent subtree)
+        let deepest : value_at st subtree MaxDepth ≡ Some row.0.max_depth.value = ap (option_and_then (λ r. value_in r MaxDepth)) row.1 in (
+          ap (λ n. fits_in n (value_at st subtree MaxDescendants)) (count_below-with_row st path made absent subtree)
               ∙ elim (below subtree path) as (λ b. below subtree path ≡ b
-              → fits_in (cond b (1 + count_below st subtree) (count_below st subtree)) (limits st subtree MaxDescendants) ≡ true) [
+              → fits_in (cond b (1 + count_below st subtree) (count_below st subtree)) (value_at st subtree MaxDescendants) ≡ true) [
                 | true ↦
                     λ lower. ap (fits_in (1 + count_below st subtree)) most
                     ∙ one_more (count_below st subtree) row.0.max_descendants.value (room row.0 row.1 lower).0
                 | false ↦ λ _. fits.0
               ] refl,
-          ap (λ n. fits_in n (limits st subtree MaxDepth)) (depth_below-with_row st path made absent subtree)
+          ap (λ n. fits_in n (value_at st subtree MaxDepth)) (depth_below-with_row st path made absent subtree)
               ∙ elim (below subtree path) as (λ b. below subtree path ≡ b
               → fits_in (cond b (max (depth_below st subtree) (length path - length subtree)) (depth_below st subtree))
-              (limits st subtree MaxDepth) ≡ true) [
+              (value_at st subtree MaxDepth) ≡ true) [
                 | true ↦ λ lower.
                     let longer = ltb-true (length subtree) (length path) (and_parts (inside subtree path) _ lower).1 in
                     let level : 1 + (length path - 1 - length subtree) ≡ length path - length subtree = omega arith in
-                    greater (depth_below st subtree) (length path - length subtree) (limits st subtree MaxDepth) fits.1
+                    greater (depth_below st subtree) (length path - length subtree) (value_at st subtree MaxDepth) fits.1
                     (ap (fits_in (length path - length subtree)) deepest ∙ ap (λ n. fits_in n (Some row.0.max_depth.value)) (sym level)
                     ∙ one_more (length path - 1 - length subtree) row.0.max_depth.value (room row.0 row.1 lower).1)
                 | false ↦ λ _. fits.1
@@ -146,7 +149,8 @@ module _ (st : State) (user : Identity) (subtree path : Names) (there : has_row 
 
 -- ---- an rmdir
 
-fits-without_row : (st : State) (subtree path : Names) (values : Limits) → has_row st path ≡ true → FitIn st subtree values
+fits-without_row : (st : State) (subtree path : Names) (values : LimitFile → Option Limit) → has_row st path ≡ true
+    → FitIn st subtree values
     → FitIn (without_row st path) subtree values
 fits-without_row st subtree path values there fits =
     let row = some_value (row_at st path) there in (
@@ -166,22 +170,22 @@ fits-without_row st subtree path values there fits =
 
 -- ---- each operation
 
-module _ (st : State) (user : Identity) (subtree : Names) (fits : FitIn st subtree (limits st subtree)) where
-  same_paths : (new : State) → paths_of new ≡ paths_of st → FitIn new subtree (limits st subtree)
+module _ (st : State) (user : Identity) (subtree : Names) (fits : FitIn st subtree (value_at st subtree)) where
+  same_paths : (new : State) → paths_of new ≡ paths_of st → FitIn new subtree (value_at st subtree)
   same_paths new same = (
-    ap (λ n. fits_in n (limits st subtree MaxDescendants)) (count_below-same_paths st new same subtree) ∙ fits.0,
-    ap (λ n. fits_in n (limits st subtree MaxDepth)) (depth_below-same_paths st new same subtree) ∙ fits.1,
+    ap (λ n. fits_in n (value_at st subtree MaxDescendants)) (count_below-same_paths st new same subtree) ∙ fits.0,
+    ap (λ n. fits_in n (value_at st subtree MaxDepth)) (depth_below-same_paths st new same subtree) ∙ fits.1,
   )
 
-  fits-next : (op : Op) → has_row st subtree ≡ true → bars st user op ≡ [] → FitIn (next st user op) subtree (limits st subtree)
+  fits-next : (op : Op) → has_row st subtree ≡ true → bars st user op ≡ [] → FitIn (next st user op) subtree (value_at st subtree)
   fits-next (Move pid to) there free = fits
   fits-next (Control at changes) there free =
       same_paths (next st user (Control at changes)) (paths_of-with_enabled st at (enabled_after (enabled_at st at) changes) user)
   fits-next (Mkdir path) there free = fits-with_row st user subtree path there free _ fits
-  fits-next (Rmdir path) there free = fits-without_row st subtree path (limits st subtree) (allowed_rmdir st user path free).there fits
+  fits-next (Rmdir path) there free = fits-without_row st subtree path (value_at st subtree) (allowed_rmdir st user path free).there fits
   fits-next (Set at file value) there free = same_paths (next st user (Set at file value)) (paths_of-with_value st at file value)
   fits-next (Fork parent child) there free =
-      fork-by (λ new. FitIn new subtree (limits st subtree)) st child (process_at st parent) fits (λ process. fits)
+      fork-by (λ new. FitIn new subtree (value_at st subtree)) st child (process_at st parent) fits (λ process. fits)
   fits-next (Exit pid) there free = fits
   fits-next (Chmod at name mode) there free = same_paths (next st user (Chmod at name mode)) (paths_of-with_mode st at name mode)
 
@@ -195,6 +199,6 @@ fits-after st user subtree op there free same descendants depth =
     let fits =
     fits-next st user subtree (sym (descendants-limit st subtree) ∙ descendants, sym (depth-limit st subtree) ∙ depth) op there free in
     let moved = after-allowed st user op free in (
-      descendants-limit new subtree ∙ (λ i. fits_in (count_below (moved i) subtree) (same i MaxDescendants)) ∙ fits.0,
-      depth-limit new subtree ∙ (λ i. fits_in (depth_below (moved i) subtree) (same i MaxDepth)) ∙ fits.1,
+      descendants-limit new subtree ∙ (λ i. fits_in (count_below (moved i) subtree) ((same i).values MaxDescendants)) ∙ fits.0,
+      depth-limit new subtree ∙ (λ i. fits_in (depth_below (moved i) subtree) ((same i).values MaxDepth)) ∙ fits.1,
     )

@@ -14,7 +14,7 @@ use Rattle.cg_model.specs.Effects.{alters_row, alters_value}
 use Rattle.cg_model.specs.declared.operation.Op.{Op}
 use Rattle.cg_model.specs.declared.operation.Op.TheVariants.{Move, Control, Mkdir, Rmdir, Set, Fork, Exit, Chmod}
 use Rattle.cg_model.proofs.Allowed.{allowed_mkdir}
-use Rattle.cg_model.proofs.StepEffects.{has_row-after, value_at-after}
+use Rattle.cg_model.proofs.StepEffects.{has_row-after, limits-after}
 use Rattle.cg_model.specs.Limits.{limits, fits_descendants, fits_depth}
 use Rattle.cg_model.specs.Guards.{Guarded, is_chmod_of, sets_guarded_mode, guarded_entries, over_failures, GuardsHold, IsSubtree}
 use Rattle.cg_laws.specs.Guarding.{AreUntouched, IsKept}
@@ -73,7 +73,7 @@ module _ (st : State) (user : Identity) (subtree : Names) (sound : IsSound st) (
       there_after = has_row-after st user op subtree (row_stays op free) ∙ sub.0
 
       limits_after : limits (after st user op) subtree ≡ limits st subtree
-      limits_after i file = value_at-after st user op subtree file (value_stays op free file) i
+      limits_after = limits-after st user op subtree (value_stays op free)
 
       untouched : AreUntouched st (after st user op) subtree
       untouched = untouched-after st user subtree op sound sub there_after limits_after (modes_stay op free)

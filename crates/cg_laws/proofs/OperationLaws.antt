@@ -16,7 +16,7 @@ use Rattle.cg_model.specs.declared.operation.Op.{Op}
 use Rattle.cg_model.specs.declared.operation.Op.TheVariants.{Move, Control, Mkdir, Rmdir, Set, Fork, Exit, Chmod}
 use Rattle.cg_model.proofs.Allowed.{allowed_mkdir}
 use Rattle.cg_model.proofs.StepFormed.{after-allowed}
-use Rattle.cg_model.proofs.StepEffects.{has_row-after, value_at-after}
+use Rattle.cg_model.proofs.StepEffects.{has_row-after, limits-after}
 use Rattle.cg_model.specs.Limits.{limits, fits_descendants, fits_depth}
 use Rattle.cg_model.specs.Edge.{is_crossed, crossing}
 use Rattle.cg_model.specs.Guards.{ancestors, limit_files, parent_control, parent_dir, guarded_entries, IsSubtree}
@@ -61,7 +61,7 @@ limits-kept : (st : State) (user : Identity) (subtree : Names) (op : Op)
     → limits (after st user op) subtree ≡ limits st subtree
 limits-kept st user subtree op kept =
     after-cases st user op (λ new. limits new subtree ≡ limits st subtree)
-    (λ free i file. value_at-after st user op subtree file (kept free file) i) refl
+    (λ free. limits-after st user op subtree (kept free)) refl
 
 pub set-leaves : (st : State) (user : Identity) (subtree at : Names) (file : LimitFile) (value : Limit) → IsWellFormed st
     → IsSubtree st subtree → AreUnreached st user subtree (limit_files (length subtree))

@@ -64,8 +64,9 @@ module _ (had : Limits) (st new : State) (subtree : Names) where
     there = whole.there;
     limits = whole.limits;
     descendants =
-        λ most is. descendants-most new subtree whole.descendants most (ap (λ (these : Limits). these MaxDescendants) whole.limits ∙ is);
-    depth = λ most is. depth-most new subtree whole.depth most (ap (λ (these : Limits). these MaxDepth) whole.limits ∙ is);
+        λ most is.
+        descendants-most new subtree whole.descendants most (ap (λ (these : Limits). these.values MaxDescendants) whole.limits ∙ is);
+    depth = λ most is. depth-most new subtree whole.depth most (ap (λ (these : Limits). these.values MaxDepth) whole.limits ∙ is);
   }
 
   as_set-whole : IsAsSet had new subtree → crossing st new subtree ≡ [] → IsWhole had st new subtree
@@ -75,8 +76,8 @@ module _ (had : Limits) (st new : State) (subtree : Names) where
     limits = set.limits;
     descendants =
         most-descendants new subtree
-        (λ most is. set.descendants most (ap (λ (these : Limits). these MaxDescendants) (sym set.limits) ∙ is));
-    depth = most-depth new subtree (λ most is. set.depth most (ap (λ (these : Limits). these MaxDepth) (sym set.limits) ∙ is));
+        (λ most is. set.descendants most (ap (λ (these : Limits). these.values MaxDescendants) (sym set.limits) ∙ is));
+    depth = most-depth new subtree (λ most is. set.depth most (ap (λ (these : Limits). these.values MaxDepth) (sym set.limits) ∙ is));
   }
 
 -- ---- runs

@@ -26,7 +26,7 @@ use Rattle.cg_model.specs.declared.operation.Op.TheVariants.{Move, Control, Mkdi
 use Rattle.cg_model.proofs.Allowed.{allowed_mkdir}
 use Rattle.cg_model.proofs.StepFormed.{after-by, after-allowed}
 use Rattle.cg_model.proofs.StepEffects.{entry_at-after}
-use Rattle.cg_model.specs.Limits.{limits}
+use Rattle.cg_model.specs.Limits.{Limits, limits}
 use Rattle.cg_model.specs.Guards.{Guarded, guarded_entries, guarded_entry, is_chmod_of, sets_guarded_mode, IsSubtree}
 use Rattle.cg_laws.specs.Guarding.{AreUntouched}
 use Rattle.cg_model.specs.Strangers.{OpensGuarded}
@@ -96,7 +96,8 @@ module _ (st : State) (at : Names) (enabled : ControllerSet) (user : Identity) (
       (λ file. subst (λ path. entry_at (with_enabled st at enabled user) path (File file) ≡ entry_at st path (File file))
       (sym (take_all (length subtree) subtree (omega arith)))
       (entry_at-file (with_enabled st at enabled user) subtree file
-      ∙ ap (option_map (λ f. f.entry)) (file-with_enabled file (ap (λ values. values file) same)) ∙ sym (entry_at-file st subtree file)))
+      ∙ ap (option_map (λ f. f.entry)) (file-with_enabled file (ap (λ (these : Limits). these.values file) same))
+      ∙ sym (entry_at-file st subtree file)))
       (entry_at-with_enabled-subtree_control st at enabled user (take (length subtree - 1) subtree))
       (entry_at-with_enabled-dir st at enabled user (take (length subtree - 1) subtree))
 

@@ -119,7 +119,7 @@ module _ (st : State) (path : Names) (enabled : ControllerSet) (user : Identity)
 
     -- what a row enables is no part of its files
     enabling_row : (above : ControllerSet) (row : Cgroup) → IsFormedRow above row → IsFormedRow above (enabling_these enabled row)
-    enabling_row above row formed = record { files = formed.files; values = formed.values; modes = formed.modes }
+    enabling_row above row formed = record { files = formed.files; others = formed.others; values = formed.values; modes = formed.modes }
 
     stays_formed : (q : Names) (row : Cgroup) → row_at st q ≡ Some row
         → IsFormedRow (enabled_above (with_enabled st path enabled user) q) (enabling path enabled user q row)

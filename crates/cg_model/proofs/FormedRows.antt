@@ -14,7 +14,7 @@ use Rattle.cg_cgroup.specs.declared.files.EntryName.TheVariants.{Dir, Procs, Sub
 use Rattle.cg_cgroup.specs.declared.cgroup.LimitEntry.{LimitEntry}
 use Rattle.cg_cgroup.specs.declared.cgroup.Cgroup.{Cgroup}
 use Rattle.cg_cgroup.proofs.Options.{mapped_from, is_some-mapped, same_some}
-use Rattle.cg_cgroup.proofs.CgroupLaws.{same_file-true, file_of-with_value_in, entry_in-with_value_in, file_of-with_mode_in, entry_in-with_mode_in, file_of-with_files_of, stands-with_files_of, file_of-cgroup_made_by, stands-cgroup_made_by, accepts-default_value}
+use Rattle.cg_cgroup.proofs.CgroupLaws.{same_file-true, file_of-with_value_in, other_in-with_value_in, entry_in-with_value_in, file_of-with_mode_in, other_in-with_mode_in, entry_in-with_mode_in, file_of-with_files_of, stands-with_files_of, stands-other, file_of-cgroup_made_by, stands-cgroup_made_by, stands-other-made, accepts-default_value}
 
 is_some-changed : {A : Type 0} (b : Bool) (g : A → A) (o : Option A) → is_some (cond b (option_map g o) o) ≡ is_some o
 is_some-changed true g o = is_some-mapped g o
@@ -34,6 +34,7 @@ pub formed_row-with_value_in : (above : ControllerSet) (file : LimitFile) (value
 formed_row-with_value_in above file value row accepted formed = record {
   files = λ other. ap is_some (file_of-with_value_in file value row other)
       ∙ is_some-changed (same_file file other) (with_value_of value) (file_of row other) ∙ formed.files other;
+  others = λ controller. ap is_some (other_in-with_value_in file value row controller) ∙ formed.others controller;
   values = λ other held is.
       of_changed (λ (x : LimitEntry). accepts other x.value ≡ true) (same_file file other) (with_value_of value) (file_of row other)
       (λ x same _. ap (λ f. accepts f value) (sym (same_file-true file other same)) ∙ accepted) (formed.values other) held
@@ -48,6 +49,7 @@ pub formed_row-with_mode_in : (above : ControllerSet) (name : EntryName) (mode :
 formed_row-with_mode_in above name mode row small formed = record {
   files = λ file. ap is_some (file_of-with_mode_in name mode row file)
       ∙ is_some-changed (same_entry name (File file)) (with_file_mode_of mode) (file_of row file) ∙ formed.files file;
+  others = λ controller. ap is_some (other_in-with_mode_in name mode row controller) ∙ formed.others controller;
   values = λ file held is.
       of_changed (λ (x : LimitEntry). accepts file x.value ≡ true) (same_entry name (File file)) (with_file_mode_of mode) (file_of row file)
       (λ x _. formed.values file x) (formed.values file) held (sym (file_of-with_mode_in name mode row file) ∙ is);
@@ -94,6 +96,7 @@ pub formed_row-with_files_of : (above enabled : ControllerSet) (user : Identity)
     → IsFormedRow enabled (with_files_of enabled user row)
 formed_row-with_files_of above enabled user row formed = record {
   files = stands-with_files_of enabled user row;
+  others = stands-other enabled user row;
   values = λ file held is.
       of_refitted (λ held. accepts file held.value ≡ true) (stands_under enabled file) (file_of row file) (file_made_by user file)
       (accepts-default_value file) (formed.values file) held (sym (file_of-with_files_of enabled user row file) ∙ is);
@@ -122,6 +125,7 @@ modes-cgroup_made_by user enabled (File file) entry is =
 pub formed_row-cgroup_made_by : (user : Identity) (enabled : ControllerSet) → IsFormedRow enabled (cgroup_made_by user enabled)
 formed_row-cgroup_made_by user enabled = record {
   files = stands-cgroup_made_by user enabled;
+  others = stands-other-made user enabled;
   values = λ file. of_made (λ held. accepts file held.value ≡ true) user enabled file (accepts-default_value file);
   modes = modes-cgroup_made_by user enabled;
 }

@@ -1,12 +1,17 @@
 -- Limits that may stand or not: the test of two maps of them tells whether they are the same, and a cgroup's own two.
 use Rattle.std.proofs.Common.{◌≡◌, ℕ, Bool, true, Option, Some, None, option_and_then, refl, ap}
-use Rattle.std.proofs.lemmas.Bool.{false≢true, eqb-true, eq-eqb}
+use Rattle.std.proofs.lemmas.Bool.{false≢true, eqb-true, eq-eqb, and_parts, and_from}
+use Rattle.std.specs.List.{list_all}
+use mathlib.Core.Bool.{beq}
 use Rattle.cg_cgroup.specs.Paths.{Names}
-use Rattle.cg_cgroup.specs.Files.{all_files}
+use Rattle.cg_cgroup.specs.Files.{all_files, all_controllers}
 use Rattle.cg_cgroup.specs.Cgroups.{value_in}
 use Rattle.cg_cgroup.proofs.AllFiles.{each_passes, all_pass}
+use Rattle.cg_cgroup.proofs.ControllerLaws.{flag_same, flag_itself, each_controller, all_controllers_pass}
 use Rattle.cg_cgroup.specs.declared.files.Limit.{Limit}
 use Rattle.cg_cgroup.specs.declared.files.Limit.TheVariants.{Max, At}
+use Rattle.cg_cgroup.specs.declared.files.Controller.{Controller}
+use Rattle.cg_cgroup.specs.declared.files.LimitFile.{LimitFile}
 use Rattle.cg_cgroup.specs.declared.files.LimitFile.TheVariants.{MaxDescendants, MaxDepth}
 use Rattle.cg_model.specs.States.{State, row_at, value_at, count_below, depth_below}
 use Rattle.cg_model.specs.Limits.{Limits, same_value, same_limits, is_within_limit, fits_descendants, fits_depth}
@@ -27,10 +32,21 @@ same_value-itself (Some (At m)) = eq-eqb m m refl
 
 pub same_limits-is : (these those : Limits) → same_limits these those ≡ true → these ≡ those
 same_limits-is these those h =
-    λ i file. same_value-is (these file) (those file) (each_passes (λ file. same_value (these file) (those file)) h file) i
+    let same_values : LimitFile → Bool = λ file. same_value (these.values file) (those.values file) in
+    let same_others : Controller → Bool = λ controller. beq (these.others controller) (those.others controller) in
+    let parts = and_parts (list_all same_values all_files) (list_all same_others all_controllers) h in
+    λ i. record {
+      values = λ file. same_value-is (these.values file) (those.values file) (each_passes same_values parts.0 file) i;
+      others = λ controller.
+          flag_same (these.others controller) (those.others controller) (each_controller same_others parts.1 controller) i;
+    }
 
 pub same_limits-itself : (these : Limits) → same_limits these these ≡ true
-same_limits-itself these = all_pass (λ file. same_value (these file) (these file)) (λ file. same_value-itself (these file)) all_files
+same_limits-itself these =
+    and_from _ _
+    (all_pass (λ file. same_value (these.values file) (these.values file)) (λ file. same_value-itself (these.values file)) all_files)
+    (all_controllers_pass (λ controller. beq (these.others controller) (these.others controller))
+    (λ controller. flag_itself (these.others controller)))
 
 -- ---- the two limits of what lies below
 

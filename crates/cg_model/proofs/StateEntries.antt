@@ -2,12 +2,13 @@
 use Rattle.std.proofs.Common.{◌≡◌, ℕ, Bool, true, false, cond, ◌&&◌, refl, sym, ap, ◌∙◌, true≢false, Option, Some, None, is_some, option_map, option_and_then}
 use Rattle.cg_cgroup.specs.Paths.{Names, same_path, is_child}
 use Rattle.cg_cgroup.specs.Identity.{Identity}
-use Rattle.cg_cgroup.specs.Files.{stands_under, same_file, same_entry, no_controllers}
-use Rattle.cg_cgroup.specs.Cgroups.{file_of, entry_in, value_in, with_value_in, with_mode_of, with_mode_in, refitted}
-use Rattle.cg_model.specs.States.{State, row_at, file_at, entry_at, value_at, enabling, with_row, without_row, with_value, with_mode, with_enabled}
+use Rattle.cg_cgroup.specs.Files.{enables, stands_under, same_file, same_entry, no_controllers}
+use Rattle.cg_cgroup.specs.Cgroups.{file_of, other_in, entry_in, value_in, with_value_in, with_mode_of, with_mode_in, refitted}
+use Rattle.cg_model.specs.States.{State, row_at, file_at, other_at, entry_at, value_at, enabling, with_row, without_row, with_value, with_mode, with_enabled}
 use Rattle.cg_model.specs.WellFormed.{enabled_at}
 use Rattle.cg_cgroup.specs.declared.files.Limit.{Limit}
 use Rattle.cg_cgroup.specs.declared.controllers.ControllerSet.{ControllerSet}
+use Rattle.cg_cgroup.specs.declared.files.Controller.{Controller}
 use Rattle.cg_cgroup.specs.declared.files.LimitFile.{LimitFile}
 use Rattle.cg_cgroup.specs.declared.files.EntryName.{EntryName}
 use Rattle.cg_cgroup.specs.declared.files.EntryName.TheVariants.{Dir, Procs, SubtreeControl, File}
@@ -15,7 +16,7 @@ use Rattle.cg_cgroup.specs.declared.cgroup.LimitEntry.{LimitEntry}
 use Rattle.cg_cgroup.specs.declared.cgroup.Cgroup.{Cgroup}
 use Rattle.cg_cgroup.proofs.PathOrder.{same_path-is}
 use Rattle.cg_model.proofs.StateLaws.{row_at-with_row, row_at-without_row, row_at-with_value, row_at-with_mode, row_at-with_enabled}
-use Rattle.cg_cgroup.proofs.CgroupLaws.{entry_in-with_value_in, value_in-with_value_in, enabled-with_value_in, entry_in-with_mode_in, value_in-with_mode_in, enabled-with_mode_in, file_of-with_files_of, same-with_files_of}
+use Rattle.cg_cgroup.proofs.CgroupLaws.{other_in-with_value_in, other_in-with_mode_in, entry_in-with_value_in, value_in-with_value_in, enabled-with_value_in, entry_in-with_mode_in, value_in-with_mode_in, enabled-with_mode_in, file_of-with_files_of, same-with_files_of, same-other}
 use Rattle.cg_model.proofs.FormedEnabled.{enabling-by, is_child-itself}
 
 -- ---- readings of a row that is changed at one path
@@ -76,6 +77,12 @@ module _ (st : State) (p : Names) (file : LimitFile) (value : Limit) (q : Names)
       set_twice None = refl
       set_twice (Some x) = refl
 
+  pub other_at-with_value : (controller : Controller) → other_at (with_value st p file value) q controller ≡ other_at st q controller
+  other_at-with_value controller =
+      ap (option_and_then (λ row. other_in row controller)) (row_at-with_value st p file value q)
+      ∙ read_same (λ row. other_in row controller) (with_value_in file value) (λ row. other_in-with_value_in file value row controller)
+      (same_path p q) (row_at st q)
+
   pub enabled_at-with_value : enabled_at (with_value st p file value) q ≡ enabled_at st q
   enabled_at-with_value = ap enabled_of (row_at-with_value st p file value q)
       ∙ enabled_same (with_value_in file value) (enabled-with_value_in file value) (same_path p q) (row_at st q)
@@ -97,6 +104,12 @@ module _ (st : State) (p : Names) (name : EntryName) (mode : ℕ) (q : Names) wh
       ∙ read_same (λ row. value_in row file) (with_mode_in name mode) (λ row. value_in-with_mode_in name mode row file) (same_path p q)
       (row_at st q)
 
+  pub other_at-with_mode : (controller : Controller) → other_at (with_mode st p name mode) q controller ≡ other_at st q controller
+  other_at-with_mode controller =
+      ap (option_and_then (λ row. other_in row controller)) (row_at-with_mode st p name mode q)
+      ∙ read_same (λ row. other_in row controller) (with_mode_in name mode) (λ row. other_in-with_mode_in name mode row controller)
+      (same_path p q) (row_at st q)
+
   pub enabled_at-with_mode : enabled_at (with_mode st p name mode) q ≡ enabled_at st q
   enabled_at-with_mode = ap enabled_of (row_at-with_mode st p name mode q)
       ∙ enabled_same (with_mode_in name mode) (enabled-with_mode_in name mode) (same_path p q) (row_at st q)
@@ -114,6 +127,11 @@ module _ (st : State) (p : Names) (row : Cgroup) (q : Names) where
   value_at-with_row file = ap (option_and_then (λ row. value_in row file)) (row_at-with_row st p row q)
       ∙ read_cond (λ row. value_in row file) (same_path p q) (Some row) (row_at st q)
 
+  pub other_at-with_row : (controller : Controller)
+      → other_at (with_row st p row) q controller ≡ cond (same_path p q) (other_in row controller) (other_at st q controller)
+  other_at-with_row controller = ap (option_and_then (λ row. other_in row controller)) (row_at-with_row st p row q)
+      ∙ read_cond (λ row. other_in row controller) (same_path p q) (Some row) (row_at st q)
+
   pub enabled_at-with_row : enabled_at (with_row st p row) q ≡ cond (same_path p q) row.enabled (enabled_at st q)
   enabled_at-with_row = ap enabled_of (row_at-with_row st p row q) ∙ enabled_cond (same_path p q) (Some row) (row_at st q)
 
@@ -125,6 +143,11 @@ module _ (st : State) (p q : Names) where
   pub value_at-without_row : (file : LimitFile) → value_at (without_row st p) q file ≡ cond (same_path p q) None (value_at st q file)
   value_at-without_row file = ap (option_and_then (λ row. value_in row file)) (row_at-without_row st p q)
       ∙ read_cond (λ row. value_in row file) (same_path p q) None (row_at st q)
+
+  pub other_at-without_row : (controller : Controller)
+      → other_at (without_row st p) q controller ≡ cond (same_path p q) None (other_at st q controller)
+  other_at-without_row controller = ap (option_and_then (λ row. other_in row controller)) (row_at-without_row st p q)
+      ∙ read_cond (λ row. other_in row controller) (same_path p q) None (row_at st q)
 
   pub enabled_at-without_row : enabled_at (without_row st p) q ≡ cond (same_path p q) no_controllers (enabled_at st q)
   enabled_at-without_row = ap enabled_of (row_at-without_row st p q) ∙ enabled_cond (same_path p q) None (row_at st q)
@@ -183,6 +206,13 @@ module _ (st : State) (p : Names) (enabled : ControllerSet) (user : Identity) (q
       read_kept (λ row. file_of row file) (λ row _. enabling-by p enabled user (λ r. file_of r file ≡ file_of row file) q row (λ _. refl)
       (λ child. absurd (true≢false (sym child ∙ other))) (λ _ _. refl))
 
+  pub other_at-with_enabled-other : is_child p q ≡ false → (controller : Controller)
+      → other_at (with_enabled st p enabled user) q controller ≡ other_at st q controller
+  other_at-with_enabled-other other controller =
+      read_kept (λ row. other_in row controller) (λ row _. enabling-by p enabled user
+      (λ r. other_in r controller ≡ other_in row controller) q row (λ _. refl) (λ child. absurd (true≢false (sym child ∙ other)))
+      (λ _ _. refl))
+
   -- the files of a cgroup where they stand before and after, or neither
   pub file_at-with_enabled-same : (file : LimitFile)
       → (is_some (row_at st q) ≡ true → is_some (file_at st q file) ≡ stands_under enabled file)
@@ -192,6 +222,15 @@ module _ (st : State) (p : Names) (enabled : ControllerSet) (user : Identity) (q
       enabling-by p enabled user (λ r. file_of r file ≡ file_of row file) q row (λ _. refl)
       (λ _. same-with_files_of enabled user row file
       (ap (λ r. is_some (option_and_then (λ row. file_of row file) r)) (sym is) ∙ stands (ap is_some is))) (λ _ _. refl))
+
+  pub other_at-with_enabled-same : (controller : Controller)
+      → (is_some (row_at st q) ≡ true → is_some (other_at st q controller) ≡ enables enabled controller)
+      → other_at (with_enabled st p enabled user) q controller ≡ other_at st q controller
+  other_at-with_enabled-same controller stands =
+      read_kept (λ row. other_in row controller) (λ row is.
+      enabling-by p enabled user (λ r. other_in r controller ≡ other_in row controller) q row (λ _. refl)
+      (λ _. same-other enabled user row controller
+      (ap (λ r. is_some (option_and_then (λ row. other_in row controller) r)) (sym is) ∙ stands (ap is_some is))) (λ _ _. refl))
 
   -- the files of a child: one that stays is kept as it is, and a new one is the user's
   pub file_at-with_enabled-child : is_child p q ≡ true → (file : LimitFile)

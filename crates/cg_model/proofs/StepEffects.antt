@@ -4,22 +4,24 @@ use Rattle.cg_cgroup.specs.Paths.{Names, same_path, is_child, parent}
 use Rattle.cg_cgroup.specs.Identity.{Identity}
 use Rattle.cg_cgroup.specs.Files.{controller_of, stands_under, same_file, same_entry}
 use Rattle.cg_cgroup.specs.Cgroups.{file_of, cgroup_made_by}
-use Rattle.cg_model.specs.States.{State, row_at, process_at, is_used, file_at, entry_at, value_at, with_enabled, with_process}
+use Rattle.cg_model.specs.States.{State, row_at, process_at, is_used, file_at, other_at, entry_at, value_at, with_enabled, with_process}
 use Rattle.cg_model.specs.WellFormed.{has_row, enabled_at}
 use Rattle.cg_cgroup.specs.declared.controllers.ControllerSet.{ControllerSet}
+use Rattle.cg_cgroup.specs.declared.files.Controller.{Controller}
 use Rattle.cg_cgroup.specs.declared.files.LimitFile.{LimitFile}
-use Rattle.cg_cgroup.specs.declared.files.LimitFile.TheVariants.{MaxDescendants, MaxDepth}
+use Rattle.cg_cgroup.specs.declared.files.LimitFile.TheVariants.{MaxDescendants, MaxDepth, CpuWeight}
 use Rattle.cg_cgroup.specs.declared.files.EntryName.{EntryName}
 use Rattle.cg_cgroup.specs.declared.files.EntryName.TheVariants.{Dir, Procs, SubtreeControl, File}
 use Rattle.cg_cgroup.specs.declared.cgroup.Cgroup.{Cgroup}
 use Rattle.cg_cgroup.specs.declared.process.Process.{Process}
 use Rattle.cg_model.proofs.StateLaws.{row_at-with_row, row_at-without_row, row_at-with_value, row_at-with_mode, process_at-with_place-other, process_at-with_process-other, process_at-without_process-other, is_used-with_process}
-use Rattle.cg_model.proofs.StateEntries.{entry_at-with_value, value_at-with_value, enabled_at-with_value, entry_at-with_mode, value_at-with_mode, enabled_at-with_mode, entry_at-with_row, value_at-with_row, enabled_at-with_row, entry_at-without_row, value_at-without_row, enabled_at-without_row, entry_at-file, value_at-file, entry_at-with_enabled-dir, entry_at-with_enabled-procs, entry_at-with_enabled-subtree_control, file_at-with_enabled-other, file_at-with_enabled-same}
+use Rattle.cg_model.proofs.StateEntries.{entry_at-with_value, value_at-with_value, enabled_at-with_value, entry_at-with_mode, value_at-with_mode, enabled_at-with_mode, entry_at-with_row, value_at-with_row, enabled_at-with_row, entry_at-without_row, value_at-without_row, enabled_at-without_row, entry_at-file, value_at-file, entry_at-with_enabled-dir, entry_at-with_enabled-procs, entry_at-with_enabled-subtree_control, file_at-with_enabled-other, file_at-with_enabled-same, other_at-with_value, other_at-with_mode, other_at-with_row, other_at-without_row, other_at-with_enabled-other}
 use Rattle.cg_model.proofs.FormedEnabled.{has_row-with_enabled, enabled_at-with_enabled-other}
 use Rattle.cg_model.specs.Changes.{enabled_after}
 use Rattle.cg_model.specs.Next.{next}
 use Rattle.cg_model.specs.Steps.{after}
-use Rattle.cg_model.specs.Effects.{alters_row, alters_entry, alters_value, alters_enabled, alters_process, alters_used}
+use Rattle.cg_model.specs.Limits.{limits}
+use Rattle.cg_model.specs.Effects.{alters_row, alters_entry, alters_value, alters_others, alters_enabled, alters_process, alters_used}
 use Rattle.cg_model.specs.declared.operation.Op.{Op}
 use Rattle.cg_model.specs.declared.operation.Op.TheVariants.{Move, Control, Mkdir, Rmdir, Set, Fork, Exit, Chmod}
 use Rattle.cg_model.proofs.StepFormed.{after-by}
@@ -115,6 +117,32 @@ value_at-next st user (Fork parent child) q file h =
 value_at-next st user (Exit pid) q file h = refl
 value_at-next st user (Chmod at entry mode) q file h = value_at-with_mode st at entry mode q file
 
+-- ---- the other files that controllers bring
+
+other_at-next : (st : State) (user : Identity) (op : Op) (q : Names) (controller : Controller) → alters_others op q ≡ false
+    → other_at (next st user op) q controller ≡ other_at st q controller
+other_at-next st user (Move pid to) q controller h = refl
+other_at-next st user (Control at changes) q controller h =
+    other_at-with_enabled-other st at (enabled_after (enabled_at st at) changes) user q h controller
+other_at-next st user (Mkdir path) q controller h = other_at-with_row st path _ q controller ∙ not_taken (same_path path q) _ _ h
+other_at-next st user (Rmdir path) q controller h = other_at-without_row st path q controller ∙ not_taken (same_path path q) _ _ h
+other_at-next st user (Set at file value) q controller h = other_at-with_value st at file value q controller
+other_at-next st user (Fork parent child) q controller h =
+    fork-by (λ s. other_at s q controller ≡ other_at st q controller) st child (process_at st parent) refl (λ process. refl)
+other_at-next st user (Exit pid) q controller h = refl
+other_at-next st user (Chmod at entry mode) q controller h = other_at-with_mode st at entry mode q controller
+
+and_true : (b : Bool) → (b && true) ≡ false → b ≡ false
+and_true true h = h
+and_true false h = refl
+
+-- who alters the value of no file alters no other file either
+others_unaltered : (op : Op) (q : Names) → ((file : LimitFile) → alters_value op q file ≡ false) → alters_others op q ≡ false
+others_unaltered (Control at changes) q h = and_true (is_child at q) (h CpuWeight)
+others_unaltered (Mkdir path) q h = h CpuWeight
+others_unaltered (Rmdir path) q h = h CpuWeight
+others_unaltered op q h = refl
+
 -- ---- controllers
 
 enabled_at-next : (st : State) (user : Identity) (op : Op) (q : Names) → alters_enabled op q ≡ false
@@ -194,6 +222,19 @@ module _ (st : State) (user : Identity) (op : Op) where
   pub value_at-after : (q : Names) (file : LimitFile) → alters_value op q file ≡ false
       → value_at (after st user op) q file ≡ value_at st q file
   value_at-after q file h = after-by st user op (λ s. value_at s q file ≡ value_at st q file) (λ _. value_at-next st user op q file h) refl
+
+  pub other_at-after : (q : Names) (controller : Controller) → alters_others op q ≡ false
+      → other_at (after st user op) q controller ≡ other_at st q controller
+  other_at-after q controller h =
+      after-by st user op (λ s. other_at s q controller ≡ other_at st q controller) (λ _. other_at-next st user op q controller h) refl
+
+  pub limits-after : (q : Names) → ((file : LimitFile) → alters_value op q file ≡ false) → limits (after st user op) q ≡ limits st q
+  limits-after q h =
+      let others = others_unaltered op q h in
+      λ i. record {
+        values = λ file. value_at-after q file (h file) i;
+        others = λ controller. is_some (other_at-after q controller others i);
+      }
 
   pub enabled_at-after : (q : Names) → alters_enabled op q ≡ false → enabled_at (after st user op) q ≡ enabled_at st q
   enabled_at-after q h = after-by st user op (λ s. enabled_at s q ≡ enabled_at st q) (λ _. enabled_at-next st user op q h) refl

@@ -36,6 +36,13 @@ alters_value (Rmdir path) q file = same_path path q
 alters_value (Set at written value) q file = same_path at q && same_file written file
 alters_value op q file = false
 
+-- the other files that controllers bring
+abbrev pub alters_others : Op → Names → Bool
+alters_others (Control at changes) q = is_child at q
+alters_others (Mkdir path) q = same_path path q
+alters_others (Rmdir path) q = same_path path q
+alters_others op q = false
+
 -- what a cgroup enables
 abbrev pub alters_enabled : Op → Names → Bool
 alters_enabled (Control at changes) q = same_path at q

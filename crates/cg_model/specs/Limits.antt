@@ -1,25 +1,35 @@
 -- The limits of a cgroup, and whether it is within its own limits of descendants and depth.
-use Rattle.std.specs.Prelude.{ℕ, Bool, true, false, nat_eq, nat_le, Option, Some, None, nat_lt}
+use Rattle.std.specs.Prelude.{ℕ, Bool, true, false, ◌&&◌, nat_eq, nat_le, Option, Some, None, is_some, nat_lt}
+use mathlib.Core.Bool.{beq}
 use Rattle.std.specs.List.{list_all}
 use Rattle.cg_cgroup.specs.Paths.{Names}
-use Rattle.cg_cgroup.specs.Files.{all_files}
+use Rattle.cg_cgroup.specs.Files.{all_files, all_controllers}
+use Rattle.cg_cgroup.specs.Cgroups.{value_in, other_in}
 use Rattle.cg_cgroup.specs.declared.files.Limit.{Limit}
 use Rattle.cg_cgroup.specs.declared.files.Limit.TheVariants.{Max, At}
 use Rattle.cg_cgroup.specs.declared.files.LimitFile.{LimitFile}
-use Rattle.cg_model.specs.States.{State, row_at, value_at, count_below, depth_below}
+use Rattle.cg_cgroup.specs.declared.files.Controller.{Controller}
+use Rattle.cg_cgroup.specs.declared.cgroup.Cgroup.{Cgroup}
+use Rattle.cg_model.specs.States.{State, row_at, value_at, other_at, count_below, depth_below}
 
 -- Own: whether so many are fewer than a limit allows.
 abbrev pub is_under : ℕ → Limit → Bool
 is_under count Max = true
 is_under count (At most) = nat_lt count most
 
--- A map from the limit files that stand at a cgroup to their values: nothing for a file that doesn't stand.
-abbrev pub Limits : Type 0
-Limits = LimitFile → Option Limit
+-- The limits of a cgroup: the value of each file of `LimitFile` that stands there, and whether the other files of each
+-- controller do, of which no value is told.
+pub record Limits : Type 0 where
+  pub values : LimitFile → Option Limit
+  pub others : Controller → Bool
 
--- Core Interface Files; CPU, Memory and PID: the limits set on a cgroup.
+-- Core Interface Files; CPU, Memory and PID; Enabling and Disabling: the limits set on a cgroup.
 abbrev pub limits : State → Names → Limits
-limits st path file = value_at st path file
+limits st path = record { values = value_at st path; others = λ controller. is_some (other_at st path controller) }
+
+-- those of a cgroup that is there
+abbrev pub limits_in : Cgroup → Limits
+limits_in row = record { values = value_in row; others = λ controller. is_some (other_in row controller) }
 
 abbrev pub same_limit : Limit → Limit → Bool
 same_limit Max Max = true
@@ -33,7 +43,9 @@ same_value value other = false
 
 -- the same files stand, with the same values
 abbrev pub same_limits : Limits → Limits → Bool
-same_limits these those = list_all (λ file. same_value (these file) (those file)) all_files
+same_limits these those =
+    list_all (λ file. same_value (these.values file) (those.values file)) all_files
+    && list_all (λ controller. beq (these.others controller) (those.others controller)) all_controllers
 
 -- Own: whether so many are within a limit.
 abbrev pub is_within_limit : ℕ → Limit → Bool

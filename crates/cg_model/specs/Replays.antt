@@ -2,10 +2,10 @@
 use Rattle.std.specs.Prelude.{ℕ, suc, List}
 use Rattle.cg_cgroup.specs.Paths.{Names}
 use Rattle.cg_cgroup.specs.Identity.{Identity}
-use Rattle.cg_cgroup.specs.Cgroups.{value_in}
 use Rattle.cg_cgroup.specs.declared.cgroup.Cgroup.{Cgroup}
 use Rattle.cg_model.specs.States.{State}
 use Rattle.cg_model.specs.Steps.{after}
+use Rattle.cg_model.specs.Limits.{limits_in}
 use Rattle.cg_model.specs.declared.operation.Op.{Op}
 use Rattle.cg_model.specs.Verdicts.{broken_since, or_later}
 use Rattle.cg_model.specs.declared.verdict.Clause.{Clause}
@@ -30,5 +30,5 @@ abbrev pub stepped : Progress → Identity → Op → Progress
 stepped run user op = record run {
   state = after run.state user op;
   steps = suc run.steps;
-  verdict = or_broken run.verdict (broken_since (value_in run.original) run.state (after run.state user op) run.subtree) (suc run.steps);
+  verdict = or_broken run.verdict (broken_since (limits_in run.original) run.state (after run.state user op) run.subtree) (suc run.steps);
 }

@@ -8,7 +8,7 @@ use Rattle.std.specs.FinSet as set
 use Rattle.cg_cgroup.specs.Paths.{Names, path_cmp, same_path, below, is_child}
 use Rattle.cg_cgroup.specs.Identity.{Identity}
 use Rattle.cg_cgroup.specs.Files.{enables}
-use Rattle.cg_cgroup.specs.Cgroups.{file_of, entry_in, value_in, with_value_in, with_mode_in, with_files_of}
+use Rattle.cg_cgroup.specs.Cgroups.{file_of, other_in, entry_in, value_in, with_value_in, with_mode_in, with_files_of}
 use Rattle.cg_cgroup.specs.declared.user.Entry.{Entry}
 use Rattle.cg_cgroup.specs.declared.files.Limit.{Limit}
 use Rattle.cg_cgroup.specs.declared.files.Controller.{Controller}
@@ -45,6 +45,9 @@ is_used st pid = set.contains st.used pid
 
 abbrev pub file_at : State → Names → LimitFile → Option LimitEntry
 file_at st path file = option_and_then (λ row. file_of row file) (row_at st path)
+
+abbrev pub other_at : State → Names → Controller → Option Entry
+other_at st path controller = option_and_then (λ row. other_in row controller) (row_at st path)
 
 abbrev pub entry_at : State → Names → EntryName → Option Entry
 entry_at st path name = option_and_then (λ row. entry_in row name) (row_at st path)

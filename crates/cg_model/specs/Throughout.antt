@@ -17,8 +17,8 @@ state_after start deeds steps = after_all start (take steps deeds)
 pub record IsAsSet (had : Limits) (st : State) (subtree : Names) : Type 0 where
   pub there : has_row st subtree ≡ true
   pub limits : limits st subtree ≡ had
-  pub descendants : (most : ℕ) → had MaxDescendants ≡ Some (At most) → count_below st subtree ≤ most
-  pub depth : (most : ℕ) → had MaxDepth ≡ Some (At most) → depth_below st subtree ≤ most
+  pub descendants : (most : ℕ) → had.values MaxDescendants ≡ Some (At most) → count_below st subtree ≤ most
+  pub depth : (most : ℕ) → had.values MaxDepth ≡ Some (At most) → depth_below st subtree ≤ most
 
 -- Delegation Containment: a process that is live in both states is inside the subtree in both or in neither.
 abbrev pub NoneCrosses : State → State → Names → Type 0

@@ -11,13 +11,12 @@ use Rattle.cg_cgroup.specs.declared.files.Limit.TheVariants.{Max, At}
 use Rattle.cg_cgroup.specs.declared.files.LimitFile.{LimitFile}
 use Rattle.cg_cgroup.specs.declared.files.LimitFile.TheVariants.{CpuWeight}
 use Rattle.cg_cgroup.specs.declared.files.Controller.{Controller}
-use Rattle.cg_model.specs.States.{State, place_at, paths_of, pids_of}
+use Rattle.cg_model.specs.States.{State, place_at, paths_of, pids_of, value_at}
 use Rattle.cg_model.specs.WellFormed.{has_row}
 use Rattle.cg_model.specs.Clauses.{present}
 use Rattle.cg_model.specs.declared.changes.Change.{Change}
 use Rattle.cg_model.specs.declared.operation.Op.{Op}
 use Rattle.cg_model.specs.declared.operation.Op.TheVariants.{Move, Control, Mkdir, Rmdir, Set, Chmod}
-use Rattle.cg_model.specs.Limits.{limits}
 use Rattle.cg_model.specs.Guards.{Guarded, guarded_entries, guarded_entry}
 
 -- another value that the file accepts
@@ -30,7 +29,7 @@ other_value file Max = At 0
 -- each limit of the subtree to another value
 abbrev pub set_tries : State → Names → List (List Op)
 set_tries st subtree =
-    flat_map (λ file. present (limits st subtree file) (λ value. (Set subtree file (other_value file value) ∷ []) ∷ [])) all_files
+    flat_map (λ file. present (value_at st subtree file) (λ value. (Set subtree file (other_value file value) ∷ []) ∷ [])) all_files
 
 abbrev pub change_of : Bool → Controller → Change
 change_of on controller = record { on = on; controller = controller }

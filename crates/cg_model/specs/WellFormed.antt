@@ -2,7 +2,7 @@
 use Rattle.std.specs.Prelude.{◌≡◌, ℕ, ◌≤◌, Bool, true, false, ◌||◌, not, cond, [], Some, None, is_some}
 use Rattle.cg_cgroup.specs.Paths.{Names, is_root, parent}
 use Rattle.cg_cgroup.specs.Files.{enables, no_controllers, stands_under, accepts, enables_nothing, is_within}
-use Rattle.cg_cgroup.specs.Cgroups.{file_of, entry_in}
+use Rattle.cg_cgroup.specs.Cgroups.{file_of, other_in, entry_in}
 use Rattle.cg_model.specs.States.{State, row_at, process_at, is_used, has_live, child_enables}
 use Rattle.cg_cgroup.specs.declared.user.Entry.{Entry}
 use Rattle.cg_cgroup.specs.declared.files.Controller.{Controller}
@@ -43,6 +43,7 @@ pub record MayEnable (st : State) (path : Names) (enabled : ControllerSet) : Typ
 pub record IsFormedRow (above : ControllerSet) (row : Cgroup) : Type 0 where
   -- Enabling and Disabling: limit files stand exactly where they belong
   pub files : (file : LimitFile) → is_some (file_of row file) ≡ stands_under above file
+  pub others : (controller : Controller) → is_some (other_in row controller) ≡ enables above controller
   -- Own: with accepted values
   pub values : (file : LimitFile) (held : LimitEntry) → file_of row file ≡ Some held → accepts file held.value ≡ true
   -- Own: modes are permission bits, at most 0o777

@@ -1,7 +1,7 @@
 -- The files that controllers bring, taken from elsewhere one by one.
-use Rattle.std.proofs.Common.{◌≡◌, ℕ, ◌+◌, ◌<◌, ◌≤◌, true, false, cond, nat_eq, length, refl, sym, ap, ◌∙◌, arith, eqb-true, Option, None}
+use Rattle.std.proofs.Common.{◌≡◌, ℕ, ◌+◌, ◌<◌, ◌≤◌, true, false, cond, nat_eq, length, refl, sym, ap, ◌∙◌, arith, eqb-true, Option, None, get_or, map}
 use Rattle.std.proofs.lemmas.List.{get_or-set_same, get_or-set_other}
-use Rattle.cg_cgroup.specs.Files.{brought_files, place_of}
+use Rattle.cg_cgroup.specs.Files.{all_controllers, controller_kind, brought_files, place_of}
 use Rattle.cg_cgroup.specs.Cgroups.{held_at, holding, file_of}
 use Rattle.cg_cgroup.specs.declared.controllers.ControllerSet.{ControllerSet}
 use Rattle.cg_cgroup.specs.declared.files.LimitFile.{LimitFile}
@@ -9,8 +9,9 @@ use Rattle.cg_cgroup.specs.declared.files.LimitFile.TheVariants.{MaxDescendants,
 use Rattle.cg_cgroup.specs.declared.brought.BroughtFiles.{BroughtFiles}
 use Rattle.cg_cgroup.specs.declared.cgroup.LimitEntry.{LimitEntry}
 use Rattle.cg_cgroup.specs.declared.cgroup.Cgroup.{Cgroup}
+use Rattle.cg_cgroup.specs.declared.others.OtherFiles.{OtherFiles}
 use Rattle.cg_cgroup.proofs.CgroupLaws.{same_cgroup}
-use Rattle.cg_places.specs.Nodes.{with_files_from}
+use Rattle.cg_places.specs.Nodes.{other_from, with_files_from}
 use Rattle.cg_places.specs.Taken.{Takes, brings}
 
 -- those before `n` are taken, and the others are as they were
@@ -68,15 +69,18 @@ module _ (changed : ControllerSet) (from old now : BroughtFiles) (n : ℕ) (belo
         rest = λ place behind. below.rest place (omega (arith, behind));
       }
 
-module _ (changed : ControllerSet) (fresh old : Cgroup) (files : BroughtFiles) (takes : Takes changed fresh.files old.files files) where
-  taken_file : (file : LimitFile) → file_of (record old { files = files }) file ≡ file_of (with_files_from changed fresh old) file
+module _ (changed : ControllerSet) (fresh old : Cgroup) (files : BroughtFiles) (takes : Takes changed fresh.files old.files files)
+    (others : OtherFiles) (taken : others.entries ≡ map (other_from changed fresh old) all_controllers) where
+  taken_file : (file : LimitFile)
+      → file_of (record old { files = files; others = others }) file ≡ file_of (with_files_from changed fresh old) file
   unfolding with_files_from
   taken_file MaxDescendants = refl
   taken_file MaxDepth = refl
   taken_file file = takes.each (place_of file) (omega arith)
 
-  pub all_taken : record old { files = files } ≡ with_files_from changed fresh old
+  pub all_taken : record old { files = files; others = others } ≡ with_files_from changed fresh old
   unfolding with_files_from
   all_taken =
-      same_cgroup (with_files_from changed fresh old) (record old { files = files })
-      (record { dir = refl; procs = refl; subtree_control = refl; enabled = refl }) taken_file
+      same_cgroup (with_files_from changed fresh old) (record old { files = files; others = others })
+      (record { dir = refl; procs = refl; subtree_control = refl; freeze = refl; enabled = refl }) taken_file
+      (λ controller. ap (λ entries. get_or entries (controller_kind controller).number None) taken)

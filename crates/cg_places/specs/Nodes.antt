@@ -5,11 +5,12 @@ use Rattle.std.specs.Option.{option_map}
 use mathlib.Core.Bool.{beq}
 use Rattle.std.proofs.Common.{refl}
 use Rattle.cg_cgroup.specs.Files.{all_controllers, controller_kind, enables, no_controllers, set_by, stands_under}
-use Rattle.cg_cgroup.specs.Cgroups.{file_of, files_by, cgroup_made_by}
+use Rattle.cg_cgroup.specs.Cgroups.{file_of, files_by, other_in, others_by, cgroup_made_by}
 use Rattle.cg_model.specs.States.{enabling_these}
 use Rattle.cg_cgroup.specs.declared.files.Controller.{Controller}
 use Rattle.cg_cgroup.specs.declared.controllers.ControllerSet.{ControllerSet}
 use Rattle.cg_cgroup.specs.declared.cgroup.Cgroup.{Cgroup}
+use Rattle.cg_cgroup.specs.declared.user.Entry.{Entry}
 use Rattle.cg_places.specs.Links.{link_at, tallied}
 use Rattle.cg_places.specs.declared.links.Link.{Link}
 use Rattle.cg_places.specs.declared.links.Tally.{Tally}
@@ -131,10 +132,17 @@ differs a b = not (beq a b)
 abbrev pub differing : ControllerSet → ControllerSet → ControllerSet
 differing had has = set_by (λ controller. differs (enables had controller) (enables has controller))
 
+-- the other files of a controller, of these as another cgroup has them
+abbrev pub other_from : ControllerSet → Cgroup → Cgroup → Controller → Option Entry
+other_from changed fresh row controller = cond (enables changed controller) (other_in fresh controller) (other_in row controller)
+
 -- a cgroup with the limit files of these controllers as another one has them
 unfoldable pub with_files_from : ControllerSet → Cgroup → Cgroup → Cgroup
 with_files_from changed fresh row =
-    record row { files = files_by (λ file. cond (stands_under changed file) (file_of fresh file) (file_of row file)) }
+    record row {
+      files = files_by (λ file. cond (stands_under changed file) (file_of fresh file) (file_of row file));
+      others = others_by (other_from changed fresh row);
+    }
 
 abbrev pub refitted_node : ControllerSet → Cgroup → Node → Node
 refitted_node changed fresh node = record node { cgroup = with_files_from changed fresh node.cgroup }

@@ -1,15 +1,19 @@
 //! Cgroups at their places, and what is counted of their children and processes.
-ghost use Rattle.std.specs.Prelude.{◌≡◌, true, ◌<◌, length, slice_set, [], ◌∷◌, None, IfOk, OnOk, OnErr};
+ghost use Rattle.std.specs.Prelude.{◌≡◌, true, ◌<◌, length, map, slice_set, [], ◌∷◌, None, IfOk, OnOk, OnErr};
 ghost use Rattle.cg_places.specs.Links.{put_at};
-ghost use Rattle.cg_places.specs.Nodes.{Refits, RefitsShared, RefitsSlots, HasGrown, IsSharedAt, kin_if, new_node, new_slot, node_at, slot_at, with_cgroup, with_own, with_live, with_uses, tallied_node, recounted, enabled_at, differing, with_files_from};
+ghost use Rattle.cg_places.specs.Nodes.{Refits, RefitsShared, RefitsSlots, HasGrown, IsSharedAt, kin_if, new_node, new_slot, node_at, slot_at, with_cgroup, with_own, with_live, with_uses, tallied_node, recounted, enabled_at, differing, other_from, with_files_from};
+ghost use Rattle.cg_cgroup.specs.Files.{all_controllers};
 ghost use Rattle.cg_places.specs.Taken.{Takes};
 
 use crate::links::{Link, Tally};
 use crate::uses::Uses;
 use cg_cgroup::brought::BroughtFiles;
 use cg_cgroup::cgroup::Cgroup;
+use cg_cgroup::controllers::CONTROLLER_COUNT;
 use cg_cgroup::files::{BROUGHT_COUNT, Controller, ControllerSet, LimitFile};
 use cg_cgroup::memory::NoMemory;
+use cg_cgroup::others::OtherFiles;
+use cg_cgroup::user::Entry;
 use std::alloc::Global;
 use std::marker::Model;
 
@@ -341,6 +345,35 @@ fn take_files(cgroup: &mut Cgroup, changed: ControllerSet, from: &Cgroup)
     ensures { cgroup.new ≡ with_files_from changed from.now cgroup.old }
 {
     take_each(&mut cgroup.files, changed, &from.files);
+    cgroup.others = OtherFiles {
+        entries: taken_others(cgroup, changed, from),
+    };
+}
+
+/// The other files of these controllers as another cgroup has them, and those of the rest as they were.
+fn taken_others(
+    cgroup: &Cgroup,
+    changed: ControllerSet,
+    from: &Cgroup,
+) -> [Option<Entry>; CONTROLLER_COUNT]
+    ensures { result ≡ map (other_from changed from.now cgroup.now) all_controllers }
+{
+    Controller::ALL.map(|controller| taken_other(cgroup, controller, changed, from))
+}
+
+fn taken_other(
+    cgroup: &Cgroup,
+    controller: Controller,
+    changed: ControllerSet,
+    from: &Cgroup,
+) -> Option<Entry>
+    ensures { result ≡ other_from changed from.now cgroup.now controller }
+{
+    if changed.contains(controller) {
+        from.other(controller)
+    } else {
+        cgroup.other(controller)
+    }
 }
 
 /// Gives the cgroups that children of a place share the limit files of these controllers as a new one has them.

@@ -125,19 +125,20 @@ module _ (st : State) (kept : IsKept st) where
       format_2-each row.enabled (λ controller on.
       enables-format_2 st.controllers known controller (root_has st kept.formed controller path row there on))
 
-  row_back : is_of_format_2 st.controllers ≡ true → (e : Names × Cgroup) → row_at st e.0 ≡ Some e.1 → IsNamedRow e.0 e.1
+  row_back : IsCarried st → (e : Names × Cgroup) → row_at st e.0 ≡ Some e.1 → IsNamedRow e.0 e.1
       → IsRowOf Two st (row_written e)
-  row_back known e there at =
+  row_back carried e there at =
       let formed = kept.formed.rows e.0 e.1 there in
       record {
         path = e.0;
         cgroup = e.1;
         there = there;
         named = path_back e.0 e.1 at;
-        enabled = enabled_back e.0 e.1 (row_known known e.0 e.1 there);
+        enabled = enabled_back e.0 e.1 (row_known carried.controllers e.0 e.1 there);
         entries = entry_back e.0 e.1 (enabled_above st e.0) at formed;
         values = value_back e.0 e.1 (enabled_above st e.0) at formed;
         files = files_back e.0 e.1 (enabled_above st e.0) at formed;
+        others = carried.others e.0 e.1 there;
       }
 
   process_back : (e : ℕ × Process) → process_at st e.0 ≡ Some e.1 → IsNamedProcess e.0 e.1 → IsProcessOf st (process_written e)
@@ -173,7 +174,7 @@ module _ (st : State) (kept : IsKept st) where
   pub document_back : IsCarried st → IsDocumentOf st (tree_document st)
   document_back carried =
       let rows =
-      all-both _ _ (λ (e : Names × Cgroup). IsRowOf Two st (row_written e)) (row_back carried.controllers) cgroups
+      all-both _ _ (λ (e : Names × Cgroup). IsRowOf Two st (row_written e)) (row_back carried) cgroups
       (entries_there path_cmp path_cmp_total st.rows) kept.rows in
       let processes =
       all-both _ _ (λ (e : ℕ × Process). IsProcessOf st (process_written e)) process_back live

@@ -1,5 +1,5 @@
 -- What a text says can be carried by a text: it has no more cgroups and processes than the text has tables.
-use Rattle.std.proofs.Common.{◌≡◌, ℕ, ◌+◌, ◌≤◌, Bool, true, false, cond, List, [], ◌∷◌, length, Ordering, codes, Option, Some, None, is_some, option_and_then, refl, sym, ap, ◌∙◌, arith}
+use Rattle.std.proofs.Common.{◌≡◌, ℕ, ◌+◌, ◌≤◌, Bool, true, false, cond, List, [], ◌∷◌, length, Ordering, codes, Option, Some, None, is_some, option_and_then, refl, sym, ap, subst, ◌∙◌, arith}
 use Rattle.std.specs.Prelude.{◌||◌, count_by, filter_map}
 use Rattle.std.specs.List.{cons_option, AllByRecursion, list_any}
 use Rattle.std.specs.Ordering.{eq_by_cmp}
@@ -10,16 +10,21 @@ use Rattle.toml.specs.Data.{Data, Members, as_table}
 use Rattle.std.proofs.lemmas.Option.{none-some, same_Some}
 use Rattle.cg_cgroup.specs.Files.{same_controller, is_in_format_2, is_of_format_2, named_in_format_2, enables, with_controller, no_controllers}
 use Rattle.cg_cgroup.specs.declared.files.Controller.{Controller}
+use Rattle.cg_cgroup.specs.Paths.{Names}
 use Rattle.cg_cgroup.specs.declared.controllers.ControllerSet.{ControllerSet}
+use Rattle.cg_cgroup.specs.declared.cgroup.Cgroup.{Cgroup}
+use Rattle.cg_cgroup.proofs.Options.{same_some}
 use Rattle.cg_cgroup.proofs.ControllerLaws.{same_controller-true, enables-with_controller, enables-format_2, format_2-each, format_2-none}
 use Rattle.cg_cgroup.proofs.NameLaws.{known_in_format_2}
 use Rattle.cg_cgroup.proofs.PathOrder.{path_cmp_total, path_cmp-IsAntisymmetric}
-use Rattle.cg_model.specs.States.{State}
+use Rattle.cg_model.specs.States.{State, row_at}
+use Rattle.cg_model.specs.WellFormed.{has_row}
 use Rattle.cg_model.proofs.Lists.{all-each}
 use Rattle.cg_format.specs.Said.{controllers_from, elements_at, texts_at, tables_at, has_path}
-use Rattle.cg_format.specs.TextOf.{IsRowOf, IsProcessOf, has_pid, IsTextOf}
+use Rattle.cg_format.specs.TextOf.{OthersAreRoots, IsRowOf, IsProcessOf, has_pid, IsDocumentOf, IsTextOf}
 use Rattle.cg_format.specs.declared.format.Format.{Format}
 use Rattle.cg_format.proofs.Cuts.{any_counted}
+use Rattle.cg_format.proofs.OneState.{one_passes, path_is}
 use Rattle.cg_print.specs.Carried.{IsCarried}
 use Rattle.cg_print.proofs.DocumentBack.{path_ties, pid_ties}
 
@@ -130,6 +135,14 @@ known_from set (text ∷ texts) found known h =
           (format_2-with set controller known (known_in_format_2 text controller is)) more
     ] refl h
 
+others_read : (st : State) (document : Members) → IsDocumentOf st document → (path : Names) (row : Cgroup) → row_at st path ≡ Some row
+    → OthersAreRoots row
+others_read st document is path row there =
+    let found = one_passes (IsRowOf is.format st) (has_path path) (tables_at (codes "cgroup") document) (has_row st path) is.cgroups
+    (is.paths path) (ap is_some there) in
+    let named : path ≡ found.1.path = path_is path found.1.path found.0 found.1.named found.2 in
+    subst OthersAreRoots (same_some found.1.cgroup row (sym (ap (row_at st) named ∙ found.1.there) ∙ there)) found.1.others
+
 pub read_carried : (text : List ℕ) (st : State) → IsTextOf st text → IsCarried st
 read_carried text st is =
     let rows : List Members = tables_at (codes "cgroup") is.document in
@@ -142,5 +155,6 @@ read_carried text st is =
       cgroups = omega (arith, is.says.form.few_cgroups, tables_at_most (elements_at (codes "cgroup") is.document), cgroups);
       processes = omega (arith, is.says.form.few_processes, tables_at_most (elements_at (codes "process") is.document), processes);
       controllers = known_from no_controllers (texts_at (codes "controllers") is.document) st.controllers format_2-none is.says.controllers;
+      others = others_read st is.document is.says;
       used = is.says.used;
     }

@@ -12,9 +12,10 @@ use Rattle.cg_cgroup.specs.declared.files.LimitFile.{LimitFile}
 use Rattle.cg_cgroup.specs.declared.cgroup.LimitEntry.{LimitEntry}
 use Rattle.cg_cgroup.specs.declared.cgroup.Cgroup.{Cgroup}
 use Rattle.cg_cgroup.specs.declared.process.Process.{Process}
-use Rattle.cg_model.specs.States.{State, process_at, is_used}
+use Rattle.cg_model.specs.States.{State, row_at, process_at, is_used}
 use Rattle.cg_model.specs.WellFormed.{IsWellFormed}
 use Rattle.cg_format.specs.Form.{most_rows}
+use Rattle.cg_format.specs.TextOf.{OthersAreRoots}
 use Rattle.cg_format.specs.TreeTexts.{longest_text}
 use Rattle.cg_print.specs.Documents.{IsSpelled}
 
@@ -54,12 +55,13 @@ pub record IsKept (st : State) : Type 0 where
   pub rows : AreNamedRows (map.entries st.rows)
   pub live : AreNamedProcesses (map.entries st.live)
 
--- Few enough cgroups and processes; no controller that texts don't know; and a PID that isn't live was never used, as a text
+-- Few enough cgroups and processes; no controller that texts don't know, and no limit file of a user that they don't name; and a PID that isn't live was never used, as a text
 -- has no word for it.
 pub record IsCarried (st : State) : Type 0 where
   pub cgroups : length (map.entries st.rows) ≤ most_rows
   pub processes : length (map.entries st.live) ≤ most_rows
   pub controllers : is_of_format_2 st.controllers ≡ true
+  pub others : (path : Names) (row : Cgroup) → row_at st path ≡ Some row → OthersAreRoots row
   pub used : (pid : ℕ) → is_used st pid ≡ is_some (process_at st pid)
 
 -- the tree's text is longer than a tree text may be

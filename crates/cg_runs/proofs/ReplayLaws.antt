@@ -1,8 +1,8 @@
 -- What a replay keeps at each step, and that it comes to the verdict of the definition.
-use Rattle.std.proofs.Common.{◌≡◌, ℕ, suc, ◌+◌, ◌<◌, true, false, List, [], ◌∷◌, ◌++◌, length, take, Option, Some, Result, Ok, option_and_then, refl, sym, ap, ◌∙◌, subst, true≢false, arith, add-one, length-append}
+use Rattle.std.proofs.Common.{◌≡◌, ℕ, suc, ◌+◌, ◌<◌, true, false, List, [], ◌∷◌, ◌++◌, length, take, Option, Some, Result, Ok, option_and_then, refl, sym, ap, ◌∙◌, subst, true≢false, arith, add-one, length-append, is_some}
 use Rattle.cg_cgroup.specs.Paths.{Names, is_root}
 use Rattle.cg_cgroup.specs.Identity.{Identity}
-use Rattle.cg_cgroup.specs.Cgroups.{value_in}
+use Rattle.cg_cgroup.specs.Cgroups.{value_in, other_in}
 use Rattle.cg_cgroup.specs.declared.cgroup.Cgroup.{Cgroup}
 use Rattle.cg_cgroup.specs.declared.memory.NoMemory.{NoMemory}
 use Rattle.cg_model.specs.States.{State, row_at}
@@ -18,7 +18,7 @@ use Rattle.cg_model.specs.Next.{next}
 use Rattle.cg_model.specs.Outcomes.{RefusedBy, IsRefused}
 use Rattle.cg_model.proofs.Prefixes.{take_whole, no_root_of_length}
 use Rattle.cg_model.proofs.StepFormed.{after-allowed, after-barred}
-use Rattle.cg_model.specs.Limits.{Limits as LimitMap, limits, same_limits}
+use Rattle.cg_model.specs.Limits.{Limits as LimitMap, limits, same_limits, limits_in}
 use Rattle.cg_laws.proofs.Sound.{sound-formed, sound-after}
 use Rattle.cg_model.proofs.Edges.{none-crosses-same}
 use Rattle.cg_model.specs.Verdicts.{broken, broken_since, or_later, verdict_from}
@@ -34,8 +34,11 @@ use Rattle.cg_runs.proofs.ShortcutLaws.{first-broken_by}
 
 -- ---- intact is whole where nothing moves
 
-limits-row : (st : State) (subtree : Names) (row : Cgroup) → row_at st subtree ≡ Some row → limits st subtree ≡ value_in row
-limits-row st subtree row is = λ i file. option_and_then (λ r. value_in r file) (is i)
+limits-row : (st : State) (subtree : Names) (row : Cgroup) → row_at st subtree ≡ Some row → limits st subtree ≡ limits_in row
+limits-row st subtree row is = λ i. record {
+  values = λ file. option_and_then (λ r. value_in r file) (is i);
+  others = λ controller. is_some (option_and_then (λ r. other_in r controller) (is i));
+}
 
 intact-whole : (had : LimitMap) (st new : State) (subtree : Names) → IsWhole had st new subtree → IsIntact had new subtree
 intact-whole had st new subtree whole =
@@ -102,8 +105,8 @@ module _ (run : Progress) (user : Identity) (op : Op) (at : IsReplay run) (few :
   replay-stepped = record {
     bound = omega (arith, few);
     sound = sound-after run.state user op at.sound;
-    intact = λ kept. intact-whole (value_in run.original) run.state (after run.state user op) run.subtree
-        (broken-whole (value_in run.original) run.state (after run.state user op) run.subtree (still_kept run.verdict _ _ kept).1);
+    intact = λ kept. intact-whole (limits_in run.original) run.state (after run.state user op) run.subtree
+        (broken-whole (limits_in run.original) run.state (after run.state user op) run.subtree (still_kept run.verdict _ _ kept).1);
   }
 
 -- what a call of `apply` promises of a step
@@ -152,7 +155,7 @@ module _ (run : Progress) (user : Identity) (op : Op) where
   come_to st now = record { subtree = run.subtree; original = run.original; state = st; steps = run.steps + 1; verdict = now }
 
   abbrev broke : List Clause
-  broke = broken_since (value_in run.original) run.state (after run.state user op) run.subtree
+  broke = broken_since (limits_in run.original) run.state (after run.state user op) run.subtree
 
   come_to-stepped : (new : State) (now : Verdict) → new ≡ after run.state user op → now ≡ or_broken run.verdict broke (suc run.steps)
       → come_to new now ≡ stepped run user op
@@ -165,7 +168,7 @@ module _ (run : Progress) (user : Identity) (op : Op) where
     step-still h =
         come_to-stepped new run.verdict (applied-after run.state user op new outcome is) (verdict-still run.verdict outcome broke
         (suc run.steps) h (λ refusal kept refused.
-        let had = value_in run.original in
+        let had = limits_in run.original in
         let same =
         after-refused run.state user op new refusal
         (subst (λ found. RefusedBy found (first (bars run.state user op))) refused is.refused) in
@@ -173,13 +176,13 @@ module _ (run : Progress) (user : Identity) (op : Op) where
         ∙ whole-broken had run.state run.state run.subtree (whole-intact had run.state run.subtree (at.intact kept))))
 
     pub step-done : may_break run.verdict outcome ≡ true → (broken : Option Clause)
-        → broken ≡ first (broken_by (value_in run.original) (moves_over run.state run.subtree op) new run.subtree op)
+        → broken ≡ first (broken_by (limits_in run.original) (moves_over run.state run.subtree op) new run.subtree op)
         → (now : Verdict) → ((clauses : List Clause) → broken ≡ first clauses → now ≡ or_later clauses (run.steps + 1) Kept)
         → come_to new now ≡ stepped run user op
     step-done h broken by now found =
         let both = may-parts run.verdict outcome h in
         let free = (is.done both.1).0 in
-        let had = value_in run.original in
+        let had = limits_in run.original in
         let moves = moves_over run.state run.subtree op in
         let is_after = applied-after run.state user op new outcome is in
         let first_broken =
@@ -192,7 +195,7 @@ module _ (run : Progress) (user : Identity) (op : Op) where
     replay-still few h = subst IsReplay (sym (step-still h)) (replay-stepped run user op at few)
 
     pub replay-done : run.steps < 65536 → may_break run.verdict outcome ≡ true → (broken : Option Clause)
-        → broken ≡ first (broken_by (value_in run.original) (moves_over run.state run.subtree op) new run.subtree op)
+        → broken ≡ first (broken_by (limits_in run.original) (moves_over run.state run.subtree op) new run.subtree op)
         → (now : Verdict) → ((clauses : List Clause) → broken ≡ first clauses → now ≡ or_later clauses (run.steps + 1) Kept)
         → IsReplay (come_to new now)
     replay-done few h broken by now found = subst IsReplay (sym (step-done h broken by now found)) (replay-stepped run user op at few)

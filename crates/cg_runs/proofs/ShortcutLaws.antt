@@ -23,7 +23,7 @@ use Rattle.cg_model.specs.declared.operation.Op.TheVariants.{Move, Control, Mkdi
 use Rattle.cg_model.proofs.ClauseLaws.{first_some}
 use Rattle.cg_model.proofs.Allowed.{allowed_mkdir}
 use Rattle.cg_model.proofs.StepFormed.{after-allowed}
-use Rattle.cg_model.proofs.StepEffects.{has_row-after, value_at-after}
+use Rattle.cg_model.proofs.StepEffects.{has_row-after, limits-after}
 use Rattle.cg_model.specs.Limits.{Limits as LimitMap, limits, same_limits, fits_descendants, fits_depth}
 use Rattle.cg_model.specs.Edge.{is_crossed, crossing}
 use Rattle.cg_laws.specs.Sound.{IsSound}
@@ -86,7 +86,7 @@ module _ (had : LimitMap) (st : State) (user : Identity) (subtree : Names) (soun
       → ((file : LimitFile) → alters_value op subtree file ≡ false)
       → first (broken_since had st (after st user op) subtree) ≡ None
   by-nothing op free there edge stay =
-      let same : limits (after st user op) subtree ≡ limits st subtree = λ i file. value_at-after st user op subtree file (stay file) i in
+      let same : limits (after st user op) subtree ≡ limits st subtree = limits-after st user op subtree stay in
       by-limits op free there edge ∙ ap (λ these. first (unless (same_limits had these) Limits)) same
       ∙ ap (λ b. first (unless b Limits)) intact.limits
 

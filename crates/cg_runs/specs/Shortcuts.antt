@@ -3,7 +3,6 @@
 -- is proved; a reader of the contracts needs none of it.
 use Rattle.std.specs.Prelude.{◌≡◌, ◌≤◌, Bool, true, false, not, ◌||◌, List, [], Some}
 use Rattle.cg_cgroup.specs.Paths.{Names, same_path, is_child}
-use Rattle.cg_cgroup.specs.Cgroups.{value_in}
 use Rattle.cg_model.specs.States.{State, place_at}
 use Rattle.cg_model.specs.WellFormed.{has_row}
 use Rattle.cg_model.specs.Clauses.{unless}
@@ -11,7 +10,7 @@ use Rattle.cg_model.specs.declared.operation.Op.{Op}
 use Rattle.cg_model.specs.declared.operation.Op.TheVariants.{Move, Control, Rmdir, Set}
 use Rattle.cg_model.specs.declared.outcome.Outcome.{Outcome}
 use Rattle.cg_model.specs.declared.outcome.Outcome.TheVariants.{Done}
-use Rattle.cg_model.specs.Limits.{Limits as LimitMap, limits, same_limits, fits_descendants, fits_depth}
+use Rattle.cg_model.specs.Limits.{Limits as LimitMap, limits, limits_in, same_limits, fits_descendants, fits_depth}
 use Rattle.cg_model.specs.Edge.{is_crossed}
 use Rattle.cg_laws.specs.Sound.{IsSound}
 use Rattle.cg_model.specs.Replays.{Progress}
@@ -50,4 +49,4 @@ pub record IsIntact (had : LimitMap) (st : State) (subtree : Names) : Type 0 whe
 pub record IsReplay (run : Progress) : Type 0 where
   pub bound : run.steps ≤ 65536
   pub sound : IsSound run.state
-  pub intact : run.verdict ≡ Kept → IsIntact (value_in run.original) run.state run.subtree
+  pub intact : run.verdict ≡ Kept → IsIntact (limits_in run.original) run.state run.subtree

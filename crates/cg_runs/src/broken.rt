@@ -1,15 +1,18 @@
 //! What is broken of a subtree at the start, and what a step may break of it.
-ghost use Rattle.std.specs.Prelude.{◌≡◌, [], List, true, Some};
+ghost use Rattle.std.specs.Prelude.{◌≡◌, [], List, true, Some, is_some};
 ghost use Rattle.cg_cgroup.specs.Paths.{is_child};
-ghost use Rattle.cg_cgroup.specs.Cgroups.{value_in};
+ghost use Rattle.cg_cgroup.specs.Cgroups.{value_in, other_in};
+ghost use Rattle.cg_cgroup.specs.Files.{all_files, all_controllers};
+ghost use Rattle.std.specs.List.{list_all};
+ghost use mathlib.Core.Bool.{beq};
 ghost use Rattle.cg_model.specs.States.{row_at};
 ghost use Rattle.cg_model.specs.Clauses.{first, unless};
-ghost use Rattle.cg_model.specs.Limits.{limits, same_limits};
+ghost use Rattle.cg_model.specs.Limits.{limits, limits_in, same_value, same_limits};
 ghost use Rattle.cg_model.specs.Verdicts.{broken, or_later};
 ghost use Rattle.cg_runs.specs.Shortcuts.{moves_over, may_break, broken_by};
 
 use cg_cgroup::cgroup::Cgroup;
-use cg_cgroup::files::LimitFile;
+use cg_cgroup::files::{Controller, LimitFile};
 use cg_cgroup::path::Path;
 use cg_guards::failed::{fits_depth, fits_descendants};
 use cg_model::hierarchy::Hierarchy;
@@ -76,7 +79,7 @@ pub fn broken_by<H: Hierarchy>(
     op: &Op,
     moves: bool,
 ) -> Option<Clause>
-    ensures { result ≡ first (broken_by (value_in original.now) moves (H.state tree.now) subtree.now op.now) }
+    ensures { result ≡ first (broken_by (limits_in original.now) moves (H.state tree.now) subtree.now op.now) }
 {
     match op {
         Op::Move { pid, .. } if moves => Some(Clause::Crossed(*pid)),
@@ -99,7 +102,7 @@ fn is_child(top: &Path, path: &Path) -> bool
 
 /// That the limits of a subtree aren't those that it had, where they aren't.
 fn changed<H: Hierarchy>(tree: &H, subtree: &Path, original: &Cgroup) -> Option<Clause>
-    ensures { result ≡ first (unless (same_limits (value_in original.now) (limits (H.state tree.now) subtree.now)) Clause.Limits) }
+    ensures { result ≡ first (unless (same_limits (limits_in original.now) (limits (H.state tree.now) subtree.now)) Clause.Limits) }
 {
     match tree.get(subtree, subtree.depth()) {
         Some(cgroup) if same_limits(original, cgroup) => None,
@@ -109,9 +112,27 @@ fn changed<H: Hierarchy>(tree: &H, subtree: &Path, original: &Cgroup) -> Option<
 
 /// Whether the same limit files stand at two cgroups, with the same values.
 fn same_limits(cgroup: &Cgroup, other: &Cgroup) -> bool
-    ensures { result ≡ same_limits (value_in cgroup.now) (value_in other.now) }
+    ensures { result ≡ same_limits (limits_in cgroup.now) (limits_in other.now) }
+{
+    same_values(cgroup, other) && same_others(cgroup, other)
+}
+
+fn same_values(cgroup: &Cgroup, other: &Cgroup) -> bool
+    ensures { result ≡ list_all (λ file. same_value (value_in cgroup.now file) (value_in other.now file)) all_files }
 {
     LimitFile::ALL
         .iter()
         .all(|file| cgroup.limit(*file) == other.limit(*file))
+}
+
+/// Whether the other files of the same controllers stand at two cgroups.
+fn same_others(cgroup: &Cgroup, other: &Cgroup) -> bool
+    ensures { result
+        ≡ list_all
+        (λ controller. beq (is_some (other_in cgroup.now controller)) (is_some (other_in other.now controller)))
+        all_controllers }
+{
+    Controller::ALL
+        .iter()
+        .all(|controller| cgroup.other(*controller).is_some() == other.other(*controller).is_some())
 }

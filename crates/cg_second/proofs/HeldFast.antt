@@ -5,6 +5,7 @@ use Rattle.std.proofs.lemmas.Bool.{false_from_ne_true, true_from_ne_false, and_p
 use Rattle.cg_cgroup.specs.Paths.{Names, same_path, parent, inside, below, is_child, common}
 use Rattle.cg_cgroup.specs.Identity.{Identity}
 use Rattle.cg_cgroup.specs.Files.{enables, enables_nothing, stands_under, same_file}
+use Rattle.cg_cgroup.specs.declared.files.Controller.{Controller}
 use Rattle.cg_cgroup.specs.declared.files.Controller.TheVariants.{Memory}
 use Rattle.cg_cgroup.specs.declared.controllers.ControllerSet.{ControllerSet}
 use Rattle.cg_cgroup.specs.declared.files.LimitFile.{LimitFile}
@@ -15,7 +16,7 @@ use Rattle.cg_cgroup.proofs.Options.{is_some-mapped}
 use Rattle.cg_cgroup.proofs.PathLaws.{common-inside_first, common_comm}
 use Rattle.cg_cgroup.proofs.PathOrder.{same_path-is}
 use Rattle.cg_cgroup.proofs.PathParents.{inside-is, parent-is_child}
-use Rattle.cg_model.specs.States.{State, place_at, file_at, value_at, with_enabled}
+use Rattle.cg_model.specs.States.{State, place_at, file_at, other_at, value_at, with_enabled}
 use Rattle.cg_model.specs.WellFormed.{has_row, enabled_at}
 use Rattle.cg_model.specs.Changes.{enabled_after}
 use Rattle.cg_model.specs.Bars.{bars, move_bars, mkdir_bars}
@@ -28,8 +29,8 @@ use Rattle.cg_model.specs.declared.operation.Op.TheVariants.{Move, Control, Mkdi
 use Rattle.cg_model.proofs.Allowed.{allowed_mkdir, there_control}
 use Rattle.cg_model.proofs.FormedEnabled.{enabled_at-with_enabled-same}
 use Rattle.cg_model.proofs.FormedParts.{enabled_at-row}
-use Rattle.cg_model.proofs.StateEntries.{entry_at-file, value_at-file, file_at-with_enabled-other, file_at-with_enabled-same}
-use Rattle.cg_model.proofs.StepEffects.{has_row-after, value_at-after}
+use Rattle.cg_model.proofs.StateEntries.{entry_at-file, value_at-file, file_at-with_enabled-other, file_at-with_enabled-same, other_at-with_enabled-other, other_at-with_enabled-same}
+use Rattle.cg_model.proofs.StepEffects.{has_row-after, value_at-after, other_at-after}
 use Rattle.cg_model.proofs.StepFormed.{after-allowed}
 use Rattle.cg_laws.specs.Sound.{IsSound}
 use Rattle.cg_laws.proofs.Counts.{fits-after}
@@ -50,6 +51,8 @@ pub record IsFirm (st : State) (users : List Identity) (subtree : Names) (lastin
   pub sound : IsSound st
   pub is : IsSubtree st subtree
   pub stand : (file : LimitFile) → is_some (file_at st subtree file) ≡ stands_under (enabled_at st (parent subtree)) file
+  pub others : (controller : Controller)
+      → is_some (other_at st subtree controller) ≡ enables (enabled_at st (parent subtree)) controller
   pub fast : IsHeldFast st users subtree lasting
 
 module _ (st : State) (users : List Identity) (user : Identity) (named : Contains users user) (subtree : Names) (lasting : Lasting)
@@ -77,28 +80,41 @@ module _ (st : State) (users : List Identity) (user : Identity) (named : Contain
       ∙ sym (fast.lasts.enabled (parent subtree) controller off).0)
       (fast.control controller))
 
-  file-kept : (at : Names) (changes : List Change) → bars st user (Control at changes) ≡ [] → (file : LimitFile)
-      → file_at (after st user (Control at changes)) subtree file ≡ file_at st subtree file
-  file-kept at changes free file =
-      ap (λ s. file_at s subtree file) moved
-      ∙ elim (is_child at subtree) as
-      (λ b. is_child at subtree ≡ b → file_at (with_enabled st at enabled user) subtree file ≡ file_at st subtree file) [
-        | true ↦ λ child.
-            let is = parent-is_child at subtree child in
-            let same : enabled_at st (parent subtree) ≡ enabled =
-            sym (enabled-same (Control at changes) free) ∙ ap (λ s. enabled_at s (parent subtree)) moved
-            ∙ ap (enabled_at (with_enabled st at enabled user)) is
-            ∙ enabled_at-with_enabled-same st at enabled user (there_control st user at changes free) in
-            file_at-with_enabled-same st at enabled user subtree file
-            (λ _. firm.stand file ∙ ap (λ set. stands_under set file) same)
-        | false ↦ λ other. file_at-with_enabled-other st at enabled user subtree other file
-      ] refl
-    where
-      enabled : ControllerSet
-      enabled = enabled_after (enabled_at st at) changes
+  module _ (at : Names) (changes : List Change) (free : bars st user (Control at changes) ≡ []) where
+    abbrev enabled : ControllerSet
+    enabled = enabled_after (enabled_at st at) changes
 
-      moved : after st user (Control at changes) ≡ with_enabled st at enabled user
-      moved = after-allowed st user (Control at changes) free
+    moved : after st user (Control at changes) ≡ with_enabled st at enabled user
+    moved = after-allowed st user (Control at changes) free
+
+    -- a parent of the subtree enables what it enabled
+    enabled-still : is_child at subtree ≡ true → enabled_at st (parent subtree) ≡ enabled
+    enabled-still child =
+        let is = parent-is_child at subtree child in
+        sym (enabled-same (Control at changes) free) ∙ ap (λ s. enabled_at s (parent subtree)) moved
+        ∙ ap (enabled_at (with_enabled st at enabled user)) is
+        ∙ enabled_at-with_enabled-same st at enabled user (there_control st user at changes free)
+
+    file-kept : (file : LimitFile) → file_at (after st user (Control at changes)) subtree file ≡ file_at st subtree file
+    file-kept file =
+        ap (λ s. file_at s subtree file) moved
+        ∙ elim (is_child at subtree) as
+        (λ b. is_child at subtree ≡ b → file_at (with_enabled st at enabled user) subtree file ≡ file_at st subtree file) [
+          | true ↦ λ child. file_at-with_enabled-same st at enabled user subtree file
+              (λ _. firm.stand file ∙ ap (λ set. stands_under set file) (enabled-still child))
+          | false ↦ λ other. file_at-with_enabled-other st at enabled user subtree other file
+        ] refl
+
+    other-kept : (controller : Controller)
+        → other_at (after st user (Control at changes)) subtree controller ≡ other_at st subtree controller
+    other-kept controller =
+        ap (λ s. other_at s subtree controller) moved
+        ∙ elim (is_child at subtree) as (λ b. is_child at subtree ≡ b
+        → other_at (with_enabled st at enabled user) subtree controller ≡ other_at st subtree controller) [
+          | true ↦ λ child. other_at-with_enabled-same st at enabled user subtree controller
+              (λ _. firm.others controller ∙ ap (λ set. enables set controller) (enabled-still child))
+          | false ↦ λ other. other_at-with_enabled-other st at enabled user subtree other controller
+        ] refl
 
   keeps : (op : Op) → bars st user op ≡ [] → (file : LimitFile) → KeepsFile st user op subtree (File file)
   keeps (Control at changes) free file =
@@ -125,8 +141,24 @@ module _ (st : State) (users : List Identity) (user : Identity) (named : Contain
       (row-stays st users user named lasting fast.lasts sound (Rmdir removed) free subtree fast.stays)
   value-same op free file = value_at-after st user op subtree file refl
 
+  other-same : (op : Op) → bars st user op ≡ [] → (controller : Controller)
+      → other_at (after st user op) subtree controller ≡ other_at st subtree controller
+  other-same (Control at changes) free controller = other-kept at changes free controller
+  other-same (Mkdir made) free controller =
+      other_at-after st user (Mkdir made) subtree controller (there-other st made subtree (allowed_mkdir st user made free).0 firm.is.0)
+  other-same (Rmdir removed) free controller =
+      other_at-after st user (Rmdir removed) subtree controller
+      (row-stays st users user named lasting fast.lasts sound (Rmdir removed) free subtree fast.stays)
+  other-same op free controller = other_at-after st user op subtree controller refl
+
   pub limits-after : (op : Op) → bars st user op ≡ [] → limits (after st user op) subtree ≡ limits st subtree
-  limits-after op free i file = value-same op free file i
+  limits-after op free =
+      λ i. record { values = λ file. value-same op free file i; others = λ controller. is_some (other-same op free controller i) }
+
+  others-after : (op : Op) → bars st user op ≡ [] → (controller : Controller)
+      → is_some (other_at (after st user op) subtree controller) ≡ enables (enabled_at (after st user op) (parent subtree)) controller
+  others-after op free controller =
+      ap is_some (other-same op free controller) ∙ firm.others controller ∙ ap (λ set. enables set controller) (sym (enabled-same op free))
 
   stand-after : (op : Op) → bars st user op ≡ [] → (file : LimitFile)
       → is_some (file_at (after st user op) subtree file) ≡ stands_under (enabled_at (after st user op) (parent subtree)) file
@@ -246,6 +278,7 @@ module _ (st : State) (users : List Identity) (user : Identity) (named : Contain
         sound = sound-after st user op sound;
         is = (there-after op free, firm.is.1);
         stand = stand-after op free;
+        others = others-after op free;
         fast = record {
           lasts = lasts-after op free;
           stays = fast.stays;

@@ -11,8 +11,9 @@ use Rattle.std.specs.List.Sorted.{IsStableByKey}
 use Rattle.std.proofs.lemmas.List.Sorted.{ranks_by, sorted_far}
 use Rattle.toml.specs.Data.{Members}
 use Rattle.cg_cgroup.specs.Paths.{Names, path_cmp, same_path}
-use Rattle.cg_cgroup.specs.Files.{no_controllers, stands_under}
-use Rattle.cg_cgroup.specs.Cgroups.{file_of, entry_in, value_in}
+use Rattle.cg_cgroup.specs.Files.{enables, no_controllers, stands_under}
+use Rattle.cg_cgroup.specs.Cgroups.{file_of, entry_in, value_in, root_file}
+use Rattle.cg_cgroup.proofs.CgroupLaws.{stands-under, entry-under}
 use Rattle.cg_cgroup.specs.declared.user.Entry.{Entry}
 use Rattle.cg_cgroup.specs.declared.files.Limit.{Limit}
 use Rattle.cg_cgroup.specs.declared.controllers.ControllerSet.{ControllerSet}
@@ -127,6 +128,12 @@ read_entry format tables number table row read above same = record {
       ap is_some (file_of-fitted_to above row.cgroup file)
       ∙ stands (stands_under above file) (file_of row.cgroup file) (read.files file)
       ∙ ap (λ (set : ControllerSet). stands_under set file) (sym sets);
+  others = λ path other said is controller.
+      let own : path ≡ row.path = same_some path row.path (sym said ∙ read.path) in
+      let sets : other ≡ above = same other (ap (over (Some no_controllers) tables) (sym own) ∙ is) in
+      stands-under above root_file (fitted_to above row.cgroup) refl controller
+      ∙ ap (λ (set : ControllerSet). enables set controller) (sym sets);
+  roots = record { freeze = read.freeze; others = entry-under above root_file (fitted_to above row.cgroup) refl };
 }
 
 -- ---- the entries

@@ -15,7 +15,7 @@ use Rattle.toml.specs.View.{view, table_view}
 use Rattle.toml.specs.declared.value.Value.{Value}
 use Rattle.cg_cgroup.specs.Paths.{Names}
 use Rattle.cg_cgroup.specs.Files.{all_files, brought_files, all_entries, entry_text}
-use Rattle.cg_cgroup.specs.Cgroups.{file_of, entry_in, value_in as value_at}
+use Rattle.cg_cgroup.specs.Cgroups.{file_of, entry_in, value_in as value_at, root_file}
 use Rattle.cg_cgroup.proofs.Options.{some_value, mapped_from, is_some-mapped}
 use Rattle.cg_cgroup.specs.declared.user.Entry.{Entry}
 use Rattle.cg_cgroup.specs.declared.files.Limit.{Limit}
@@ -234,10 +234,10 @@ module _ (said : Entries) where
       (all_so valued (each_passes valued all) brought_files)) ∙ sym (ap (list_all is_some) read) ∙ is)) in
       no_entry_fault are ∙ ap (λ b. first (unless b (BadValue said.place))) some
 
-  pub cgroup_read : (controllers : ControllerSet) (cgroup : Cgroup) → cgroup.enabled ≡ controllers
+  pub cgroup_read : (controllers : ControllerSet) (cgroup : Cgroup) → cgroup.enabled ≡ controllers → cgroup.freeze ≡ root_file
       → HasOwner Dir cgroup.dir → HasOwner Procs cgroup.procs → HasOwner SubtreeControl cgroup.subtree_control
       → ((file : LimitFile) → HasFile cgroup file) → (first (entry_faults said) ≡ None) × IsCgroupOf said controllers cgroup
-  cgroup_read controllers cgroup enabled dir procs control files =
+  cgroup_read controllers cgroup enabled freeze dir procs control files =
       let values : (file : LimitFile) → limit_in said file ≡ value_at cgroup file =
       λ file. (files file).value ∙ sym (ap (option_map (λ (f : LimitEntry). f.value)) (files file).stands) in
       let owners : (file : LimitFile) → owner_in said (File file) ≡ entry_in cgroup (File file) =
@@ -258,6 +258,7 @@ module _ (said : Entries) where
           entries = λ name. sym (entries name);
           values = λ file. sym (values file);
           files = λ file. ap is_some (files file).stands;
+          freeze = freeze;
         },
       )
 
@@ -304,6 +305,7 @@ module _ (said : Entries) (row : Members) (dir : option_map (λ table. table_vie
     values = λ file. sym (value_is file) ∙ sym (is.values file);
     needed = needed ∙ (λ i. needed_where (λ file. named_is file i));
     files = is.files;
+    freeze = is.freeze;
   }
 
 -- a row without a path, or whose controllers aren't

@@ -10,7 +10,7 @@ use Rattle.toml.specs.Data.{Members, no_members}
 use Rattle.toml.specs.View.{table_view}
 use Rattle.toml.specs.declared.value.Value.{Value}
 use Rattle.cg_cgroup.specs.Files.{all_files, all_entries, entry_text, controller_of, same_controller, set_by}
-use Rattle.cg_cgroup.specs.Cgroups.{file_of, entry_in, value_in as value_at}
+use Rattle.cg_cgroup.specs.Cgroups.{file_of, entry_in, value_in as value_at, root_file}
 use Rattle.cg_cgroup.specs.declared.user.Entry.{Entry}
 use Rattle.cg_cgroup.specs.declared.files.Limit.{Limit}
 use Rattle.cg_cgroup.specs.declared.files.Controller.{Controller}
@@ -81,6 +81,7 @@ pub record IsCgroupOf (said : Entries) (controllers : ControllerSet) (cgroup : C
   pub entries : (name : EntryName) → entry_in cgroup name ≡ owner_in said name
   pub values : (file : LimitFile) → value_at cgroup file ≡ limit_in said file
   pub files : (file : LimitFile) → is_some (file_of cgroup file) ≡ true
+  pub freeze : cgroup.freeze ≡ root_file
 
 -- a row as a table says it
 pub record IsReadAs (format : Format) (i : ℕ) (table : Members) (row : Row) : Type 0 where
@@ -91,6 +92,7 @@ pub record IsReadAs (format : Format) (i : ℕ) (table : Members) (row : Row) : 
   pub values : (file : LimitFile) → value_said table file ≡ value_at row.cgroup file
   pub needed : row.needed ≡ needed_where (λ file. is_named (File file) table)
   pub files : (file : LimitFile) → is_some (file_of row.cgroup file) ≡ true
+  pub freeze : row.cgroup.freeze ≡ root_file
 
 -- rows as tables say them, the first of which has the number i
 abbrev pub AreReadAs : Format → ℕ → List Members → List Row → Type 0

@@ -6,7 +6,7 @@ use Rattle.std.specs.List.{list_any}
 use Rattle.std.specs.List.Sorted.{IsSortedByKey}
 use Rattle.cg_cgroup.specs.Paths.{Names, path_cmp, same_path, is_root, parent, inside}
 use Rattle.cg_cgroup.specs.Files.{no_controllers, is_within, stands_under}
-use Rattle.cg_cgroup.specs.Cgroups.{file_of, files_by}
+use Rattle.cg_cgroup.specs.Cgroups.{file_of, files_by, others_under, root_file}
 use Rattle.cg_cgroup.specs.declared.controllers.ControllerSet.{ControllerSet}
 use Rattle.cg_cgroup.specs.declared.files.LimitFile.{LimitFile}
 use Rattle.cg_cgroup.specs.declared.cgroup.LimitEntry.{LimitEntry}
@@ -37,7 +37,10 @@ abbrev pub held_under : ControllerSet → LimitFile → Option LimitEntry → Op
 held_under over file held = cond (stands_under over file) held None
 
 abbrev pub fitted_to : ControllerSet → Cgroup → Cgroup
-fitted_to over cgroup = record cgroup { files = files_by (λ file. held_under over file (file_of cgroup file)) }
+fitted_to over cgroup = record cgroup {
+  files = files_by (λ file. held_under over file (file_of cgroup file));
+  others = others_under over root_file;
+}
 
 -- the rows' entries, each behind those before it
 abbrev pub entries_from : List Row → List Row → List (Names × Cgroup)

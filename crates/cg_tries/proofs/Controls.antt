@@ -4,18 +4,17 @@ use Rattle.std.specs.List.{AllByRecursion}
 use Rattle.cg_cgroup.specs.Paths.{Names, parent, is_root}
 use Rattle.cg_cgroup.specs.Identity.{Identity}
 use Rattle.cg_cgroup.specs.Files.{enables, same_controller, is_in_format_2, stands_under, no_controllers}
-use Rattle.cg_cgroup.specs.Cgroups.{file_of}
+use Rattle.cg_cgroup.specs.Cgroups.{file_of, other_in}
 use Rattle.cg_cgroup.specs.declared.files.Controller.{Controller}
 use Rattle.cg_cgroup.specs.declared.files.Controller.TheVariants.{Cpu, Memory, Pids}
 use Rattle.cg_cgroup.specs.declared.controllers.ControllerSet.{ControllerSet}
 use Rattle.cg_cgroup.specs.declared.files.LimitFile.{LimitFile}
-use Rattle.cg_cgroup.specs.declared.files.LimitFile.TheVariants.{CpuWeight, MemoryMax, PidsMax}
-use Rattle.cg_cgroup.proofs.Options.{some_value, is_some-mapped}
-use Rattle.cg_cgroup.proofs.ControllerLaws.{same_set, same_controller-true, each_in_format_2}
-use Rattle.cg_model.specs.States.{State, row_at, file_at}
+use Rattle.cg_cgroup.proofs.Options.{some_value}
+use Rattle.cg_cgroup.proofs.ControllerLaws.{same_set, same_controller-true}
+use Rattle.cg_model.specs.States.{State, row_at, file_at, other_at, value_at}
 use Rattle.cg_model.specs.WellFormed.{IsWellFormed, has_row, enabled_at}
 use Rattle.cg_model.proofs.StateCounts.{paths_of-with_enabled, count_below-same_paths, depth_below-same_paths}
-use Rattle.cg_model.proofs.StateEntries.{value_at-file, file_at-with_enabled-same}
+use Rattle.cg_model.proofs.StateEntries.{value_at-file, file_at-with_enabled-same, other_at-with_enabled-same}
 use Rattle.cg_model.proofs.FormedEnabled.{has_row-with_enabled, enabled_at-with_enabled-same}
 use Rattle.cg_model.specs.Bars.{bars}
 use Rattle.cg_model.specs.Changes.{enabled_after}
@@ -25,7 +24,6 @@ use Rattle.cg_model.proofs.AllowedControl.{enables-enabled_after}
 use Rattle.cg_model.specs.declared.operation.Op.{Op}
 use Rattle.cg_model.specs.declared.operation.Op.TheVariants.{Control}
 use Rattle.cg_model.specs.Guards.{IsSubtree}
-use Rattle.cg_model.specs.Limits.{limits}
 use Rattle.cg_model.specs.Verdicts.{broken}
 use Rattle.cg_model.specs.declared.verdict.Clause.{Clause}
 use Rattle.cg_model.specs.Tries.{change_of, control_tries}
@@ -33,7 +31,7 @@ use Rattle.cg_model.specs.Escapes.{breaks}
 use Rattle.cg_tries.specs.Escapes.{IsUnbroken}
 use Rattle.cg_tries.specs.Finding.{allowed}
 use Rattle.cg_tries.proofs.Seen.{seen, IsAlike, is_empty, step-alike}
-use Rattle.cg_tries.proofs.Single.{step_breaks, one_operation, limits_stay, nothing_bars, where_so}
+use Rattle.cg_tries.proofs.Single.{step_breaks, one_operation, others_stay, nothing_bars, where_so}
 
 -- a limit file stands where the parent enables what brings it
 stands : (st : State) (path : Names) (file : LimitFile) → IsWellFormed st → has_row st path ≡ true → is_root path ≡ false
@@ -44,22 +42,16 @@ stands st path file formed there not_root =
     ∙ (formed.rows path row.0 row.1).files file
     ∙ ap (λ b. stands_under (cond b no_controllers (enabled_at st (parent path))) file) not_root
 
-value_stands : (st : State) (path : Names) (file : LimitFile) → is_some (limits st path file) ≡ is_some (file_at st path file)
-value_stands st path file = ap is_some (value_at-file st path file) ∙ is_some-mapped (λ f. f.value) (file_at st path file)
+-- and so do the other files of a controller
+other_stands : (st : State) (path : Names) (controller : Controller) → IsWellFormed st → has_row st path ≡ true → is_root path ≡ false
+    → is_some (other_at st path controller) ≡ enables (enabled_at st (parent path)) controller
+other_stands st path controller formed there not_root =
+    let row = some_value (row_at st path) there in
+    ap (λ r. is_some (option_and_then (λ row. other_in row controller) r)) row.1
+    ∙ (formed.rows path row.0 row.1).others controller
+    ∙ ap (λ b. enables (cond b no_controllers (enabled_at st (parent path))) controller) not_root
 
 -- ---- changes
-
--- a file of a controller that brings one
-abbrev file_by : Controller → LimitFile
-file_by Cpu = CpuWeight
-file_by Pids = PidsMax
-file_by controller = MemoryMax
-
-stands-file_by : (enabled : ControllerSet) (controller : Controller) → is_in_format_2 controller ≡ true
-    → stands_under enabled (file_by controller) ≡ enables enabled controller
-stands-file_by enabled controller known =
-    each_in_format_2 (λ controller. stands_under enabled (file_by controller) ≡ enables enabled controller)
-    (refl, (refl, (refl, tt))) controller known
 
 abbrev enabled_by : Bool → Controller → ControllerSet → ControllerSet
 enabled_by on controller enabled = enabled_after enabled (change_of on controller ∷ [])
@@ -103,7 +95,7 @@ toggled false false h e = true≢false (sym h)
 -- ---- the try
 
 module _ (st : State) (user : Identity) (subtree : Names) (on : Bool) (controller : Controller) (whole : IsUnbroken st subtree)
-    (formed : IsWellFormed st) (there : IsSubtree st subtree) (known : is_in_format_2 controller ≡ true) where
+    (formed : IsWellFormed st) (there : IsSubtree st subtree) where
   abbrev op : Op
   op = Control (parent subtree) (change_of on controller ∷ [])
 
@@ -113,34 +105,36 @@ module _ (st : State) (user : Identity) (subtree : Names) (on : Bool) (controlle
   abbrev new : State
   new = next st user op
 
-  -- with effect it brings or takes a file of the subtree
+  -- with effect it brings or takes files of the subtree
   changed : bars st user op ≡ [] → changes_enabled on controller above ≡ true → broken st st new subtree ≡ [] → ⊥
   changed free changes none =
-      let file = file_by controller in
       let later = formed-next st user op formed tt free in
       let here = has_row-with_enabled st (parent subtree) (enabled_by on controller above) user subtree ∙ there.0 in
       let enabled =
       enabled_at-with_enabled-same st (parent subtree) (enabled_by on controller above) user (formed.parents subtree there.0) in
-      let before = value_stands st subtree file ∙ stands st subtree file formed there.0 there.1 ∙ stands-file_by above controller known in
+      let before = other_stands st subtree controller formed there.0 there.1 in
       let after =
-      value_stands new subtree file ∙ stands new subtree file later here there.1
-      ∙ stands-file_by (enabled_at new (parent subtree)) controller known
+      other_stands new subtree controller later here there.1
       ∙ ap (λ (e : ControllerSet). enables e controller) enabled ∙ now_enabled on controller above in
-      toggled on (enables above controller) changes (sym before ∙ ap is_some (limits_stay st st new subtree none file) ∙ after)
+      toggled on (enables above controller) changes (sym before ∙ others_stay st st new subtree none controller ∙ after)
 
   -- without effect it leaves the subtree as it was
   kept : changes_enabled on controller above ≡ false → IsAlike st new subtree
   kept same =
       let enabled = enabled_by on controller above in
       let paths = paths_of-with_enabled st (parent subtree) enabled user in
-      let files : (file : LimitFile) → limits new subtree file ≡ limits st subtree file = λ file.
+      let files : (file : LimitFile) → value_at new subtree file ≡ value_at st subtree file = λ file.
       value_at-file new subtree file
       ∙ ap (option_map (λ f. f.value)) (file_at-with_enabled-same st (parent subtree) enabled user subtree file (λ _.
       stands st subtree file formed there.0 there.1
       ∙ ap (λ (e : ControllerSet). stands_under e file) (sym (same_enabled on controller above same))))
       ∙ sym (value_at-file st subtree file) in
+      let others : (other : Controller) → other_at new subtree other ≡ other_at st subtree other = λ other.
+      other_at-with_enabled-same st (parent subtree) enabled user subtree other (λ _.
+      other_stands st subtree other formed there.0 there.1
+      ∙ ap (λ (e : ControllerSet). enables e other) (sym (same_enabled on controller above same))) in
       λ i. record {
-        limits = λ file. files file i;
+        limits = record { values = λ file. files file i; others = λ other. is_some (others other i) };
         count = count_below-same_paths st new paths subtree i;
         depth = depth_below-same_paths st new paths subtree i;
         pids = (seen st subtree).pids;

@@ -13,14 +13,13 @@ use Rattle.cg_cgroup.specs.declared.files.Limit.{Limit}
 use Rattle.cg_cgroup.specs.declared.files.LimitFile.{LimitFile}
 use Rattle.cg_cgroup.specs.declared.files.Controller.{Controller}
 use Rattle.cg_cgroup.specs.declared.files.Controller.TheVariants.{Cpu, Memory, Pids}
-use Rattle.cg_model.specs.States.{State, row_at, place_at, paths_of, pids_of}
+use Rattle.cg_model.specs.States.{State, row_at, place_at, paths_of, pids_of, value_at}
 use Rattle.cg_model.specs.WellFormed.{IsWellFormed, enabled_at}
 use Rattle.cg_model.specs.Clauses.{present}
 use Rattle.cg_model.specs.Bars.{passes}
 use Rattle.cg_model.specs.declared.operation.Op.{Op}
 use Rattle.cg_model.specs.declared.operation.Op.TheVariants.{Move, Control, Mkdir, Rmdir, Set}
 use Rattle.cg_model.specs.Guards.{IsSubtree}
-use Rattle.cg_model.specs.Limits.{limits}
 use Rattle.cg_model.specs.declared.verdict.Clause.{Clause}
 use Rattle.cg_model.specs.Tries.{other_value, set_tries, change_of, control_tries, move_tries, probe_tries, plain_tries}
 use Rattle.cg_model.specs.Escapes.{breaks}
@@ -46,7 +45,7 @@ module _ (st : State) (user : Identity) (subtree : Names) (whole : IsUnbroken st
   nothing_kept : breaks st user subtree [] ≡ false
   nothing_kept = breaks-run st user subtree [] ∙ ap (λ (l : List Clause). not (is_empty l && true)) whole
 
-  one_set : (file : LimitFile) (found : Option Limit) → limits st subtree file ≡ found
+  one_set : (file : LimitFile) (found : Option Limit) → value_at st subtree file ≡ found
       → find (breaks st user subtree) (present found (λ value. (Set subtree file (other_value file value) ∷ []) ∷ []))
       ≡ option_and_then (λ value. if_allowed st user (Set subtree file (other_value file value))) found
   one_set file None is = refl
@@ -56,8 +55,8 @@ module _ (st : State) (user : Identity) (subtree : Names) (whole : IsUnbroken st
   first_set-is : find (breaks st user subtree) (set_tries st subtree) ≡ first_set st user subtree
   first_set-is =
       find-flat_map (breaks st user subtree)
-      (λ file. present (limits st subtree file) (λ value. (Set subtree file (other_value file value) ∷ []) ∷ [])) all_files
-      ∙ first_given-same _ (set_of st user subtree) all_files (λ file. one_set file (limits st subtree file) refl)
+      (λ file. present (value_at st subtree file) (λ value. (Set subtree file (other_value file value) ∷ []) ∷ [])) all_files
+      ∙ first_given-same _ (set_of st user subtree) all_files (λ file. one_set file (value_at st subtree file) refl)
 
   module _ (formed : IsWellFormed st) (there : IsSubtree st subtree) where
     abbrev change : Bool → Controller → Op
@@ -75,8 +74,8 @@ module _ (st : State) (user : Identity) (subtree : Names) (whole : IsUnbroken st
         → find (breaks st user subtree) ((change false controller ∷ []) ∷ (change true controller ∷ []) ∷ [])
         ≡ control_of st user subtree controller
     one_control controller known =
-        (λ i. cond (control_try st user subtree false controller whole formed there known i) (Some (change false controller ∷ []))
-        (cond (control_try st user subtree true controller whole formed there known i) (Some (change true controller ∷ [])) None))
+        (λ i. cond (control_try st user subtree false controller whole formed there i) (Some (change false controller ∷ []))
+        (cond (control_try st user subtree true controller whole formed there i) (Some (change true controller ∷ [])) None))
         ∙ with_effect (allowed st user (change false controller)) (allowed st user (change true controller))
         (enables (enabled_at st (parent subtree)) controller) controller
         ∙ elim (enables (enabled_at st (parent subtree)) controller) as

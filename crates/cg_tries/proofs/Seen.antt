@@ -48,11 +48,11 @@ fits count (Some value) = is_within_limit count value
 -- what is broken, by what is seen
 abbrev pub broken_seen : Limits → Seen → Seen → Names → List Clause
 broken_seen start old new subtree =
-    unless (is_some (new.limits MaxDescendants)) Gone
+    unless (is_some (new.limits.values MaxDescendants)) Gone
     ++ map Crossed (filter (λ pid. is_crossed subtree (old.place pid) (new.place pid)) old.pids)
     ++ unless (same_limits start new.limits) LimitsChanged
-    ++ unless (fits new.count (new.limits MaxDescendants)) Descendants
-    ++ unless (fits new.depth (new.limits MaxDepth)) Depth
+    ++ unless (fits new.count (new.limits.values MaxDescendants)) Descendants
+    ++ unless (fits new.depth (new.limits.values MaxDepth)) Depth
 
 there-seen : (found : Option Cgroup) → is_some found ≡ is_some (option_and_then (λ row. value_in row MaxDescendants) found)
 there-seen None = refl

@@ -6,12 +6,13 @@ use Rattle.cg_cgroup.specs.Paths.{Names, inside}
 use Rattle.cg_cgroup.specs.Identity.{Identity}
 use Rattle.cg_cgroup.specs.declared.files.Limit.{Limit}
 use Rattle.cg_cgroup.specs.declared.files.Limit.TheVariants.{Max, At}
+use Rattle.cg_cgroup.specs.declared.files.Controller.{Controller}
 use Rattle.cg_cgroup.specs.declared.files.LimitFile.{LimitFile}
 use Rattle.cg_cgroup.specs.declared.files.LimitFile.TheVariants.{CpuWeight}
 use Rattle.cg_cgroup.proofs.Options.{mapped_from, same_some}
 use Rattle.cg_cgroup.proofs.PathOrder.{same_path_refl}
 use Rattle.cg_cgroup.proofs.CgroupLaws.{same_file-refl}
-use Rattle.cg_model.specs.States.{State, row_at, process_at, place_at, with_value, with_place, placed_at, without_row}
+use Rattle.cg_model.specs.States.{State, row_at, process_at, place_at, with_value, with_place, placed_at, without_row, value_at, other_at}
 use Rattle.cg_model.specs.WellFormed.{has_row}
 use Rattle.cg_model.proofs.StateLaws.{row_at-without_row, process_at-with_place-same}
 use Rattle.cg_model.proofs.StateEntries.{value_at-with_value}
@@ -22,7 +23,7 @@ use Rattle.cg_model.specs.Bars.{bars}
 use Rattle.cg_model.specs.Next.{next}
 use Rattle.cg_model.specs.declared.operation.Op.{Op}
 use Rattle.cg_model.specs.declared.operation.Op.TheVariants.{Move, Rmdir, Set}
-use Rattle.cg_model.specs.Limits.{limits, same_limits}
+use Rattle.cg_model.specs.Limits.{Limits as LimitMap, limits, same_limits}
 use Rattle.cg_model.specs.Edge.{is_crossed}
 use Rattle.cg_model.proofs.Edges.{crosses-some}
 use Rattle.cg_model.specs.Verdicts.{broken}
@@ -94,12 +95,20 @@ rmdir_try st user subtree whole = where_allowed st user subtree (Rmdir subtree) 
 
 -- where nothing is broken the limits are those of the start
 pub limits_stay : (start st new : State) (subtree : Names) → broken start st new subtree ≡ [] → (file : LimitFile)
-    → limits start subtree file ≡ limits new subtree file
+    → value_at start subtree file ≡ value_at new subtree file
 limits_stay start st new subtree none file =
     let same =
     no_unless (same_limits (limits start subtree) (limits new subtree)) Limits (no_parts _ _ (no_parts _ _ (no_parts _ _ none).0).0).1
     in
-    λ i. same_limits-is (limits start subtree) (limits new subtree) same i file
+    ap (λ (these : LimitMap). these.values file) (same_limits-is (limits start subtree) (limits new subtree) same)
+
+pub others_stay : (start st new : State) (subtree : Names) → broken start st new subtree ≡ [] → (controller : Controller)
+    → is_some (other_at start subtree controller) ≡ is_some (other_at new subtree controller)
+others_stay start st new subtree none controller =
+    let same =
+    no_unless (same_limits (limits start subtree) (limits new subtree)) Limits (no_parts _ _ (no_parts _ _ (no_parts _ _ none).0).0).1
+    in
+    ap (λ (these : LimitMap). these.others controller) (same_limits-is (limits start subtree) (limits new subtree) same)
 
 pub other_differs : (file : LimitFile) (value : Limit) → other_value file value ≢ value
 other_differs CpuWeight Max h = cc
@@ -110,16 +119,16 @@ other_differs CpuWeight (At value) h = elim (nat_eq value 100) as (λ b. nat_eq 
 other_differs file Max h = cc
 other_differs file (At value) h = cc
 
-value_set : (st : State) (subtree : Names) (file : LimitFile) (value other : Limit) → limits st subtree file ≡ Some value
-    → limits (with_value st subtree file other) subtree file ≡ Some other
+value_set : (st : State) (subtree : Names) (file : LimitFile) (value other : Limit) → value_at st subtree file ≡ Some value
+    → value_at (with_value st subtree file other) subtree file ≡ Some other
 value_set st subtree file value other is =
     value_at-with_value st subtree file other subtree file
-    ∙ ap (λ b. cond b (option_map (λ _. other) (limits st subtree file)) (limits st subtree file))
+    ∙ ap (λ b. cond b (option_map (λ _. other) (value_at st subtree file)) (value_at st subtree file))
     (and_from _ _ (same_path_refl subtree) (same_file-refl file))
     ∙ ap (option_map (λ _. other)) is
 
 pub set_try : (st : State) (user : Identity) (subtree : Names) (file : LimitFile) (value : Limit) → IsUnbroken st subtree
-    → limits st subtree file ≡ Some value
+    → value_at st subtree file ≡ Some value
     → breaks st user subtree (Set subtree file (other_value file value) ∷ []) ≡ allowed st user (Set subtree file (other_value file value))
 set_try st user subtree file value whole is = where_allowed st user subtree (Set subtree file (other_value file value)) whole (λ free none.
     let same = limits_stay st st (with_value st subtree file (other_value file value)) subtree none file in

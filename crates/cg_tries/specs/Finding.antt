@@ -10,11 +10,11 @@ use Rattle.cg_cgroup.specs.declared.files.Limit.{Limit}
 use Rattle.cg_cgroup.specs.declared.files.Limit.TheVariants.{Max, At}
 use Rattle.cg_cgroup.specs.declared.files.LimitFile.{LimitFile}
 use Rattle.cg_cgroup.specs.declared.files.Controller.{Controller}
-use Rattle.cg_model.specs.States.{State, row_at, place_at, paths_of, pids_of, count_below}
+use Rattle.cg_model.specs.States.{State, row_at, place_at, paths_of, pids_of, count_below, value_at}
 use Rattle.cg_model.specs.WellFormed.{enabled_at}
 use Rattle.cg_model.specs.Clauses.{first}
 use Rattle.cg_model.specs.Bars.{bars, passes}
-use Rattle.cg_model.specs.Limits.{is_under, limits}
+use Rattle.cg_model.specs.Limits.{is_under}
 use Rattle.cg_model.specs.declared.operation.Op.{Op}
 use Rattle.cg_model.specs.declared.operation.Op.TheVariants.{Move, Control, Mkdir, Rmdir, Set}
 use Rattle.cg_model.specs.Tries.{other_value, change_of, probe, free_probe, is_inside}
@@ -35,7 +35,7 @@ first_given f (x ∷ xs) = option_or (f x) (first_given f xs)
 -- ---- sets, controls and the removal
 
 abbrev pub set_of : State → Identity → Names → LimitFile → Option (List Op)
-set_of st user subtree file = option_and_then (λ value. if_allowed st user (Set subtree file (other_value file value))) (limits st subtree file)
+set_of st user subtree file = option_and_then (λ value. if_allowed st user (Set subtree file (other_value file value))) (value_at st subtree file)
 
 abbrev pub first_set : State → Identity → Names → Option (List Op)
 first_set st user subtree = first_given (set_of st user subtree) all_files

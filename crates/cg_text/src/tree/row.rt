@@ -19,6 +19,7 @@ use crate::tree::said::{controllers_at, limit_of, owner_of, path_at, table_at};
 use cg_cgroup::brought::BroughtFiles;
 use cg_cgroup::cgroup::{Cgroup, LimitEntry};
 use cg_cgroup::files::{BROUGHT_COUNT, Controller, ControllerSet, EntryName, Limit, LimitFile};
+use cg_cgroup::others::OtherFiles;
 use cg_cgroup::path::Path;
 use cg_cgroup::user::{Entry, Mode};
 use cg_format::fault::{Place, TreeFault};
@@ -180,7 +181,9 @@ impl<'a> Entries<'a> {
             subtree_control,
             max_descendants,
             max_depth,
+            freeze: Entry::ROOT_FILE,
             files: BroughtFiles { entries: files },
+            others: OtherFiles::none(),
             enabled,
         })
     }

@@ -20,7 +20,9 @@ use cg_cgroup::brought::BroughtFiles;
 use cg_cgroup::cgroup::{Cgroup, LimitEntry};
 use cg_cgroup::files::{BROUGHT_COUNT, ControllerSet, LimitFile};
 use cg_cgroup::memory::NoMemory;
+use cg_cgroup::others::OtherFiles;
 use cg_cgroup::path::Path;
+use cg_cgroup::user::Entry;
 use cg_format::fault::{Place, TreeFault};
 use std::alloc::{AllocError, Global};
 
@@ -150,6 +152,7 @@ fn fitted(over: ControllerSet, cgroup: Cgroup) -> Cgroup
         files: BroughtFiles {
             entries: standing_files(over, &cgroup),
         },
+        others: OtherFiles::under(over, Entry::ROOT_FILE),
         ..cgroup
     }
 }

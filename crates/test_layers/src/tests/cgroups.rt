@@ -38,6 +38,25 @@ fn makes_and_refits(rt: HostRuntime) -> Result<(), Fail> {
 }
 
 #[test]
+fn other_files_come_and_go(rt: HostRuntime) -> Result<(), Fail> {
+    let maker = User::with_groups(1000, &[7]).ok_or("33 gids or uid 0")?;
+    let other = User::new(1001).ok_or("uid 0")?;
+    let memory = ControllerSet::none().with(Controller::Memory, true);
+    let mut cgroup = Cgroup::made_by(&maker, memory);
+    let made = Entry::made_by(&maker, Mode::FILE);
+    assert_eq!(rt; cgroup.freeze, made);
+    assert_eq!(rt; cgroup.other(Controller::Memory), Some(made));
+    assert_eq!(rt; cgroup.other(Controller::Io), None);
+    cgroup.refit(memory.with(Controller::Io, true), &other);
+    assert_eq!(rt; cgroup.other(Controller::Memory), Some(made));
+    let new = Entry::made_by(&other, Mode::FILE);
+    assert_eq!(rt; cgroup.other(Controller::Io), Some(new));
+    cgroup.refit(ControllerSet::none(), &other);
+    assert_eq!(rt; cgroup.other(Controller::Memory), None);
+    Ok(())
+}
+
+#[test]
 fn sets_modes(rt: HostRuntime) -> Result<(), Fail> {
     let maker = User::new(1000).ok_or("uid 0")?;
     let mode = Mode::new(0o600).ok_or("over 0o777")?;

@@ -2,6 +2,7 @@
 use cg_cgroup::brought::BroughtFiles;
 use cg_cgroup::cgroup::{Cgroup, LimitEntry};
 use cg_cgroup::files::{Controller, ControllerSet, Limit, LimitFile};
+use cg_cgroup::others::OtherFiles;
 use cg_cgroup::path::Path;
 use cg_cgroup::process::Pid;
 use cg_cgroup::user::Entry;
@@ -49,7 +50,9 @@ fn plain() -> Cgroup {
         subtree_control: file(0),
         max_descendants: limit(0, Limit::Max),
         max_depth: limit(0, Limit::Max),
+        freeze: file(0),
         files: BroughtFiles::none(),
+        others: OtherFiles::none(),
         enabled: ControllerSet::none(),
     }
 }
@@ -67,7 +70,11 @@ fn with_memory(cgroup: Cgroup, memory_max: Limit) -> Cgroup {
             files.entries[place] = Some(limit(0, value));
         }
     }
-    Cgroup { files, ..cgroup }
+    Cgroup {
+        files,
+        others: OtherFiles::under(MEMORY, file(0)),
+        ..cgroup
+    }
 }
 
 /// The cgroup with what is handed to user 1000 where a subtree is delegated to them.

@@ -1,7 +1,14 @@
 //! Each clause, at the start where it can be broken there, and at a later step where it can be broken there.
 use crate::tests::runs::trees::{SAME, replay_with, verdict_after};
+use crate::tests::ops::control;
+use crate::tests::trees::fixtures::{Owners, add, path, root_alone};
+use cg_cgroup::files::{Controller, ControllerSet};
 use cg_cgroup::process::Pid;
+use cg_cgroup::user::User;
 use cg_model::verdict::{Clause, Verdict};
+use cg_rows::rows::Rows;
+use cg_runs::replay::Replay;
+use std::alloc::Global;
 use std::test::Fail;
 
 /// What a run is, a change of the tree, the lines of the run, and the step after which a clause is broken, if one is.
@@ -92,5 +99,31 @@ fn a_process_leaves_or_enters(rt: HostRuntime) -> Result<(), Fail> {
         let verdict = verdict_after(rt.alloc(), replay, lines)?;
         assert_eq!(rt; verdict, Verdict::Broken { after, clause }, "{number}");
     }
+    Ok(())
+}
+
+/// A replay of `/s` below a root that is user 1000's and may enable io.
+fn below_io(alloc: Global) -> Result<Replay<Rows>, Fail> {
+    let io = ControllerSet::none().with(Controller::Io, true);
+    let mut tree = root_alone(alloc, io, Owners::WHOLE)?;
+    let subtree = path(alloc, "/s")?;
+    if !add(alloc, &mut tree, &subtree, Owners::KEPT)? {
+        return Err("/s isn't added".into());
+    }
+    Ok(Replay::start(tree, subtree)?)
+}
+
+#[test]
+fn files_of_io_come(rt: HostRuntime) -> Result<(), Fail> {
+    let alloc = rt.alloc();
+    let user = User::new(1000).ok_or("user")?;
+    let mut replay = below_io(alloc)?;
+    let op = control(alloc, "/", &[(true, Controller::Io)]).ok_or("operation")?;
+    replay.step(alloc, &user, &op)?;
+    let wanted = Verdict::Broken {
+        after: 1,
+        clause: Clause::Limits,
+    };
+    assert_eq!(rt; replay.verdict(), wanted);
     Ok(())
 }

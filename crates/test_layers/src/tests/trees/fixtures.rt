@@ -10,6 +10,7 @@ use cg_cgroup::brought::BroughtFiles;
 use cg_cgroup::cgroup::{Cgroup, LimitEntry};
 use cg_cgroup::files::{BROUGHT_COUNT, Controller, ControllerSet, EntryName, Limit, LimitFile};
 use cg_cgroup::memory::NoMemory;
+use cg_cgroup::others::OtherFiles;
 use cg_cgroup::path::{Path, PathFault};
 use cg_cgroup::process::Pid;
 use cg_cgroup::user::{Entry, Mode, User};
@@ -116,9 +117,11 @@ pub fn cgroup_of(owners: Owners, above: ControllerSet) -> Cgroup
         subtree_control: entry(owners.subtree_control, Mode::FILE),
         max_descendants: limit_file(uid, LimitFile::MaxDescendants),
         max_depth: limit_file(uid, LimitFile::MaxDepth),
+        freeze: entry(uid, Mode::FILE),
         files: BroughtFiles {
             entries: files_under(above, uid),
         },
+        others: OtherFiles::under(above, entry(uid, Mode::FILE)),
         enabled: ControllerSet::none(),
     }
 }

@@ -10,6 +10,8 @@ returns c =
       subtree_control = c.made_by-3.ensures i;
       max_descendants = c.made_by-4.ensures i;
       max_depth = c.made_by-5.ensures i;
+      freeze = c.made_by-6.ensures i;
       files = c.none.ensures i;
-      enabled = c.none-2.ensures i;
+      others = c.none-2.ensures i;
+      enabled = c.none-3.ensures i;
     }))

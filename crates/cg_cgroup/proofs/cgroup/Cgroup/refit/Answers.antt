@@ -1,6 +1,5 @@
-use Rattle.std.proofs.Common.{ap}
-use Rattle.cg_cgroup.proofs.CgroupLaws.{same_brought}
+use Rattle.cg_cgroup.proofs.CgroupLaws.{same_refitted}
 use Rattle.cg_cgroup.proofs.cgroup.Cgroup.refit.Goals as goal
 
 pub returns : goal.returns
-returns c = ap (λ files. record c.args.self.now { files = files }) (same_brought _ _ c.refitted_files.ensures)
+returns c = same_refitted c.args.self.now _ _ _ _ c.refitted_files.ensures c.refitted_others.ensures

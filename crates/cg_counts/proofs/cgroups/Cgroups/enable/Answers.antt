@@ -8,10 +8,10 @@ use Rattle.cg_cgroup.specs.declared.cgroup.Cgroup.{Cgroup}
 use Rattle.cg_cgroup.specs.declared.controllers.ControllerSet.{ControllerSet}
 use Rattle.cg_places.specs.Nodes.{Node, node_at, differing, enabled_at, Refits}
 use Rattle.cg_places.specs.Values.{values_of}
-use Rattle.cg_counts.specs.Kept.{held_of, AreKept, enabling_held, change_each_held}
+use Rattle.cg_counts.specs.Kept.{held_of, IsFitted, AreKept, enabling_held, change_each_held}
 use Rattle.cg_places.specs.declared.links.Link.{Link}
 use Rattle.cg_counts.proofs.Read.{fitted_is}
-use Rattle.cg_counts.proofs.Enabled.{IsFitted, kept_refitted, held_refitted, kept_alone, held_alone}
+use Rattle.cg_counts.proofs.Enabled.{kept_refitted, held_refitted, kept_alone, held_alone}
 use Rattle.cg_counts.proofs.cgroups.Cgroups.enable.Goals as goal
 
 pub enable-requires-clause-parents : goal.enable-requires-clause-parents

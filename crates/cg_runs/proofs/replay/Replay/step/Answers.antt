@@ -1,7 +1,7 @@
 use Rattle.std.proofs.Common.{ap, sym, ◌∙◌, arith}
-use Rattle.cg_cgroup.specs.Cgroups.{value_in}
 use Rattle.cg_model.specs.Clauses.{first}
 use Rattle.cg_model.specs.Replays.{stepped}
+use Rattle.cg_model.specs.Limits.{limits_in}
 use Rattle.cg_runs.specs.Shortcuts.{broken_by}
 use Rattle.cg_runs.proofs.ReplayLaws.{progress, applied, step-still, step-done, replay-still, replay-done}
 use Rattle.cg_runs.proofs.replay.Replay.step.Goals as goal
@@ -11,7 +11,7 @@ pub invariant_of-self-then-may_break : goal.invariant_of-self-then-may_break
 invariant_of-self-then-may_break g c =
     let run = progress c.self.inside.subtree c.self.inside.original (g.H.Hierarchy.state c.self.inside.tree)
     c.self.inside.steps c.self.inside.verdict in
-    let by = ap (λ moves. first (broken_by (value_in run.original) moves (g.H.Hierarchy.state c.apply.new.tree) run.subtree c.args.op.now))
+    let by = ap (λ moves. first (broken_by (limits_in run.original) moves (g.H.Hierarchy.state c.apply.new.tree) run.subtree c.args.op.now))
     c.moves_over-moves.ensures in
     let promised = c.in_ok-outcome.ensures in
     let is = applied run.state c.args.user.now c.args.op.now (g.H.Hierarchy.state c.apply.new.tree) c.in_ok-outcome.outcome
@@ -39,7 +39,7 @@ returns-clause-ok g c =
     promised.done promised.refused promised.unchanged in
     let run = progress c.self.inside.subtree c.self.inside.original (g.H.Hierarchy.state c.self.inside.tree)
     c.self.inside.steps c.self.inside.verdict in
-    let by = ap (λ moves. first (broken_by (value_in run.original) moves (g.H.Hierarchy.state c.apply.new.tree) run.subtree c.args.op.now))
+    let by = ap (λ moves. first (broken_by (limits_in run.original) moves (g.H.Hierarchy.state c.apply.new.tree) run.subtree c.args.op.now))
     c.moves_over-moves.ensures in
     let old = ap (λ r. stepped r c.args.user.now c.args.op.now) c.self.view_is in
     elim c.if-may_break.branch [
