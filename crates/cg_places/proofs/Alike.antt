@@ -1,5 +1,5 @@
 -- The derived `==` of cgroups says that they are the same, field by field.
-use Rattle.std.proofs.Common.{rules, ◌≡◌, subst, refl, Bool, true, false, ◌&&◌, List, [], ◌∷◌, Option}
+use Rattle.std.proofs.Common.{rules, ◌≡◌, subst, refl, Bool, true, ◌&&◌, List, [], ◌∷◌, Option}
 use Rattle.cg_cgroup.specs.declared.user.Entry.{Entry}
 use Rattle.cg_cgroup.specs.declared.controllers.ControllerSet.{ControllerSet}
 use Rattle.cg_cgroup.specs.declared.cgroup.LimitEntry.{LimitEntry}
