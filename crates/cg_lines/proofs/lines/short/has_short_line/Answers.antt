@@ -1,4 +1,4 @@
-use Rattle.std.proofs.Common.{◌≡◌, ◌≤◌, ◌∙◌, Bool, List, length, refl, sym, ap, subst, le-leb}
+use Rattle.std.proofs.Common.{◌≡◌, ◌∙◌, Bool, List, length, refl, sym, ap, subst, le-leb}
 use Rattle.std.specs.Prelude.{◌↔◌, ◌&&◌, nat_le, IsTrue}
 use Rattle.std.proofs.lemmas.Bool.{leb-true, and_parts, and_from}
 use Rattle.cg_cgroup.specs.Paths.{Names}
