@@ -1,11 +1,8 @@
-use Rattle.cg_cgroup.proofs.CgroupLaws.{same_brought, same_others}
-use Rattle.cg_text.specs.Walk.{fitted_to}
+use Rattle.std.proofs.Common.{ap}
+use Rattle.cg_cgroup.specs.declared.others.OtherFiles.{OtherFiles}
+use Rattle.cg_cgroup.proofs.CgroupLaws.{same_refitted}
 use Rattle.cg_text.proofs.tree.walk.fitted.Goals as goal
 
 pub returns : goal.returns
 returns c =
-    let new = fitted_to c.args.over c.args.cgroup in
-    λ i. record c.args.cgroup {
-      files = same_brought new.files _ c.standing_files.ensures i;
-      others = c.under.ensures i;
-    }
+    same_refitted c.args.cgroup _ _ _ _ c.standing_files.ensures (ap (λ (others : OtherFiles). others.entries) c.under.ensures)
