@@ -15,7 +15,7 @@ use Rattle.cg_cgroup.specs.declared.controllers.ControllerSet.{ControllerSet}
 use Rattle.cg_cgroup.specs.declared.cgroup.Cgroup.{Cgroup}
 use Rattle.cg_cgroup.proofs.ControllerLaws.{mapped_at, enables-set_by}
 use Rattle.cg_cgroup.proofs.PathOrder.{path_cmp_total, same_path-is, same_path-not, same_path_refl, same_path-other}
-use Rattle.cg_cgroup.proofs.PathParents.{length-parent, parent-is_child}
+use Rattle.cg_cgroup.proofs.PathParents.{parent-is_child}
 use Rattle.cg_cgroup.proofs.PathLaws.{inside_decides, inside-length}
 use Rattle.cg_cgroup.proofs.Options.{same_some, some_value}
 use Rattle.cg_model.proofs.MapLaws.{any_entry, list_any-map}
