@@ -132,7 +132,6 @@ fn same_others(cgroup: &Cgroup, other: &Cgroup) -> bool
         (λ controller. beq (is_some (other_in cgroup.now controller)) (is_some (other_in other.now controller)))
         all_controllers }
 {
-    Controller::ALL
-        .iter()
-        .all(|controller| cgroup.other(*controller).is_some() == other.other(*controller).is_some())
+    Controller::ALL.iter().all(|controller| cgroup.other(*controller).is_some()
+        == other.other(*controller).is_some())
 }
