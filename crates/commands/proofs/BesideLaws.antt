@@ -1,5 +1,5 @@
 -- What stands beside an answer, through a buffer.
-use Rattle.std.proofs.Common.{◌≡◌, ℕ, List, sym, subst, inl, inr}
+use Rattle.std.proofs.Common.{ℕ, List, sym, subst, inl, inr}
 use Rattle.std.specs.Prelude.{Option, Result, Ok, Err, IfOk}
 use Rattle.arguments.specs.Words.{Makes}
 use Rattle.arguments.specs.declared.request.Request.{Request}

@@ -8,9 +8,8 @@ use Rattle.cg_cli.specs.Advising.{advise_pairs_report}
 use Rattle.cg_cli.specs.Replays.{is_newline}
 use Rattle.cg_cli.specs.Reports.{Report, Reports, report_on}
 use Rattle.cg_faults.specs.declared.fault.CliFault.{CliFault}
-use Rattle.cg_faults.specs.declared.fault.CliFault.TheVariants.{Line, Write, NoMemory}
+use Rattle.cg_faults.specs.declared.fault.CliFault.TheVariants.{Write, NoMemory}
 use Rattle.cg_cli.proofs.ReadingOf.{on_text}
-use Rattle.cg_lines.specs.declared.lines.fault.LineFault.TheVariants.{BadWord}
 use Rattle.std.specs.List.{All}
 use Rattle.std.specs.Str.{IsUtf8, is_utf8}
 use Rattle.std.proofs.Math.Seq.{drop-cons}

@@ -6,11 +6,8 @@ use Rattle.cg_model.specs.States.{State}
 use Rattle.cg_format.specs.TextOf.{IsTextOf}
 use Rattle.arguments.specs.Given.{ids_of, tree_file}
 use Rattle.arguments.specs.Words.{Makes}
-use Rattle.arguments.specs.declared.named_user.NamedUser.{NamedUser}
-use Rattle.arguments.specs.declared.request.Check.{Check}
 use Rattle.arguments.specs.declared.request.Request.{Request}
 use Rattle.arguments.specs.declared.request.Request.TheVariants as request
-use Rattle.cg_cli.specs.Arguments.{user_read}
 use Rattle.cg_cli.specs.Audits.{users_read}
 use Rattle.cg_cli.specs.Once.{same_user}
 use Rattle.cg_cli.specs.Strangers.{first_stranger}

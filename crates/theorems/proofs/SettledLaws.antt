@@ -6,10 +6,9 @@ use Rattle.cg_cgroup.specs.Identity.{Identity}
 use Rattle.cg_model.specs.States.{State}
 use Rattle.cg_model.specs.WellFormed.{IsWellFormed}
 use Rattle.cg_model.specs.Clauses.{first}
-use Rattle.cg_model.specs.Guards.{IsSubtree}
 use Rattle.cg_model.specs.Held.{IsHeld, by_user, IsContained}
 use Rattle.cg_model.specs.Answers.{answer}
-use Rattle.cg_model.specs.Checks.{subtree_faults, unless_fault, checked}
+use Rattle.cg_model.specs.Checks.{subtree_faults, unless_fault}
 use Rattle.cg_model.specs.declared.answer.Answer.{Answer}
 use Rattle.cg_model.specs.declared.answer.Answer.TheVariants.{Contained, Escapes, Unsettled}
 use Rattle.cg_model.specs.declared.fault.CheckFault.{CheckFault}
@@ -17,9 +16,8 @@ use Rattle.cg_model.specs.declared.operation.Op.{Op}
 use Rattle.cg_laws.proofs.RunLaws.{contained-guarded}
 use Rattle.cg_check.proofs.AnswerLaws.{escape-broken}
 use Rattle.cg_check.proofs.Checking.{no_fault, answer-guarded}
-use Rattle.cg_cli.specs.Arguments.{or_fault, user_read, path_read}
+use Rattle.cg_cli.specs.Arguments.{or_fault, path_read}
 use Rattle.cg_cli.specs.Containment.{in_call, answer_report}
-use Rattle.cg_cli.specs.May.{tree_read}
 use Rattle.cg_cli.specs.Reports.{Report, Reports}
 use Rattle.cg_cli.specs.Settling.{SaysOn, AskedSays, AskedReports, FurtherSays, IsFurther}
 use Rattle.cg_faults.specs.Faults.{lifted_check}

@@ -7,7 +7,6 @@ use Rattle.cg_cgroup.specs.Identity.{Identity}
 use Rattle.cg_model.specs.States.{State}
 use Rattle.cg_model.specs.WellFormed.{IsWellFormed}
 use Rattle.cg_model.specs.Clauses.{first}
-use Rattle.cg_model.specs.Answers.{answer}
 use Rattle.cg_model.specs.AllAnswers.{pairs_from, all_answers}
 use Rattle.cg_model.specs.Checks.{subtree_faults, all_checked}
 use Rattle.cg_model.specs.Several.{AreContained}

@@ -17,4 +17,5 @@ returns-else-any_cgroup_speaks c =
     ap not (by_second _ _ _ c.any_cgroup_speaks.result c.any_process_of.result (in_tree c.args.tree.now c.args.user.now)
     (c.any_cgroup_speaks.ensures ∙ ap (list_any (λ row. list_any (speaks_of c.args.user.now) (entries_of row.1))) c.entries.ensures)
     c.if-any_cgroup_speaks.false
-    (c.any_process_of.ensures ∙ (λ i. list_any (λ row. nat_eq row.1.uid (c.uid.ensures.uid i)) (finmap.entries (c.processes.ensures.live i)))))
+    (c.any_process_of.ensures
+    ∙ (λ i. list_any (λ row. nat_eq row.1.uid (c.uid.ensures.uid i)) (finmap.entries (c.processes.ensures.live i)))))
