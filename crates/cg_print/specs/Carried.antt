@@ -55,8 +55,8 @@ pub record IsKept (st : State) : Type 0 where
   pub rows : AreNamedRows (map.entries st.rows)
   pub live : AreNamedProcesses (map.entries st.live)
 
--- Few enough cgroups and processes; no controller that texts don't know, and no limit file of a user that they don't name; and a PID that isn't live was never used, as a text
--- has no word for it.
+-- Few enough cgroups and processes; no controller that texts don't know; limit files that they don't name are root's; and a PID
+-- that isn't live was never used, as a text has no word for it.
 pub record IsCarried (st : State) : Type 0 where
   pub cgroups : length (map.entries st.rows) ≤ most_rows
   pub processes : length (map.entries st.live) ≤ most_rows
