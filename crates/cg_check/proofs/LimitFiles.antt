@@ -21,7 +21,7 @@ use Rattle.cg_cgroup.proofs.AllFiles.{each_file}
 use Rattle.cg_cgroup.proofs.Options.{mapped_from, same_some}
 use Rattle.cg_cgroup.proofs.PathOrder.{same_path_refl}
 use Rattle.cg_cgroup.proofs.CgroupLaws.{same_entry-refl}
-use Rattle.cg_model.specs.States.{State, row_at, file_at, entry_at}
+use Rattle.cg_model.specs.States.{State, row_at, file_at, entry_at, value_at}
 use Rattle.cg_model.proofs.StateEntries.{entry_at-with_mode, entry_at-file, value_at-file}
 use Rattle.cg_model.specs.Clauses.{unless, absent, present}
 use Rattle.cg_model.specs.Bars.{bars, missing_bars}
