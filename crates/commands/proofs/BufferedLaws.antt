@@ -3,10 +3,12 @@ use Rattle.std.proofs.Common.{◌∙◌, ℕ, Bool, true, false, List, map, inl,
 use Rattle.std.specs.Prelude.{Option, Some, None, Result, Ok, Err, MatchBool}
 use Rattle.std.specs.Io.KnownBytes.{Appends, Keeps}
 use Rattle.arguments.specs.declared.request.Audit.{Audit}
+use Rattle.arguments.specs.declared.request.Check.{Check}
+use Rattle.arguments.specs.declared.request.Explain.{Explain}
 use Rattle.arguments.specs.declared.request.Advise.{Advise}
 use Rattle.arguments.specs.declared.request.Request.{Request}
 use Rattle.arguments.specs.declared.request.Request.TheVariants as request
-use Rattle.arguments.specs.Given.{ids_of}
+use Rattle.arguments.specs.Given.{ids_of, tree_file, other_file}
 use Rattle.cg_model.specs.Listed.{Listed}
 use Rattle.cg_format.specs.Readings.{Reading}
 use Rattle.cg_cli.specs.AllPairs.{all_report, ReportsPairs}
@@ -24,7 +26,8 @@ use Rattle.cg_cli.specs.Replaying.{Reporting, Replays, ReplaysFrom}
 use Rattle.cg_cli.specs.Reports.{Report, Reports, report_on}
 use Rattle.cg_faults.specs.declared.fault.CliFault.{CliFault}
 use Rattle.cg_faults.specs.declared.fault.CliFault.TheVariants.{Read, Write, NoMemory}
-use Rattle.commands.specs.Requests.{Files, IsUnread, AdviseSays, GuardsSay, FurtherSay, AuditSays, OnTree, pairs_said, OnPairs, replay_said, ReplaysOver, CarriesOut}
+use Rattle.commands.specs.Requests.{Files, source, name_of, may_said, check_said, SettlesAs, AdviseSays, GuardsSay, FurtherSay}
+use Rattle.commands.specs.Requests.{AuditSays, ExplainSays, replay_said, pairs_said, IsUnread, OnTree, ReportsOnTree, OnPairs, ReplaysOver, CarriesOut}
 
 pub Appends-Keeps : (old mid new : Option (List ℕ)) (bs : List ℕ) → Appends old mid bs → Keeps mid new → Appends old new bs
 Appends-Keeps None mid new bs a k = tt
@@ -155,23 +158,45 @@ ReplaysOver-Keeps : (before : Option (List ℕ)) (said : Reporting) (old mid new
 ReplaysOver-Keeps before said old mid new result (inl h) k = inl (h.0, ReplaysFrom-Keeps said before h.0 old mid new result h.1 k)
 ReplaysOver-Keeps before said old mid new result (inr h) k = inr (IsUnread-Keeps old mid new result h k)
 
+ReportsOnTree-Keeps : (known : Option (List ℕ)) (said : Reading → Report) (old mid new : Option (List ℕ)) (result : Result ℕ CliFault)
+    → ReportsOnTree known said old mid result → Keeps mid new → ReportsOnTree known said old new result
+ReportsOnTree-Keeps known said old mid new result h k =
+    OnTree-Keeps known (λ tree. Reports (said tree) old mid result) (λ tree. Reports (said tree) old new result) old mid new result
+    (λ tree reported. Reports-Keeps (said tree) old mid new result reported k) h k
+
+SettlesAs-Keeps : (check : Check) (old mid new : Option (List ℕ)) (result : Result ℕ CliFault) (tree : Reading)
+    → SettlesAs check old mid result tree → Keeps mid new → SettlesAs check old new result tree
+SettlesAs-Keeps check old mid new result tree said k = (said.0, said.1, Reports-Keeps said.0 old mid new result said.2 k)
+
+ExplainSays-Keeps : (explain : Explain) (old mid new : Option (List ℕ)) (result : Result ℕ CliFault) (tree : Reading)
+    → ExplainSays explain old mid result tree → Keeps mid new → ExplainSays explain old new result tree
+ExplainSays-Keeps explain old mid new result tree said k = ReportsTold-Keeps _ old mid new result said k
+
 pub CarriesOut-Keeps : (asked : Request) (files : Files) (given old mid new : Option (List ℕ)) (result : Result ℕ CliFault)
     → CarriesOut asked files given old mid result → Keeps mid new → CarriesOut asked files given old new result
 CarriesOut-Keeps (request.Help help) files given old mid new result h k = (h.0, Reports-Keeps _ old mid new result h.1 k)
 CarriesOut-Keeps (request.May may) files given old mid new result h k =
-    OnTree-Keeps _ _ _ old mid new result (λ tree said. Reports-Keeps _ old mid new result said k) h k
+    ReportsOnTree-Keeps (source files (name_of may.tree) given) (may_said may) old mid new result h k
 CarriesOut-Keeps (request.Check check) files given old mid new result h k =
-    OnTree-Keeps _ _ _ old mid new result (λ tree said. Reports-Keeps _ old mid new result said k) h k
+    ReportsOnTree-Keeps (source files (name_of check.tree) given) (check_said check) old mid new result h k
 CarriesOut-Keeps (request.Settle check) files given old mid new result h k =
-    OnTree-Keeps _ _ _ old mid new result (λ tree said. (said.0, said.1, Reports-Keeps said.0 old mid new result said.2 k)) h k
+    OnTree-Keeps (source files (name_of check.tree) given) (SettlesAs check old mid result) (SettlesAs check old new result) old mid new
+    result (λ tree said. SettlesAs-Keeps check old mid new result tree said k) h k
 CarriesOut-Keeps (request.Audit audit) files given old mid new result h k =
-    OnTree-Keeps _ _ _ old mid new result (λ tree said. AuditSays-Keeps audit old mid new result tree said k) h k
+    OnTree-Keeps (source files (name_of audit.tree) given) (AuditSays audit old mid result) (AuditSays audit old new result) old mid new
+    result (λ tree said. AuditSays-Keeps audit old mid new result tree said k) h k
 CarriesOut-Keeps (request.Explain explain) files given old mid new result h k =
-    OnTree-Keeps _ _ _ old mid new result (λ tree said. ReportsTold-Keeps _ old mid new result said k) h k
+    OnTree-Keeps (source files (name_of explain.tree) given) (ExplainSays explain old mid result) (ExplainSays explain old new result) old
+    mid new result (λ tree said. ExplainSays-Keeps explain old mid new result tree said k) h k
 CarriesOut-Keeps (request.Advise advise) files given old mid new result h k =
-    OnTree-Keeps _ _ _ old mid new result (λ tree said. AdviseSays-Keeps advise old mid new result tree said k) h k
+    OnTree-Keeps (source files (name_of advise.tree) given) (AdviseSays advise old mid result) (AdviseSays advise old new result) old mid
+    new result (λ tree said. AdviseSays-Keeps advise old mid new result tree said k) h k
 CarriesOut-Keeps (request.AdvisePairs advise) files given old mid new result h k = OnPairs-Keeps _ _ old mid new result h k
 CarriesOut-Keeps (request.Replay replay) files given old mid new result h k =
-    OnTree-Keeps _ _ _ old mid new result (λ tree said. ReplaysOver-Keeps _ (replay_said replay tree) old mid new result said k) h k
+    let ops = source files (other_file replay.sources) given in
+    OnTree-Keeps (source files (tree_file replay.sources) given) (λ tree. ReplaysOver ops (replay_said replay tree) old mid result)
+    (λ tree. ReplaysOver ops (replay_said replay tree) old new result) old mid new result
+    (λ tree said. ReplaysOver-Keeps ops (replay_said replay tree) old mid new result said k) h k
 CarriesOut-Keeps (request.Upgrade upgrade) files given old mid new result h k =
-    OnTree-Keeps _ _ _ old mid new result (λ tree said. Upgrades-Keeps tree old mid new result said k) h k
+    OnTree-Keeps (source files (name_of upgrade.tree) given) (Upgrades old mid result) (Upgrades old new result) old mid new result
+    (λ tree said. Upgrades-Keeps tree old mid new result said k) h k
