@@ -96,6 +96,10 @@ abbrev pub accepts : LimitFile → Limit → Bool
 accepts file Max = (kind_of file).takes_max
 accepts file (At value) = nat_le (kind_of file).least value && nat_le value (kind_of file).greatest
 
+-- Whether what a controller brings, or the core, stands at a child of a cgroup that enables these.
+abbrev pub brings : ControllerSet → Option Controller → Bool
+brings enabled by = elim by [ None ↦ true | Some controller ↦ enables enabled controller ]
+
 -- Whether a file stands at a child of a cgroup that enables these, or at the root where there is no such cgroup.
 abbrev pub stands_under : ControllerSet → LimitFile → Bool
-stands_under enabled file = elim (controller_of file) [ None ↦ true | Some controller ↦ enables enabled controller ]
+stands_under enabled file = brings enabled (controller_of file)

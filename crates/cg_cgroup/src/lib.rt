@@ -9,4 +9,5 @@ pub mod memory;
 pub mod others;
 pub mod path;
 pub mod process;
+pub mod told;
 pub mod user;

@@ -5,12 +5,14 @@ use Rattle.cg_cgroup.specs.Identity.{Identity}
 use Rattle.cg_cgroup.specs.Users.{writes, owns}
 use Rattle.cg_cgroup.specs.Files.{all_controllers, enables, enables_nothing, is_within, accepts}
 use Rattle.cg_cgroup.specs.Cgroups.{file_of}
-use Rattle.cg_model.specs.States.{State, row_at, place_at, owner_at, file_at, entry_at, is_used, has_child, has_live, child_enables, count_below}
+use Rattle.cg_model.specs.States.{State, row_at, place_at, owner_at, file_at, entry_at, other_file_at, is_used, has_child, has_live, child_enables, count_below}
 use Rattle.cg_model.specs.WellFormed.{available_at}
 use Rattle.cg_model.specs.Limits.{is_under}
 use Rattle.cg_cgroup.specs.declared.files.Controller.{Controller}
 use Rattle.cg_cgroup.specs.declared.files.LimitFile.{LimitFile}
 use Rattle.cg_cgroup.specs.declared.files.Limit.{Limit}
+use Rattle.cg_cgroup.specs.declared.user.Entry.{Entry}
+use Rattle.cg_cgroup.specs.declared.told.OtherName.{OtherName}
 use Rattle.cg_cgroup.specs.declared.files.EntryName.{EntryName}
 use Rattle.cg_cgroup.specs.declared.files.EntryName.TheVariants.{Dir, Procs, SubtreeControl, File}
 use Rattle.cg_cgroup.specs.declared.cgroup.Cgroup.{Cgroup}
@@ -18,9 +20,9 @@ use Rattle.cg_model.specs.Clauses.{unless, absent, present}
 use Rattle.cg_model.specs.Changes.{effective, enabled_after}
 use Rattle.cg_model.specs.declared.changes.Change.{Change}
 use Rattle.cg_model.specs.declared.operation.Op.{Op}
-use Rattle.cg_model.specs.declared.operation.Op.TheVariants.{Move, Control, Mkdir, Rmdir, Set, Fork, Exit, Chmod}
+use Rattle.cg_model.specs.declared.operation.Op.TheVariants.{SetOther, ChmodOther, Move, Control, Mkdir, Rmdir, Set, Fork, Exit, Chmod}
 use Rattle.cg_model.specs.declared.outcome.Refusal.{Refusal}
-use Rattle.cg_model.specs.declared.outcome.Refusal.TheVariants.{NoSuchCgroup, NoAccess, NoSuchProcess, InternalProcess, NotAvailable, ChildUses, Exists, DescendantLimit, DepthLimit, RootCgroup, HasChildren, HasProcesses, NoSuchFile, BadValue, NotYours, PidUsed, NotOwner}
+use Rattle.cg_model.specs.declared.outcome.Refusal.TheVariants.{NoSuchOther, NoAccessOther, NotOwnerOther, NoSuchCgroup, NoAccess, NoSuchProcess, InternalProcess, NotAvailable, ChildUses, Exists, DescendantLimit, DepthLimit, RootCgroup, HasChildren, HasProcesses, NoSuchFile, BadValue, NotYours, PidUsed, NotOwner}
 
 -- ---- move
 
@@ -140,6 +142,14 @@ chmod_bars st user at name =
     ++ present (row_at st at) (λ row. missing_bars row name)
     ++ present (entry_at st at name) (λ entry. unless (owns user entry) (NotOwner name))
 
+-- ---- set and chmod of a limit file beyond `LimitFile`
+
+abbrev pub other_bars : State → Names → OtherName → (Entry → Bool) → Refusal → List Refusal
+other_bars st at file may refusal =
+    absent (row_at st at) (NoSuchCgroup (length at))
+    ++ present (row_at st at) (λ row. absent (other_file_at st at file) NoSuchOther)
+    ++ present (other_file_at st at file) (λ told. unless (may told.entry) refusal)
+
 abbrev pub bars : State → Identity → Op → List Refusal
 bars st user (Move pid to) = move_bars st user pid to
 bars st user (Control at changes) = control_bars st user at changes
@@ -149,3 +159,5 @@ bars st user (Set at file value) = set_bars st user at file value
 bars st user (Fork parent child) = fork_bars st user parent child
 bars st user (Exit pid) = exit_bars st user pid
 bars st user (Chmod at name mode) = chmod_bars st user at name
+bars st user (SetOther at file value) = other_bars st at file (writes user) (NoAccessOther (length at))
+bars st user (ChmodOther at file mode) = other_bars st at file (owns user) NotOwnerOther

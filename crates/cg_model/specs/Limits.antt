@@ -1,8 +1,11 @@
 -- The limits of a cgroup, and whether it is within its own limits of descendants and depth.
-use Rattle.std.specs.Prelude.{ℕ, Bool, true, false, ◌&&◌, nat_eq, nat_le, Option, Some, None, is_some, nat_lt}
+use Rattle.std.specs.Prelude.{ℕ, Bool, true, false, ◌&&◌, cond, filter_map, nat_eq, nat_le, List, Option, Some, None, is_some, nat_lt}
+use Rattle.std.specs.Option.{option_map}
+use Rattle.std.specs.Cmp.Lexicographic.{pointwise}
+use Rattle.std.specs.FinMap as map
 use mathlib.Core.Bool.{beq}
 use Rattle.std.specs.List.{list_all}
-use Rattle.cg_cgroup.specs.Paths.{Names}
+use Rattle.cg_cgroup.specs.Paths.{Names, same_name, same_path, is_child}
 use Rattle.cg_cgroup.specs.Files.{all_files, all_controllers}
 use Rattle.cg_cgroup.specs.Cgroups.{value_in, other_in}
 use Rattle.cg_cgroup.specs.declared.files.Limit.{Limit}
@@ -17,15 +20,20 @@ abbrev pub is_under : ℕ → Limit → Bool
 is_under count Max = true
 is_under count (At most) = nat_lt count most
 
--- The limits of a cgroup: the value of each file of `LimitFile` that stands there, and whether the other files of each
--- controller do, of which no value is told.
+-- The limits of a cgroup: the value of each file of `LimitFile` that stands there, whether the other files of each
+-- controller do, and the values that are told of these.
 pub record Limits : Type 0 where
   pub values : LimitFile → Option Limit
   pub others : Controller → Bool
+  pub told : List (Names × List ℕ)
 
 -- Core Interface Files; CPU, Memory and PID; Enabling and Disabling: the limits set on a cgroup.
 abbrev pub limits : State → Names → Limits
-limits st path = record { values = value_at st path; others = λ controller. is_some (other_at st path controller) }
+limits st path = record {
+  values = value_at st path;
+  others = λ controller. is_some (other_at st path controller);
+  told = filter_map (λ e. cond (is_child path e.0) (option_map (λ value. (e.0, value)) e.1.value) None) (map.entries st.told);
+}
 
 -- those of a cgroup that is there
 abbrev pub limits_in : Cgroup → Limits
@@ -46,6 +54,7 @@ abbrev pub same_limits : Limits → Limits → Bool
 same_limits these those =
     list_all (λ file. same_value (these.values file) (those.values file)) all_files
     && list_all (λ controller. beq (these.others controller) (those.others controller)) all_controllers
+    && pointwise (λ one other. same_path one.0 other.0 && same_name one.1 other.1) these.told those.told
 
 -- Own: whether so many are within a limit.
 abbrev pub is_within_limit : ℕ → Limit → Bool

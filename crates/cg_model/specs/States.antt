@@ -1,13 +1,13 @@
 -- The state of a tree: what every call of `Hierarchy` reads or changes.
-use Rattle.std.specs.Prelude.{ℕ, ◌-◌, Bool, ◌&&◌, cond, List, length, map as map_list, filter, fold, count_by, max, Option, Some, None, option_and_then}
+use Rattle.std.specs.Prelude.{ℕ, ◌-◌, Bool, ◌&&◌, ◌||◌, not, cond, List, [], ◌∷◌, ◌++◌, length, map as map_list, filter, fold, count_by, max, Option, Some, None, option_and_then}
 use Rattle.std.specs.List.{list_any}
 use Rattle.std.specs.Option.{option_map}
 use Rattle.std.specs.Ordering.{nat_cmp}
 use Rattle.std.specs.FinMap as map
 use Rattle.std.specs.FinSet as set
-use Rattle.cg_cgroup.specs.Paths.{Names, path_cmp, same_path, below, is_child}
+use Rattle.cg_cgroup.specs.Paths.{Names, path_cmp, same_path, is_root, parent, below, is_child}
 use Rattle.cg_cgroup.specs.Identity.{Identity}
-use Rattle.cg_cgroup.specs.Files.{enables}
+use Rattle.cg_cgroup.specs.Files.{enables, brings}
 use Rattle.cg_cgroup.specs.Cgroups.{file_of, other_in, entry_in, value_in, with_value_in, with_mode_in, with_files_of}
 use Rattle.cg_cgroup.specs.declared.user.Entry.{Entry}
 use Rattle.cg_cgroup.specs.declared.files.Limit.{Limit}
@@ -18,10 +18,14 @@ use Rattle.cg_cgroup.specs.declared.files.EntryName.{EntryName}
 use Rattle.cg_cgroup.specs.declared.cgroup.Cgroup.{Cgroup}
 use Rattle.cg_cgroup.specs.declared.cgroup.LimitEntry.{LimitEntry}
 use Rattle.cg_cgroup.specs.declared.process.Process.{Process}
+use Rattle.cg_cgroup.specs.declared.told.Told.{Told}
+use Rattle.cg_cgroup.specs.declared.told.OtherName.{OtherName}
 
--- The cgroups by path, the live processes by PID, the PIDs that were ever used, and the controllers that the root has.
+-- The cgroups by path, what is told of limit files beyond `LimitFile`, by the path of the cgroup with the name of the file
+-- behind it, the live processes by PID, the PIDs that were ever used, and the controllers that the root has.
 pub record State : Type 0 where
   pub rows : map.FinMap path_cmp Cgroup
+  pub told : map.FinMap path_cmp Told
   pub live : map.FinMap nat_cmp Process
   pub used : set.FinSet nat_cmp
   pub controllers : ControllerSet
@@ -78,7 +82,22 @@ count_below st path = count_by (below path) (paths_of st)
 abbrev pub depth_below : State → Names → ℕ
 depth_below st path = fold max 0 (map_list (λ q. length q - length path) (filter (below path) (paths_of st)))
 
+-- a limit file beyond `LimitFile`: what is told of it, and else whose those are that the core or its controller brings
+abbrev pub untold_at : State → Names → Option Controller → Option Entry
+untold_at st path None = cond (is_root path) None (option_map (λ row. row.freeze) (row_at st path))
+untold_at st path (Some controller) = other_at st path controller
+
+abbrev pub other_file_at : State → Names → OtherName → Option Told
+other_file_at st path file = elim (map.get st.told (path ++ file.text ∷ [])) [
+  | None ↦ option_map (λ entry. record { controller = file.controller; entry = entry; value = None }) (untold_at st path file.controller)
+  | Some told ↦ Some told
+]
+
 -- ---- changes
+
+-- such a file changed, where it stands
+abbrev pub with_told : State → Names → OtherName → (Told → Told) → State
+with_told st at file f = elim (other_file_at st at file) [ None ↦ st | Some told ↦ record st { told = map.insert st.told (at ++ file.text ∷ []) (f told) } ]
 
 -- a row changed, where it is there
 abbrev pub change_at : Names → (Cgroup → Cgroup) → State → State
@@ -91,8 +110,12 @@ change_each f rows = map.from_sorted (map_list (λ e. (e.0, f e.0 e.1)) (map.ent
 abbrev pub with_row : State → Names → Cgroup → State
 with_row st path row = record st { rows = map.insert st.rows path row }
 
+-- what is told of the files that pass a test
+abbrev pub told_of : (Names → Told → Bool) → State → map.FinMap path_cmp Told
+told_of test st = map.from_sorted (filter (λ e. test e.0 e.1) (map.entries st.told))
+
 abbrev pub without_row : State → Names → State
-without_row st path = record st { rows = map.remove st.rows path }
+without_row st path = record st { rows = map.remove st.rows path; told = told_of (λ file told. not (is_child path file)) st }
 
 abbrev pub with_value : State → Names → LimitFile → Limit → State
 with_value st path file value = change_at path (with_value_in file value) st
@@ -110,7 +133,10 @@ enabling path enabled user q row =
 
 -- Enabling and Disabling: what a path enables, and with it the files of its children.
 abbrev pub with_enabled : State → Names → ControllerSet → Identity → State
-with_enabled st path enabled user = record st { rows = change_each (enabling path enabled user) st.rows }
+with_enabled st path enabled user = record st {
+  rows = change_each (enabling path enabled user) st.rows;
+  told = told_of (λ file told. not (is_child path (parent file)) || brings enabled told.controller) st;
+}
 
 abbrev pub placed_at : Names → Process → Process
 placed_at path process = record process { place = path }

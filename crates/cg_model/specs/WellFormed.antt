@@ -1,7 +1,7 @@
 -- What holds of every tree.
 use Rattle.std.specs.Prelude.{◌≡◌, ℕ, ◌≤◌, Bool, true, false, ◌||◌, not, cond, [], Some, None, is_some}
 use Rattle.cg_cgroup.specs.Paths.{Names, is_root, parent}
-use Rattle.cg_cgroup.specs.Files.{enables, no_controllers, stands_under, accepts, enables_nothing, is_within}
+use Rattle.cg_cgroup.specs.Files.{enables, brings, no_controllers, stands_under, accepts, enables_nothing, is_within}
 use Rattle.cg_cgroup.specs.Cgroups.{file_of, other_in, entry_in}
 use Rattle.cg_model.specs.States.{State, row_at, process_at, is_used, has_live, child_enables}
 use Rattle.cg_cgroup.specs.declared.user.Entry.{Entry}
@@ -11,7 +11,9 @@ use Rattle.cg_cgroup.specs.declared.files.LimitFile.{LimitFile}
 use Rattle.cg_cgroup.specs.declared.files.EntryName.{EntryName}
 use Rattle.cg_cgroup.specs.declared.cgroup.LimitEntry.{LimitEntry}
 use Rattle.cg_cgroup.specs.declared.cgroup.Cgroup.{Cgroup}
+use Rattle.std.specs.FinMap as map
 use Rattle.cg_cgroup.specs.declared.process.Process.{Process}
+use Rattle.cg_cgroup.specs.declared.told.Told.{Told}
 
 abbrev pub has_row : State → Names → Bool
 has_row st path = is_some (row_at st path)
@@ -56,6 +58,9 @@ pub record IsWellFormed (st : State) : Type 0 where
   -- Top-down Constraint
   pub top_down : (path : Names) (row : Cgroup) → row_at st path ≡ Some row → is_within row.enabled (available_at st path) ≡ true
   pub rows : (path : Names) (row : Cgroup) → row_at st path ≡ Some row → IsFormedRow (enabled_above st path) row
+  -- Enabling and Disabling: what is told is told of files that stand
+  pub told : (file : Names) (told : Told) → map.get st.told file ≡ Some told → has_row st (parent file) ≡ true
+      × brings (enabled_above st (parent file)) told.controller ≡ true
   -- No Internal Process Constraint. Organizing Processes: each live process is in one cgroup.
   pub places : (pid : ℕ) (process : Process) → process_at st pid ≡ Some process → may_hold st process.place ≡ true
   -- Own: a PID is used once, so each live one counts as used

@@ -3,6 +3,7 @@ use crate::changes::Changes;
 use cg_cgroup::files::{EntryName, Limit, LimitFile};
 use cg_cgroup::path::Path;
 use cg_cgroup::process::Pid;
+use cg_cgroup::told::OtherName;
 use cg_cgroup::user::Mode;
 
 /// An operation. Paths are cgroups, and PIDs processes.
@@ -45,6 +46,18 @@ pub enum Op {
     Chmod {
         at: Path,
         entry: EntryName,
+        mode: Mode,
+    },
+    /// Writes `value` to the limit file `file` of `at`, which is one beyond `LimitFile`.
+    SetOther {
+        at: Path,
+        file: OtherName,
+        value: String,
+    },
+    /// Sets the mode of such a file.
+    ChmodOther {
+        at: Path,
+        file: OtherName,
         mode: Mode,
     },
 }

@@ -39,6 +39,10 @@ pub enum Refusal {
     PidUsed { pid: Pid },
     /// 17: the user doesn't own the entry.
     NotOwner { entry: EntryName },
+    /// 13 to 17, of the operation's own file beyond `LimitFile`.
+    NoSuchOther,
+    NoAccessOther { len: usize },
+    NotOwnerOther,
 }
 
 /// How an operation ended.
