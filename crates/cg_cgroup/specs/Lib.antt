@@ -6,5 +6,6 @@ pub mod Numbers
 pub mod Identity
 pub mod Users
 pub mod Files
+pub mod TextFiles
 pub mod Cgroups
 pub mod Options

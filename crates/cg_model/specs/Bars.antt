@@ -12,7 +12,7 @@ use Rattle.cg_cgroup.specs.declared.files.Controller.{Controller}
 use Rattle.cg_cgroup.specs.declared.files.LimitFile.{LimitFile}
 use Rattle.cg_cgroup.specs.declared.files.Limit.{Limit}
 use Rattle.cg_cgroup.specs.declared.user.Entry.{Entry}
-use Rattle.cg_cgroup.specs.declared.told.OtherName.{OtherName}
+use Rattle.cg_cgroup.specs.TextFiles.{FileName}
 use Rattle.cg_cgroup.specs.declared.files.EntryName.{EntryName}
 use Rattle.cg_cgroup.specs.declared.files.EntryName.TheVariants.{Dir, Procs, SubtreeControl, File}
 use Rattle.cg_cgroup.specs.declared.cgroup.Cgroup.{Cgroup}
@@ -144,7 +144,7 @@ chmod_bars st user at name =
 
 -- ---- set and chmod of a limit file beyond `LimitFile`
 
-abbrev pub other_bars : State → Names → OtherName → (Entry → Bool) → Refusal → List Refusal
+abbrev pub other_bars : State → Names → FileName → (Entry → Bool) → Refusal → List Refusal
 other_bars st at file may refusal =
     absent (row_at st at) (NoSuchCgroup (length at))
     ++ present (row_at st at) (λ row. absent (other_file_at st at file) NoSuchOther)

@@ -18,14 +18,13 @@ use Rattle.cg_cgroup.specs.declared.files.EntryName.{EntryName}
 use Rattle.cg_cgroup.specs.declared.cgroup.Cgroup.{Cgroup}
 use Rattle.cg_cgroup.specs.declared.cgroup.LimitEntry.{LimitEntry}
 use Rattle.cg_cgroup.specs.declared.process.Process.{Process}
-use Rattle.cg_cgroup.specs.declared.told.Told.{Told}
-use Rattle.cg_cgroup.specs.declared.told.OtherName.{OtherName}
+use Rattle.cg_cgroup.specs.TextFiles.{FileName, FileTold}
 
 -- The cgroups by path, what is told of limit files beyond `LimitFile`, by the path of the cgroup with the name of the file
 -- behind it, the live processes by PID, the PIDs that were ever used, and the controllers that the root has.
 pub record State : Type 0 where
   pub rows : map.FinMap path_cmp Cgroup
-  pub told : map.FinMap path_cmp Told
+  pub told : map.FinMap path_cmp FileTold
   pub live : map.FinMap nat_cmp Process
   pub used : set.FinSet nat_cmp
   pub controllers : ControllerSet
@@ -87,7 +86,7 @@ abbrev pub untold_at : State → Names → Option Controller → Option Entry
 untold_at st path None = cond (is_root path) None (option_map (λ row. row.freeze) (row_at st path))
 untold_at st path (Some controller) = other_at st path controller
 
-abbrev pub other_file_at : State → Names → OtherName → Option Told
+abbrev pub other_file_at : State → Names → FileName → Option FileTold
 other_file_at st path file = elim (map.get st.told (path ++ file.text ∷ [])) [
   | None ↦ option_map (λ entry. record { controller = file.controller; entry = entry; value = None }) (untold_at st path file.controller)
   | Some told ↦ Some told
@@ -96,7 +95,7 @@ other_file_at st path file = elim (map.get st.told (path ++ file.text ∷ [])) [
 -- ---- changes
 
 -- such a file changed, where it stands
-abbrev pub with_told : State → Names → OtherName → (Told → Told) → State
+abbrev pub with_told : State → Names → FileName → (FileTold → FileTold) → State
 with_told st at file f = elim (other_file_at st at file) [ None ↦ st | Some told ↦ record st { told = map.insert st.told (at ++ file.text ∷ []) (f told) } ]
 
 -- a row changed, where it is there
@@ -111,7 +110,7 @@ abbrev pub with_row : State → Names → Cgroup → State
 with_row st path row = record st { rows = map.insert st.rows path row }
 
 -- what is told of the files that pass a test
-abbrev pub told_of : (Names → Told → Bool) → State → map.FinMap path_cmp Told
+abbrev pub told_of : (Names → FileTold → Bool) → State → map.FinMap path_cmp FileTold
 told_of test st = map.from_sorted (filter (λ e. test e.0 e.1) (map.entries st.told))
 
 abbrev pub without_row : State → Names → State

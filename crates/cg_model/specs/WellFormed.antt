@@ -13,7 +13,7 @@ use Rattle.cg_cgroup.specs.declared.cgroup.LimitEntry.{LimitEntry}
 use Rattle.cg_cgroup.specs.declared.cgroup.Cgroup.{Cgroup}
 use Rattle.std.specs.FinMap as map
 use Rattle.cg_cgroup.specs.declared.process.Process.{Process}
-use Rattle.cg_cgroup.specs.declared.told.Told.{Told}
+use Rattle.cg_cgroup.specs.TextFiles.{FileTold}
 
 abbrev pub has_row : State → Names → Bool
 has_row st path = is_some (row_at st path)
@@ -59,7 +59,7 @@ pub record IsWellFormed (st : State) : Type 0 where
   pub top_down : (path : Names) (row : Cgroup) → row_at st path ≡ Some row → is_within row.enabled (available_at st path) ≡ true
   pub rows : (path : Names) (row : Cgroup) → row_at st path ≡ Some row → IsFormedRow (enabled_above st path) row
   -- Enabling and Disabling: what is told is told of files that stand
-  pub told : (file : Names) (told : Told) → map.get st.told file ≡ Some told → has_row st (parent file) ≡ true
+  pub told : (file : Names) (told : FileTold) → map.get st.told file ≡ Some told → has_row st (parent file) ≡ true
       × brings (enabled_above st (parent file)) told.controller ≡ true
   -- No Internal Process Constraint. Organizing Processes: each live process is in one cgroup.
   pub places : (pid : ℕ) (process : Process) → process_at st pid ≡ Some process → may_hold st process.place ≡ true

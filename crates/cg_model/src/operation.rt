@@ -3,7 +3,7 @@ use crate::changes::Changes;
 use cg_cgroup::files::{EntryName, Limit, LimitFile};
 use cg_cgroup::path::Path;
 use cg_cgroup::process::Pid;
-use cg_cgroup::told::OtherName;
+use cg_cgroup::told::{OtherName, TextValue};
 use cg_cgroup::user::Mode;
 
 /// An operation. Paths are cgroups, and PIDs processes.
@@ -52,7 +52,7 @@ pub enum Op {
     SetOther {
         at: Path,
         file: OtherName,
-        value: String,
+        value: TextValue,
     },
     /// Sets the mode of such a file.
     ChmodOther {
