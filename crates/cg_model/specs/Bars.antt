@@ -1,6 +1,6 @@
 -- What bars an operation of a user: the clauses that it fails, each as its refusal, in order. The orders are own.
 use Rattle.std.specs.Prelude.{ℕ, zero, suc, ◌-◌, Bool, true, false, ◌&&◌, ◌||◌, not, nat_eq, List, [], ◌∷◌, ◌++◌, length, take, flat_map, Option, Some, None, cond}
-use Rattle.cg_cgroup.specs.Paths.{Names, common, is_root, parent}
+use Rattle.cg_cgroup.specs.Paths.{Name, Names, common, is_root, parent}
 use Rattle.cg_cgroup.specs.Identity.{Identity}
 use Rattle.cg_cgroup.specs.Users.{writes, owns}
 use Rattle.cg_cgroup.specs.Files.{all_controllers, enables, enables_nothing, is_within, accepts}
@@ -12,7 +12,6 @@ use Rattle.cg_cgroup.specs.declared.files.Controller.{Controller}
 use Rattle.cg_cgroup.specs.declared.files.LimitFile.{LimitFile}
 use Rattle.cg_cgroup.specs.declared.files.Limit.{Limit}
 use Rattle.cg_cgroup.specs.declared.user.Entry.{Entry}
-use Rattle.cg_cgroup.specs.TextFiles.{FileName}
 use Rattle.cg_cgroup.specs.declared.files.EntryName.{EntryName}
 use Rattle.cg_cgroup.specs.declared.files.EntryName.TheVariants.{Dir, Procs, SubtreeControl, File}
 use Rattle.cg_cgroup.specs.declared.cgroup.Cgroup.{Cgroup}
@@ -144,7 +143,7 @@ chmod_bars st user at name =
 
 -- ---- set and chmod of a limit file beyond `LimitFile`
 
-abbrev pub other_bars : State → Names → FileName → (Entry → Bool) → Refusal → List Refusal
+abbrev pub other_bars : State → Names → Name → (Entry → Bool) → Refusal → List Refusal
 other_bars st at file may refusal =
     absent (row_at st at) (NoSuchCgroup (length at))
     ++ present (row_at st at) (λ row. absent (other_file_at st at file) NoSuchOther)

@@ -36,8 +36,8 @@ limits st path = record {
 }
 
 -- those of a cgroup that is there
-abbrev pub limits_in : Cgroup → Limits
-limits_in row = record { values = value_in row; others = λ controller. is_some (other_in row controller) }
+abbrev pub limits_in : Cgroup → List (Names × List ℕ) → Limits
+limits_in row told = record { values = value_in row; others = λ controller. is_some (other_in row controller); told = told }
 
 abbrev pub same_limit : Limit → Limit → Bool
 same_limit Max Max = true

@@ -5,7 +5,7 @@ use Rattle.std.specs.Option.{option_map}
 use Rattle.std.specs.Ordering.{nat_cmp}
 use Rattle.std.specs.FinMap as map
 use Rattle.std.specs.FinSet as set
-use Rattle.cg_cgroup.specs.Paths.{Names, path_cmp, same_path, is_root, parent, below, is_child}
+use Rattle.cg_cgroup.specs.Paths.{Name, Names, path_cmp, same_path, is_root, parent, below, is_child}
 use Rattle.cg_cgroup.specs.Identity.{Identity}
 use Rattle.cg_cgroup.specs.Files.{enables, brings}
 use Rattle.cg_cgroup.specs.Cgroups.{file_of, other_in, entry_in, value_in, with_value_in, with_mode_in, with_files_of}
@@ -18,7 +18,7 @@ use Rattle.cg_cgroup.specs.declared.files.EntryName.{EntryName}
 use Rattle.cg_cgroup.specs.declared.cgroup.Cgroup.{Cgroup}
 use Rattle.cg_cgroup.specs.declared.cgroup.LimitEntry.{LimitEntry}
 use Rattle.cg_cgroup.specs.declared.process.Process.{Process}
-use Rattle.cg_cgroup.specs.TextFiles.{FileName, FileTold}
+use Rattle.cg_cgroup.specs.TextFiles.{FileTold, brought_by}
 
 -- The cgroups by path, what is told of limit files beyond `LimitFile`, by the path of the cgroup with the name of the file
 -- behind it, the live processes by PID, the PIDs that were ever used, and the controllers that the root has.
@@ -86,17 +86,17 @@ abbrev pub untold_at : State → Names → Option Controller → Option Entry
 untold_at st path None = cond (is_root path) None (option_map (λ row. row.freeze) (row_at st path))
 untold_at st path (Some controller) = other_at st path controller
 
-abbrev pub other_file_at : State → Names → FileName → Option FileTold
-other_file_at st path file = elim (map.get st.told (path ++ file.text ∷ [])) [
-  | None ↦ option_map (λ entry. record { controller = file.controller; entry = entry; value = None }) (untold_at st path file.controller)
+abbrev pub other_file_at : State → Names → Name → Option FileTold
+other_file_at st path file = elim (map.get st.told (path ++ file ∷ [])) [
+  | None ↦ option_map (λ entry. record { controller = brought_by file; entry = entry; value = None }) (untold_at st path (brought_by file))
   | Some told ↦ Some told
 ]
 
 -- ---- changes
 
 -- such a file changed, where it stands
-abbrev pub with_told : State → Names → FileName → (FileTold → FileTold) → State
-with_told st at file f = elim (other_file_at st at file) [ None ↦ st | Some told ↦ record st { told = map.insert st.told (at ++ file.text ∷ []) (f told) } ]
+abbrev pub with_told : State → Names → Name → (FileTold → FileTold) → State
+with_told st at file f = elim (other_file_at st at file) [ None ↦ st | Some told ↦ record st { told = map.insert st.told (at ++ file ∷ []) (f told) } ]
 
 -- a row changed, where it is there
 abbrev pub change_at : Names → (Cgroup → Cgroup) → State → State

@@ -3,7 +3,7 @@ use crate::changes::Changes;
 use cg_cgroup::files::{EntryName, Limit, LimitFile};
 use cg_cgroup::path::Path;
 use cg_cgroup::process::Pid;
-use cg_cgroup::told::{OtherName, TextValue};
+use cg_cgroup::told::FileText;
 use cg_cgroup::user::Mode;
 
 /// An operation. Paths are cgroups, and PIDs processes.
@@ -51,13 +51,13 @@ pub enum Op {
     /// Writes `value` to the limit file `file` of `at`, which is one beyond `LimitFile`.
     SetOther {
         at: Path,
-        file: OtherName,
-        value: TextValue,
+        file: FileText,
+        value: FileText,
     },
     /// Sets the mode of such a file.
     ChmodOther {
         at: Path,
-        file: OtherName,
+        file: FileText,
         mode: Mode,
     },
 }
