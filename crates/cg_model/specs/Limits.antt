@@ -27,15 +27,20 @@ pub record Limits : Type 0 where
   pub others : Controller → Bool
   pub told : List (Names × List ℕ)
 
+-- the values that are told of the further files of a cgroup, by their paths
+abbrev pub told_below : State → Names → List (Names × List ℕ)
+told_below st path =
+    filter_map (λ e. cond (is_child path e.0) (option_map (λ value. (e.0, value)) e.1.value) None) (map.entries st.told)
+
 -- Core Interface Files; CPU, Memory and PID; Enabling and Disabling: the limits set on a cgroup.
 abbrev pub limits : State → Names → Limits
 limits st path = record {
   values = value_at st path;
   others = λ controller. is_some (other_at st path controller);
-  told = filter_map (λ e. cond (is_child path e.0) (option_map (λ value. (e.0, value)) e.1.value) None) (map.entries st.told);
+  told = told_below st path;
 }
 
--- those of a cgroup that is there
+-- those of a cgroup that is there, of whose further files these values are told
 abbrev pub limits_in : Cgroup → List (Names × List ℕ) → Limits
 limits_in row told = record { values = value_in row; others = λ controller. is_some (other_in row controller); told = told }
 

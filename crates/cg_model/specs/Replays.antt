@@ -12,10 +12,11 @@ use Rattle.cg_model.specs.declared.verdict.Clause.{Clause}
 use Rattle.cg_model.specs.declared.verdict.Verdict.{Verdict}
 use Rattle.cg_model.specs.declared.verdict.Verdict.TheVariants.{Kept, Broken}
 
--- The cgroup of the subtree at the start, the state now, how many steps led to it, and the verdict on them.
+-- The cgroup of the subtree at the start, the values that were told of its further files, the state now, how many steps led to it, and the verdict on them.
 pub record Progress : Type 0 where
   pub subtree : Names
   pub original : Cgroup
+  pub told : List (Names × List ℕ)
   pub state : State
   pub steps : ℕ
   pub verdict : Verdict
@@ -30,5 +31,5 @@ abbrev pub stepped : Progress → Identity → Op → Progress
 stepped run user op = record run {
   state = after run.state user op;
   steps = suc run.steps;
-  verdict = or_broken run.verdict (broken_since (limits_in run.original) run.state (after run.state user op) run.subtree) (suc run.steps);
+  verdict = or_broken run.verdict (broken_since (limits_in run.original run.told) run.state (after run.state user op) run.subtree) (suc run.steps);
 }
