@@ -146,9 +146,6 @@ flag_set set new controller on is =
           | false ↦ λ e. get_or-set_other set.flags number (controller_kind other).number on false (grind (arith, e))
         ] refl
 
-pub set_by-enables : (set : ControllerSet) → set_by (enables set) ≡ set
-set_by-enables set = same_set (set_by (enables set)) set (enables-set_by (enables set))
-
 not_true : (b : Bool) → not b ≡ true → b ≡ false
 not_true true h = absurd (true≢false (sym h))
 not_true false h = refl

@@ -1,5 +1,5 @@
 -- Users of whom a tree says nothing.
-use Rattle.std.proofs.Common.{◌≡◌, ◌∙◌, ℕ, ◌+◌, ◌<◌, Bool, true, false, not, ◌||◌, ◌&&◌, nat_eq, cond, List, [], ◌∷◌, ◌++◌, length, take, get_or, map, Option, Result, Ok, Err}
+use Rattle.std.proofs.Common.{◌≡◌, ◌∙◌, ℕ, ◌+◌, ◌<◌, Bool, true, false, ◌||◌, ◌&&◌, nat_eq, cond, List, [], ◌∷◌, ◌++◌, length, take, get_or, map, Option, Result, Ok, Err}
 use Rattle.std.proofs.Common.{refl, sym, ap, subst, append_assoc, append-nil, arith}
 use Rattle.std.specs.Prelude.{IfOk, OnOk}
 use Rattle.std.specs.BTreeSet.{contains}
@@ -25,7 +25,7 @@ use Rattle.cg_cli.specs.Audits.{read_before, users_read, paths_read}
 use Rattle.cg_cli.specs.Known.{AreOfEntries, AreAdded, speaks_of}
 use Rattle.cg_cli.specs.May.{tree_read}
 use Rattle.cg_cli.specs.Once.{same_user}
-use Rattle.cg_cli.specs.Strangers.{file_entries, entries_of, tree_entries, all_owners, has_uid, has_gid, is_stranger, first_stranger, IsFirstStranger}
+use Rattle.cg_cli.specs.Strangers.{file_entries, entries_of, tree_entries, all_owners, has_uid, has_gid, first_stranger, IsFirstStranger}
 use Rattle.cg_cli.specs.declared.strangers.Known.{Known}
 use Rattle.cg_cli.proofs.ReportLaws.{same_Ok}
 use Rattle.cg_faults.specs.declared.fault.CliFault.{CliFault}
@@ -168,17 +168,6 @@ left_none owner known entries owners left none of = record {
       ∙ or_false (contains nat_cmp known.uids uid)) ∙ of.uids uid;
   gids = of.gids;
 }
-
--- ---- what is known of a user
-
-pub stranger_is : (st : State) (known : Known) → AreOfEntries known (tree_entries st) (all_owners st) → (user : Identity)
-    → not (contains nat_cmp known.uids user.uid || list_any (contains nat_cmp known.gids) user.gids) ≡ is_stranger st user
-stranger_is st known of user =
-    (λ i. not (of.uids user.uid i || any_gid user.gids i))
-  where
-    any_gid : (gids : List ℕ) → list_any (contains nat_cmp known.gids) gids ≡ list_any (has_gid (tree_entries st)) gids
-    any_gid [] = refl
-    any_gid (gid ∷ gids) = λ i. of.gids gid i || any_gid gids i
 
 -- ---- what speaks of one user
 
