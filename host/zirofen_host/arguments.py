@@ -6,7 +6,7 @@ from typing import Callable, Dict, Sequence, Type
 from zirofen_host.fault import Parser
 from zirofen_host.installed import MANUAL, TOLD_PROGRAM, default_program
 from zirofen_host.options import MOUNT, PROC, Way
-from zirofen_host.profile import is_number
+from zirofen_host.profile import NEWEST, TEXT_FORMATS, is_number
 
 NAME = "zirofen-host"
 LARGEST_ID = 4294967295
@@ -142,8 +142,14 @@ def add_host(parser: argparse.ArgumentParser) -> None:
     parser.add_argument("--seconds", metavar="N", type=number, help="ends with a fault where the run takes longer (no bound)")
     parser.add_argument("--no-processes", action="store_true",
                         help="no processes in the tree text: no `contained` rests on them, but an `escapes` may be an `unsettled`")
+    add_format(parser)
     parser.add_argument("--plain-folder", action="store_true",
                         help="the mount is a folder of plain files: nothing is asked of root, mounts and namespaces")
+
+
+def add_format(parser: argparse.ArgumentParser) -> None:
+    parser.add_argument("--tree-format", type=number, choices=sorted(TEXT_FORMATS), help=f"the format of tree texts ({NEWEST}); 2 is what "
+                        f"older programs take: {TEXT_FORMATS[2].most_rows} cgroups and processes in a text, and three controllers")
 
 
 def add_text(parser: argparse.ArgumentParser) -> None:
@@ -201,6 +207,7 @@ def add_commands(parser: argparse.ArgumentParser) -> None:
     parser.add_argument("--gid", metavar="N", type=number, action="append", default=[],
                         help="a group of the user, once or more; the first is the primary one")
     parser.add_argument("--subtree", metavar="PATH", help=f"the subtree that they break, where {NAME} ask hasn't written it behind #")
+    add_format(parser)
     add_program(parser)
 
 

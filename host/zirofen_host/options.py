@@ -2,7 +2,7 @@
 from dataclasses import dataclass
 from typing import NamedTuple, Optional, Tuple
 
-from zirofen_host.profile import CgroupPath
+from zirofen_host.profile import NEWEST, TEXT_FORMATS, CgroupPath, TextFormat
 
 MOUNT, PROC = "/sys/fs/cgroup", "/proc"
 
@@ -15,6 +15,8 @@ class Options:
     only: Optional[CgroupPath] = None
     proc: str = PROC
     no_processes: bool = False
+    # the format of tree texts that are made of this host; the newest where none is named
+    tree_format: Optional[int] = None
     # the mount is a folder of plain files
     plain_folder: bool = False
     # a folder with account files, in place of the host's own
@@ -26,6 +28,11 @@ class Options:
     program: str = ""
     # for the run as a whole; without a bound where there is none
     seconds: Optional[int] = None
+
+    @property
+    def text_format(self) -> TextFormat:
+        """The format of tree texts that are made of this host."""
+        return TEXT_FORMATS[NEWEST if self.tree_format is None else self.tree_format]
 
 
 class Way(NamedTuple):

@@ -1,7 +1,7 @@
 """What a tree text can carry: paths, names, files, values and their defaults."""
 import os
 import re
-from typing import Dict, FrozenSet, Iterable, Iterator, List, NewType, Optional, Tuple, TypeVar, Union
+from typing import Dict, FrozenSet, Iterable, Iterator, List, NamedTuple, NewType, Optional, Tuple, TypeVar, Union
 
 from zirofen_host import files
 
@@ -11,7 +11,18 @@ ROOT = CgroupPath(b"/")
 # a cgroup's path, or the text of one as it is shown
 AnyPath = TypeVar("AnyPath", str, CgroupPath)
 
-CONTROLLERS = ("cpu", "memory", "pids")
+
+class TextFormat(NamedTuple):
+    """A format in which tree texts are written: the controllers that it names, and what a text of it has at most."""
+    number: int
+    controllers: Tuple[str, ...]
+    most_rows: int
+    most_processes: int
+    longest: int
+
+
+# every controller that a tree text may name, in the order of each text
+CONTROLLERS = ("cpuset", "cpu", "io", "memory", "hugetlb", "pids", "rdma", "misc", "dmem")
 CONTROL_FILES = ("cgroup.procs", "cgroup.subtree_control")
 
 # each limit file with the controller that brings it, and its default
@@ -29,11 +40,17 @@ LIMIT_FILES: Dict[str, Tuple[Optional[str], Union[int, str]]] = {
 RESERVED_NAMES = {".", "..", "cgroup.controllers", *CONTROL_FILES, *LIMIT_FILES}
 DIRECTORY_MODE = 0o755
 FILE_MODE = 0o644
-MOST_ROWS = 4096
-MOST_PROCESSES = 4096
-LONGEST_TEXT = 16777216
 LONGEST_PATH = 4095
 MOST_GROUPS = 32
+
+# by their numbers; a text of format 1 has no more than one of format 2, and is written so
+TEXT_FORMATS: Dict[int, TextFormat] = {
+    2: TextFormat(2, ("cpu", "memory", "pids"), 4096, 4096, 16777216),
+    4: TextFormat(4, CONTROLLERS, 65536, 65536, 67108864),
+}
+NEWEST = 4
+# bytes of the longest text that is read
+LONGEST_TEXT = max(each.longest for each in TEXT_FORMATS.values())
 
 # what is handed over with a subtree's top: the kernel's own list where it has one, in KERNEL_LIST
 HANDED_OVER = ("dir", *CONTROL_FILES)

@@ -65,6 +65,7 @@ class AskTest(HostTest):
 MOUNT = "/sys/fs/cgroup"
 OPERATIONS = r"""move 10 /c0
 control /it's -cpu +memory
+control / +cpuset +cpu +io +memory +hugetlb +pids +rdma +misc +dmem
 mkdir /a\x20$b
 rmdir /a
 set /c0 memory.max max
@@ -77,6 +78,7 @@ exit 1
 COMMANDS = [
     "echo 10 >/sys/fs/cgroup/c0/cgroup.procs",
     "echo '-cpu +memory' >'/sys/fs/cgroup/it'\"'\"'s/cgroup.subtree_control'",
+    "echo '+cpuset +cpu +io +memory +hugetlb +pids +rdma +misc +dmem' >/sys/fs/cgroup/cgroup.subtree_control",
     r"mkdir '/sys/fs/cgroup/a\x20$b'",
     "rmdir /sys/fs/cgroup/a",
     "echo max >/sys/fs/cgroup/c0/memory.max",
@@ -105,7 +107,7 @@ class CommandsTest(HostTest):
 
     def test_what_is_no_operation(self):
         for line in ("move 10", "move x /a", "move 010 /a", "mkdir a", "mkdir /a/../b", "set /a cpu.max 1", "set /a memory.max -1",
-                     "chmod /a dir 88", "chmod /a dir 999", "control /a +io", "rm /a", "mkdir /a; reboot", "move 1 /a\x1b[1m"):
+                     "chmod /a dir 88", "chmod /a dir 999", "control /a +fancy", "rm /a", "mkdir /a; reboot", "move 1 /a\x1b[1m"):
             with self.subTest(line), self.assertRaisesRegex(Fault, "^line 2 is no operation$"):
                 shell.commands(MOUNT, f"rmdir /a\n{line}\n")
 

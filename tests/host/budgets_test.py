@@ -10,17 +10,18 @@ from unittest import mock
 import made_up_program
 import scaling
 from check_test import HostTest, owned
-from made_up import COMMAND, MEMORY, accounts_with
+from made_up import COMMAND, MEMORY, accounts_with, small_texts
 from shown import made
 from zirofen_host import command
 from zirofen_host.ask import accepted
 from zirofen_host.ask import program as asking
-from zirofen_host.ask.questions import subtrees_by
+from zirofen_host.ask.model import Question
+from zirofen_host.ask.questions import Runs, bounded_further, subtrees_by
 from zirofen_host.collect import bounded, descriptors, looks, processes, snapshot, walk
 from zirofen_host.collect.accounts import Accounts
 from zirofen_host.collect.bounded import Budget, Spent
 from zirofen_host.collect.holds import Holds
-from zirofen_host.collect.model import AccountLists, Range
+from zirofen_host.collect.model import AccountLists, Range, User
 from zirofen_host.judge import check, findings, unseen, whole
 from zirofen_host.profile import path_of
 from zirofen_host.show import lines
@@ -82,6 +83,21 @@ class SpentTest(unittest.TestCase):
         holds = Holds(rows, payer, {path_of("/a/m.service")})
         self.assertEqual([holds.within(path_of(path)) for path in (*rows, "/a/in/gone", "/gone")],
                          [None, None, 1000, 1000, None, None, 1001, None, 1000, None])
+
+    def test_what_questions_cost(self):
+        """Each costs whoever made some of its subtrees one, further ones too."""
+        a, b, c, d = map(path_of, ("/a", "/a/b", "/a/c", "/d"))
+        makers = mock.Mock(within=lambda path: 1000 if path.startswith(b"/a") else None)
+        one, two = User(1, ()), User(2, ())
+        for most, kept in ((2, [(b, c, d), (a, d)]), (1, [(b, c, d), (d,)]), (0, [(d,), (d,)])):
+            runs = Runs(makers, Spent(Budget("questions", most), int))
+            asked, over = runs.affordable([Question((one, two), (b, c, d)), Question((one,), (a, d))])
+            further, left = bounded_further([Question((two, one), (c,))], {d: 5}, runs)
+            self.assertEqual(([each.subtrees for each in asked], further), (kept, ()))
+            self.assertEqual(set(over.values()), set() if most == 2 else {f"uid 1000 has over {most} questions"})
+            self.assertEqual(left, {d: 5, c: 2})
+        runs = Runs(makers, Spent(Budget("questions", 1), int))
+        self.assertEqual(bounded_further([Question((two, one), (c,))], {d: 5}, runs), ((Question((two, one), (c,)),), {d: 5}))
 
 
 class CgroupsTest(ThreeTest):
@@ -158,7 +174,7 @@ class CgroupsTest(ThreeTest):
         with mock.patch.object(walk.Walk, "read", reading):
             taken = self.host.take(accounts=self.host.etc)
         self.assertGreater(len(turns), 2)
-        with mock.patch.object(self.host, "snapshot", lambda: taken):
+        with mock.patch.object(self.host, "snapshot", lambda **_: taken):
             for is_json in (False, True):
                 self.others(self.report(json=is_json))
 
@@ -437,8 +453,7 @@ class LargeTest(ThreeTest):
         words = ["snapshot", "--with-host", "--plain-folder", "--mount", self.host.mount, "--proc", self.host.proc, "--accounts",
                  self.host.etc]
         out, warned = [], []
-        with mock.patch("zirofen_host.collect.fitting.MOST_ROWS", 20), \
-                mock.patch("zirofen_host.collect.snapshot.MOST_ROWS", 20), \
+        with small_texts(rows=20), \
                 mock.patch("zirofen_host.fault.write", lambda parts: out.append("".join(parts))), \
                 mock.patch("zirofen_host.fault.warn", warned.append), self.host.owned():
             self.assertEqual(command.main(words), 0)

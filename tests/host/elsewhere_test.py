@@ -5,10 +5,12 @@ import subprocess
 import sys
 import unittest
 from dataclasses import replace
+from unittest import mock
 
 from check_test import BY_GROUP, MARK, HostTest, owned
 from made_up import COMMAND
 from page_reader import PageReader
+from zirofen_host import output
 from zirofen_host.collect import elsewhere
 from zirofen_host.ask import accepted
 from zirofen_host.ask.questions import subtrees_by
@@ -68,6 +70,17 @@ class ElsewhereTest(HostTest):
         self.assertEqual([each["kind"] for each in there["unseen"] if each not in here["unseen"]], ["elsewhere"])
         self.assertEqual((there["host"], there["kernel"]), (here["host"], here["kernel"]))
         self.assertTrue(any("memory.max" in command for each in there["entries"] for command in each["changes"]))
+
+    def test_a_text_keeps_its_format(self):
+        """Where a part of it is written anew, too: a program that takes it takes that."""
+        for number in (2, 4):
+            self.write(taken=self.host.snapshot(tree_format=number))
+            with mock.patch.object(output, "make", wraps=output.make) as made:
+                self.elsewhere(no_processes=True)
+            first, second = [call.args[1].decode().split("controllers")[0] for call in made.call_args_list][:2]
+            self.assertEqual([f"format = {number}\n" in text for text in (first, second)], [True, True])
+            self.assertIn("# A part of a text that was taken elsewhere", second)
+            self.assertEqual([text.startswith("format = 4\n") for text in (first, second)], [number == 4] * 2)
 
     def test_the_program_is_asked_in_the_text_itself(self):
         self.write()
@@ -146,8 +159,9 @@ class ElsewhereTest(HostTest):
                 self.elsewhere(accounts=self.host.etc)
         with self.assertRaisesRegex(Fault, "can't read the tree text: No such file"):
             self.elsewhere(tree=f"{self.file}.none")
-        with self.assertRaisesRegex(Fault, "--only and --keep"):
-            self.elsewhere(only=b"/a")
+        for more in ({"only": b"/a"}, {"keep": "/a"}, {"tree_format": 2}):
+            with self.assertRaisesRegex(Fault, "^--only, --keep and --tree-format go with a host, and not with --tree$"):
+                self.elsewhere(**more)
 
     def test_garbage_in_what_is_carried(self):
         self.write()

@@ -2,6 +2,7 @@
 import unittest
 
 from check_test import BY_GROUP, MARK, REAL_PROGRAM, HostTest, owned
+from made_up import small_texts
 from zirofen_host.ask.model import Answer, Pair
 from zirofen_host.ask.program import ESCAPES
 from zirofen_host.collect import mount, snapshot
@@ -110,7 +111,7 @@ class OneLineTest(HostTest):
         self.host.cgroup("/b", owners=owned(1001))
         for pid in range(10, 30):
             self.host.process(pid, uid=1000)
-        with mock.patch("zirofen_host.ask.texts.MOST_PROCESSES", 10):
+        with small_texts(processes=10):
             found = self.report()
             without = self.report(no_processes=True)
         self.assertEqual(self.told(found, "processes"), [

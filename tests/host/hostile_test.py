@@ -14,7 +14,7 @@ from unittest import mock
 
 import made_up_program
 from check_test import BY_GROUP, HostTest, owned
-from made_up import COMMAND, TOP
+from made_up import COMMAND, TOP, small_texts
 from zirofen_host import fault
 from zirofen_host.collect import bounded, processes
 from zirofen_host.ask import questions
@@ -206,7 +206,7 @@ class GarbageTest(HostTest):
         with mock.patch.object(made_up_program, "main", refusing):
             with self.assertRaisesRegex(fault.Fault, "^fault: tree bad-path cgroup 2$"):
                 self.report()
-            with mock.patch("zirofen_host.ask.texts.MOST_ROWS", 2):
+            with small_texts(rows=2):
                 found = self.report()
         self.assertEqual([row[2:] for row in self.rows(found)], [("contained", "/a")])
         self.assertEqual([(each["who"], each["fault"], each["subtrees"]) for each in found["faults"]],

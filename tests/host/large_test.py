@@ -2,19 +2,26 @@
 import io
 import os
 import shutil
+import subprocess
+import tempfile
+import time
 import unittest
 from unittest import mock
 
-from check_test import BY_GROUP, MARK, HostTest, owned
-from made_up import MEMORY, path
-from zirofen_host import progress
-from zirofen_host.profile import text_of
+import made_up_program
+from check_test import BY_GROUP, MARK, HostTest, InTurn, owned
+from made_up import MEMORY, path, small_texts
+from zirofen_host import fault, progress
+from zirofen_host.profile import TEXT_FORMATS, text_of
 from zirofen_host.collect import bounded, walk
+from zirofen_host.ask import program as asking
 from zirofen_host.ask import texts
+from zirofen_host.ask.model import Question
+from zirofen_host.ask.program import Program
 from zirofen_host.ask.questions import subtrees_by
 from zirofen_host.judge import check
 from zirofen_host.collect.tree import Row, Tree, read_tree
-from zirofen_host.collect.model import Entry
+from zirofen_host.collect.model import Entry, User
 
 ALL_THE_TIME = "what matters for it came, went or changed through 8 walks"
 
@@ -38,10 +45,9 @@ class LargeTest(HostTest):
         return found
 
     def small(self, rows, processes=1000):
-        for name, value in (("MOST_ROWS", rows), ("MOST_PROCESSES", processes)):
-            patched = mock.patch.object(texts, name, value)
-            patched.start()
-            self.addCleanup(patched.stop)
+        patched = small_texts(rows, processes)
+        patched.start()
+        self.addCleanup(patched.stop)
 
     def test_a_large_host(self):
         pids = iter(range(10, 30000))
@@ -62,13 +68,20 @@ class LargeTest(HostTest):
                 self.host.cgroup(f"/s{uid}/c{number}", owners=owned(uid))
         self.host.cgroup("/many", owners=owned(1011), pids=some(5000, 1011))
         self.host.cgroup("/bad", owners={**owned(1012), "memory.max": 1012}, pids=some(1900, 1012))
-        found = self.report(json=True)
+        answers = [("escapes", "/bad"), ("contained", "/large/c7/in"), ("contained", "/many"),
+                   *(("contained", f"/s{uid}") for uid in range(1002, 1011))]
+        made = self.texts()
+        found = self.report(json=True, tree_format=2)
         self.assertEqual((len(found["cgroups"]), len(found["processes"])), (4097 + 2 + 909 + 2, 4096 + 9000 + 5000 + 1900))
         self.assertEqual(found["faults"], [{"who": "everybody", "uid": None, "gids": [], "subtrees": ["/large"],
                                             "fault": "4099 cgroups, and a tree text has 4096 at most", "made_by": "u1000(1000)"}])
-        self.assertEqual([row[2:] for row in self.rows(found)], [
-            ("escapes", "/bad"), ("contained", "/large/c7/in"), ("contained", "/many"),
-            *(("contained", f"/s{uid}") for uid in range(1002, 1011))])
+        self.assertEqual([row[2:] for row in self.rows(found)], answers)
+        self.assertEqual(len(made), 4)
+        made.clear()
+        # it is one text of format 4
+        found = self.report()
+        self.assertEqual(([(len(rows), len(processes)) for rows, processes, _ in made], found["faults"]), ([(5010, 19996)], []))
+        self.assertEqual([row[2:] for row in self.rows(found)], [answers[0], ("contained", "/large"), *answers[1:]])
 
     def test_what_doesnt_fit_goes_in_several_texts(self):
         made = self.texts()
@@ -128,13 +141,14 @@ class LargeTest(HostTest):
         self.host.cgroup("/a")
         rows = [Row(path(place), files={"cgroup.procs": Entry(1000, 0, 0o644)})
                 for number in range(4) for place in (f"/{number}", f"/{number}/{'n' * 200}")]
-        tree = Tree((), {row.path: row for row in (Row(path("/")), *rows)})
         some = [path(f"/{number}") for number in range(4)]
-        with mock.patch.object(texts, "ROOM", 1000):
-            packed = texts.texts_of(tree, some)
+
+        def packed_in(room, subtrees):
+            small = TEXT_FORMATS[4]._replace(longest=texts.HEAD + room)
+            return texts.texts_of(Tree((), {row.path: row for row in (Row(path("/")), *rows)}, (), small), subtrees)
+        packed = packed_in(1000, some)
         self.assertEqual([(text.subtrees, len(text.rows)) for text in packed.texts], [(some[:2], 5), (some[2:], 5)])
-        with mock.patch.object(texts, "ROOM", 300):
-            packed = texts.texts_of(tree, [some[0], path(f"/1/{'n' * 200}")])
+        packed = packed_in(300, [some[0], path(f"/1/{'n' * 200}")])
         self.assertEqual((packed.texts, packed.refused[some[0]]),
                          ([], "what it needs goes into no tree text: its paths are too long"))
 
@@ -159,6 +173,151 @@ class LargeTest(HostTest):
         for name, place in (("kept", "/a"), ("kept.2", "/b")):
             with open(f"{self.host.folder}/{name}", encoding="ascii") as text:
                 self.assertIn(path(place), read_tree(text.read()).rows)
+
+
+class BesideTest(HostTest):
+    """A host that is one text, which isn't small: what somebody made is asked of in small ones."""
+
+    texts = LargeTest.texts
+
+    def setUp(self):
+        super().setUp()
+        patched = small_texts(6, 4, formats=(2,))
+        patched.start()
+        self.addCleanup(patched.stop)
+        self.host.cgroup("/alice", owners=owned(1000))
+        for number in range(6):
+            self.host.cgroup(f"/alice/c{number}", owners=owned(100000 + number))
+        self.host.cgroup("/bob", owners=owned(1001), pids=(7,))
+        self.host.cgroup("/carol", owners={**owned(1002), "memory.max": 1002})
+        self.host.process(7, uid=1001)
+        self.paths = ["/", "/alice", *(f"/alice/c{number}" for number in range(6)), "/bob", "/carol"]
+
+    def test_what_somebody_made(self):
+        made = self.texts()
+        found = self.report(json=True)
+        self.assertEqual(made, [(self.paths, [7], ["/alice", "/bob", "/carol"]),
+                                (self.paths[:6], [], self.paths[2:6]),
+                                (["/", "/alice", *self.paths[6:9]], [7], self.paths[6:8])])
+        self.assertEqual((found["faults"], found["status"]), ([], 1))
+        with small_texts(formats=(2,)):
+            made.clear()
+            whole = self.report(json=True)
+        self.assertEqual((len(made), {**whole, "time": 0}), (1, {**found, "time": 0}))
+
+    def test_what_goes_into_no_small_one(self):
+        """It is a fault of its own making, and what has it is answered."""
+        for number in range(6):
+            self.host.cgroup(f"/alice/c0/d{number}", owners=owned(100000))
+        made = self.texts()
+        found = self.report()
+        self.assertEqual([of for _, _, of in made], [["/alice", "/bob", "/carol"], self.paths[3:7], self.paths[7:8]])
+        self.assertEqual([(each["subtrees"], each["fault"], each["made_by"]) for each in found["faults"]],
+                         [(["/alice/c0"], "9 cgroups, and a tree text has 6 at most", "uid 100000")])
+        self.assertEqual([row[2:] for row in self.rows(found) if row[3] == "/alice"], [("contained", "/alice")])
+
+    def test_a_host_of_several_large_texts(self):
+        made = self.texts()
+        with small_texts(9, formats=(4,)):
+            self.report()
+        self.assertEqual([of for _, _, of in made], [["/alice", "/bob"], ["/carol"], self.paths[2:6], self.paths[6:8]])
+        made.clear()
+        self.report(tree_format=2)
+        self.assertEqual([of for _, _, of in made], [self.paths[2:6], self.paths[6:]])
+
+    def test_few_runs_at_once_where_each_takes_much_memory(self):
+        pools = []
+
+        class Pool(InTurn):
+            def __init__(self, workers):
+                super().__init__(workers)
+                pools.append(workers)
+        with mock.patch.object(asking, "ThreadPoolExecutor", Pool), mock.patch("os.cpu_count", lambda: 8):
+            for memory, workers in ((1 << 30, 8), (50000, 1), (1, 1)):
+                with mock.patch.object(asking, "MOST_MEMORY", memory):
+                    self.report()
+                self.assertEqual(min(pools), workers)
+                pools.clear()
+
+    def memory_of(self, most, status=3):
+        """A program that reads no text of more bytes: it tells so, is ended, or takes too long."""
+        played = made_up_program.play
+
+        def playing(words):
+            if words[0] == "audit" and "--tree" in words and os.path.getsize(words[words.index("--tree") + 1]) > most:
+                if status is None:
+                    raise subprocess.TimeoutExpired(words, 1)
+                return subprocess.CompletedProcess(words, status, "", "fault: memory\n" if status == 3 else "")
+            return played(words)
+        return mock.patch.object(made_up_program, "play", playing)
+
+    def test_where_the_program_has_no_memory_or_time_for_a_large_one(self):
+        made = self.texts()
+        for status in (3, -9, None):
+            with self.subTest(status), self.memory_of(1400, status):
+                made.clear()
+                found = self.report()
+                self.assertEqual([of for _, _, of in made[3:]], [self.paths[2:6], self.paths[6:]])
+                self.assertEqual([row[2:] for row in self.rows(found)][-2:], [("contained", "/bob"), ("escapes", "/carol")])
+                self.assertEqual([(each["subtrees"], each["fault"]) for each in found["faults"]],
+                                 [(["/alice"], "8 cgroups, and a tree text has 6 at most")])
+        # of a small one it is a fault of each pair, as another is
+        with self.memory_of(0):
+            found = self.report()
+        self.assertEqual({each["fault"] for each in found["faults"]}, {"fault: memory", "8 cgroups, and a tree text has 6 at most"})
+        with self.memory_of(0, None), self.assertRaises(fault.OutOfTime):
+            self.report()
+
+    def test_settling_ends_where_it_takes_too_long(self):
+        self.can("all", "advise", "settle")
+        self.host.cgroup("/", owners={"cgroup.procs": (0, 50)}, modes={"cgroup.procs": 0o664}, enabled="memory")
+        played, asked = made_up_program.play, []
+
+        def playing(words):
+            if "--settle" not in words or "--help" in words:
+                return played(words)
+            asked.append([word for word in words if word in self.paths])
+            if len(asked) == 2:
+                raise subprocess.TimeoutExpired(words, 1)
+            return played(words)
+        with mock.patch.object(made_up_program, "play", playing), mock.patch.object(asking, "SETTLED", 1):
+            found = self.report()
+        # what was settled before stays, and the others are unsettled
+        self.assertEqual(asked, [["/alice"], ["/bob"]])
+        self.assertEqual({subtree for each in found["entries"] for subtree in each["subtrees"]}, {"/bob", "/carol", *self.paths[2:8]})
+        self.assertEqual({each["answer"] for each in found["entries"]}, {"unsettled"})
+
+    def test_what_is_settled_is_in_the_large_one(self):
+        self.can("all", "advise", "settle")
+        self.host.cgroup("/alice", owners=owned(1000), modes={"cgroup.procs": 0o664, "dir": 0o775})
+        self.host.cgroup("/", owners={"cgroup.procs": (0, 50)}, modes={"cgroup.procs": 0o664}, enabled="memory")
+        found = self.report()
+        settled = [words for words in self.called() if "--settle" in words]
+        self.assertEqual([[word for word in words if word.startswith("/") and "toml" not in word] for words in settled],
+                         [["/alice", "/bob", "/carol"]])
+        self.assertEqual({(*each["subtrees"], each["answer"]) for each in found["entries"]}, {(*self.paths[2:8], "unsettled")})
+
+    def test_what_somebody_made_is_settled_last(self):
+        self.can("all", "advise", "settle")
+        self.host.cgroup("/", owners={"cgroup.procs": (0, 50)}, modes={"cgroup.procs": 0o664}, enabled="memory")
+        with small_texts(formats=(2,)), mock.patch.object(asking, "SETTLED", 3):
+            self.report()
+        settled = [[word for word in words if word in self.paths] for words in self.called() if "--settle" in words]
+        self.assertEqual(settled, [["/alice", "/bob", "/carol"], self.paths[2:5], self.paths[5:8]])
+
+
+class SlowTest(unittest.TestCase):
+    def test_how_long_the_program_is_asked_in_a_large_text(self):
+        with tempfile.TemporaryDirectory() as folder:
+            program = f"{folder}/slow"
+            with open(program, "w", encoding="ascii") as out:
+                out.write("#!/bin/sh\nexec sleep 20\n")
+            os.chmod(program, 0o755)
+            for seconds in (0.2, -9):
+                asked = Program(program, "none", 0, True).until(time.monotonic() + seconds)
+                with self.assertRaisesRegex(asking.TooLarge, "^the program took too long$"):
+                    asked.ask([Question((User(1000, ()),), (path("/a"),))], True)
+            self.assertEqual(Program(program, "none").until(5), Program(program, "none"))
 
 
 class BusyTest(HostTest):
@@ -314,6 +473,16 @@ class BusyTest(HostTest):
         self.assertIn(("unsettled common-ancestor /alice/in", "/alice/in/bobs"),
                       [(each["lines"][0], subtree["path"]) for subtree in found["subtrees"] for each in subtree["answers"]]
                       + [(entry["example"]["lines"][0], entry["subtrees"][0]) for entry in found["entries"] if entry["example"]])
+
+    def test_controllers_that_he_turns_within_each_walk(self):
+        """Two walks agree, and no tree is so: a program would refuse the whole text."""
+        self.host.cgroup("/", enabled="memory io")
+
+        def act(turn):
+            self.host.cgroup("/alice", owners=owned(1000, 1000), enabled="memory")
+            self.host.cgroup("/alice/in", owners=owned(1000, 1000), enabled="memory io")
+        self.one_is_spoiled(self.busy(act, b"/alice"))
+        self.assertEqual(len(self.walks), 10)
 
     def test_what_cant_be_read(self):
         os.remove(f"{self.host.mount}/alice/cgroup.controllers")

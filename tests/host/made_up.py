@@ -16,7 +16,7 @@ from zirofen_host.collect.bounded import Attributes  # noqa: E402
 from zirofen_host.collect.accounts import Accounts, accounts_here  # noqa: E402
 from zirofen_host.collect.processes import read_processes  # noqa: E402
 from zirofen_host.options import Options  # noqa: E402
-from zirofen_host.profile import LIMIT_FILES, parent_of, path_of, text_of  # noqa: E402
+from zirofen_host.profile import LIMIT_FILES, TEXT_FORMATS, parent_of, path_of, text_of  # noqa: E402
 from zirofen_host.collect.snapshot import all_that_changes, take  # noqa: E402
 from zirofen_host.collect.model import AccountLists, Entry  # noqa: E402
 
@@ -37,6 +37,12 @@ def path(text):
 def accounts_with(accounts=(), groups=(), uids=(), gids=(), running=()):
     """Accounts and groups, ranges of subordinate ids, and users of running processes."""
     return Accounts(AccountLists(tuple(accounts), tuple(groups), tuple(uids), tuple(gids)), running)
+
+
+def small_texts(rows=1000, processes=1000, longest=1000000, formats=(2, 4)):
+    """Has texts of some formats take no more than this."""
+    most = {"most_rows": rows, "most_processes": processes, "longest": longest}
+    return mock.patch.dict(TEXT_FORMATS, {number: TEXT_FORMATS[number]._replace(**most) for number in formats})
 
 
 class MadeUp:
@@ -168,8 +174,8 @@ class MadeUp:
         with self.owned():
             return take(options, subtrees_of)
 
-    def snapshot(self, only=None):
-        return self.take(only=only)
+    def snapshot(self, only=None, **more):
+        return self.take(only=only, **more)
 
     def read_accounts(self):
         return accounts_here(self.etc, read_processes(self.proc).values())

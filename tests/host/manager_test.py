@@ -27,11 +27,11 @@ class MadeLaterTest(HostTest):
         self.assertEqual(of_procs["changes"], [f"chmod 644 {self.host.mount}/user.slice/cgroup.procs", closing])
 
     def test_after_its_advice_alone_it_is_open_still(self):
-        self.host.cgroup("/user.slice", owners={"dir": (0, 50)}, modes={"dir": 0o775})
+        self.host.cgroup("/user.slice", owners={"dir": (0, 50)}, modes={"dir": 0o775}, enabled="memory")
         self.host.cgroup("/user.slice/user-1000.slice", enabled="memory")
         self.host.cgroup(MANAGER, owners=owned(1000, 1000), marks=(MARK,))
         self.assertEqual(self.report()["status"], 1)
-        self.host.cgroup("/user.slice")
+        self.host.cgroup("/user.slice", enabled="memory")
         self.assertEqual(self.report()["status"], 0)
 
     def test_a_slice_that_was_adopted(self):
@@ -51,7 +51,7 @@ class MadeLaterTest(HostTest):
                     continue
                 with self.subTest(path, whom=whom):
                     self.setUp()
-                    self.host.cgroup("/user.slice")
+                    self.host.cgroup("/user.slice", enabled="memory")
                     self.host.cgroup(path, owners={"dir": owner}, modes={"dir": mode}, marks=marks, enabled="memory")
                     found = self.report()
                     self.assertEqual([(place, names) for place, names, _, _ in self.directories(found)], [(path, [whom])])

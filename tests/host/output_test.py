@@ -318,7 +318,7 @@ class HelperTest(HostTest):
             if is_pipe:
                 self.assertIn("it is a pipe of somebody else's", self.check("--keep", kept).stdout)
             else:
-                self.assertEqual((os.lstat(kept).st_uid, read(kept)[:12]), (0, "# A snapshot"))
+                self.assertEqual((os.lstat(kept).st_uid, read(kept)[:12]), (0, "format = 4\n#"))
             for file in (kept, baseline, f"{baseline}.new"):
                 os.remove(file)
 
@@ -361,7 +361,7 @@ class HelperTest(HostTest):
 
     def test_what_is_kept_into_a_pipe_is_asked_of_too(self):
         ended = self.check("--keep", "/dev/stderr")
-        self.assertEqual((ended.returncode, ended.stderr[:12]), (0, "# A snapshot"))
+        self.assertEqual((ended.returncode, ended.stderr[:12]), (0, "format = 4\n#"))
         self.assertEqual(self.check("--keep", "/dev/null").returncode, 0)
 
     def test_a_bound_on_the_size_of_files(self):

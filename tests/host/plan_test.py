@@ -91,6 +91,20 @@ class ChangesTest(unittest.TestCase):
         # what went and came has its defaults again
         self.assertEqual((row.entry("pids.max"), row.values["pids.max"]), (Entry(0, 0, 0o644), "max"))
 
+    def test_controllers_of_a_tree_are_those_of_its_format(self):
+        large = TREE.replace("format = 2", "format = 4").replace('"pids"]\n\n', '"pids", "io", "dmem"]\n\n', 1)
+        found = changed("mkdir /b", "mkdir /b/c", "control / +io +dmem", "control /b +pids +io", "chown /b/c io.max 9:9", text=large)
+        self.assertEqual(found.tree.format.number, 4)
+        rows = found.tree.rows
+        self.assertEqual((rows[path_of("/")].enabled, rows[path_of("/b")].enabled), (("io", "memory", "pids", "dmem"), ("io", "pids")))
+        # no file of theirs is one of a tree text
+        self.assertEqual(sorted(rows[path_of("/b/c")].values), ["cgroup.max.depth", "cgroup.max.descendants", "pids.max"])
+        self.assertEqual(found.cgroups[path_of("/b/c")].files["io.max"], Entry(9, 9, 0o644))
+        self.assertIn("line 1: cpuset isn't there to be enabled at /", self.refused("control / +cpuset", text=large))
+        self.assertTrue(self.refused("control / +fancy", text=large).startswith("line 1: control PATH +CONTROLLER"))
+        for line in ("control / +io", "control / +cpuset"):
+            self.assertTrue(self.refused(line).startswith("line 1: control PATH +CONTROLLER"))
+
     def test_processes_marks_and_other_files(self):
         found = changed("mkdir /b", "process 9 33 /b", "mark /b", "chown /b cgroup.kill 33:33", "chmod /b memory.swap.max 666")
         self.assertEqual([each for each in found.tree.processes if each.pid == 9], [(9, 33, path_of("/b"))])
@@ -164,6 +178,7 @@ class CommandTest(HostTest):
         said = self.plan("--tree", DELEGATION, "--print", "text", ops=ops)
         self.assertEqual(said.returncode, 0)
         self.assertEqual(read_tree(said.stdout).rows[path_of("/new")].directory, Entry(9, 9, 0o755))
+        self.assertEqual(read_tree(said.stdout).format.number, 2)
         again = self.plan("--tree", DELEGATION, "--json", ops=ops)
         value = json.loads(again.stdout)
         self.assertEqual((report_schema.faults_of(value), value["baseline"]["status"]), ([], again.returncode))
@@ -172,7 +187,9 @@ class CommandTest(HostTest):
         for words, ops, told in ((("--tree", DELEGATION), "mkdir /c0", "line 1: '/c0' is there already"),
                                  (("--tree", DELEGATION), "mkdir /\xe9", "the changes aren't ASCII"),
                                  (("--tree", "-"), "", "the tree and the changes can't both be standard input"),
-                                 (("--tree", DELEGATION, "--only", "/c0"), "", "--only goes with a host, and not with --tree"),
+                                 (("--tree", DELEGATION, "--only", "/c0"), "", "--only and --tree-format go with a host, and not with"),
+                                 (("--tree", DELEGATION, "--tree-format", "2"), "", "--only and --tree-format go with a host, and"),
+                                 (("--tree-format", "1"), "", "argument --tree-format: invalid choice: 1 (choose from 2, 4)"),
                                  (("--tree", DELEGATION, "--ops", "/none"), "", "can't read the changes: No such file or directory")):
             said = self.plan(*words, ops=ops)
             self.assertEqual((said.returncode, said.stdout), (3, ""))

@@ -5,20 +5,19 @@ import os
 import shutil
 import sys
 import unittest
+from dataclasses import replace
 from unittest import mock
 
 from made_up import DELEGATED, KERNEL_THREAD, TOP, MadeUpTest, path
 from zirofen_host.collect import mount, walk
 from zirofen_host.fault import Fault
-from zirofen_host.profile import text_of
+from zirofen_host.profile import TEXT_FORMATS, text_of
 from zirofen_host.collect.mount import Mounts
 from zirofen_host.collect.snapshot import note_lines, tree_text
 from zirofen_host.collect.tree import read_tree, tree_text as text_of_tree
 
+CONTROLLERS = 'controllers = ["cpu", "memory", "pids"]\n'
 WRITTEN = r"""
-format = 2
-controllers = ["cpu", "memory", "pids"]
-
 [[cgroup]]
 path = '/'
 enabled = ["memory", "pids"]
@@ -58,8 +57,13 @@ at = '/'
 
 class SnapshotTest(MadeUpTest):
     def body(self, snapshot):
-        """The text without the comment at its head."""
-        return tree_text(snapshot).split("\n", 2)[2]
+        """The text behind its head, which is as it is in this format."""
+        head, found, body = tree_text(snapshot).partition(CONTROLLERS)
+        lines = ["# A snapshot", "# 5 cgroups"]
+        wanted = ["format = 4", *lines, "", ""] if snapshot.tree.format.number == 4 else [*lines, "", "format = 2", ""]
+        self.assertEqual([line[:len(start)] for line, start in zip(head.split("\n"), wanted)], wanted)
+        self.assertEqual((len(head.split("\n")), found), (len(wanted), CONTROLLERS))
+        return body
 
     def kinds(self, snapshot):
         return [(note.kind, note.place) for note in snapshot.notes]
@@ -77,10 +81,12 @@ class SnapshotTest(MadeUpTest):
         host.process(7, uid=1000)
         host.process(9)
         host.process(2, flags=KERNEL_THREAD)
-        taken = host.snapshot()
-        self.assertEqual(self.body(taken), WRITTEN)
-        self.assertEqual(note_lines(taken), [])
-        self.assertIn("left out 1 kernel threads", tree_text(taken))
+        for number in (None, 2, 4):
+            taken = host.snapshot(tree_format=number)
+            self.assertEqual(self.body(taken), WRITTEN)
+            self.assertEqual(note_lines(taken), [])
+            self.assertIn("left out 1 kernel threads", tree_text(taken))
+        self.assertTrue(tree_text(host.snapshot()).startswith("format = 4\n"))
 
     def test_example_trees_come_back(self):
         for file in sorted(glob.glob(f"{TOP}/examples/*.toml")):
@@ -90,9 +96,43 @@ class SnapshotTest(MadeUpTest):
                 self.setUp()
                 tree = read_tree(text.read())
                 self.host.tree(tree)
-                taken = self.host.snapshot()
-                self.assertEqual(text_of_tree(taken.tree, []), text_of_tree(tree, []))
-                self.assertEqual(set(self.kinds(taken)) - {("controller", "/")}, set())
+                for number, each in TEXT_FORMATS.items():
+                    taken = self.host.snapshot(tree_format=number)
+                    self.assertEqual(text_of_tree(taken.tree, []), text_of_tree(replace(tree, format=each), []))
+                    others = {name for row in tree.rows.values() for name in row.enabled} - set(each.controllers)
+                    self.assertEqual({kind for kind, _ in self.kinds(taken)}, {"controller"} if others else set())
+
+    def test_nine_controllers(self):
+        """In the order of the format, of which one is none, and two by turns in what is below."""
+        host = self.host
+        host.cgroup("/", enabled="dmem misc rdma pids hugetlb memory io cpu cpuset fancy",
+                    values={"cgroup.controllers": "fancy dmem misc rdma pids hugetlb memory io cpu cpuset"})
+        host.cgroup("/a", enabled="io cpuset fancy", pids=(7,))
+        host.cgroup("/a/b", enabled="cpuset")
+        host.process(7)
+        taken, old = host.snapshot(), host.snapshot(tree_format=2)
+        names = ("cpuset", "cpu", "io", "memory", "hugetlb", "pids", "rdma", "misc", "dmem")
+        for found, enabled in ((taken, (names, names, ("cpuset", "io"), ("cpuset",))), (old, (*[("cpu", "memory", "pids")] * 2, (), ()))):
+            rows = found.tree.rows
+            self.assertEqual((found.tree.controllers, *(rows[path(each)].enabled for each in ("/", "/a", "/a/b"))), enabled)
+        self.assertIn(f"""controllers = [{", ".join(f'"{name}"' for name in names)}]\n""", tree_text(taken))
+        self.assertIn("""path = '/a'\nenabled = ["cpuset", "io"]\n""", tree_text(taken))
+        self.assertNotIn("io", tree_text(old).partition("controllers")[2])
+        left_out = "controller: /: left out, with how many cgroups enable each: "
+        self.assertEqual(note_lines(taken), [f"{left_out}fancy (2)", "processes: /a: 1 left out: the cgroup enables cpuset io"])
+        self.assertEqual(note_lines(old), [f"{left_out}cpuset (3), dmem (1), fancy (2), hugetlb (1), io (2), misc (1), rdma (1)"])
+        self.assertEqual([len(found.tree.processes) for found in (taken, old)], [0, 1])
+        # it comes back
+        self.assertEqual(read_tree(tree_text(taken)).format, TEXT_FORMATS[4])
+        self.assertEqual(text_of_tree(read_tree(tree_text(taken)), []), text_of_tree(taken.tree, []))
+
+    def test_formats_of_texts_that_are_read(self):
+        for number, taken in ((1, 2), (2, 2), (4, 4)):
+            text = f"format = {number}\ncontrollers = []\n[[cgroup]]\npath = '/'\n"
+            self.assertIs(read_tree(text).format, TEXT_FORMATS[taken])
+
+    def test_how_large_a_text_may_be(self):
+        self.assertEqual([each[2:] for each in TEXT_FORMATS.values()], [(4096, 4096, 16777216), (65536, 65536, 67108864)])
 
     def test_odd_names(self):
         host = self.host
@@ -163,7 +203,7 @@ class SnapshotTest(MadeUpTest):
         host.cgroup("/idle/memory.stat")
         for pid in (5, 6, 12):
             host.process(pid)
-        taken = host.snapshot()
+        taken = host.snapshot(tree_format=2)
         rows = {text_of(path): row for path, row in taken.tree.rows.items()}
         self.assertEqual(rows["/set"].directory.mode, 0o755)
         self.assertEqual(rows["/set"].files["cgroup.procs"].mode, 0o644)

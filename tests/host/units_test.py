@@ -50,8 +50,8 @@ class UnitsTest(unittest.TestCase):
             out.write(text)
         return file
 
-    def planned(self, *files, systemd=257, folders=()):
-        snapshot = replace(snapshot_of(TREE), source=Source("a.toml", Carried(ACCOUNTS, {})))
+    def planned(self, *files, systemd=257, folders=(), tree=TREE):
+        snapshot = replace(snapshot_of(tree), source=Source("a.toml", Carried(ACCOUNTS, {})))
         lines, named = units.planned(snapshot, ACCOUNTS, read_units(files, folders), systemd, {"H": "web1.example", "l": "web1"})
         # whatever is planned can be carried out
         self.behind = changes.changed(snapshot, "\n".join(lines))
@@ -95,6 +95,18 @@ class MadeTest(UnitsTest):
             enabled = [line.split("+")[1] for line in lines if line.startswith("control / ")]
             self.assertEqual(("mark /system.slice/a.service" in lines, enabled), (is_delegated, controllers), text)
             self.assertEqual(any(line.startswith("chown") for line in lines), is_delegated)
+
+    def test_which_controllers_a_unit_has_enabled(self):
+        """In format 4, and with the root's."""
+        tree = TREE.replace("format = 2", "format = 4").replace('"cpu", ', '"cpuset", "cpu", "io", "hugetlb", "misc", ', 1)
+        for text, controllers in (
+                ("Delegate=yes\n", ["cpuset cpu io"]), ("Delegate=io misc\n", ["io misc"]), ("Delegate=\n", []),
+                ("IOWeight=5\n", ["io"]), ("BlockIOReadBandwidth=/dev/a 5\n", ["io"]), ("StartupIOWeight=5\n", ["io"]),
+                ("IOAccounting=yes\n", ["io"]), ("IOAccounting=no\n", []), ("IOSchedulingClass=idle\n", []),
+                ("AllowedCPUs=0-3\n", ["cpuset"]), ("StartupAllowedMemoryNodes=0\n", ["cpuset"]), ("CPUAffinity=0\n", []),
+                ("CPUQuota=20%\n", ["cpu"]), ("StartupCPUWeight=5\n", ["cpu"]), ("CPUAccounting=yes\n", [])):
+            lines, _ = self.service(text, tree=tree)
+            self.assertEqual([line.split("/ ")[1].replace("+", "") for line in lines if line.startswith("control / ")], controllers, text)
 
     def test_files_of_memory_are_handed_over_where_it_is_enabled(self):
         above = "[Slice]\nMemoryAccounting=no\n"

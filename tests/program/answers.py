@@ -8,6 +8,7 @@ import sys
 
 sys.dont_write_bytecode = True
 from case import EXAMPLES, TOP, Case, call, run
+from format_4_rows import rows as format_4_rows
 
 MOVED_IN = b"move 10 /c0\n"
 CUT = b"exit 11\nmkdir /c0/a"
@@ -229,6 +230,7 @@ def upgrades(program):
 def cases(program):
     for table in command_lines, migrations, checks, settled, explained, audits, advices, replays, upgrades:
         yield from table(program)
+    yield from format_4_rows()
 
 
 if __name__ == "__main__":

@@ -40,6 +40,9 @@ ANSWERS = (
     ("delegation", "replay --tree {tree} --uid 1000 --subtree /c0 --ops -", 0, "kept"),
     ("empty-parent-directory", "replay --uid 1000 --subtree /c0 --ops {gone}", 1, "ok|ok|broken 1 gone"),
     ("delegation-over-limit", "replay --uid 1000 --subtree /c0 --ops {none}", 1, "broken 0 descendants"),
+    ("build-io-cpuset", "check --uid 1001 --subtree /build.slice/nightly", 1, "escapes|control /build.slice -io"),
+    ("build-io-cpuset", "replay --tree {tree} --uid 1001 --subtree /build.slice/nightly --ops {others}", 1,
+     "refused not-available dmem|refused child-uses cpuset|ok|broken 3 limits"),
 )
 
 # each on the tree of the delegation
@@ -82,11 +85,12 @@ TOP = 'format = 1\ncontrollers = ["cpu"]\n'
 ROOT = '[[cgroup]]\npath = "/"\nenabled = ["cpu"]\n'
 BASE = TOP + ROOT
 
-# a tree text with each fault, in either format
+# a tree text with each fault, in one of the formats
 TREES = (
     ("not-toml", "format = "),
     ("shape top", "format = 1\n"),
     ("format", "format = 3\ncontrollers = []\n"),
+    ("bad-controller top", 'format = 4\ncontrollers = ["dmem", "io", "perf_event"]\n'),
     ("no-root", "format = 2\ncontrollers = []\n"),
     ("too-many", "format = 1\ncontrollers = []\n" + 4097 * "[[cgroup]]\n"),
     ("shape cgroup 2", BASE + '[[cgroup]]\npath = "/a"\nx = 1\n'),
@@ -116,6 +120,7 @@ OPERATIONS = {
     "bad": "exit 11\nmkdir c0\n",
     "long": "exit 11\n" + 8193 * "x",
     "many": 65537 * "exit 99\n",
+    "others": "control /build.slice +dmem -hugetlb\ncontrol /build.slice -cpuset\ncontrol /build.slice -io\n",
     "pairs": "pair 1001:1001 /c0\nescapes\nset /c0 memory.max max\npair 1000 /c1\npair 1001:1001 /c0\n",
     "no_pair": "escapes\npair 1000:5, /c0\n",
     "cut_pair": "pair 1000 /c0\npair 1000 /c",
@@ -129,6 +134,7 @@ ASKED = (
     ("delegation", "upgrade", 0),
     ("delegation-ancestor-group", "upgrade --tree {tree}", 0),
     ("three-delegations", "upgrade", 0),
+    ("build-io-cpuset", "upgrade", 0),
     ("delegation", "advise --uid 1000 --subtree /c0", 0),
     ("delegation-ancestor-owned", "advise --tree {tree} --uid 1000 --subtree /c0", 1),
     ("delegation-over-limit", "advise --uid 1000 --subtree /c0", 1),
@@ -148,6 +154,7 @@ ASKED = (
     ("delegation", "explain --uid 1000 --subtree /c0", 0),
     ("delegation-second-user", "explain --tree {tree} --uid 1000 --uid 1001 --subtree /c0 --subtree /c1", 1),
     ("parent-procs-no-process", "explain --uid 1000 --subtree /p/s", 2),
+    ("build-io-cpuset", "explain --uid 1001 --subtree /build.slice/nightly", 1),
 )
 COMMANDS = ("may", "check", "settle", "audit", "explain", "replay", "upgrade", "advise")
 HELP = ("--help", "--version", "may --help", "replay --help")

@@ -31,6 +31,8 @@ pid = 10
 uid = 1000
 at = '/c0'
 """
+FOUR = TREE.replace("format = 2", "format = 4")
+ALL_NINE = "cpuset cpu io memory hugetlb pids rdma misc dmem"
 NEWLINE = "\n"
 OPS = "set /c0 memory.max max\nmove 10 /c0\n"
 CHECK = ["check", "--uid", "1000", "--subtree", "/c0"]
@@ -206,7 +208,7 @@ def trees():
     yield row('controllers = ["cpu", "memory", "pids"]\n', "", "shape top", "controllers")
     yield row("format = 2", "format = 2\nuser = 5", "shape top", "user")
     yield row("format = 2", "format = 1", "shape cgroup 2", "/c0", "gid")
-    yield at("format = 3", "format = 2", "format = 3", "format", "format is 1 or 2: write format = 2")
+    yield at("format = 3", "format = 2", "format = 3", "format", "format is 1, 2 or 4: write format = 2, or 4 for all nine controllers")
     yield at("enable", "enabled =", "enable =", "shape cgroup 1", "row 1 of cgroup", "6 | enable = [", "  | ^", "enable: write enabled; left out, the cgroup enables no controller")
     yield at("vlaue", "value = 4096", "vlaue = 4096", "shape cgroup 2", "/c0", "memory.max", "vlaue: write value; left out, it has its default value")
     yield at("[cgroup.file]", "files = {", "[cgroup.file]\nx = {", "shape cgroup 2", "file: write files; left out, root owns each file", "11 | [cgroup.file]")
@@ -220,7 +222,7 @@ def trees():
     yield at("att", "at = '/c0'", "att = '/c0'", "shape process 1", "there is no key att: write at")
     yield row("path = '/c0'", "path = '/c0'\nuid = 1000", "shape cgroup 2", "uid: left out, what it says counts in no answer; there are path")
     yield row("dir = { uid = 1000,", "dir = { uid = '1000',", "shape cgroup 2", "/c0", "uid")
-    yield row('"cpu", "memory", "pids"', '"cpu", "io"', "bad-controller top", "'io'", "left out, its limits count in no answer")
+    yield row('"cpu", "memory", "pids"', '"cpu", "io"', "bad-controller top", "'io' of controllers isn't cpu, memory or pids: left out, its limits count in no answer; format = 4 has it")
     yield at("path = 'c0'", "path = '/c0'", "path = 'c0'", "bad-path cgroup 2", "row 2", "c0")
     yield row('enabled = ["memory"]', 'enabled = ["cpuset"]', "bad-controller cgroup 1", "cpuset")
     yield row("mode = 0o644", "mode = 644", "bad-entry cgroup 2", "/c0", "cgroup.procs: mode 644 is decimal: write 0o644")
@@ -239,6 +241,7 @@ def trees():
     yield row("path = '/c0'", "path = '/c1/c0'", "no-parent cgroup 2", "/c1", "line 9, column 1")
     yield row("at = '/c0'", "at = '/C0'", "no-such-place process 1", "the nearest is '/c0'", "line 16, column 1, row 1 of process")
     yield row('"cpu", "memory", "pids"', '"cpu", "memroy"', "bad-controller top", "'memroy' of controllers is no controller: write memory", "line 2, column 1, the top table")
+    yield from of_format_4()
     # a place that the text has twice, or in another way
     yield row("[[process]]\npid = 10\nuid = 1000\nat = '/c0'\n", "[[process]]\npid = 0\nuid = 1000\nat = '/c0'\n[[process]]\npid = 5\n", "shape process 2", "line 17, column 1, row 2 of process")
     yield row("[[process]]\npid = 10", "[[process]]\n'pid' = 0", "bad-pid process 1", "line 14, column 1", "'pid' = 0")
@@ -250,6 +253,25 @@ def trees():
     yield row("at = '/c0'", "at = '/c0'\n[[process]]\npid = 10\nuid = 5\nat = '/'", "duplicate-pid process 2", "10")
     yield row("at = '/c0'", "at = '/c1'", "no-such-place process 1", "/c1")
     yield row("path = '/c0'", "path = '/c0'\nenabled = ['memory']", "internal-process process 1", "/c0")
+
+
+def of_format_4():
+    """Controllers that format 4 has, and what is too much."""
+    def row(old, new, line, *helps):
+        return Row(CHECK, f"tree {line}", helps, edited(old, new).replace("format = 2", "format = 4"))
+
+    yield row('"memory", "pids"]', '"memory", "hugetbl"]', "bad-controller top", "line 2, column 1", "'hugetbl' of controllers is no controller: write hugetlb")
+    yield row('"pids"]', '"network"]', "bad-controller top", f"'network' of controllers is none of {ALL_NINE}: left out")
+    yield row('enabled = ["memory"]', 'enabled = ["cpusets"]', "bad-controller cgroup 1", "'cpusets' of enabled is no controller: write cpuset")
+    yield row('enabled = ["memory"]', 'enabled = ["io"]', "top-down cgroup 1", "io isn't in controllers")
+    yield row('"memory.max" = { value = 4096 }', '"io.max" = { }', "shape cgroup 2", "/c0", "io.max: left out, what it says counts in no answer")
+    few = "a tree has at most 4096 cgroups and 4096 processes, or 65536 of each with format = 4"
+    for text, count in ((TREE, 4097), (FOUR, 65537)):
+        yield Row(CHECK, "tree too-many", [few], text + "[[cgroup]]\n" * (count - 2))
+        yield Row(CHECK, "tree too-many", [few], text + "[[process]]\n" * (count - 1))
+    yield Row(CHECK, "tree shape cgroup 3", ["row 3 of cgroup", "path is missing"], FOUR + "[[cgroup]]\n" * 4097)
+    for text in (TREE, "# of a host\n" + FOUR):
+        yield Row(CHECK, "tree too-long", ["a text has at most 16777216 bytes, or 67108864 where format = 4 is its first line"], text + "#" * 16777216)
 
 
 def strangers():
@@ -325,8 +347,9 @@ def operations():
     yield row("set /c0 memroy.max max\n", "line 1 bad-word", "'memroy.max': write memory.max")
     yield row("chmod /c0 cgroup.proc 644\n", "line 1 bad-word", "'cgroup.proc': write cgroup.procs")
     yield row("control /c0 +memroy\n", "line 1 bad-word", "'memroy': write memory")
-    yield row("control /c0 +io\n", "line 1 bad-word", "'io' is none of cpu memory pids")
+    yield row("control /c0 +io\n", "line 1 bad-word", "'io' is none of cpu memory pids; with format = 4 it is one")
     yield row("control /c0 +cpu -pisd\n", "line 1 bad-word", "'pisd': write pids")
+    yield from operations_of_format_4()
     yield row("move 10 /c0\nmove 010 /c0\n", "line 2 bad-word", "move 010 /c0", "move PID PATH")
     yield row("move 10  /c0\n", "line 1 bad-word", "move 10  /c0", "one space between words")
     yield row("\n", "line 1 bad-word", "''")
@@ -348,6 +371,14 @@ def operations():
     yield Row(given, "line 1 bad-word", ["isn't UTF-8"], input="move 10 /\udcff\n")
     piped = [*REPLAY[:4], "/dev/stdin", "--tree", "TREE"]
     yield Row(piped, "line 101 bad-word", ["'mvoe 10 /c0'"], input=long * 100 + "mvoe 10 /c0\n" + long)
+
+
+def operations_of_format_4():
+    """Lines that name controllers, with a tree of format 4: in a file, given, and given beside the tree's file."""
+    for ops, said in (("control /c0 +hugetbl\n", "'hugetbl': write hugetlb"), ("control /c0 +io -network\n", f"'network' is none of {ALL_NINE}")):
+        yield Row(REPLAY, "line 1 bad-word", [said], FOUR, ops)
+        yield Row([*REPLAY, "--tree", "TREE"], "line 1 bad-word", [said], FOUR, ops, input="")
+        yield Row([*REPLAY[:4], "-", "--tree", "TREE"], "line 1 bad-word", [said], FOUR, input=ops)
 
 
 def rows(_):

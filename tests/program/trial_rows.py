@@ -10,6 +10,8 @@ LIMIT_WRITABLE, ANCESTOR_WRITABLE, ANCESTOR_OWNED, OVER_LIMIT, PARENT_DIRECTORY,
                                   "parent-control", "second-user", "process-at-top", "name-prefix"))
 EMPTY_ANCESTOR, EMPTY_DIRECTORY, NESTED = "empty-ancestor-writable", "empty-parent-directory", "parent-delegated"
 PROCS_OWNED, NO_PROCESS = "parent-procs-owned", "parent-procs-no-process"
+# of format 4
+OTHERS, OTHERS_SUBTREE = "build-io-cpuset", "/build.slice/nightly"
 NO_PARENT, INTERNAL_PROCESS = "fault-no-parent", "fault-internal-process"
 
 # the tree, the lines and what is said of each, the verdict
@@ -23,6 +25,8 @@ REPLAYS = (
     (PREFIX, "/c0", "move 14 /c0", "ok", "broken 1 crossed 14"),
     (NESTED, "/p/s", "mkdir /p/probe0|move 20 /p/probe0", "ok|ok", "broken 2 crossed 20"),
     (DELEGATION, "/c0", "set /c0/c00 cgroup.max.depth 0|chmod /c0 dir 755|control /c0 +memory|exit 11|rmdir /c0/c00", "ok|ok|ok|ok|ok", "kept"),
+    (OTHERS, OTHERS_SUBTREE, f"control {OTHERS_SUBTREE} +io -cpuset|control {OTHERS_SUBTREE}/job1 +io|control {OTHERS_SUBTREE} +dmem",
+     f"ok|refused internal-process {OTHERS_SUBTREE}/job1|refused not-available dmem", "kept"),
 )
 CHECKS = (
     (DELEGATION, "/c0", "contained", 0), (LIMIT_WRITABLE, "/c0", "escapes|set /c0 memory.max max", 1), (ANCESTOR_WRITABLE, "/c0", "escapes|move 10 /c0", 1),
@@ -105,12 +109,20 @@ def steps(kind):
 
 def text_trials():
     yield "read_tree", DELEGATION, ["text", "read_tree"], "/ /c0 /c0/c00 /c0/c01 /c1 /c1/c10 10 11 "
+    yield "read_text", PREFIX, ["text", "read_text"], "Format2 / "
+    yield ("read_text", OTHERS, ["text", "read_text"],
+           f"Format4 / /build.slice {OTHERS_SUBTREE} {OTHERS_SUBTREE}/job1 /build.slice/release 700 800 ")
+    for tree in (DELEGATION, OTHERS):
+        yield "read_tree_input", tree, ["text", "read_tree_input"], "Ok(true)"
     for tree, fault in ((NO_PARENT, "NoParent(Cgroup(2))"), (INTERNAL_PROCESS, "InternalProcess(Process(1))")):
         yield "read_tree", tree, ["text", "read_tree"], fault
     ops = sorted({op for _, _, text, _, _ in REPLAYS for op in text.split("|")})
     for op in ops:
         yield "op_text", None, ["text", "op_text", op], f"{op}\n"
-        yield "read_op", None, ["text", "read_op", op], "Ok("
+        is_of_4 = OTHERS_SUBTREE in op
+        yield "read_op", None, ["text", "read_op", op], "Err(BadWord)" if is_of_4 else "Ok("
+        if is_of_4:
+            yield "read_op_in", None, ["text", "read_op_in", op], "Ok("
     for tree, subtree, text, outcomes, verdict in REPLAYS:
         for place, outcome in enumerate(outcomes.split("|")):
             yield "outcome_text", tree, ["text", "outcome_text", "1000", *text.split("|")[:place + 1]], f"{outcome}\n"
@@ -147,9 +159,9 @@ def byte_trials():
     yield "advise_pairs_bytes", DELEGATION, ["advise_pairs", "1000", "/c0", "1001", "/c1"], "contained\nstatus 0\n"
     yield ("advise_pairs_bytes", SECOND_USER, ["advise_pairs", "1000", "/c0", "1001", "/c0"],
            "fails limit-file /c0 memory.max 1001:0 644 owner\nchown /c0 memory.max 0:0\nstatus 1\n")
-    for tree in (DELEGATION, PREFIX):
-        yield "upgrade_bytes", tree, ["upgrade"], "format = 2"
-    for tree, subtree, ops, outcomes, verdict in (*REPLAYS[:REPLAYS_OF_BYTES], CUT):
+    for tree, number in ((DELEGATION, 2), (OTHERS, 4)):
+        yield "upgrade_bytes", tree, ["upgrade"], f"]\nformat = {number}"
+    for tree, subtree, ops, outcomes, verdict in (*REPLAYS[:REPLAYS_OF_BYTES], REPLAYS[-1], CUT):
         status = "" if verdict.startswith("fault") else f"status {int(verdict != 'kept')}\n"
         said = f"{lines(outcomes)}{verdict}\n{status}"
         if verdict.startswith(("kept", "broken")):

@@ -5,10 +5,12 @@ host/ has to be on the path.
 import collections
 import dataclasses
 import itertools
+import re
 
 from device_rows import ANSWERS, ASKED, FAULTS
 from trial_rows import CHECKS, REPLAYS, lines
-from zirofen_host.profile import CONTROLLERS, CONTROL_FILES, LIMIT_FILES, LONGEST_PATH, MOST_GROUPS, accepts, is_root, path_of, text_of
+from zirofen_host.profile import (CONTROL_FILES, LIMIT_FILES, LONGEST_PATH, MOST_GROUPS, TEXT_FORMATS, accepts, is_root, path_of,
+                                  text_of)
 from zirofen_host.collect.tree import Row, Tree, tree_text
 from zirofen_host.collect.model import Entry, Placed
 
@@ -17,9 +19,13 @@ Asked = collections.namedtuple("Asked", "words operations")
 OPS = "OPS"
 
 NAME_BYTES = "".join(map(chr, range(0x21, 0x7F))).replace("/", "")
+THREE, NINE = (TEXT_FORMATS[number].controllers for number in (2, 4))
 LARGEST_ID, LARGEST_PID, LARGEST_MODE = 2**32 - 1, 4194303, 0o777
 GROUP_WRITES = 0o020
 STRANGER = 4242
+DEEP, WIDE = 100, 2050
+# cgroups whose text, as `upgrade` writes it, is some 20 MB long
+LARGE = 45000
 SOME_USERS, SOME_PATHS, SOME_PIDS = 3, 4, 3
 
 
@@ -30,10 +36,11 @@ def owned(path, uid, gid=0, mode=0o644, **more):
     return Row(path, Entry(uid, gid, mode | 0o111), {name: Entry(uid, gid, mode) for name in CONTROL_FILES}, **more)
 
 
-def tree_of(rows, processes=()):
-    """The tree of rows and of processes, in which paths are texts."""
+def tree_of(rows, processes=(), number=2):
+    """The tree of rows and of processes, in which paths are texts, of a format that has all controllers at the root."""
     rows = [dataclasses.replace(row, path=path_of(row.path)) for row in rows]
-    return Tree(CONTROLLERS, {row.path: row for row in rows}, [Placed(pid, uid, path_of(path)) for pid, uid, path in processes])
+    processes = [Placed(pid, uid, path_of(path)) for pid, uid, path in processes]
+    return Tree(TEXT_FORMATS[number].controllers, {row.path: row for row in rows}, processes, TEXT_FORMATS[number])
 
 
 def named():
@@ -52,7 +59,7 @@ def bound(file, bounds):
 
 def limited():
     """Cgroups with every limit file at the least value, at the largest, at `max` and with what it has by default."""
-    rows = [Row("/", enabled=CONTROLLERS)]
+    rows = [Row("/", enabled=THREE)]
     for name, bounds in (("least", (0, 1)), ("most", (2**63 - 1, 10000)), ("max", ("max",)), ("default", ())):
         rows.append(owned(f"/{name}", 1000, values={file: bound(file, bounds) for file in LIMIT_FILES} if bounds else {}))
         rows.append(owned(f"/{name}/in", 1000))
@@ -76,12 +83,67 @@ def with_modes(allowed):
     return tree_of(rows, [(1, 1000, "/m0"), (2, 1001, "/")])
 
 
+def nested():
+    """A chain of cgroups that are named as controllers, each of which enables one less than the one above it; beside each a cgroup
+    with a process, of the name of a file that no text has."""
+    rows, processes, above = [Row("/", enabled=NINE)], [], ""
+    for depth, name in enumerate(NINE, 1):
+        rows += [owned(f"{above}/{name}", 1000 + depth % 3, enabled=NINE[depth:]), owned(f"{above}/{name}.stat", 1000 + depth % 2)]
+        processes.append((depth, 1000 + depth % 2, f"{above}/{name}.stat"))
+        above += f"/{name}"
+    return tree_of(rows, processes, 4)
+
+
+def deep():
+    """A chain of cgroups that all enable every controller, with processes at its end."""
+    paths = ["/d" * depth for depth in range(1, DEEP + 1)]
+    rows = [owned(path, 1000 + len(path) % 3, enabled=NINE) for path in paths[:-1]]
+    return tree_of([Row("/", enabled=NINE), *rows, owned(paths[-1], 1000)], [(pid, 1000, paths[-1]) for pid in (1, 2, 3)], 4)
+
+
+def wide():
+    """More cgroups and processes than a text of format 2 may have."""
+    rows = [owned(f"/u{uid}", uid, enabled=("io", "pids")) for uid in range(1000, 1000 + WIDE)]
+    rows += [owned(f"{row.path}/in", row.directory.uid) for row in rows]
+    processes = [(pid, row.directory.uid, row.path) for pid, row in enumerate(2 * rows[WIDE:], 1)]
+    return tree_of([Row("/", enabled=("io", "pids")), *rows], processes, 4)
+
+
+def unsorted(text):
+    """A text whose lists of controllers are in another order, some of them named twice."""
+    def turned(found):
+        names = found[2].split(", ")
+        return f"{found[1]} = [{', '.join([names[-1], *names[1::2], *names])}]"
+    return re.sub(r"^(controllers|enabled) = \[(.+)\]$", turned, text, flags=re.M)
+
+
+def large_text():
+    """A text of user 1000's cgroups, and of as many processes as may be. What `upgrade` writes of it is a large text."""
+    rows = [f"[[cgroup]]\npath = '/c{number}'\nfiles.'cgroup.procs'.uid = 1000\n" for number in range(1, LARGE + 1)]
+    processes = [f"[[process]]\npid = {pid}\nuid = 1000\nat = '/c1'\n" for pid in range(1, TEXT_FORMATS[4].most_processes + 1)]
+    root = "controllers = ['pids', 'io']\nformat = 4\n[[cgroup]]\npath = '/'\nfiles.'cgroup.procs'.uid = 1000\n"
+    return "".join([root, *rows, *processes])
+
+
+# what is granted in it, how what is written of it begins, and what stands in front of it for another beginning
+LARGE_MOVE = ["may", "--uid", "1000", "--pid", str(TEXT_FORMATS[4].most_processes), "--to", f"/c{LARGE}"]
+LARGE_BEGINNING = 'controllers = ["io", "pids"]\nformat = 4\n'
+BEFORE_LARGE = ("\n", "# a tree\n", " ", "\ufeff")
+
+
+def is_wide(tree):
+    """Whether a tree has so many cgroups that each command takes long."""
+    return len(tree.rows) > WIDE
+
+
 def edge_trees():
     """Each text with what it is."""
     one = "format = 1\ncontrollers = []\ncgroup = [{ path = '/' }]\n"
     yield "a root alone", one
     yield "a root alone, no processes", one + "process = []\n"
-    yield "a root alone that enables all", tree_text(tree_of([Row("/", enabled=CONTROLLERS)], [(1, 0, "/")]), [])
+    yield "a root alone, format 4", one.replace("format = 1", "format = 4", 1)
+    for number, names in ((2, THREE), (4, NINE)):
+        yield f"a root alone that enables all, format {number}", tree_text(tree_of([Row("/", enabled=names)], [(1, 0, "/")], number), [])
     yield "no processes", tree_text(tree_of([Row("/"), owned("/a", 1000), owned("/a/b", 1000)]), [])
     for name, tree in (("names", named()), ("limits", limited()), ("modes", with_modes(lambda mode: not mode & GROUP_WRITES))):
         text = tree_text(tree, [])
@@ -89,6 +151,10 @@ def edge_trees():
         yield f"{name}, format 1", text.replace("format = 2", "format = 1", 1)
     yield "groups", tree_text(grouped(), [])
     yield "all modes", tree_text(with_modes(lambda mode: True), [])
+    yield "a controller less at each level", tree_text(nested(), [])
+    yield "a controller less at each level, in no order and twice", unsorted(tree_text(nested(), []))
+    yield "a deep tree", unsorted(tree_text(deep(), []))
+    yield "a wide tree", tree_text(wide(), [])
 
 
 # ---- what is asked of a tree
@@ -114,7 +180,9 @@ def operations(tree, paths, pids):
     for path in paths:
         inside = f"{path.rstrip('/')}/probe"
         said += [f"chmod {path} {entry} 700" for entry in ("dir", *CONTROL_FILES)]
-        said += [f"mkdir {inside}", f"mkdir {inside}/in", f"control {path} +memory +pids -cpu", f"rmdir {inside}/in"]
+        said += [f"mkdir {inside}", f"mkdir {inside}/in"]
+        said += [f"control {path} {sign}{name}" for name in tree.format.controllers for sign in "+-"]
+        said += [f"control {path} +memory +pids -cpu", f"rmdir {inside}/in"]
         said += [f"set {at} {file} {value}" for at in (path, inside) for file in LIMIT_FILES for value in ("max", 7)]
         said += [f"move {pid} {at}" for pid in pids for at in (inside, path)] + [f"rmdir {inside}"]
     said += [f"fork {pid} {free}" for pid in pids] + [f"exit {pid}" for pid in (*pids, free)]
@@ -122,7 +190,17 @@ def operations(tree, paths, pids):
 
 
 def asked_of_all(tree):
-    """Every command, of some users about some cgroups and processes of a tree."""
+    """Every command, of some users about some cgroups and processes of a tree; of a wide one each with the same options once."""
+    asked, seen = [*asked_of_users(tree)], set()
+    for each in asked:
+        options = (each.words[0], *sorted({word for word in each.words if word.startswith("--")}))
+        if options not in seen or not is_wide(tree):
+            seen.add(options)
+            yield each
+
+
+def asked_of_users(tree):
+    """The same, of any tree."""
     paths = some([text_of(path) for path in tree.rows if not is_root(path)], SOME_PATHS)
     pids = some([each[0] for each in tree.processes], SOME_PIDS)
     users, script = users_of(tree), operations(tree, ["/", *paths], pids)

@@ -3,10 +3,12 @@
 
 Usage: tests/program/upgrades.py [PROGRAM]. Without PROGRAM it is ./zirofen. The trees are those of examples/ and those at the edges of
 tests/program/upgrade_rows.py. Of each text that has a tree: Python's own reader of TOML reads what was written, which has every key
-and nothing else, the cgroups and processes in their order; host/ reads the same tree from both; written anew it is the same
-bytes; and every command says the same of it, byte by byte: those at the head of an example, those that other tables here
-have for it, and in every tree what some users are told of some cgroups and processes. Of each text with a fault the
-program says that fault and writes nothing. The last line is 'N passed, M failed'.
+and nothing else, the cgroups and processes in their order, in the format of the text, or in format 2 where that is 1; host/ reads
+the same tree from both; written anew it is the same bytes, also with the number of format 4 in place of 2; and every command says
+the same of it in format 4, byte by byte: those at the head of an example, those that other tables here have for it, and in every
+tree what some users are told of some cgroups and processes. What is written of a large tree is a large text, which is read again, and
+no more with anything in front of it. Of each text with a fault the program says that fault and writes nothing. The last line is
+'N passed, M failed'.
 """
 import collections
 import concurrent.futures
@@ -22,8 +24,9 @@ from case import TOP  # noqa: E402
 
 sys.path.insert(0, f"{TOP}/host")
 from device_rows import named as operation_files  # noqa: E402
-from upgrade_rows import OPS, Asked, asked_of, asked_of_all, edge_trees  # noqa: E402
-from zirofen_host.profile import CONTROL_FILES, CONTROLLERS, LIMIT_FILES, path_of  # noqa: E402
+from upgrade_rows import (BEFORE_LARGE, LARGE_BEGINNING, LARGE_MOVE, OPS, Asked, asked_of, asked_of_all, edge_trees,  # noqa: E402
+                          large_text)
+from zirofen_host.profile import CONTROL_FILES, CONTROLLERS, LIMIT_FILES, TEXT_FORMATS, path_of  # noqa: E402
 from zirofen_host.collect.tree import read_tree  # noqa: E402
 
 try:
@@ -66,11 +69,11 @@ def is_in_order(names):
     return names == [name for name in CONTROLLERS if name in names]
 
 
-def is_whole(document, tree):
-    """Whether a document has every key, in the orders that a tree is written in."""
+def is_whole(document, tree, number):
+    """Whether a document has every key, in the orders that a tree is written in, and is of the format of this number."""
     rows, processes = document["cgroup"], document["process"]
     paths, pids = [row["path"].split("/") for row in rows], [each["pid"] for each in processes]
-    return (set(document) == {"format", "controllers", "cgroup", "process"} and document["format"] == 2
+    return (set(document) == {"format", "controllers", "cgroup", "process"} and document["format"] == number
             and all(is_in_order(names) for names in [document["controllers"], *(row["enabled"] for row in rows)])
             and all(is_row(row, tree) for row in rows) and paths == sorted(paths)
             and all(set(each) == {"pid", "uid", "at"} for each in processes) and pids == sorted(pids))
@@ -98,23 +101,29 @@ def example_case(file, files):
 
 
 def answers(program, case, text, tree, file):
-    """The words of every command, each with what it says of a text. The file is for operations."""
+    """The words of every command but `upgrade`, each with what it says of a text. The file is for operations."""
     for words, operations in [*case.asked, *(asked_of_all(tree) if tree else ())]:
-        with open(file, "w", encoding="ascii") as opened:
-            opened.write(operations)
-        yield words, run(program, [file if word == OPS else word for word in words], text)
+        if words[0] != "upgrade":
+            with open(file, "w", encoding="ascii") as opened:
+                opened.write(operations)
+            yield words, run(program, [file if word == OPS else word for word in words], text)
 
 
 def faults_of_document(case, written):
     """What is wrong with what was written, to other readers, and the tree that they read."""
     if not tomllib:
         return [], None
-    tree, found = read_tree(written.decode("ascii")), []
-    if not is_whole(tomllib.loads(written.decode("ascii")), tree):
-        found.append("a key is missing or too much, or out of order")
-    if meaning(read_tree(case.text.decode("ascii"))) != meaning(tree):
+    told, tree, found = read_tree(case.text.decode("ascii")), read_tree(written.decode("ascii")), []
+    if not is_whole(tomllib.loads(written.decode("ascii")), tree, told.format.number):
+        found.append("a key is missing or too much, or out of order, or the format is another")
+    if meaning(told) != meaning(tree):
         found.append("host/ reads another tree")
     return found, tree
+
+
+def in_format_4(written):
+    """What was written of a tree, with the number of format 4."""
+    return written.replace(b"\nformat = 2\n", b"\nformat = 4\n", 1)
 
 
 def faults_of(program, case):
@@ -126,13 +135,34 @@ def faults_of(program, case):
     if (status, said) != (0, b""):
         return [f"status {status}"], 0
     found, tree = faults_of_document(case, written)
-    if run(program, ["upgrade"], written) != (0, written, b""):
+    if any(run(program, ["upgrade"], text) != (0, text, b"") for text in {written, in_format_4(written)}):
         found.append("written anew it isn't the same bytes")
     with tempfile.NamedTemporaryFile() as file:
-        of_it, of_written = ([*answers(program, case, text, tree, file.name)] for text in (case.text, written))
+        of_it, of_written = ([*answers(program, case, text, tree, file.name)] for text in (case.text, in_format_4(written)))
     found += [f"another answer to {' '.join(words)[:MOST_SHOWN]}"
               for (words, answer), (_, other) in zip(of_it, of_written) if answer != other]
     return found, len(of_it)
+
+
+def faults_of_large(program):
+    """What is wrong with the upgrade of a large tree, and how many commands were asked of what was written."""
+    status, written, said = run(program, ["upgrade"], large_text().encode("ascii"))
+    if (status, said) != (0, b""):
+        return [f"status {status}"], 0
+    found = []
+    if len(written) <= TEXT_FORMATS[2].longest or not written.startswith(LARGE_BEGINNING.encode("ascii")):
+        found.append("it begins otherwise, or isn't large")
+    if run(program, ["upgrade"], written) != (0, written, b""):
+        found.append("written anew it isn't the same bytes")
+    if run(program, LARGE_MOVE, written) != (0, b"granted\n", b""):
+        found.append(f"another answer to {' '.join(LARGE_MOVE)}")
+    found += [f"it is read behind {before!r}" for before in BEFORE_LARGE if not is_too_long(program, before.encode() + written)]
+    return found, 1
+
+
+def is_too_long(program, text):
+    status, written, said = run(program, ["upgrade"], text)
+    return (status, written, said.partition(b"\n")[0]) == (3, b"", b"fault: tree too-long")
 
 
 def main():
@@ -143,10 +173,13 @@ def main():
         files = operation_files(TOP, folder)
         cases = [example_case(file, files) for file in sorted(glob.glob(f"{TOP}/examples/*.toml"))]
         cases += [Case(name, text.encode("ascii")) for name, text in edge_trees()]
+        # the longest first
+        tried = {"a large tree": pool.submit(faults_of_large, program)}
+        tried |= {case.name: pool.submit(faults_of, program, case) for case in cases}
         passed, failed, commands = 0, 0, 0
-        for case, (found, asked) in zip(cases, pool.map(lambda case: faults_of(program, case), cases)):
+        for name, (found, asked) in ((name, each.result()) for name, each in tried.items()):
             for fault in found[:MOST_FAULTS]:
-                print(f"upgrades: FAILED: {case.name}: {fault}")
+                print(f"upgrades: FAILED: {name}: {fault}")
             passed, failed, commands = passed + (not found), failed + bool(found), commands + asked
     print(f"upgrades: {commands} commands, each of a tree and of what was written of it")
     print(f"{passed} passed, {failed} failed")

@@ -1,8 +1,8 @@
 """The parts of a tree text, for the trees of tools/bench/run."""
 
 
-def head(controllers):
-    return "format = 1\ncontrollers = [%s]\n\n" % ", ".join('"%s"' % c for c in controllers)
+def head(controllers, number=1):
+    return "format = %d\ncontrollers = [%s]\n\n" % (number, ", ".join('"%s"' % c for c in controllers))
 
 
 def cgroup(path, more=""):

@@ -143,8 +143,9 @@ Example:
 
 const UPGRADE_HELP: &str = "\
 Status: 0 the tree is written, 3 a fault
-The tree is written in format 2 with every key: what was left out becomes visible, and two trees can be compared line by
-line. Unless it is longer than a tree's text may be, it is the same tree, and upgraded again it is the same text.
+The tree is written in format 2, or in format 4 if it was in that, with every key: what was left out becomes visible, and two
+trees can be compared line by line. Unless it is longer than a tree's text may be, it is the same tree, and upgraded again it is
+the same text.
 `fault: usage` means that the command line isn't as it says above.
 docs/FORMATS.md of the repository has the tree's format, and every line that is written.
 
@@ -313,7 +314,7 @@ fn upgrade_command<'a>(alloc: Global) -> Result<Command<'a>, AllocError>
     ensures { IfOk result (IsCommand upgrade_command) }
 {
     Command::new(alloc, "upgrade")
-        .about("Writes the tree again, in format 2 with every key")
+        .about("Writes the tree again, with every key")
         .after_help(UPGRADE_HELP)
         .arg(tree_argument(alloc))
 }

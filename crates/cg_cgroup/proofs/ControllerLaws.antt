@@ -9,7 +9,9 @@ use mathlib.Core.Bool.{beq}
 use mathlib.Core.HLevel.{is_prop→PathP}
 use native.Mathlib.Nat.{ℕ_set}
 use Rattle.cg_cgroup.proofs.Places.{numbers, held_all}
-use Rattle.cg_cgroup.specs.Files.{all_controllers, format_2_controllers, controller_kind, same_controller, is_in_format_2, enables, set_by, with_controller, no_controllers, enables_nothing, is_within, is_of_format_2}
+use Rattle.cg_cgroup.specs.Files.{all_controllers, format_2_controllers, controller_kind, same_controller, is_in_format_2, enables, set_by, with_controller, no_controllers, enables_nothing, is_within, is_known, is_of, vocabulary_of}
+use Rattle.cg_cgroup.specs.declared.files.Vocabulary.{Vocabulary}
+use Rattle.cg_cgroup.specs.declared.files.Vocabulary.TheVariants.{Format2, Format4}
 use Rattle.cg_cgroup.specs.declared.files.Controller.{Controller}
 use Rattle.cg_cgroup.specs.declared.files.Controller.TheVariants.{Cpu}
 use Rattle.cg_cgroup.specs.declared.controllers.ControllerSet.{ControllerSet}
@@ -176,16 +178,42 @@ is_within-each set other h =
     all_controllers_pass (λ controller. not (enables set controller) || enables other controller)
     (λ controller. off_or_on _ _ (h controller))
 
--- a set of controllers of formats 1 and 2 has no others
-pub enables-format_2 : (set : ControllerSet) → is_of_format_2 set ≡ true → (controller : Controller) → enables set controller ≡ true
-    → is_in_format_2 controller ≡ true
-enables-format_2 set h controller e =
-    sym (enables-set_by is_in_format_2 controller) ∙ is_within-enables set (set_by is_in_format_2) h controller e
+-- a set of a vocabulary's controllers has no others
+pub enables-known : (vocabulary : Vocabulary) (set : ControllerSet) → is_of vocabulary set ≡ true → (controller : Controller)
+    → enables set controller ≡ true → is_known vocabulary controller ≡ true
+enables-known vocabulary set h controller e =
+    unless_off _ _ (each_controller (λ controller. not (enables set controller) || is_known vocabulary controller) h controller) e
 
-pub format_2-each : (set : ControllerSet)
-    → ((controller : Controller) → enables set controller ≡ true → is_in_format_2 controller ≡ true) → is_of_format_2 set ≡ true
-format_2-each set h =
-    is_within-each set (set_by is_in_format_2) (λ controller e. enables-set_by is_in_format_2 controller ∙ h controller e)
+pub known-each : (vocabulary : Vocabulary) (set : ControllerSet)
+    → ((controller : Controller) → enables set controller ≡ true → is_known vocabulary controller ≡ true) → is_of vocabulary set ≡ true
+known-each vocabulary set h =
+    all_controllers_pass (λ controller. not (enables set controller) || is_known vocabulary controller)
+    (λ controller. off_or_on _ _ (h controller))
 
-pub format_2-none : is_of_format_2 no_controllers ≡ true
-format_2-none = refl
+pub known-none : (vocabulary : Vocabulary) → is_of vocabulary no_controllers ≡ true
+known-none Format2 = refl
+known-none Format4 = refl
+
+-- ---- the vocabulary of a set
+
+-- it has what the set has, and what formats 1 and 2 have
+pub told-known : (set : ControllerSet) (controller : Controller) → (is_in_format_2 controller || enables set controller) ≡ true
+    → is_known (vocabulary_of set) controller ≡ true
+told-known set controller told =
+    elim (is_of Format2 set) as
+    (λ b. is_of Format2 set ≡ b → is_known (cond b Format2 Format4) controller ≡ true) [
+      | true ↦ λ narrow.
+          elim (is_in_format_2 controller) as
+          (λ known. (known || enables set controller) ≡ true → is_in_format_2 controller ≡ known → is_in_format_2 controller ≡ true) [
+            | true ↦ λ _ is. is
+            | false ↦ λ enabled is. enables-known Format2 set narrow controller enabled
+          ] told refl
+      | false ↦ λ _. refl
+    ] refl
+
+-- and no more than one that has each controller of the set
+pub vocabulary-least : (vocabulary : Vocabulary) (set : ControllerSet) → is_of vocabulary set ≡ true → (controller : Controller)
+    → is_known (vocabulary_of set) controller ≡ true → is_known vocabulary controller ≡ true
+vocabulary-least Format2 set narrow controller known =
+    subst (λ b. is_known (cond b Format2 Format4) controller ≡ true) narrow known
+vocabulary-least Format4 set of controller known = refl

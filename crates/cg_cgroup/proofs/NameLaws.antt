@@ -6,9 +6,11 @@ use Rattle.std.specs.Cmp.Lexicographic.{bytes_decides}
 use Rattle.std.proofs.lemmas.Option.{none-some, same_Some}
 use Rattle.std.proofs.Math.Bool.{or-true}
 use Rattle.cg_cgroup.specs.Paths.{same_name}
-use Rattle.cg_cgroup.specs.Files.{AreNames, all_controllers, format_2_controllers, all_files, all_entries, controller_name, controller_named, same_controller, is_in_format_2, named_in_format_2, file_name, file_named, entry_text, entry_named}
+use Rattle.cg_cgroup.specs.Files.{AreNames, all_controllers, format_2_controllers, all_files, all_entries, controller_name, controller_named, same_controller, is_in_format_2, named_in_format_2, is_known, known_as, file_name, file_named, entry_text, entry_named}
 use Rattle.cg_cgroup.specs.declared.files.Controller.{Controller}
 use Rattle.cg_cgroup.specs.declared.files.Controller.TheVariants.{Cpu}
+use Rattle.cg_cgroup.specs.declared.files.Vocabulary.{Vocabulary}
+use Rattle.cg_cgroup.specs.declared.files.Vocabulary.TheVariants.{Format2, Format4}
 use Rattle.cg_cgroup.specs.declared.files.LimitFile.{LimitFile}
 use Rattle.cg_cgroup.specs.declared.files.LimitFile.TheVariants.{MaxDescendants}
 use Rattle.cg_cgroup.specs.declared.files.EntryName.{EntryName}
@@ -88,6 +90,23 @@ name_in_format_2 text controller h =
 pub known_in_format_2 : (text : List ℕ) (controller : Controller) → named_in_format_2 text ≡ Some controller
     → is_in_format_2 controller ≡ true
 known_in_format_2 text controller h = find_among (λ one. same_name text (controller_name one)) format_2_controllers controller h
+
+-- ---- controllers of a vocabulary
+
+pub again_known : (vocabulary : Vocabulary) (controller : Controller) → is_known vocabulary controller ≡ true
+    → known_as vocabulary (controller_name controller) ≡ Some controller
+again_known Format2 controller is = again_in_format_2 controller is
+again_known Format4 controller is = controller_names.found controller
+
+pub name_known : (vocabulary : Vocabulary) (text : List ℕ) (controller : Controller) → known_as vocabulary text ≡ Some controller
+    → text ≡ controller_name controller
+name_known Format2 text controller h = name_in_format_2 text controller h
+name_known Format4 text controller h = controller_names.named text controller h
+
+pub known_known : (vocabulary : Vocabulary) (text : List ℕ) (controller : Controller) → known_as vocabulary text ≡ Some controller
+    → is_known vocabulary controller ≡ true
+known_known Format2 text controller h = known_in_format_2 text controller h
+known_known Format4 text controller h = refl
 
 -- a text by which nothing is found is no name
 pub unnamed : {A : Type 0} {name : A → List ℕ} {look_up : List ℕ → Option A} → AreNames name look_up → (text : List ℕ) → look_up text ≡ None

@@ -9,6 +9,8 @@ use Rattle.cg_cgroup.specs.declared.files.Limit.{Limit}
 use Rattle.cg_cgroup.specs.declared.files.Limit.TheVariants.{Max, At}
 use Rattle.cg_cgroup.specs.declared.files.Controller.{Controller}
 use Rattle.cg_cgroup.specs.declared.controllers.ControllerSet.{ControllerSet}
+use Rattle.cg_cgroup.specs.declared.files.Vocabulary.{Vocabulary}
+use Rattle.cg_cgroup.specs.declared.files.Vocabulary.TheVariants.{Format2, Format4}
 use Rattle.cg_cgroup.specs.declared.files.LimitFile.{LimitFile}
 use Rattle.cg_cgroup.specs.declared.files.EntryName.{EntryName}
 use Rattle.cg_cgroup.specs.declared.files.EntryName.TheVariants.{Dir, Procs, SubtreeControl, File}
@@ -29,9 +31,19 @@ same_controller controller other = nat_eq (controller_kind controller).number (c
 abbrev pub is_in_format_2 : Controller → Bool
 is_in_format_2 controller = list_any (same_controller controller) format_2_controllers
 
--- the controller of a name in texts of formats 1 and 2, and in operation lines
+-- the controller of a name among these
 abbrev pub named_in_format_2 : List ℕ → Option Controller
 named_in_format_2 text = find (λ controller. same_name text (controller_name controller)) format_2_controllers
+
+-- a controller that texts and operation lines of a vocabulary name
+abbrev pub is_known : Vocabulary → Controller → Bool
+is_known Format2 controller = is_in_format_2 controller
+is_known Format4 controller = true
+
+-- the controller that a name means there
+abbrev pub known_as : Vocabulary → List ℕ → Option Controller
+known_as Format2 text = named_in_format_2 text
+known_as Format4 text = controller_named text
 
 -- a set has a flag for each controller, at its number
 abbrev pub enables : ControllerSet → Controller → Bool
@@ -54,9 +66,13 @@ enables_nothing set = list_all (λ controller. not (enables set controller)) all
 abbrev pub is_within : ControllerSet → ControllerSet → Bool
 is_within set other = list_all (λ controller. not (enables set controller) || enables other controller) all_controllers
 
--- each controller of the set is one of formats 1 and 2
-abbrev pub is_of_format_2 : ControllerSet → Bool
-is_of_format_2 set = is_within set (set_by is_in_format_2)
+-- each controller of the set is one of the vocabulary
+abbrev pub is_of : Vocabulary → ControllerSet → Bool
+is_of vocabulary set = list_all (λ controller. not (enables set controller) || is_known vocabulary controller) all_controllers
+
+-- the smaller vocabulary, where it has each controller of the set
+abbrev pub vocabulary_of : ControllerSet → Vocabulary
+vocabulary_of set = cond (is_of Format2 set) Format2 Format4
 
 abbrev pub same_file : LimitFile → LimitFile → Bool
 same_file file other = nat_eq (kind_of file).number (kind_of other).number

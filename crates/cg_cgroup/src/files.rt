@@ -2,7 +2,7 @@
 ghost use Rattle.std.specs.Prelude.{ℕ, ◌≡◌, ◌≢◌, ◌<◌, ◌≤◌, true, false, length, IfSome, IfNone};
 ghost use Rattle.std.specs.List.{find};
 ghost use Rattle.cg_cgroup.specs.Paths.{same_name};
-ghost use Rattle.cg_cgroup.specs.Files.{kind_of, brought_files, place_of, controller_of, default_value, accepts, stands_under, all_controllers, format_2_controllers, controller_kind, all_files, AreNames, controller_name, controller_named, is_in_format_2, named_in_format_2, file_name, file_named, entry_text, entry_named};
+ghost use Rattle.cg_cgroup.specs.Files.{kind_of, brought_files, place_of, controller_of, default_value, accepts, stands_under, all_controllers, format_2_controllers, controller_kind, all_files, AreNames, controller_name, controller_named, is_in_format_2, named_in_format_2, is_known, known_as, is_of, vocabulary_of, file_name, file_named, entry_text, entry_named};
 
 use crate::controllers::CONTROLLER_COUNT;
 pub use crate::controllers::ControllerSet;
@@ -42,7 +42,7 @@ impl Controller {
         Controller::Dmem,
     ];
 
-    /// Those that texts of formats 1 and 2, and operation lines, know: the ones that bring a limit file.
+    /// Those that texts of formats 1 and 2, and operation lines for them, name: the ones that bring a `LimitFile`.
     pub const IN_FORMAT_2: [Controller; 3] = [
         Controller::Cpu,
         Controller::Memory,
@@ -112,6 +112,55 @@ impl Controller {
             "memory" => Some(Controller::Memory),
             "pids" => Some(Controller::Pids),
             _ => None,
+        }
+    }
+}
+
+/// Which controllers tree texts and operation lines name: in formats 1 and 2 those of `IN_FORMAT_2`, in format 4 all.
+#[derive(Clone, Copy, Debug, PartialEq, Eq)]
+pub enum Vocabulary {
+    Format2,
+    Format4,
+}
+
+impl Vocabulary {
+    /// Whether the controller has a name there.
+    pub fn has(self, controller: Controller) -> bool
+        ensures { result ≡ is_known self controller }
+    {
+        match self {
+            Vocabulary::Format2 => controller.is_in_format_2(),
+            Vocabulary::Format4 => true,
+        }
+    }
+
+    /// The controller that a name means there, where it means one.
+    pub fn controller(self, text: &str) -> Option<Controller>
+        ensures found { result ≡ known_as self text.now }
+        ensures named { IfSome result (λ controller. text.now ≡ controller_name controller) }
+        ensures known { IfSome result (λ controller. is_known self controller ≡ true) }
+    {
+        match self {
+            Vocabulary::Format2 => Controller::from_format_2(text),
+            Vocabulary::Format4 => Controller::from_name(text),
+        }
+    }
+
+    /// Whether each controller of a set has a name there.
+    pub fn has_all(self, set: ControllerSet) -> bool
+        ensures { result ≡ is_of self set }
+    {
+        Controller::ALL.iter().all(|controller| !set.contains(*controller) || self.has(*controller))
+    }
+
+    /// The smaller one where that has each controller of a set, else the greater one.
+    pub fn of(set: ControllerSet) -> Vocabulary
+        ensures { result ≡ vocabulary_of set }
+    {
+        if Vocabulary::Format2.has_all(set) {
+            Vocabulary::Format2
+        } else {
+            Vocabulary::Format4
         }
     }
 }

@@ -261,8 +261,8 @@ module _ (st : State) (user : Identity) (subtree : Names) (file : LimitFile) (en
       (none-passes (breaks st user subtree) (tries st user subtree) none)) in
       let after : List Op → Type 0 = λ ops. fails (opening st user subtree ++ ops) in
       let sets =
-      all-left after (set_tries st subtree) (control_tries subtree)
-      (all-left after (set_tries st subtree ++ control_tries subtree) _ plain.1) in
+      all-left after (set_tries st subtree) (control_tries st subtree)
+      (all-left after (set_tries st subtree ++ control_tries st subtree) _ plain.1) in
       let one =
       each_file (λ f. AllByRecursion after (present (value_at st subtree f) (λ value. (Set subtree f (other_value f value) ∷ []) ∷ [])))
       (all-unflat after (λ f. present (value_at st subtree f) (λ value. (Set subtree f (other_value f value) ∷ []) ∷ [])) all_files sets)

@@ -1,5 +1,5 @@
 -- The first escape is the first plain try that breaks the opened tree, with the opening before it where it isn't free without.
-use Rattle.std.proofs.Common.{◌≡◌, ℕ, zero, suc, ◌+◌, ◌≤◌, Bool, true, false, cond, not, ◌&&◌, List, [], ◌∷◌, ◌++◌, map, filter, find, length, take, nat_le, refl, sym, ap, ◌∙◌, subst, Option, Some, None, is_some, option_map, option_and_then}
+use Rattle.std.proofs.Common.{◌≡◌, ℕ, zero, suc, ◌+◌, ◌≤◌, Bool, true, false, cond, not, ◌&&◌, ◌||◌, List, [], ◌∷◌, ◌++◌, map, filter, find, length, take, nat_le, refl, sym, ap, ◌∙◌, subst, Option, Some, None, is_some, option_map, option_and_then}
 use Rattle.std.proofs.lemmas.Bool.{and_parts, eq-eqb}
 use Rattle.std.proofs.lemmas.Nat.{and_or_self}
 use Rattle.std.specs.List.{flat_map, AllByRecursion}
@@ -7,7 +7,7 @@ use Rattle.std.specs.FinMap as finite
 use Rattle.cg_cgroup.specs.Paths.{Names, inside, parent, path_text}
 use Rattle.cg_cgroup.specs.Identity.{Identity}
 use Rattle.cg_cgroup.specs.Users.{writes, owns, has_bit, opened}
-use Rattle.cg_cgroup.specs.Files.{all_files}
+use Rattle.cg_cgroup.specs.Files.{all_files, all_controllers, is_in_format_2, enables}
 use Rattle.cg_cgroup.specs.declared.user.Entry.{Entry}
 use Rattle.cg_cgroup.proofs.UserLaws.{opened-le}
 use Rattle.cg_cgroup.specs.Cgroups.{entry_in}
@@ -22,7 +22,7 @@ use Rattle.cg_model.specs.declared.operation.Op.TheVariants.{Chmod, Move, Mkdir,
 use Rattle.cg_model.proofs.StepFormed.{formed-after_all}
 use Rattle.cg_model.specs.Guards.{Guarded, guarded_entries, guarded_entry, IsSubtree}
 use Rattle.cg_model.specs.Held.{by_user}
-use Rattle.cg_model.specs.Tries.{other_value, set_tries, control_tries, move_tries, probe, numbers_from, probe_tries_at, probe_tries, plain_tries, opening_of, opening, with_opening}
+use Rattle.cg_model.specs.Tries.{other_value, set_tries, told_controllers, change_of, control_tries, move_tries, probe, numbers_from, probe_tries_at, probe_tries, plain_tries, opening_of, opening, with_opening}
 use Rattle.cg_model.specs.Escapes.{breaks, first_escape}
 use Rattle.cg_tries.specs.Escapes.{IsUnbroken}
 use Rattle.cg_tries.specs.Finding.{allowed}
@@ -139,8 +139,17 @@ module _ (user : Identity) (st new : State) (wider : IsWider user st new) (subtr
       (filter (λ path. cond (inside subtree place) (not (inside subtree path)) (inside subtree path)) (wider.paths i))))
       (finite.keys (wider.live i))
 
+  same_told : told_controllers new ≡ told_controllers st
+  unfolding told_controllers
+  same_told = λ i. filter (λ controller. is_in_format_2 controller || enables (wider.controllers i) controller) all_controllers
+
+  same_controls : control_tries new subtree ≡ control_tries st subtree
+  same_controls =
+      λ i. flat_map (λ controller. (Control (parent subtree) (change_of false controller ∷ []) ∷ [])
+      ∷ (Control (parent subtree) (change_of true controller ∷ []) ∷ []) ∷ []) (same_told i)
+
   pub same_tries : plain_tries new subtree ≡ plain_tries st subtree
-  same_tries = λ i. [] ∷ (same_sets i ++ control_tries subtree ++ (Rmdir subtree ∷ []) ∷ (same_moves i ++ same_probes (length subtree) i))
+  same_tries = λ i. [] ∷ (same_sets i ++ same_controls i ++ (Rmdir subtree ∷ []) ∷ (same_moves i ++ same_probes (length subtree) i))
 
 -- ---- what is free stays free
 

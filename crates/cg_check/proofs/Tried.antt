@@ -64,9 +64,9 @@ module _ (st : State) (user : Identity) (subtree : Names) (whole : IsUnbroken st
       all-present Exact (value_at st subtree file) (λ value. (Set subtree file (other_value file value) ∷ []) ∷ []) (λ value is.
       (record { exact = with_true _ _ (set_try st user subtree file value whole is); tried = tt }, tt)))
 
-  exact-controls : AllByRecursion Exact (control_tries subtree)
+  exact-controls : AllByRecursion Exact (control_tries st subtree)
   exact-controls =
-      all-control_tries Exact subtree (λ on controller known.
+      all-control_tries Exact st subtree (λ on controller known.
       record { exact = control_try st user subtree on controller whole formed sub; tried = tt })
 
   exact-moves : AllByRecursion Exact (move_tries st subtree)
@@ -129,9 +129,9 @@ module _ (st : State) (user : Identity) (subtree : Names) (whole : IsUnbroken st
   pub exact-plain_tries : AllByRecursion Exact (plain_tries st subtree)
   exact-plain_tries = (
     exact-empty,
-    all-append Exact (set_tries st subtree ++ control_tries subtree)
+    all-append Exact (set_tries st subtree ++ control_tries st subtree)
         ((Rmdir subtree ∷ []) ∷ (move_tries st subtree ++ probe_tries st subtree (length subtree)))
-        (all-append Exact (set_tries st subtree) (control_tries subtree) exact-sets exact-controls) (
+        (all-append Exact (set_tries st subtree) (control_tries st subtree) exact-sets exact-controls) (
           record { exact = with_true _ _ (rmdir_try st user subtree whole); tried = tt },
           all-append Exact (move_tries st subtree) (probe_tries st subtree (length subtree)) exact-moves
               (exact-probes (length subtree) (omega arith)),

@@ -14,6 +14,7 @@ use Rattle.cg_cli.proofs.ReplayRuns.{part_of_front}
 use Rattle.cg_cli.proofs.ReplayEnds.{part_behind}
 use Rattle.cg_cli.proofs.ReplayReads.{from_replays}
 use Rattle.cg_cli.proofs.ReportLaws.{handed_on}
+use Rattle.cg_cgroup.specs.declared.files.Vocabulary.{Vocabulary}
 
 -- the text of the lines stands in front
 closed_by : (text : List ℕ) (ending : Result Course CliFault)
@@ -98,13 +99,15 @@ module _ {first lines : Reporting} (same : first ≡ lines) (before left old : O
       from_replays closed lines before left old new came.0 result came.1 (close_said same came.0 old mid course came.2 new result said)
 
 -- a run that has only begun
-start_waits : (course : Course) (user : Identity) → HasMade 0 course → IsWaiting (from_start course user)
-start_waits course user made = record {
+start_waits : (vocabulary : Vocabulary) (course : Course) (user : Identity) → HasMade 0 course
+    → IsWaiting (from_start vocabulary course user)
+start_waits vocabulary course user made = record {
   made = made;
   one_line = λ k d within. absurd (omega (arith, within));
   short = omega arith;
   few = omega arith;
 }
 
-pub begun_waits : {at : Standing} {course : Course} {user : Identity} → at ≡ from_start course user → HasMade 0 course → IsWaiting at
-begun_waits {at} {course} {user} is made = subst IsWaiting (sym is) (start_waits course user made)
+pub begun_waits : {at : Standing} {vocabulary : Vocabulary} {course : Course} {user : Identity} → at ≡ from_start vocabulary course user
+    → HasMade 0 course → IsWaiting at
+begun_waits {at} {vocabulary} {course} {user} is made = subst IsWaiting (sym is) (start_waits vocabulary course user made)

@@ -34,11 +34,12 @@ use Rattle.cg_cli.specs.SettledPairs.{MayBeFound, MayFollow, MayReport, ReportsS
 use Rattle.cg_cli.specs.Settling.{IsFurther}
 use Rattle.cg_cli.proofs.Knowing.{one-contained, unlisted-settled}
 use Rattle.cg_faults.specs.declared.fault.CliFault.{CliFault}
+use Rattle.cg_cgroup.specs.Files.{vocabulary_of}
 
 -- ---- of one user with one subtree
 
 breaks_held : (st : State) (user : Identity) (subtree : Names) (ops : List Op) → Breaks st user subtree ops
-    → HaveLines ops × ¬ (IsHeld st (by_user user ops) subtree)
+    → HaveLines (vocabulary_of st.controllers) ops × ¬ (IsHeld st (by_user user ops) subtree)
 breaks_held st user subtree ops breaks = (
   breaks.lines,
   λ held. let same : Broken (length ops) breaks.broken.0 ≡ Kept = sym breaks.broken.1 ∙ held in let never : ⊥ = cc in absurd never,

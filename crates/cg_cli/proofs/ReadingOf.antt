@@ -8,6 +8,7 @@ use Rattle.cg_format.specs.TextOf.{IsTextOf}
 use Rattle.cg_format.specs.TextFaults.{text_faults}
 use Rattle.cg_format.specs.declared.fault.TreeFault.{TreeFault}
 use Rattle.cg_format.specs.declared.fault.TreeFault.TheVariants.{NoMemory}
+use Rattle.cg_text.specs.declared.tree.Text.{Text}
 use Rattle.cg_format.proofs.ReadingLaws.{a_reading, one_reading}
 
 pub reading_of : List ℕ → Reading
@@ -31,3 +32,10 @@ pub reads_any : (bytes : List ℕ) (result : Result State TreeFault)
     → (read : Reading) → IsReading bytes read → Reads (λ rows. rows) result read
 reads_any bytes (Ok rows) found read is = one_reading bytes read (Ok rows) is found
 reads_any bytes (Err fault) found read is = λ other. one_reading bytes read (Err fault) is (found other)
+
+-- the same with which controllers the text names
+pub reads_text : (bytes : List ℕ) (result : Result Text TreeFault)
+    → MatchResult result (λ text. IsTextOf text.rows bytes) (λ fault. fault ≢ NoMemory → first (text_faults bytes) ≡ Some fault)
+    → (read : Reading) → IsReading bytes read → Reads (λ (text : Text). text.rows) result read
+reads_text bytes (Ok text) found read is = one_reading bytes read (Ok text.rows) is found
+reads_text bytes (Err fault) found read is = λ other. one_reading bytes read (Err fault) is (found other)

@@ -21,17 +21,19 @@ use Rattle.cg_faults.specs.declared.fault.CliFault.{CliFault}
 use Rattle.cg_faults.specs.declared.fault.CliFault.TheVariants.{Uid, Gids, Read, Write, NoMemory, BadPath}
 use Rattle.cg_cli.proofs.ReportLaws.{handed_on}
 use Rattle.cg_cli.proofs.ReplayReads.{from_replays}
+use Rattle.cg_cgroup.specs.declared.files.Vocabulary.{Vocabulary}
 
 -- the lines, by what the user and the course are
-abbrev lines_by : Result Identity CliFault → Result Course CliFault → Reporting
-lines_by user course ops = report_on user (λ user. report_on course (λ course. lines_said course user 0 ops))
+abbrev lines_by : Vocabulary → Result Identity CliFault → Result Course CliFault → Reporting
+lines_by vocabulary user course ops = report_on user (λ user. report_on course (λ course. lines_said vocabulary course user 0 ops))
 
 -- nothing is said of no operations
-silent : (user : Result Identity CliFault) (course : Result Course CliFault) → (lines_by user course []).text ≡ []
+silent : (vocabulary : Vocabulary) (user : Result Identity CliFault) (course : Result Course CliFault)
+    → (lines_by vocabulary user course []).text ≡ []
 unfolding lines_said replayed
-silent (Err fault) course = refl
-silent (Ok user) (Err fault) = refl
-silent (Ok user) (Ok course) = refl
+silent vocabulary (Err fault) course = refl
+silent vocabulary (Ok user) (Err fault) = refl
+silent vocabulary (Ok user) (Ok course) = refl
 
 -- the faults before the operations
 abbrev is_before : CliFault → Bool
@@ -109,13 +111,18 @@ not_asked lines given old new ended replays =
     let some = some_bytes given in
     from_replays closed lines given given old new some.0 ended some.1 (replays some.0)
 
-module _ (tree : Reading) (uid : ℕ) (gids : List ℕ) (subtree : Option (List ℕ)) where
+module _ (vocabulary : Vocabulary) (tree : Reading) (uid : ℕ) (gids : List ℕ) (subtree : Option (List ℕ)) where
   abbrev lines : Reporting
-  lines = lines_report tree uid gids subtree
+  lines = lines_report vocabulary tree uid gids subtree
 
   pub nothing_said : (ops : List ℕ) (known : Option (List ℕ)) → HasFront lines ops known known
-  nothing_said ops known =
-      ([], ops, refl, subst (Appends known known) (sym (silent (user_read uid gids) (course_read subtree tree))) (Appends-nil known))
+  nothing_said ops known = (
+    [],
+    ops,
+    refl,
+    subst (Appends known known) (sym (silent vocabulary (user_read uid gids) (course_read subtree tree)))
+        (Appends-nil known),
+  )
 
   -- a fault before the operations
   said_fault : (ops : List ℕ) (known : Option (List ℕ)) (fault : CliFault) → lines ops ≡ fault_report fault
@@ -126,12 +133,13 @@ module _ (tree : Reading) (uid : ℕ) (gids : List ℕ) (subtree : Option (List 
 
   -- where the user was read
   module _ (user : Identity) (of_user : Ok user ≡ user_read uid gids) where
-    lines_by_course : (read : Result Course CliFault) → course_read subtree tree ≡ read → lines ≡ lines_by (Ok user) read
-    lines_by_course read of_course = ap (λ u. lines_by u (course_read subtree tree)) (sym of_user) ∙ ap (lines_by (Ok user)) of_course
+    lines_by_course : (read : Result Course CliFault) → course_read subtree tree ≡ read → lines ≡ lines_by vocabulary (Ok user) read
+    lines_by_course read of_course =
+        ap (λ u. lines_by vocabulary u (course_read subtree tree)) (sym of_user) ∙ ap (lines_by vocabulary (Ok user)) of_course
 
     -- what is known of the lines of the course that was read
     pub lines_are : (course : Course) → course_read subtree tree ≡ Ok course
-        → (Q : Reporting → Type 0) → Q (λ ops. lines_said course user 0 ops) → Q lines
+        → (Q : Reporting → Type 0) → Q (λ ops. lines_said vocabulary course user 0 ops) → Q lines
     lines_are course of_course Q known = subst Q (sym (lines_by_course (Ok course) of_course)) known
 
     course_known : (ops : List ℕ) (known : Option (List ℕ)) (fault : CliFault) → (fault ≢ NoMemory → course_read subtree tree ≡ Err fault)
@@ -162,11 +170,11 @@ module _ (tree : Reading) (uid : ℕ) (gids : List ℕ) (subtree : Option (List 
   user_fault_by ops known fault true found e h =
       let is : Uid ≡ fault = cc in
       subst (λ f. Replays closed lines ops known known (Err f)) is
-      (said_fault ops known Uid (ap (λ u. lines_by u (course_read subtree tree) ops) e))
+      (said_fault ops known Uid (ap (λ u. lines_by vocabulary u (course_read subtree tree) ops) e))
   user_fault_by ops known fault false None e h =
       let is : Gids ≡ fault = cc in
       subst (λ f. Replays closed lines ops known known (Err f)) is
-      (said_fault ops known Gids (ap (λ u. lines_by u (course_read subtree tree) ops) e))
+      (said_fault ops known Gids (ap (λ u. lines_by vocabulary u (course_read subtree tree) ops) e))
   user_fault_by ops known fault false (Some user) e h = let never : ⊥ = cc in absurd never
 
   pub user_fault_from : (given known : Option (List ℕ)) (fault : CliFault) → Err fault ≡ user_read uid gids

@@ -52,7 +52,8 @@ part_behind old mid new front text first part = (
 -- what is said where nothing follows
 quiet : {at : Standing} → IsWaiting at → coming at [] ≡ end_said (ending at)
 quiet {at} waiting =
-    ap (lines_said at.course at.user at.done) (append-nil at.line) ∙ report_of_end at.course at.user at.done at.line waiting.one_line
+    ap (lines_said at.vocabulary at.course at.user at.done) (append-nil at.line)
+    ∙ report_of_end at.vocabulary at.course at.user at.done at.line waiting.one_line
 
 -- all was written, and the ending is the report's
 whole_text : (before after : Reporting) (given : List ℕ) (old new : Option (List ℕ)) (ending : Result Course CliFault)

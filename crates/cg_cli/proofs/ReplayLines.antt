@@ -15,28 +15,31 @@ use Rattle.cg_lines.specs.declared.lines.fault.LineFault.TheVariants.{TooLong, B
 use Rattle.cg_lines.proofs.LineLaws.{line_again, nothing_read}
 use Rattle.cg_cli.specs.Replays.{outcome_by, outcome_of, operation_read}
 use Rattle.cg_faults.specs.declared.fault.CliFault.TheVariants.{Line}
+use Rattle.cg_cgroup.specs.declared.files.Vocabulary.{Vocabulary}
 
 -- ---- what is read
 
-pub operation_read_ok : (done : ℕ) (line : List ℕ) (op : Op) → done < 65536 → length line ≤ 8192 → line ≡ spelling op → IsInRange op
-    → operation_read done line ≡ Ok op
-operation_read_ok done line op few short spelled held =
+pub operation_read_ok : (vocabulary : Vocabulary) (done : ℕ) (line : List ℕ) (op : Op) → done < 65536 → length line ≤ 8192 → line
+    ≡ spelling op → IsInRange vocabulary op
+    → operation_read vocabulary done line ≡ Ok op
+operation_read_ok vocabulary done line op few short spelled held =
     let a : nat_lt done 65536 ≡ true = grind (arith, nat_tests) in
     let b : nat_lt 8192 (length line) ≡ false = grind (arith, nat_tests) in
-    let e : operation_at line ≡ Some op = ap operation_at spelled ∙ line_again op held in
+    let e : operation_at vocabulary line ≡ Some op = ap (operation_at vocabulary) spelled ∙ line_again vocabulary op held in
     rw (a, b, e) refl
 
-pub operation_read_bad : (done : ℕ) (line : List ℕ) → done < 65536 → length line ≤ 8192 → ((op : Op) → IsInRange op → line ≢ spelling op)
-    → operation_read done line ≡ Err (Line (done + 1) BadWord)
-operation_read_bad done line few short none =
+pub operation_read_bad : (vocabulary : Vocabulary) (done : ℕ) (line : List ℕ) → done < 65536 → length line ≤ 8192 → ((op : Op)
+    → IsInRange vocabulary op → line ≢ spelling op)
+    → operation_read vocabulary done line ≡ Err (Line (done + 1) BadWord)
+operation_read_bad vocabulary done line few short none =
     let a : nat_lt done 65536 ≡ true = grind (arith, nat_tests) in
     let b : nat_lt 8192 (length line) ≡ false = grind (arith, nat_tests) in
-    let e : operation_at line ≡ None = nothing_read line none in
+    let e : operation_at vocabulary line ≡ None = nothing_read vocabulary line none in
     rw (a, b, e) refl
 
-pub operation_read_long : (done : ℕ) (line : List ℕ) → done < 65536 → 8192 < length line
-    → operation_read done line ≡ Err (Line (done + 1) TooLong)
-operation_read_long done line few long =
+pub operation_read_long : (vocabulary : Vocabulary) (done : ℕ) (line : List ℕ) → done < 65536 → 8192 < length line
+    → operation_read vocabulary done line ≡ Err (Line (done + 1) TooLong)
+operation_read_long vocabulary done line few long =
     let a : nat_lt done 65536 ≡ true = grind (arith, nat_tests) in
     let b : nat_lt 8192 (length line) ≡ true = grind (arith, nat_tests) in
     rw (a, b) refl

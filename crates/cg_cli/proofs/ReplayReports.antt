@@ -11,6 +11,7 @@ use Rattle.cg_lines.specs.declared.lines.fault.LineFault.TheVariants.{TooLong}
 use Rattle.cg_cli.specs.Reports.{fault_report, report_on}
 use Rattle.cg_cli.specs.Replays.{is_newline, outcome_of, operation_read, end_read, end_said, with_front, replayed, lines_said}
 use Rattle.cg_faults.specs.declared.fault.CliFault.TheVariants.{Line, TooManySteps}
+use Rattle.cg_cgroup.specs.declared.files.Vocabulary.{Vocabulary}
 
 -- the pieces are one and maybe more
 record Pieces (bytes : List ℕ) : Type 0 where
@@ -39,74 +40,86 @@ front_of_first (b ∷ front) rest first others none e =
     ∙ ap (onto_first b) (front_of_first front rest first others (All-tail (λ x. is_newline x ≡ false) b front none) e)
 
 -- a line: its operation's outcome, and then what is said of the rest; or its fault
-pub report_of_line : (course : Course) (user : Identity) (done : ℕ) (line rest : List ℕ) → All (λ b. is_newline b ≡ false) line
-    → lines_said course user done (line ++ 10 ∷ rest)
-    ≡ report_on (operation_read done line)
-    (λ op. with_front (outcome_text op (outcome_of (state_of course) user op)) (lines_said (on_course course user op) user (done + 1) rest))
+pub report_of_line : (vocabulary : Vocabulary) (course : Course) (user : Identity) (done : ℕ) (line rest : List ℕ)
+    → All (λ b. is_newline b ≡ false) line
+    → lines_said vocabulary course user done (line ++ 10 ∷ rest)
+    ≡ report_on (operation_read vocabulary done line)
+    (λ op. with_front (outcome_text op (outcome_of (state_of course) user op)) (lines_said vocabulary (on_course course user op) user
+    (done + 1) rest))
 unfolding lines_said replayed
-report_of_line course user done line rest none =
+report_of_line vocabulary course user done line rest none =
     let more = pieces_of rest in
-    ap (replayed course user done) (slice_split_at is_newline line 10 rest none refl ∙ ap (λ ps. line ∷ ps) more.are)
-    ∙ ap (λ ps. report_on (operation_read done line)
-    (λ op. with_front (outcome_text op (outcome_of (state_of course) user op)) (replayed (on_course course user op) user (done + 1) ps)))
+    ap (replayed vocabulary course user done) (slice_split_at is_newline line 10 rest none refl ∙ ap (λ ps. line ∷ ps) more.are)
+    ∙ ap (λ ps. report_on (operation_read vocabulary done line)
+    (λ op. with_front (outcome_text op (outcome_of (state_of course) user op)) (replayed vocabulary (on_course course user op) user
+    (done + 1) ps)))
     (sym more.are)
 
 -- the end of the input
-pub report_of_end : (course : Course) (user : Identity) (done : ℕ) (rest : List ℕ) → All (λ b. is_newline b ≡ false) rest
-    → lines_said course user done rest ≡ end_said (end_read course done rest)
+pub report_of_end : (vocabulary : Vocabulary) (course : Course) (user : Identity) (done : ℕ) (rest : List ℕ) → All (λ b. is_newline b
+    ≡ false) rest
+    → lines_said vocabulary course user done rest ≡ end_said (end_read course done rest)
 unfolding lines_said replayed
-report_of_end course user done rest none = ap (replayed course user done) (slice_split_none is_newline rest none)
+report_of_end vocabulary course user done rest none = ap (replayed vocabulary course user done) (slice_split_none is_newline rest none)
 
-long_first : (course : Course) (user : Identity) (done : ℕ) (first : List ℕ) (others : List (List ℕ)) → 8192 < length first → done < 65536
-    → replayed course user done (first ∷ others) ≡ fault_report (Line (done + 1) TooLong)
+long_first : (vocabulary : Vocabulary) (course : Course) (user : Identity) (done : ℕ) (first : List ℕ) (others : List (List ℕ))
+    → 8192 < length first → done < 65536
+    → replayed vocabulary course user done (first ∷ others) ≡ fault_report (Line (done + 1) TooLong)
 unfolding replayed
-long_first course user done [] others long few = absurd (omega arith)
-long_first course user done (b ∷ bs) [] long few =
+long_first vocabulary course user done [] others long few = absurd (omega arith)
+long_first vocabulary course user done (b ∷ bs) [] long few =
     let a : nat_lt done 65536 ≡ true = grind (arith, nat_tests) in
     let e : nat_lt 8192 (length (b ∷ bs)) ≡ true = grind (arith, nat_tests) in
     rw (a, e) refl
-long_first course user done (b ∷ bs) (next ∷ others) long few =
+long_first vocabulary course user done (b ∷ bs) (next ∷ others) long few =
     let a : nat_lt done 65536 ≡ true = grind (arith, nat_tests) in
     let e : nat_lt 8192 (length (b ∷ bs)) ≡ true = grind (arith, nat_tests) in
     rw (a, e) refl
 
 -- a line that is too long, whatever follows
-pub report_of_long : (course : Course) (user : Identity) (done : ℕ) (line rest : List ℕ) → All (λ b. is_newline b ≡ false) line
+pub report_of_long : (vocabulary : Vocabulary) (course : Course) (user : Identity) (done : ℕ) (line rest : List ℕ)
+    → All (λ b. is_newline b ≡ false) line
     → 8192 < length line → done < 65536
-    → lines_said course user done (line ++ rest) ≡ fault_report (Line (done + 1) TooLong)
+    → lines_said vocabulary course user done (line ++ rest) ≡ fault_report (Line (done + 1) TooLong)
 unfolding lines_said
-report_of_long course user done line rest none long few =
+report_of_long vocabulary course user done line rest none long few =
     let more = pieces_of rest in
-    ap (replayed course user done) (front_of_first line rest more.piece more.pieces none more.are)
-    ∙ long_first course user done (line ++ more.piece) more.pieces (omega (arith, length-append line more.piece)) few
+    ap (replayed vocabulary course user done) (front_of_first line rest more.piece more.pieces none more.are)
+    ∙ long_first vocabulary course user done (line ++ more.piece) more.pieces (omega (arith, length-append line more.piece)) few
 
 -- behind the last line that is answered: a further one, or bytes of one
-one_more : (course : Course) (user : Identity) (done : ℕ) (first next : List ℕ) (others : List (List ℕ)) → 65536 ≤ done
-    → replayed course user done (first ∷ next ∷ others) ≡ fault_report TooManySteps
+one_more : (vocabulary : Vocabulary) (course : Course) (user : Identity) (done : ℕ) (first next : List ℕ) (others : List (List ℕ))
+    → 65536 ≤ done
+    → replayed vocabulary course user done (first ∷ next ∷ others) ≡ fault_report TooManySteps
 unfolding replayed
-one_more course user done first next others many =
+one_more vocabulary course user done first next others many =
     let a : nat_lt done 65536 ≡ false = grind (arith, nat_tests) in
     rw a refl
 
-bytes_more : (course : Course) (user : Identity) (done b : ℕ) (bs : List ℕ) (others : List (List ℕ)) → 65536 ≤ done
-    → replayed course user done ((b ∷ bs) ∷ others) ≡ fault_report TooManySteps
+bytes_more : (vocabulary : Vocabulary) (course : Course) (user : Identity) (done b : ℕ) (bs : List ℕ) (others : List (List ℕ))
+    → 65536 ≤ done
+    → replayed vocabulary course user done ((b ∷ bs) ∷ others) ≡ fault_report TooManySteps
 unfolding replayed
-bytes_more course user done b bs [] many =
+bytes_more vocabulary course user done b bs [] many =
     let a : nat_lt done 65536 ≡ false = grind (arith, nat_tests) in
     rw a refl
-bytes_more course user done b bs (next ∷ others) many = one_more course user done (b ∷ bs) next others many
+bytes_more vocabulary course user done b bs (next ∷ others) many = one_more vocabulary course user done (b ∷ bs) next others many
 
-many_at : (course : Course) (user : Identity) (done b : ℕ) (bytes : List ℕ) → 65536 ≤ done → Pieces bytes → (c : Bool)
-    → replayed course user done (cond c ([] ∷ slice_split is_newline bytes) (onto_first b (slice_split is_newline bytes)))
+many_at : (vocabulary : Vocabulary) (course : Course) (user : Identity) (done b : ℕ) (bytes : List ℕ) → 65536 ≤ done → Pieces bytes
+    → (c : Bool)
+    → replayed vocabulary course user done (cond c ([] ∷ slice_split is_newline bytes) (onto_first b (slice_split is_newline bytes)))
     ≡ fault_report TooManySteps
-many_at course user done b bytes many rest true =
-    ap (λ ps. replayed course user done ([] ∷ ps)) rest.are ∙ one_more course user done [] rest.piece rest.pieces many
-many_at course user done b bytes many rest false =
-    ap (λ ps. replayed course user done (onto_first b ps)) rest.are ∙ bytes_more course user done b rest.piece rest.pieces many
+many_at vocabulary course user done b bytes many rest true =
+    ap (λ ps. replayed vocabulary course user done ([] ∷ ps)) rest.are ∙ one_more vocabulary course user done [] rest.piece rest.pieces many
+many_at vocabulary course user done b bytes many rest false =
+    ap (λ ps. replayed vocabulary course user done (onto_first b ps)) rest.are
+    ∙ bytes_more vocabulary course user done b rest.piece rest.pieces many
 
 -- more than may be answered
-pub report_of_many : (course : Course) (user : Identity) (done : ℕ) (rest : List ℕ) → 65536 ≤ done → 0 < length rest
-    → lines_said course user done rest ≡ fault_report TooManySteps
+pub report_of_many : (vocabulary : Vocabulary) (course : Course) (user : Identity) (done : ℕ) (rest : List ℕ) → 65536 ≤ done
+    → 0 < length rest
+    → lines_said vocabulary course user done rest ≡ fault_report TooManySteps
 unfolding lines_said
-report_of_many course user done [] many some = absurd (omega arith)
-report_of_many course user done (b ∷ bytes) many some = many_at course user done b bytes many (pieces_of bytes) (is_newline b)
+report_of_many vocabulary course user done [] many some = absurd (omega arith)
+report_of_many vocabulary course user done (b ∷ bytes) many some =
+    many_at vocabulary course user done b bytes many (pieces_of bytes) (is_newline b)

@@ -15,6 +15,7 @@ use Rattle.cg_cli.specs.Replays.{most_operations, longest_line, is_newline, outc
 use Rattle.cg_faults.specs.declared.fault.CliFault.{CliFault}
 use Rattle.cg_cli.specs.declared.replay.run.Run.{Run}
 use Rattle.cg_faults.specs.declared.fault.CliFault.TheVariants.{Line, Read, Write, NoMemory}
+use Rattle.cg_cgroup.specs.declared.files.Vocabulary.{Vocabulary}
 
 -- ---- at the end
 
@@ -58,22 +59,24 @@ ReplaysFrom close lines before left old new ended = (ops : List ℕ) × AreOf be
 
 -- ---- on the way
 
--- Where a replay stands between two pieces of its input: what `done` lines led to, and the bytes of a begun line.
+-- Where a replay stands between two pieces of its input: what `done` lines led to, and the bytes of a begun line. Lines
+-- name controllers of the vocabulary.
 pub record Standing : Type 0 where
+  pub vocabulary : Vocabulary
   pub course : Course
   pub user : Identity
   pub line : List ℕ
   pub done : ℕ
 
 abbrev pub standing_of : {C : Type 0} → (C → Course) → Run C → Standing
-standing_of view run = record { course = view run.course; user = run.user; line = run.line.items; done = run.done }
+standing_of view run = record { vocabulary = run.vocabulary; course = view run.course; user = run.user; line = run.line.items; done = run.done }
 
-abbrev pub from_start : Course → Identity → Standing
-from_start course user = record { course = course; user = user; line = []; done = 0 }
+abbrev pub from_start : Vocabulary → Course → Identity → Standing
+from_start vocabulary course user = record { vocabulary = vocabulary; course = course; user = user; line = []; done = 0 }
 
 -- what will be said of further bytes
 abbrev pub coming : Standing → Reporting
-coming at bytes = lines_said at.course at.user at.done (at.line ++ bytes)
+coming at bytes = lines_said at.vocabulary at.course at.user at.done (at.line ++ bytes)
 
 -- what it comes to where no bytes follow
 abbrev pub ending : Standing → Result Course CliFault

@@ -19,6 +19,7 @@ use Rattle.cg_cli.specs.May.{tree_read}
 use Rattle.cg_cli.specs.Reports.{Said, Report, report_on}
 use Rattle.cg_faults.specs.declared.fault.CliFault.{CliFault}
 use Rattle.cg_faults.specs.declared.fault.CliFault.TheVariants.{Line, TooManySteps}
+use Rattle.cg_cgroup.specs.declared.files.Vocabulary.{Vocabulary}
 
 abbrev pub most_operations : ℕ
 most_operations = 65536
@@ -44,11 +45,11 @@ outcome_of st user op = outcome_by (first (bars st user op))
 abbrev pub within_steps : {A : Type 0} → ℕ → Result A CliFault → Result A CliFault
 within_steps done answer = cond (nat_lt done most_operations) answer (Err TooManySteps)
 
--- the operation of a line, without its newline
-abbrev pub operation_read : ℕ → List ℕ → Result Op CliFault
-operation_read done line =
+-- the operation of a line, without its newline, which names controllers of a vocabulary
+abbrev pub operation_read : Vocabulary → ℕ → List ℕ → Result Op CliFault
+operation_read vocabulary done line =
     within_steps done
-    (cond (nat_lt longest_line (length line)) (Err (Line (done + 1) TooLong)) (or_fault (operation_at line) (Line (done + 1) BadWord)))
+    (cond (nat_lt longest_line (length line)) (Err (Line (done + 1) TooLong)) (or_fault (operation_at vocabulary line) (Line (done + 1) BadWord)))
 
 -- the end of the input: nothing stands behind the last newline, or a line that was cut
 abbrev pub end_read : Course → ℕ → List ℕ → Result Course CliFault
@@ -64,18 +65,18 @@ abbrev pub with_front : {A : Type 0} → List ℕ → Said A → Said A
 with_front text report = record { text = text ++ report.text; ending = report.ending }
 
 -- All pieces but the last are lines. Each is answered by its outcome, and the next in the tree that it leaves.
-unfoldable pub replayed : Course → Identity → ℕ → List (List ℕ) → Said Course
-replayed course user done [] = end_said (Ok course)
-replayed course user done (piece ∷ pieces) =
+unfoldable pub replayed : Vocabulary → Course → Identity → ℕ → List (List ℕ) → Said Course
+replayed vocabulary course user done [] = end_said (Ok course)
+replayed vocabulary course user done (piece ∷ pieces) =
     elim pieces [
       | [] ↦ end_said (end_read course done piece)
-      | next ∷ others ↦ report_on (operation_read done piece) (λ op.
-          with_front (outcome_text op (outcome_of (state_of course) user op)) (replayed (on_course course user op) user (done + 1) pieces))
+      | next ∷ others ↦ report_on (operation_read vocabulary done piece) (λ op.
+          with_front (outcome_text op (outcome_of (state_of course) user op)) (replayed vocabulary (on_course course user op) user (done + 1) pieces))
     ]
 
 -- what is said of bytes behind `done` lines
-unfoldable pub lines_said : Course → Identity → ℕ → List ℕ → Said Course
-lines_said course user done bytes = replayed course user done (slice_split is_newline bytes)
+unfoldable pub lines_said : Vocabulary → Course → Identity → ℕ → List ℕ → Said Course
+lines_said vocabulary course user done bytes = replayed vocabulary course user done (slice_split is_newline bytes)
 
 -- behind all lines, where none has a fault, what is said at the end
 abbrev pub closed : Said Course → Report
@@ -92,10 +93,10 @@ course_read (Some subtree) tree =
 
 -- What is said line by line. The user is looked at first, then the subtree's path, the tree's text, whether the subtree is
 -- one that can be watched, and then the operations.
-abbrev pub lines_report : Reading → ℕ → List ℕ → Option (List ℕ) → List ℕ → Said Course
-lines_report tree uid gids subtree ops =
-    report_on (user_read uid gids) (λ user. report_on (course_read subtree tree) (λ course. lines_said course user 0 ops))
+abbrev pub lines_report : Vocabulary → Reading → ℕ → List ℕ → Option (List ℕ) → List ℕ → Said Course
+lines_report vocabulary tree uid gids subtree ops =
+    report_on (user_read uid gids) (λ user. report_on (course_read subtree tree) (λ course. lines_said vocabulary course user 0 ops))
 
 -- The whole report: the lines, and behind them the verdict where a subtree is watched and no fault ended them.
-abbrev pub replay_report : Reading → ℕ → List ℕ → Option (List ℕ) → List ℕ → Report
-replay_report tree uid gids subtree ops = closed (lines_report tree uid gids subtree ops)
+abbrev pub replay_report : Vocabulary → Reading → ℕ → List ℕ → Option (List ℕ) → List ℕ → Report
+replay_report vocabulary tree uid gids subtree ops = closed (lines_report vocabulary tree uid gids subtree ops)

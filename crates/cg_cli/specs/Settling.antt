@@ -14,6 +14,7 @@ use Rattle.cg_cli.specs.May.{tree_read}
 use Rattle.cg_cli.specs.Containment.{in_call, answer_report}
 use Rattle.cg_cli.specs.Reports.{Said, Report, Reports, fault_report}
 use Rattle.cg_faults.specs.declared.fault.CliFault.{CliFault}
+use Rattle.cg_cgroup.specs.Files.{vocabulary_of}
 
 -- a report that may be made on what was read, or the fault that it met
 abbrev pub SaysOn : {A B : Type 0} → Result A CliFault → (A → Said B → Type 0) → Said B → Type 0
@@ -41,5 +42,5 @@ FurtherSays follows st user subtree =
 -- be replayed.
 abbrev pub IsFurther : State → Identity → Names → Answer → Answer → Type 0
 IsFurther st user subtree (Unsettled failed) Contained = IsContained st user subtree
-IsFurther st user subtree (Unsettled failed) (Escapes ops) = HaveLines ops × ¬ (IsHeld st (by_user user ops) subtree)
+IsFurther st user subtree (Unsettled failed) (Escapes ops) = HaveLines (vocabulary_of st.controllers) ops × ¬ (IsHeld st (by_user user ops) subtree)
 IsFurther st user subtree given found = found ≡ given

@@ -15,6 +15,7 @@ ghost use Rattle.cg_cli.specs.Advising.{AreContainedAsNamed, IsAdvisable, AreNam
 ghost use Rattle.cg_format.specs.declared.fault.TreeFault.TheVariants.{NoMemory as MemoryFault, TooLong};
 ghost use Rattle.cg_print.specs.Carried.{IsCarried, IsTooLong};
 
+use cg_cgroup::files::Vocabulary;
 use cg_cgroup::memory::NoMemory;
 use cg_model::hierarchy::Hierarchy;
 use cg_print::tree::tree_text;
@@ -41,15 +42,19 @@ pub fn settle_keeps_what_check_says()
         → (check_report tree uid gids subtree).ending ≢ Ok 2 → said ≡ check_report tree uid gids subtree }
 {}
 
-/// The tree that `read_tree` reads of what `tree_text` writes of a tree. Where a text can carry the tree it is an equal one,
+/// The tree that `read_tree` reads of what `tree_text` writes of a tree in the format of a vocabulary. Where a text can carry the tree it is an equal one,
 /// unless that text is too long or memory is wanted.
-pub fn written_is_read<H: Hierarchy>(alloc: Global, tree: &H) -> Result<Rows, TreeFault>
-    ensures again { IsCarried (H.state tree.now) → MatchResult result
+pub fn written_is_read<H: Hierarchy>(
+    alloc: Global,
+    vocabulary: Vocabulary,
+    tree: &H,
+) -> Result<Rows, TreeFault>
+    ensures again { IsCarried vocabulary (H.state tree.now) → MatchResult result
         (λ rows. rows ≡ H.state tree.now)
-        (λ fault. fault ≢ MemoryFault → (fault ≡ TooLong) × IsTooLong (H.state tree.now)) }
+        (λ fault. fault ≢ MemoryFault → (fault ≡ TooLong) × IsTooLong vocabulary (H.state tree.now)) }
 {
     texts_are_of_states();
-    match tree_text(alloc, tree) {
+    match tree_text(alloc, vocabulary, tree) {
         Ok(text) => read_tree(alloc, text.as_slice()),
         Err(NoMemory) => Err(TreeFault::NoMemory),
     }

@@ -1,14 +1,15 @@
 //! Operation lines that are replayed: each is answered by its outcome before the next is read.
 ghost use Rattle.std.specs.Prelude.{◌≡◌, ◌≢◌, IfOk, IfErr, MatchResult, Ok, Err, Some, None};
 ghost use Rattle.std.specs.Option.{option_map};
-ghost use Rattle.cg_format.specs.Readings.{Reading, IsReading, OnText};
+ghost use Rattle.cg_format.specs.Readings.{Reading, IsReading, OnText, vocabulary_in};
 ghost use Rattle.cg_cli.specs.Arguments.{user_read};
 ghost use Rattle.cg_cli.specs.Courses.{HasMade, Unwatched as Plain, Watched, came_to};
 ghost use Rattle.cg_cli.specs.Replays.{closed, course_read, lines_report};
 ghost use Rattle.cg_cli.specs.Replaying.{standing_of, from_start, coming, whole, IsWaiting, Replays};
 
 use crate::arguments::{UserIds, read_path, read_user};
-use crate::reading::read_tree;
+use crate::reading::read_text;
+use cg_cgroup::files::Vocabulary;
 use cg_cgroup::user::User;
 use cg_faults::fault::CliFault;
 use cg_indexed::indexed::Indexed;
@@ -42,68 +43,84 @@ pub fn replay_bytes<W: Write>(
     out: &mut W,
 ) -> Result<u8, CliFault>
     ensures replays { OnText tree.now (λ read. Replays closed
-        (lines_report read user.entry.uid user.entry.gids.now (option_map (λ text. text.now) subtree.entry)) ops.now
+        (lines_report (vocabulary_in tree.now) read user.entry.uid user.entry.gids.now (option_map (λ text. text.now) subtree.entry)) ops.now
         (W.contents out.old) (W.contents out.new) result) }
     ensures user { IfErr (user_read user.entry.uid user.entry.gids.now) (λ fault. result ≡ Err fault) }
 {
     let user = read_user(user)?;
-    let course = course_of(alloc, tree, subtree)?;
-    slice_closed(alloc, course, user, ops, out)
+    let (vocabulary, course) = course_of(alloc, tree, subtree)?;
+    slice_closed(alloc, vocabulary, course, user, ops, out)
 }
 
-/// The tree of a text, of which a subtree is watched where one is named.
+/// The tree of a text, of which a subtree is watched where one is named, and which controllers lines name for it.
 fn course_of(
     alloc: Global,
     tree: &[u8],
     subtree: Option<&str>,
-) -> Result<MaybeWatched<Indexed>, CliFault>
-    ensures made { IfOk result (λ course. HasMade 0 (⟦<MaybeWatched<Indexed> as OnCourse>⟧.course course)) }
+) -> Result<(Vocabulary, MaybeWatched<Indexed>), CliFault>
+    ensures vocabulary { IfOk result (λ begun. begun.0 ≡ vocabulary_in tree.now) }
+    ensures made { IfOk result (λ begun. HasMade 0 (⟦<MaybeWatched<Indexed> as OnCourse>⟧.course begun.1)) }
     ensures read { (read : Reading) → IsReading tree.now read → MatchResult result
-        (λ course. course_read (option_map (λ text. text.now) subtree.entry) read
-        ≡ Ok (⟦<MaybeWatched<Indexed> as OnCourse>⟧.course course))
+        (λ begun. course_read (option_map (λ text. text.now) subtree.entry) read
+        ≡ Ok (⟦<MaybeWatched<Indexed> as OnCourse>⟧.course begun.1))
         (λ fault. fault ≢ CliFault.NoMemory → course_read (option_map (λ text. text.now) subtree.entry) read ≡ Err fault) }
 {
     match subtree {
-        None => Ok(MaybeWatched::Unwatched(unwatched(alloc, tree)?)),
-        Some(subtree) => Ok(MaybeWatched::Watched(watched(alloc, tree, subtree)?)),
+        None => {
+            let (vocabulary, kept) = unwatched(alloc, tree)?;
+            Ok((vocabulary, MaybeWatched::Unwatched(kept)))
+        }
+        Some(subtree) => {
+            let (vocabulary, replay) = watched(alloc, tree, subtree)?;
+            Ok((vocabulary, MaybeWatched::Watched(replay)))
+        }
     }
 }
 
 /// The tree of a text.
-fn unwatched(alloc: Global, tree: &[u8]) -> Result<Indexed, CliFault>
-    ensures { (read : Reading) → IsReading tree.now read → MatchResult result
-        (λ kept. course_read None read ≡ Ok (Plain kept))
+fn unwatched(alloc: Global, tree: &[u8]) -> Result<(Vocabulary, Indexed), CliFault>
+    ensures vocabulary { IfOk result (λ begun. begun.0 ≡ vocabulary_in tree.now) }
+    ensures read { (read : Reading) → IsReading tree.now read → MatchResult result
+        (λ begun. course_read None read ≡ Ok (Plain begun.1))
         (λ fault. fault ≢ CliFault.NoMemory → course_read None read ≡ Err fault) }
 {
-    let tree = Indexed::from_rows(alloc, read_tree(alloc, tree)?)?;
-    Ok(tree)
+    let text = read_text(alloc, tree)?;
+    let kept = Indexed::from_rows(alloc, text.rows)?;
+    Ok((text.vocabulary, kept))
 }
 
 /// The tree of a text, with a subtree that is watched.
-fn watched(alloc: Global, tree: &[u8], subtree: &str) -> Result<Replay<Indexed>, CliFault>
-    ensures made { IfOk result (λ replay. replay.steps ≡ 0) }
+fn watched(
+    alloc: Global,
+    tree: &[u8],
+    subtree: &str,
+) -> Result<(Vocabulary, Replay<Indexed>), CliFault>
+    ensures vocabulary { IfOk result (λ begun. begun.0 ≡ vocabulary_in tree.now) }
+    ensures made { IfOk result (λ begun. begun.1.steps ≡ 0) }
     ensures read { (read : Reading) → IsReading tree.now read → MatchResult result
-        (λ replay. course_read (Some subtree.now) read ≡ Ok (Watched replay))
+        (λ begun. course_read (Some subtree.now) read ≡ Ok (Watched begun.1))
         (λ fault. fault ≢ CliFault.NoMemory → course_read (Some subtree.now) read ≡ Err fault) }
 {
     let subtree = read_path(alloc, subtree)?;
-    let rows = read_tree(alloc, tree)?;
-    Ok(Replay::start(Indexed::from_rows(alloc, rows)?, subtree)?)
+    let text = read_text(alloc, tree)?;
+    let replay = Replay::start(Indexed::from_rows(alloc, text.rows)?, subtree)?;
+    Ok((text.vocabulary, replay))
 }
 
 /// A whole replay over bytes that are all there, and what is said at its end.
 fn slice_closed<C: OnCourse, W: Write>(
     alloc: Global,
+    vocabulary: Vocabulary,
     course: C,
     user: User,
     ops: &[u8],
     out: &mut W,
 ) -> Result<u8, CliFault>
     requires { HasMade 0 (C.course course) }
-    ensures { Replays closed (coming (from_start (C.course course) user)) ops.now
+    ensures { Replays closed (coming (from_start vocabulary (C.course course) user)) ops.now
         (W.contents out.old) (W.contents out.new) result }
 {
-    let course = replay_slice(alloc, Run::new(alloc, course, user), ops, out)?;
+    let course = replay_slice(alloc, Run::new(alloc, course, user, vocabulary), ops, out)?;
     write_closing(alloc, &course, out)
 }
 

@@ -12,7 +12,9 @@ use Rattle.cg_cgroup.specs.PathText.{names_text}
 use Rattle.cg_cgroup.specs.Identity.{Identity}
 use Rattle.cg_cgroup.specs.Numbers.{is_pid}
 use Rattle.cg_cgroup.specs.Users.{writes, owns, opened}
-use Rattle.cg_cgroup.specs.Files.{all_files}
+use Rattle.cg_cgroup.specs.Files.{all_files, vocabulary_of}
+use Rattle.cg_cgroup.specs.declared.files.Vocabulary.{Vocabulary}
+use Rattle.cg_cgroup.proofs.ControllerLaws.{told-known}
 use Rattle.cg_cgroup.specs.Cgroups.{entry_in}
 use Rattle.cg_cgroup.specs.declared.files.Limit.{Limit}
 use Rattle.cg_cgroup.specs.declared.files.Limit.TheVariants.{Max, At}
@@ -41,7 +43,7 @@ use Rattle.cg_model.proofs.Lists.{all-append, all-flat_map, all-present, all-eac
 use Rattle.cg_check.proofs.AnswerLaws.{found-escape}
 use Rattle.cg_lines.specs.OperationLines.{IsInRange, IsLimitInRange, HasLine, HaveLines}
 use Rattle.cg_lines.specs.LineLengths.{HasFewChanges}
-use Rattle.cg_lines.proofs.LineLengths.{line_length}
+use Rattle.cg_lines.proofs.LineLengths.{line_length, most_changes-least}
 use Rattle.cg_report.proofs.Shown.{all_flat}
 use Rattle.cg_escapes.specs.EscapeLines.{IsNamed}
 
@@ -82,12 +84,12 @@ flat_map-short f each (x ∷ xs) =
 -- ---- operations
 
 -- an operation that can be written
-abbrev IsWritten : Op → Type 0
-IsWritten op = IsInRange op × HasFewChanges op
+abbrev IsWritten : Vocabulary → Op → Type 0
+IsWritten vocabulary op = IsInRange vocabulary op × HasFewChanges vocabulary op
 
 -- a few of them
-abbrev AreWritten : List Op → Type 0
-AreWritten ops = AllByRecursion IsWritten ops × (length ops ≤ 2)
+abbrev AreWritten : Vocabulary → List Op → Type 0
+AreWritten vocabulary ops = AllByRecursion (IsWritten vocabulary) ops × (length ops ≤ 2)
 
 other_held : (file : LimitFile) (value : Limit) → IsLimitInRange (other_value file value)
 other_held CpuWeight Max = omega arith
@@ -99,6 +101,10 @@ other_held file (At value) = tt
 -- ---- paths
 
 module _ (st : State) (user : Identity) (subtree : Names) (formed : IsWellFormed st) (named : IsNamed st) (sub : IsSubtree st subtree) where
+  -- those that formats 1 and 2 or the root have
+  abbrev vocabulary : Vocabulary
+  vocabulary = vocabulary_of st.controllers
+
   path : IsPath subtree
   path = named.paths subtree sub.0
 
@@ -110,22 +116,32 @@ module _ (st : State) (user : Identity) (subtree : Names) (formed : IsWellFormed
 
   -- ---- plain tries
 
-  written-sets : AllByRecursion AreWritten (set_tries st subtree)
+  written-sets : AllByRecursion (AreWritten vocabulary) (set_tries st subtree)
   written-sets =
-      all-flat_map AreWritten _ all_files (λ file.
-      all-present AreWritten (value_at st subtree file) (λ value. (Set subtree file (other_value file value) ∷ []) ∷ []) (λ value is.
+      all-flat_map (AreWritten vocabulary) _ all_files (λ file.
+      all-present (AreWritten vocabulary) (value_at st subtree file) (λ value. (Set subtree file (other_value file value) ∷ []) ∷ [])
+      (λ value is.
       (((((path, other_held file value), tt), tt), omega arith), tt)))
 
-  written-controls : AllByRecursion AreWritten (control_tries subtree)
+  written-controls : AllByRecursion (AreWritten vocabulary) (control_tries st subtree)
   written-controls =
-      all-control_tries AreWritten subtree (λ on controller known.
-      ((((IsPath-take subtree (length subtree - 1) path, ap (λ b. b && true) known), omega arith), tt), omega arith))
+      all-control_tries (AreWritten vocabulary) st subtree (λ on controller told. (
+        (
+          (
+            (IsPath-take subtree (length subtree - 1) path, ap (λ b. b && true) (told-known st.controllers controller told)),
+            omega (arith, most_changes-least vocabulary),
+          ),
+          tt,
+        ),
+        omega arith,
+      ))
 
-  written-moves : AllByRecursion AreWritten (move_tries st subtree)
+  written-moves : AllByRecursion (AreWritten vocabulary) (move_tries st subtree)
   written-moves =
-      all_flat AreWritten (λ (pid : ℕ). is_pid pid ≡ true) _ (λ pid is_one.
-      all-present AreWritten (place_at st pid) (λ place. map (λ path. Move pid path ∷ []) (across st subtree place)) (λ place at.
-      all-map_filter_by AreWritten IsPath (λ path. Move pid path ∷ [])
+      all_flat (AreWritten vocabulary) (λ (pid : ℕ). is_pid pid ≡ true) _ (λ pid is_one.
+      all-present (AreWritten vocabulary) (place_at st pid) (λ place. map (λ path. Move pid path ∷ []) (across st subtree place))
+      (λ place at.
+      all-map_filter_by (AreWritten vocabulary) IsPath (λ path. Move pid path ∷ [])
       (λ path. cond (inside subtree place) (not (inside subtree path)) (inside subtree path)) (λ path is.
       ((((is_one, is), tt), tt), omega arith)) (paths_of st) all-paths)) (pids_of st) all-pids
 
@@ -138,37 +154,37 @@ module _ (st : State) (user : Identity) (subtree : Names) (formed : IsWellFormed
       let m = length-append (codes "probe") (decimal number) in
       IsPath-push (take len subtree) name (IsPath-take subtree len path) (is_name-probe number) (omega (arith, le, l, m))
 
-  written-probes_at : (len : ℕ) → AllByRecursion AreWritten (probe_tries_at st subtree (take len subtree))
+  written-probes_at : (len : ℕ) → AllByRecursion (AreWritten vocabulary) (probe_tries_at st subtree (take len subtree))
   written-probes_at len =
-      all-present AreWritten (free_probe st (take len subtree)) _ (λ number first.
+      all-present (AreWritten vocabulary) (free_probe st (take len subtree)) _ (λ number first.
       elim (nat_le (length (path_text (probe (take len subtree) number))) 4095) as
       (λ short. nat_le (length (path_text (probe (take len subtree) number))) 4095 ≡ short
-      → AllByRecursion AreWritten (cond short (map
+      → AllByRecursion (AreWritten vocabulary) (cond short (map
       (λ pid. Mkdir (probe (take len subtree) number) ∷ Move pid (probe (take len subtree) number) ∷ [])
       (filter (is_inside st subtree) (pids_of st))) [])) [
         | true ↦ λ short.
             let is = probe_path len number short in
-            all-map_filter_by AreWritten (λ (pid : ℕ). is_pid pid ≡ true)
+            all-map_filter_by (AreWritten vocabulary) (λ (pid : ℕ). is_pid pid ≡ true)
             (λ pid. Mkdir (probe (take len subtree) number) ∷ Move pid (probe (take len subtree) number) ∷ []) (is_inside st subtree) (λ pid
             is_one.
             (((is, tt), (((is_one, is), tt), tt)), omega arith)) (pids_of st) all-pids
         | false ↦ λ _. tt
       ] refl)
 
-  written-probes : (len : ℕ) → AllByRecursion AreWritten (probe_tries st subtree len)
+  written-probes : (len : ℕ) → AllByRecursion (AreWritten vocabulary) (probe_tries st subtree len)
   written-probes zero = tt
   written-probes (suc len) =
-      all-append AreWritten (probe_tries_at st subtree (take len subtree)) (probe_tries st subtree len) (written-probes_at len)
+      all-append (AreWritten vocabulary) (probe_tries_at st subtree (take len subtree)) (probe_tries st subtree len) (written-probes_at len)
       (written-probes len)
 
-  written-plain : AllByRecursion AreWritten (plain_tries st subtree)
+  written-plain : AllByRecursion (AreWritten vocabulary) (plain_tries st subtree)
   written-plain = (
     (tt, omega arith),
-    all-append AreWritten (set_tries st subtree ++ control_tries subtree)
+    all-append (AreWritten vocabulary) (set_tries st subtree ++ control_tries st subtree)
         ((Rmdir subtree ∷ []) ∷ (move_tries st subtree ++ probe_tries st subtree (length subtree)))
-        (all-append AreWritten (set_tries st subtree) (control_tries subtree) written-sets written-controls) (
+        (all-append (AreWritten vocabulary) (set_tries st subtree) (control_tries st subtree) written-sets written-controls) (
           (((path, tt), tt), omega arith),
-          all-append AreWritten (move_tries st subtree) (probe_tries st subtree (length subtree)) written-moves
+          all-append (AreWritten vocabulary) (move_tries st subtree) (probe_tries st subtree (length subtree)) written-moves
               (written-probes (length subtree)),
         ),
   )
@@ -180,19 +196,19 @@ module _ (st : State) (user : Identity) (subtree : Names) (formed : IsWellFormed
   entry_mode at name entry None is held = cc
   entry_mode at name entry (Some row) is held = (formed.rows at row is).modes name entry held
 
-  written-opening_of : (guarded : Guarded) → AllByRecursion IsWritten (opening_of st user subtree guarded)
+  written-opening_of : (guarded : Guarded) → AllByRecursion (IsWritten vocabulary) (opening_of st user subtree guarded)
   written-opening_of guarded =
-      all-present IsWritten (guarded_entry st subtree guarded) _ (λ entry is.
+      all-present (IsWritten vocabulary) (guarded_entry st subtree guarded) _ (λ entry is.
       let fits =
       opened-le entry.mode (entry_mode (take guarded.len subtree) guarded.name entry (row_at st (take guarded.len subtree)) refl is) in
       elim (owns user entry && not (writes user entry)) as
-      (λ b. AllByRecursion IsWritten (cond b (Chmod (take guarded.len subtree) guarded.name (opened entry.mode) ∷ []) [])) [
+      (λ b. AllByRecursion (IsWritten vocabulary) (cond b (Chmod (take guarded.len subtree) guarded.name (opened entry.mode) ∷ []) [])) [
         | true ↦ (((IsPath-take subtree guarded.len path, le-leb (opened entry.mode) 511 fits), tt), tt)
         | false ↦ tt
       ])
 
-  written-opening : AllByRecursion IsWritten (opening st user subtree)
-  written-opening = all-flat_map IsWritten (opening_of st user subtree) (guarded_entries subtree) written-opening_of
+  written-opening : AllByRecursion (IsWritten vocabulary) (opening st user subtree)
+  written-opening = all-flat_map (IsWritten vocabulary) (opening_of st user subtree) (guarded_entries subtree) written-opening_of
 
   short-opening_of : (guarded : Guarded) → length (opening_of st user subtree guarded) ≤ 1
   short-opening_of guarded =
@@ -233,24 +249,32 @@ module _ (st : State) (user : Identity) (subtree : Names) (formed : IsWellFormed
 
   -- ---- all tries
 
-  lines_of : (ops : List Op) → AllByRecursion IsWritten ops → AllByRecursion HasLine ops
-  lines_of ops all = all-each IsWritten HasLine (λ op written. (written.0, line_length op written.0 written.1)) ops all
+  lines_of : (ops : List Op) → AllByRecursion (IsWritten vocabulary) ops → AllByRecursion (HasLine vocabulary) ops
+  lines_of ops all =
+      all-each (IsWritten vocabulary) (HasLine vocabulary)
+      (λ op written. (written.0, line_length vocabulary op written.0 written.1)) ops all
 
-  lines-opened : (before ops : List Op) → AllByRecursion IsWritten before → length before ≤ 5000 → AreWritten ops
-      → AllByRecursion HaveLines (with_opening before ops)
+  lines-opened : (before ops : List Op) → AllByRecursion (IsWritten vocabulary) before → length before ≤ 5000 → AreWritten vocabulary ops
+      → AllByRecursion (HaveLines vocabulary) (with_opening before ops)
   lines-opened [] ops all short written = ((lines_of ops written.0, omega (arith, written.1)), tt)
   lines-opened (op ∷ others) ops all short written =
       let l = length-append (op ∷ others) ops in (
         (lines_of ops written.0, omega (arith, written.1)),
-        ((lines_of (op ∷ others ++ ops) (all-append IsWritten (op ∷ others) ops all written.0), omega (arith, written.1, short, l)), tt),
+        (
+          (
+            lines_of (op ∷ others ++ ops) (all-append (IsWritten vocabulary) (op ∷ others) ops all written.0),
+            omega (arith, written.1, short, l),
+          ),
+          tt,
+        ),
       )
 
-  all-lines : AllByRecursion HaveLines (tries st user subtree)
+  all-lines : AllByRecursion (HaveLines vocabulary) (tries st user subtree)
   all-lines =
-      all_flat HaveLines AreWritten (with_opening (opening st user subtree))
+      all_flat (HaveLines vocabulary) (AreWritten vocabulary) (with_opening (opening st user subtree))
       (λ ops. lines-opened (opening st user subtree) ops written-opening short-opening) (plain_tries st subtree) written-plain
 
-  pub escape_lines : (ops : List Op) → answer st user subtree ≡ Escapes ops → HaveLines ops
+  pub escape_lines : (ops : List Op) → answer st user subtree ≡ Escapes ops → HaveLines vocabulary ops
   escape_lines ops is =
-      find-all HaveLines (breaks st user subtree) (tries st user subtree) all-lines ops
+      find-all (HaveLines vocabulary) (breaks st user subtree) (tries st user subtree) all-lines ops
       (found-escape (failures st user subtree) (first_escape st user subtree) ops is)

@@ -36,7 +36,7 @@ use Rattle.cg_lines.proofs.LineLengths.{one_line}
 use Rattle.cg_report.specs.AnswerLines.{op_lines}
 use Rattle.cg_report.specs.VerdictLines.{verdict_text}
 use Rattle.cg_escapes.proofs.EscapeLines.{escape_lines}
-use Rattle.cg_format.specs.Readings.{Reading, IsReading}
+use Rattle.cg_format.specs.Readings.{Reading, IsReading, vocabulary_in}
 use Rattle.cg_format.specs.TextOf.{IsTextOf}
 use Rattle.cg_format.specs.declared.fault.TreeFault.{TreeFault}
 use Rattle.cg_format.proofs.OneState.{paths_are_paths, pids_are_pids}
@@ -52,6 +52,11 @@ use Rattle.cg_faults.specs.declared.fault.CliFault.{CliFault}
 use Rattle.cg_faults.specs.declared.fault.CliFault.TheVariants.{Subtree}
 use Rattle.cg_cli.proofs.ReplayReports.{report_of_line, report_of_end}
 use Rattle.cg_cli.proofs.CheckReports.{report_is, of_bytes}
+use Rattle.cg_cgroup.specs.declared.files.Vocabulary.{Vocabulary}
+use Rattle.cg_cgroup.specs.Files.{vocabulary_of}
+use Rattle.cg_cgroup.proofs.ControllerLaws.{vocabulary-least}
+use Rattle.cg_lines.proofs.Wider.{wider-lines}
+use Rattle.cg_format.proofs.ReadingLaws.{known_controllers}
 
 -- ---- operations whose lines are replayed
 
@@ -66,11 +71,12 @@ said_of course user [] = []
 said_of course user (op ∷ ops) = outcome_text op (outcome_of (state_of course) user op) ++ said_of (on_course course user op) user ops
 
 -- a line that can be read
-line_is_read : (done : ℕ) (op : Op) → HasLine op → done < 65536 → operation_read done (spelling op) ≡ Ok op
-line_is_read done op line few =
+line_is_read : (vocabulary : Vocabulary) (done : ℕ) (op : Op) → HasLine vocabulary op → done < 65536
+    → operation_read vocabulary done (spelling op) ≡ Ok op
+line_is_read vocabulary done op line few =
     let a : nat_lt done 65536 ≡ true = lt-ltb done 65536 few in
     let b : nat_lt 8192 (length (spelling op)) ≡ false = le-ltb 8192 (length (spelling op)) line.1 in
-    let c = line_again op line.0 in
+    let c = line_again vocabulary op line.0 in
     rw (a, b, c) refl
 
 -- the line of an outcome ends with its newline
@@ -88,37 +94,39 @@ are_lines user (op ∷ ops) course =
     line_and_lines _ _ (outcome_line op (outcome_of (state_of course) user op)) (are_lines user ops (on_course course user op))
 
 -- each is answered by a line, and behind them what follows is said
-pub said_before : (user : Identity) (ops : List Op) (course : Course) (done : ℕ) (rest : List ℕ) → AllByRecursion HasLine ops
+pub said_before : (vocabulary : Vocabulary) (user : Identity) (ops : List Op) (course : Course) (done : ℕ) (rest : List ℕ)
+    → AllByRecursion (HasLine vocabulary) ops
     → done + length ops ≤ 65536
-    → lines_said course user done (op_lines ops ++ rest)
-    ≡ with_front (said_of course user ops) (lines_said (on_all course user ops) user (done + length ops) rest)
-said_before user [] course done rest all few =
-    let none : done ≡ done + 0 = omega arith in ap (λ n. with_front [] (lines_said course user n rest)) none
-said_before user (op ∷ ops) course done rest all few =
+    → lines_said vocabulary course user done (op_lines ops ++ rest)
+    ≡ with_front (said_of course user ops) (lines_said vocabulary (on_all course user ops) user (done + length ops) rest)
+said_before vocabulary user [] course done rest all few =
+    let none : done ≡ done + 0 = omega arith in ap (λ n. with_front [] (lines_said vocabulary course user n rest)) none
+said_before vocabulary user (op ∷ ops) course done rest all few =
     let said = outcome_text op (outcome_of (state_of course) user op) in
     let next = on_course course user op in
     let more : (done + 1) + length ops ≡ done + length (op ∷ ops) = omega arith in
-    let tail = said_before user ops next (done + 1) rest all.1 (omega (arith, few)) in
-    ap (lines_said course user done)
+    let tail = said_before vocabulary user ops next (done + 1) rest all.1 (omega (arith, few)) in
+    ap (lines_said vocabulary course user done)
     (append_assoc (spelling op ++ 10 ∷ []) (op_lines ops) rest ∙ append_assoc (spelling op) (10 ∷ []) _)
-    ∙ report_of_line course user done (spelling op) (op_lines ops ++ rest) (one_line op all.0.0)
+    ∙ report_of_line vocabulary course user done (spelling op) (op_lines ops ++ rest) (one_line vocabulary op all.0.0)
     ∙ ap (λ read. report_on read (λ op. with_front (outcome_text op (outcome_of (state_of course) user op))
-    (lines_said (on_course course user op) user (done + 1) (op_lines ops ++ rest))))
-    (line_is_read done op all.0 (omega (arith, few)))
-    ∙ ap (with_front said) (tail ∙ ap (λ n. with_front (said_of next user ops) (lines_said (on_all next user ops) user n rest)) more)
-    ∙ fronts said (said_of next user ops) (lines_said (on_all next user ops) user (done + length (op ∷ ops)) rest)
+    (lines_said vocabulary (on_course course user op) user (done + 1) (op_lines ops ++ rest))))
+    (line_is_read vocabulary done op all.0 (omega (arith, few)))
+    ∙ ap (with_front said) (tail ∙ ap (λ n. with_front (said_of next user ops) (lines_said vocabulary
+    (on_all next user ops) user n rest)) more)
+    ∙ fronts said (said_of next user ops) (lines_said vocabulary (on_all next user ops) user (done + length (op ∷ ops)) rest)
   where
     fronts : {A : Type 0} (text other : List ℕ) (report : Said A)
         → with_front text (with_front other report) ≡ with_front (text ++ other) report
     fronts text other report = ap (λ all. record { text = all; ending = report.ending }) (sym (append_assoc text other report.text))
 
 -- and where none follows no fault is met
-pub all_said : (user : Identity) (ops : List Op) (course : Course) → HaveLines ops
-    → lines_said course user 0 (op_lines ops) ≡ record { text = said_of course user ops; ending = Ok (on_all course user ops) }
-all_said user ops course lines =
-    ap (lines_said course user 0) (sym (append-nil (op_lines ops)))
-    ∙ said_before user ops course 0 [] lines.0 (omega (arith, lines.1))
-    ∙ ap (with_front (said_of course user ops)) (report_of_end (on_all course user ops) user (0 + length ops) [] (All-nil _))
+pub all_said : (vocabulary : Vocabulary) (user : Identity) (ops : List Op) (course : Course) → HaveLines vocabulary ops
+    → lines_said vocabulary course user 0 (op_lines ops) ≡ record { text = said_of course user ops; ending = Ok (on_all course user ops) }
+all_said vocabulary user ops course lines =
+    ap (lines_said vocabulary course user 0) (sym (append-nil (op_lines ops)))
+    ∙ said_before vocabulary user ops course 0 [] lines.0 (omega (arith, lines.1))
+    ∙ ap (with_front (said_of course user ops)) (report_of_end vocabulary (on_all course user ops) user (0 + length ops) [] (All-nil _))
     ∙ ap (λ text. record { text = text; ending = Ok (on_all course user ops) }) (append-nil (said_of course user ops))
 
 -- what is said is the same of a course that isn't watched
@@ -211,9 +219,10 @@ read_by named tree =
 
 -- ---- a watched replay
 
-module _ (tree : Reading) (uid : ℕ) (gids : List ℕ) (subtree : List ℕ) (user : Identity) (path : Names) (st : State) (ops : List Op)
+module _ (vocabulary : Vocabulary) (tree : Reading) (uid : ℕ) (gids : List ℕ) (subtree : List ℕ) (user : Identity) (path : Names)
+    (st : State) (ops : List Op)
     (of_user : user_read uid gids ≡ Ok user) (of_path : path_read subtree ≡ Ok path) (of_text : tree ≡ Ok st)
-    (sub : IsSubtree st path) (lines : HaveLines ops) where
+    (sub : IsSubtree st path) (lines : HaveLines vocabulary ops) where
   row : (row : Cgroup) × (row_at st path ≡ Some row)
   row = row_of (row_at st path) sub.0
 
@@ -233,16 +242,17 @@ module _ (tree : Reading) (uid : ℕ) (gids : List ℕ) (subtree : List ℕ) (us
   found = run.run_of.verdict ∙ ap (verdict st (by_user user ops)) run.subtree
 
   -- behind the lines stands the verdict
-  pub watched : replay_report tree uid gids (Some subtree) (op_lines ops) ≡ record {
+  pub watched : replay_report vocabulary tree uid gids (Some subtree) (op_lines ops) ≡ record {
     text = said_of (Unwatched st) user ops ++ verdict_text (verdict st (by_user user ops) path);
     ending = Ok (verdict_status (verdict st (by_user user ops) path));
   }
   watched =
       ap
-      (λ u. closed (report_on u (λ user. report_on (course_read (Some subtree) tree) (λ course. lines_said course user 0 (op_lines ops)))))
+      (λ u. closed (report_on u (λ user. report_on (course_read (Some subtree) tree) (λ course. lines_said vocabulary course user 0
+      (op_lines ops)))))
       of_user
-      ∙ ap (λ c. closed (report_on c (λ course. lines_said course user 0 (op_lines ops)))) course_is
-      ∙ ap closed (all_said user ops (Watched begun) lines)
+      ∙ ap (λ c. closed (report_on c (λ course. lines_said vocabulary course user 0 (op_lines ops)))) course_is
+      ∙ ap closed (all_said vocabulary user ops (Watched begun) lines)
       ∙ ap (λ (c : Course). closed (record { text = said_of (Watched begun) user ops; ending = Ok c })) run.course
       ∙ (λ i. record {
         text = said_unwatched user ops begun i ++ verdict_text (found i);
@@ -264,10 +274,12 @@ module _ (text : List ℕ) (tree : Reading) (is_read : IsReading text tree) (uid
   says : IsTextOf st text
   says = subst (IsReading text) of_text is_read
 
-  lines : HaveLines ops
+  lines : HaveLines (vocabulary_in text) ops
   lines =
-      escape_lines st user path says.says.formed
-      (record { paths = λ named. paths_are_paths text st named says; pids = λ pid. pids_are_pids text st pid says }) sub ops stated.1
+      wider-lines (vocabulary_of st.controllers) (vocabulary_in text)
+      (vocabulary-least (vocabulary_in text) st.controllers (known_controllers text st says)) ops
+      (escape_lines st user path says.says.formed
+      (record { paths = λ named. paths_are_paths text st named says; pids = λ pid. pids_are_pids text st pid says }) sub ops stated.1)
 
   printed : (check_report tree uid gids subtree).text ≡ codes "escapes\n" ++ op_lines ops
   printed =
@@ -277,9 +289,9 @@ module _ (text : List ℕ) (tree : Reading) (is_read : IsReading text tree) (uid
   broken : (steps : ℕ) × (clause : Clause) × (verdict st (by_user user ops) path ≡ Broken steps clause)
   broken = broken_of (verdict st (by_user user ops) path) (λ kept. escape-broken st user path ops stated.1 kept)
 
-  replayed : EndsBroken (replay_report tree uid gids (Some subtree) (op_lines ops))
+  replayed : EndsBroken (replay_report (vocabulary_in text) tree uid gids (Some subtree) (op_lines ops))
   replayed =
-      let report = watched tree uid gids subtree user path st ops of_user of_path of_text sub lines in record {
+      let report = watched (vocabulary_in text) tree uid gids subtree user path st ops of_user of_path of_text sub lines in record {
         front = said_of (Unwatched st) user ops;
         before = are_lines user ops (Unwatched st);
         steps = broken.0;
@@ -288,7 +300,7 @@ module _ (text : List ℕ) (tree : Reading) (is_read : IsReading text tree) (uid
         ending = ap (λ (r : Report). r.ending) report ∙ ap (λ v. Ok (verdict_status v)) broken.2;
       }
 
-  pub replays_broken : IsReplayed tree uid gids subtree ops
+  pub replays_broken : IsReplayed (vocabulary_in text) tree uid gids subtree ops
   replays_broken = record {
     printed = printed;
     lines = lines;
@@ -297,7 +309,7 @@ module _ (text : List ℕ) (tree : Reading) (is_read : IsReading text tree) (uid
   }
 
 pub escapes_replayed : (text : List ℕ) (tree : Reading) (uid : ℕ) (gids : List ℕ) (subtree : List ℕ) → IsReading text tree
-    → (check_report tree uid gids subtree).ending ≡ Ok 1 → (ops : List Op) × IsReplayed tree uid gids subtree ops
+    → (check_report tree uid gids subtree).ending ≡ Ok 1 → (ops : List Op) × IsReplayed (vocabulary_in text) tree uid gids subtree ops
 escapes_replayed text tree uid gids subtree is_read is =
     let user =
     report_ok (user_read uid gids)

@@ -9,6 +9,7 @@ use Rattle.cg_cgroup.specs.Files.{all_controllers, is_in_format_2, enables}
 use Rattle.cg_cgroup.specs.declared.files.Controller.{Controller}
 use Rattle.cg_model.specs.States.{State, paths_of}
 use Rattle.cg_model.specs.WellFormed.{IsWellFormed}
+use Rattle.cg_model.specs.Tries.{is_told, told_controllers}
 use Rattle.cg_model.specs.Limits.{fits_descendants, fits_depth}
 use Rattle.cg_second.specs.Greatest.{greatest}
 use Rattle.cg_second.specs.Judged.{takes_none, grows_none, is_closed_to, second_row}
@@ -26,7 +27,7 @@ use Rattle.cg_explain.specs.declared.second.Growing.TheVariants.{Spared as Spare
 use Rattle.cg_explain.specs.declared.second.Place.{Place}
 use Rattle.cg_explain.specs.declared.second.Asked.{Asked}
 use Rattle.cg_explain.specs.declared.second.Asked.TheVariants.{Files, Shut}
-use Rattle.cg_explain.specs.SecondRow.{why_stays, why_control, control_asked, is_told, controls_asked, place_with, place_asked, spares_files, second_row_asked, is_met}
+use Rattle.cg_explain.specs.SecondRow.{why_stays, why_control, control_asked, controls_asked, place_with, place_asked, spares_files, second_row_asked, is_met}
 
 some-is : {A : Type 0} (b : Bool) (x : A) → is_some (cond b (Some x) None) ≡ b
 some-is true x = refl
@@ -130,7 +131,7 @@ module _ (st : State) (users : List Identity) (subtree : Names) where
 
     by_stay : ((greatest st users).stays subtree ≡ true) ⊎ ((greatest st users).stays subtree ≡ false)
         → ((is_some (why_stays st users subtree) && asked_behind) && fits) ≡ ((greatest st users).stays subtree && tested_behind)
-    unfolding controls_asked
+    unfolding told_controllers
     by_stay (inl stays) =
         (λ i. (stay-is i && controls-are stays all_controllers
         (Files (spares_files st users subtree) ∷ flat_map (place_asked st users subtree) (paths_of st))

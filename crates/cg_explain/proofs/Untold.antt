@@ -1,14 +1,11 @@
 -- A controller that the root hasn't stays off everywhere.
-use Rattle.std.proofs.Common.{◌≡◌, ℕ, ◌≤◌, zero, suc, true, false, not, List, [], ◌∷◌, length, take, None, Some, is_some, refl, sym, ap, ◌∙◌, true≢false, arith}
+use Rattle.std.proofs.Common.{◌≡◌, ℕ, zero, suc, true, false, not, List, take, None, Some, refl, sym, ap, ◌∙◌, true≢false}
 use Rattle.std.proofs.lemmas.Bool.{and_from, or_right, false_from_ne_true}
-use Rattle.cg_cgroup.specs.Paths.{Names, parent}
+use Rattle.cg_cgroup.specs.Paths.{Names}
 use Rattle.cg_cgroup.specs.Identity.{Identity}
-use Rattle.cg_cgroup.specs.Files.{enables, no_controllers, is_within}
+use Rattle.cg_cgroup.specs.Files.{enables, no_controllers}
 use Rattle.cg_cgroup.specs.declared.files.Controller.{Controller}
-use Rattle.cg_cgroup.specs.declared.cgroup.Cgroup.{Cgroup}
-use Rattle.cg_cgroup.proofs.PathParents.{length-parent}
-use Rattle.cg_cgroup.proofs.Options.{some_value}
-use Rattle.cg_cgroup.proofs.ControllerLaws.{enables-set_by, is_within-enables}
+use Rattle.cg_cgroup.proofs.ControllerLaws.{enables-set_by}
 use Rattle.cg_model.specs.States.{State, row_at}
 use Rattle.cg_model.specs.WellFormed.{IsWellFormed, enabled_at}
 use Rattle.cg_model.proofs.RootControllers.{root_has}

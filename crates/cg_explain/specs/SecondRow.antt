@@ -1,12 +1,13 @@
 -- What the second row of guards asks of a subtree against some users, one thing after another, and by what it is so.
-use Rattle.std.specs.Prelude.{Bool, ◌&&◌, ◌||◌, not, cond, List, [], ◌∷◌, ◌++◌, map, length, Option, Some, None, is_some}
-use Rattle.std.specs.List.{list_all, flat_map, filter}
+use Rattle.std.specs.Prelude.{Bool, ◌&&◌, not, cond, List, [], ◌∷◌, ◌++◌, map, length, Option, Some, None, is_some}
+use Rattle.std.specs.List.{list_all, flat_map}
 use Rattle.cg_cgroup.specs.Paths.{Names, parent}
 use Rattle.cg_cgroup.specs.Identity.{Identity}
-use Rattle.cg_cgroup.specs.Files.{all_controllers, is_in_format_2, enables, all_files}
+use Rattle.cg_cgroup.specs.Files.{all_files}
 use Rattle.cg_cgroup.specs.declared.files.Controller.{Controller}
 use Rattle.cg_cgroup.specs.declared.files.EntryName.TheVariants.{Dir, Procs, File}
 use Rattle.cg_model.specs.States.{State, paths_of}
+use Rattle.cg_model.specs.Tries.{told_controllers}
 use Rattle.cg_second.specs.Lasting.{is_reached}
 use Rattle.cg_second.specs.Greatest.{greatest}
 use Rattle.cg_second.specs.Judged.{takes_none, grows_none}
@@ -57,13 +58,9 @@ place_asked st users subtree path =
 abbrev pub control_asked : State → List Identity → Names → Controller → Asked
 control_asked st users subtree controller = Control controller (why_control st users subtree controller)
 
--- those that bring a limit file are told of, and what else the root has
-abbrev pub is_told : State → Controller → Bool
-is_told st controller = is_in_format_2 controller || enables st.controllers controller
-
--- each of them
-unfoldable pub controls_asked : State → List Identity → Names → List Asked
-controls_asked st users subtree = map (control_asked st users subtree) (filter (is_told st) all_controllers)
+-- each controller that is told of
+abbrev pub controls_asked : State → List Identity → Names → List Asked
+controls_asked st users subtree = map (control_asked st users subtree) (told_controllers st)
 
 abbrev pub spares_files : State → List Identity → Names → Bool
 spares_files st users subtree = list_all (λ file. not (is_reached st users subtree (File file))) all_files

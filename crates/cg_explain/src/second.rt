@@ -9,13 +9,14 @@ ghost use Rattle.cg_second.specs.Judged.{is_full_to, takes_none, grows_none};
 ghost use Rattle.cg_second.specs.Lasting.{is_reached};
 ghost use Rattle.cg_second.specs.Counts.{IsSurvey};
 ghost use Rattle.cg_second.specs.Exposed.{is_passed_to};
-ghost use Rattle.cg_explain.specs.SecondRow.{is_met, why_stays, why_control, why_takes, why_grows, place_with, place_asked, controls_asked, is_told, second_row_asked};
+ghost use Rattle.cg_explain.specs.SecondRow.{is_met, why_stays, why_control, why_takes, why_grows, place_with, place_asked, controls_asked, second_row_asked};
 
 use cg_cgroup::files::{Controller, EntryName};
 use cg_cgroup::memory::NoMemory;
 use cg_cgroup::path::Path;
 use cg_cgroup::user::User;
 use cg_model::hierarchy::Hierarchy;
+use cg_model::told::is_told;
 use cg_second::closed::{grows_none, is_exposed, is_passed, takes_none};
 use cg_second::control::{stays, stays_off, stays_on};
 use cg_second::reach::{is_anchored, is_reached, spares_files};
@@ -127,13 +128,6 @@ fn all_asked<H: Hierarchy>(
     Ok(row)
 }
 
-/// Whether a controller is told of: those that bring a limit file, and what else the root has.
-fn is_told<H: Hierarchy>(survey: &Survey<H>, controller: Controller) -> bool
-    ensures { result ≡ is_told (H.state survey.now.tree.now) controller }
-{
-    controller.is_in_format_2() || survey.tree.controllers().contains(controller)
-}
-
 /// Adds each controller that is told of.
 fn push_controls<H: Hierarchy>(
     row: &mut Vec<Asked>,
@@ -145,7 +139,7 @@ fn push_controls<H: Hierarchy>(
     ensures { OnOk result (row.new.items ≡ row.old.items ++ controls_asked (H.state survey.now.tree.now) survey.now.users.now subtree.now) }
 {
     for controller in Controller::ALL {
-        if is_told(survey, controller) {
+        if is_told(survey.tree, controller) {
             let how = why_control(survey, subtree, controller);
             row.push(Asked::Control(controller, how))?;
         }

@@ -29,14 +29,14 @@ use Rattle.cg_model.specs.States.{State, row_at, process_at}
 use Rattle.cg_model.specs.WellFormed.{has_row, enabled_at, enabled_above, available_at, may_hold, IsFormedRow, IsWellFormed}
 use Rattle.cg_model.proofs.ClauseLaws.{none_of_first}
 use Rattle.cg_model.proofs.FormedParts.{row-may_hold}
-use Rattle.cg_format.specs.Said.{tables_at, integer_at, path_said, controllers_said, mode_missing, limit_of, accepted, id_read, mode_read, table_of, entry_said, value_said, is_named, has_path, pid_said}
+use Rattle.cg_format.specs.Said.{tables_at, integer_at, path_said, controllers_said, known_said, mode_missing, limit_of, accepted, id_read, mode_read, table_of, entry_said, value_said, is_named, has_path, pid_said}
 use Rattle.cg_format.specs.TextOf.{IsInForm, IsRowOf, IsProcessOf, has_pid, IsDocumentOf}
 use Rattle.cg_format.specs.TextFaults.{each_cgroup, each_process, row_faults, is_there, enabled_there, over, cgroup_faults, process_faults}
 use Rattle.cg_format.specs.Tables.{IsEntryOf, AreEntriesOf, IsAmong, IsLive, AreProcesses}
 use Rattle.cg_format.specs.declared.fault.Place.TheVariants.{Cgroup as AtCgroup, Process as AtProcess}
 use Rattle.cg_format.specs.declared.format.Format.{Format}
 use Rattle.cg_format.proofs.Cuts.{is_some-find}
-use Rattle.cg_format.proofs.SaidRanges.{mode_small, entry_as, accepted_is}
+use Rattle.cg_format.proofs.SaidRanges.{mode_small, entry_as, accepted_is, said_of_known}
 use Rattle.cg_format.proofs.KeysOnce.{none_at, all_rows, found_at, IsOnce, key_had, once_found, once_counted}
 use Rattle.cg_format.proofs.TablesSay.{row_says, StandsAmong, stands_among, root_there, SaysProcess, process_says}
 
@@ -124,7 +124,7 @@ module _ (format : Format) (document : Members) (controllers : ControllerSet) (e
   enabled_is path (Some cgroup) is =
       let table = some_value (find (has_path path) tables) (found_is path ∙ ap is_some is) in
       sym (ap (option_and_then (controllers_said (codes "enabled"))) table.1
-      ∙ (are.each path cgroup table.0 (sym (get_is path) ∙ is) table.1).enabled)
+      ∙ (said_of_known format (codes "enabled") table.0 _ (are.each path cgroup table.0 (sym (get_is path) ∙ is) table.1).enabled).0)
 
   among : IsAmong tables cgroups
   among = record {
@@ -176,7 +176,8 @@ module _ (format : Format) (document : Members) (controllers : ControllerSet) (e
     rows_within : (path : Names) (cgroup : Cgroup) → row_at st path ≡ Some cgroup → is_within cgroup.enabled (available_at st path) ≡ true
     rows_within path cgroup is =
         let at = table_at path cgroup is in
-        at.stands.within cgroup.enabled (available_at st path) at.entry.enabled (over_is controllers path at.stands.parent_there)
+        at.stands.within cgroup.enabled (available_at st path) (said_of_known format (codes "enabled") at.table _ at.entry.enabled).0
+        (over_is controllers path at.stands.parent_there)
 
     rows_formed : (path : Names) (cgroup : Cgroup) → row_at st path ≡ Some cgroup → IsFormedRow (enabled_above st path) cgroup
     rows_formed path cgroup is =
@@ -302,7 +303,7 @@ module _ (format : Format) (document : Members) (controllers : ControllerSet) (e
 
       module _ (found : map.FinMap path_cmp Cgroup) (made : found ≡ cgroups) where
         -- the document is of these cgroups and processes
-        pub document_is_of : IsInForm format document → controllers_said (codes "controllers") document ≡ Some controllers
+        pub document_is_of : IsInForm format document → known_said format (codes "controllers") document ≡ Some controllers
             → IsDocumentOf (state_with found live used controllers) document
         document_is_of form said =
             subst (λ cgroups. IsDocumentOf (state_with cgroups live used controllers) document) (sym made)

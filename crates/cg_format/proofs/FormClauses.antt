@@ -31,13 +31,14 @@ in_form document none =
     let lives : List Data = elements_at (codes "process") document in
     let parts = five_none _ _ _ _ _ none in
     let said = absent_none _ _ parts.1 in
-    let few = and_parts (nat_le (length cgroups) most_rows) (nat_le (length lives) most_rows) (no_unless _ _ parts.2) in (
+    let few = and_parts (nat_le (length cgroups) (most_rows said.0)) (nat_le (length lives) (most_rows said.0)) (no_unless _ _
+    (rw said.1 at parts.2)) in (
       said.0,
       record {
         top = no_unless _ _ parts.0;
         format = said.1;
-        few_cgroups = leb-true (length cgroups) most_rows few.0;
-        few_processes = leb-true (length lives) most_rows few.1;
+        few_cgroups = leb-true (length cgroups) (most_rows said.0) few.0;
+        few_processes = leb-true (length lives) (most_rows said.0) few.1;
         cgroups = shapes_pass (row_keys said.0) AtCgroup 1 [] cgroups (rw said.1 at parts.3);
         processes = shapes_pass live_keys AtProcess 1 [] lives parts.4;
       },

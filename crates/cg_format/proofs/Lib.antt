@@ -10,3 +10,4 @@ pub mod PairsOf
 pub mod DocumentOfLaws
 pub mod StateOf
 pub mod ReadingLaws
+pub mod LargeLaws

@@ -31,7 +31,8 @@ use Rattle.cg_format.specs.declared.fault.Place.TheVariants.{Top, Cgroup as AtCg
 use Rattle.cg_format.specs.declared.fault.TreeFault.{TreeFault}
 use Rattle.cg_format.specs.declared.fault.TreeFault.TheVariants.{TooLong, NotToml, Shape, Format as BadFormat, TooMany, BadController, BadPath, BadEntry, BadValue, NoRoot, NoSuchFile, InternalProcess}
 use Rattle.cg_format.specs.declared.format.Format.{Format}
-use Rattle.cg_format.specs.declared.format.Format.TheVariants.{One, Two}
+use Rattle.cg_format.specs.declared.format.Format.TheVariants.{One, Two, Four}
+use Rattle.cg_format.proofs.SaidRanges.{said_of_known}
 use Rattle.cg_format.proofs.TablesSay.{all_so}
 use Rattle.cg_format.proofs.CgroupClauses.{twice_clause, orphan_clause, within_clause, files_clause}
 use Rattle.cg_format.proofs.Cuts.{head_of, is_some-find, any_filter, filter_cut}
@@ -88,15 +89,16 @@ form_has_none : (document : Members) (format : Format) → IsInForm format docum
 form_has_none document format form =
     let cgroups : List Data = elements_at (codes "cgroup") document in
     let processes : List Data = elements_at (codes "process") document in
-    let few : has_few document ≡ true =
-    and_from (nat_le (length cgroups) most_rows) (nat_le (length processes) most_rows)
-    (le-leb (length cgroups) most_rows form.few_cgroups) (le-leb (length processes) most_rows form.few_processes) in
+    let few : has_few format document ≡ true =
+    and_from (nat_le (length cgroups) (most_rows format)) (nat_le (length processes) (most_rows format))
+    (le-leb (length cgroups) (most_rows format) form.few_cgroups) (le-leb (length processes) (most_rows format) form.few_processes) in
     let cgroups_fit = shapes_fit (row_keys format) AtCgroup cgroups form.cgroups in
     let processes_fit = shapes_fit live_keys AtProcess processes form.processes in
-    (λ i. unless (form.top i) (Shape Top) ++ absent (form.format i) BadFormat ++ unless (few i) TooMany
+    (λ i. unless (form.top i) (Shape Top) ++ absent (form.format i) BadFormat
+    ++ present (form.format i) (λ format. unless (has_few format document) TooMany)
     ++ present (form.format i) (λ format. each_cgroup (λ _ place held. unless (is_table (row_keys format) held) (Shape place)) cgroups)
     ++ each_process (λ _ place held. unless (is_table live_keys held) (Shape place)) processes)
-    ∙ (λ i. cgroups_fit i ++ processes_fit i)
+    ∙ (λ i. unless (few i) TooMany ++ cgroups_fit i ++ processes_fit i)
 
 -- ---- a cgroup by itself
 
@@ -104,6 +106,7 @@ form_has_none document format form =
 nobody : (format : Format) → is_some (owner_said format 420 no_members) ≡ true
 nobody One = refl
 nobody Two = refl
+nobody Four = refl
 
 module _ (format : Format) (st : State) (row : Members) (is : IsRowOf format st row) where
   unnamed : (file : LimitFile) → file_of is.cgroup file ≡ None → table_of (File file) row ≡ None
@@ -162,7 +165,8 @@ module _ (format : Format) (st : State) (tables : List Members) (all : AllByRecu
   enabled_so path there =
       let one = found path there in
       let row : row_at st path ≡ Some one.1.cgroup = ap (row_at st) (path_is path one.1.path one.0 one.1.named one.2) ∙ one.1.there in
-      ap (option_and_then (controllers_said (codes "enabled"))) one.3 ∙ one.1.enabled ∙ sym (ap (λ o. Some (enabled_in o)) row)
+      ap (option_and_then (controllers_said (codes "enabled"))) one.3
+      ∙ (said_of_known format (codes "enabled") one.0 _ one.1.enabled).0 ∙ sym (ap (λ o. Some (enabled_in o)) row)
 
   over_so : (at_root : ControllerSet) (path : Names) → has_row st path ≡ true
       → over (Some at_root) tables path ≡ Some (cond (is_root path) at_root (enabled_at st (parent path)))
@@ -192,7 +196,13 @@ module _ (format : Format) (st : State) (tables : List Members) (all : AllByRecu
   none_past : each_cgroup (within_clause st.controllers tables) tables ≡ []
   none_past =
       none_of_each (IsRowOf format st) (within_clause st.controllers tables) AtCgroup tables all (λ before row after cut is here.
-      rw (is.named, is.enabled, over_so st.controllers is.path (ap is_some is.there), formed.top_down is.path is.cgroup is.there))
+      rw (
+        is.named,
+        (said_of_known format (codes "enabled") row _ is.enabled).0,
+        over_so st.controllers is.path
+            (ap is_some is.there),
+        formed.top_down is.path is.cgroup is.there,
+      ))
 
   stands : (row : Members) (is : IsRowOf format st row) (file : LimitFile) → is_named (File file) row ≡ true
       → stands_under (enabled_above st is.path) file ≡ true
@@ -254,6 +264,6 @@ document_has_none document st is =
 
 pub no_faults : (bytes : List ℕ) (st : State) → IsTextOf st bytes → text_faults bytes ≡ []
 no_faults bytes st is =
-    let short = le-leb (length bytes) longest_text is.short in
+    let short = le-leb (length bytes) (longest_text bytes) is.short in
     (λ i. unless (short i) TooLong ++ absent (is.parsed i) NotToml ++ present (is.parsed i) document_faults)
     ∙ document_has_none is.document st is.says

@@ -25,7 +25,7 @@ use Rattle.cg_cgroup.proofs.PathOrder.{path_cmp_total, path_cmp-IsAntisymmetric,
 use Rattle.cg_cgroup.proofs.CgroupLaws.{SameRest, same_cgroup}
 use Rattle.cg_model.specs.States.{State, row_at, process_at}
 use Rattle.cg_model.specs.WellFormed.{has_row, enabled_at, enabled_above, IsWellFormed}
-use Rattle.cg_format.specs.Said.{tables_at, text_at, integer_at, path_said, pid_said, pid_read, number_or, has_path}
+use Rattle.cg_format.specs.Said.{known_said, tables_at, text_at, integer_at, path_said, pid_said, pid_read, number_or, has_path}
 use Rattle.cg_format.specs.TextOf.{IsRowOf, IsProcessOf, has_pid, IsDocumentOf, IsTextOf}
 use Rattle.cg_format.specs.declared.format.Format.{Format}
 use Rattle.cg_format.proofs.Cuts.{is_some-find, any_counted}
@@ -228,7 +228,8 @@ one_of_document document st other is also =
     let used : st.used ≡ other.used =
     same_set nat_cmp_total nat_cmp-IsAntisymmetric _ _ (λ pid. is.used pid ∙ ap is_some (processes pid) ∙ sym (also.used pid)) in
     let controllers : st.controllers ≡ other.controllers =
-    same_some st.controllers other.controllers (sym is.controllers ∙ also.controllers) in
+    same_some st.controllers other.controllers (sym is.controllers
+    ∙ sym (ap (λ format. known_said format (codes "controllers") document) one_format) ∙ also.controllers) in
     λ i. record { rows = rows i; live = live i; used = used i; controllers = controllers i }
 
 pub one_state : (bytes : List ℕ) (st other : State) → IsTextOf st bytes → IsTextOf other bytes → st ≡ other

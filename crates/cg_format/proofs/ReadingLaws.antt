@@ -1,12 +1,18 @@
 -- A text is read as one thing: the state that it is of, or the first of its faults.
-use Rattle.std.proofs.Common.{◌≡◌, ℕ, List, [], ◌∷◌, Some, is_some, Ok, Err, sym, ap, ◌∙◌, true≢false, refl}
+use Rattle.std.proofs.Common.{◌≡◌, ℕ, true, codes, List, [], ◌∷◌, Option, Some, option_and_then, is_some, Ok, Err, sym, ap, ◌∙◌, true≢false, refl}
 use Rattle.cg_model.specs.Clauses.{first}
 use Rattle.cg_model.specs.States.{State}
 use Rattle.cg_cgroup.proofs.Options.{same_some}
-use Rattle.cg_format.specs.Readings.{Reading, IsReading}
+use Rattle.cg_format.specs.Readings.{Reading, IsReading, format_in, vocabulary_in}
 use Rattle.cg_format.specs.TextOf.{IsTextOf}
 use Rattle.cg_format.specs.TextFaults.{text_faults}
 use Rattle.cg_format.specs.declared.fault.TreeFault.{TreeFault}
+use Rattle.cg_format.specs.Said.{vocabulary, format_said}
+use Rattle.cg_format.specs.declared.format.Format.{Format}
+use Rattle.cg_cgroup.specs.Files.{is_of}
+use Rattle.cg_cgroup.specs.declared.files.Vocabulary.TheVariants.{Format2}
+use Rattle.std.specs.Option.{option_map_or}
+use Rattle.cg_format.proofs.SaidRanges.{said_of_known}
 use Rattle.cg_format.proofs.OneState.{one_state}
 use Rattle.cg_format.proofs.NoFaults.{no_faults}
 use Rattle.cg_format.proofs.StateOf.{state_of_text}
@@ -31,3 +37,10 @@ one_reading bytes (Ok st) (Ok other) is also = ap Ok (one_state bytes st other i
 one_reading bytes (Ok st) (Err fault) is also = no_first bytes st fault is also
 one_reading bytes (Err fault) (Ok st) is also = sym (no_first bytes st fault also is)
 one_reading bytes (Err fault) (Err other) is also = ap Err (same_some fault other (sym is ∙ also))
+
+-- the state of a text has controllers alone that its format names
+pub known_controllers : (bytes : List ℕ) (st : State) → IsTextOf st bytes → is_of (vocabulary_in bytes) st.controllers ≡ true
+known_controllers bytes st is =
+    let said : format_in bytes ≡ Some is.says.format = ap (option_and_then format_said) is.parsed ∙ is.says.form.format in
+    ap (λ (found : Option Format). is_of (option_map_or vocabulary found Format2) st.controllers) said
+    ∙ (said_of_known is.says.format (codes "controllers") is.document st.controllers is.says.controllers).1

@@ -244,7 +244,7 @@ state_of_text bytes none =
     let made = state_of_document parsed.0 (rw parsed.1 at parts.4) in (
       made.0,
       record {
-        short = leb-true (length bytes) longest_text (no_unless _ _ parts.2);
+        short = leb-true (length bytes) (longest_text bytes) (no_unless _ _ parts.2);
         document = parsed.0;
         parsed = parsed.1;
         says = made.1;

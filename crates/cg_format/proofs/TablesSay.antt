@@ -17,7 +17,7 @@ use Rattle.cg_cgroup.specs.declared.files.EntryName.{EntryName}
 use Rattle.cg_cgroup.specs.declared.files.EntryName.TheVariants.{Dir, Procs, SubtreeControl, File}
 use Rattle.cg_cgroup.specs.declared.files.LimitFile.{LimitFile}
 use Rattle.cg_model.proofs.ClauseLaws.{no_unless}
-use Rattle.cg_format.specs.Said.{path_said, controllers_said, entry_said, value_said, is_named, has_path, pid_said, uid_said}
+use Rattle.cg_format.specs.Said.{path_said, controllers_said, known_said, entry_said, value_said, is_named, has_path, pid_said, uid_said}
 use Rattle.cg_format.specs.TextOf.{has_pid}
 use Rattle.cg_format.specs.TextFaults.{row_faults, is_there, enabled_there, over, cgroup_faults, process_faults}
 use Rattle.cg_format.specs.declared.fault.Place.{Place}
@@ -34,7 +34,7 @@ pub record SaysCgroup (format : Format) (row : Members) : Type 0 where
   pub path : Names
   pub named : path_said (codes "path") row ≡ Some path
   pub enabled : ControllerSet
-  pub enables : controllers_said (codes "enabled") row ≡ Some enabled
+  pub enables : known_said format (codes "enabled") row ≡ Some enabled
   pub owner : EntryName → Entry
   pub owned : (name : EntryName) → entry_said format row name ≡ Some (owner name)
   pub value : LimitFile → Limit

@@ -1,21 +1,24 @@
 -- The form of a tree text's document: the keys of each table, and the types of what stands at them. Own.
-use Rattle.std.specs.Prelude.{ℕ, Bool, true, false, ◌&&◌, ◌||◌, not, List, [], ◌∷◌, map, codes, Some, None, is_some}
+use Rattle.std.specs.Prelude.{ℕ, Bool, true, false, ◌&&◌, ◌||◌, not, List, [], ◌∷◌, map, codes, cond, Some, None, is_some}
 use Rattle.std.specs.List.{list_any, list_all}
 use Rattle.cg_cgroup.specs.Paths.{same_name}
 use Rattle.cg_cgroup.specs.Files.{all_files, file_name}
 use Rattle.cg_cgroup.specs.Texts as texts
 use Rattle.toml.specs.Data.{Data, array, table, Items, no_items, item, Members, no_members, member, get_member, as_str, as_integer, as_array}
 use Rattle.cg_format.specs.declared.format.Format.{Format}
-use Rattle.cg_format.specs.declared.format.TheConstants.{MOST_ROWS}
-use Rattle.cg_format.specs.declared.format.Format.TheVariants.{One, Two}
+use Rattle.cg_format.specs.declared.format.Format.TheVariants.{One, Two, Four}
 
-abbrev pub is_two : Format → Bool
-is_two One = false
-is_two Two = true
+-- format 1 has no groups
+abbrev pub has_groups : Format → Bool
+has_groups One = false
+has_groups Two = true
+has_groups Four = true
 
 -- the largest number of rows of an array
-abbrev pub most_rows : ℕ
-most_rows = MOST_ROWS
+abbrev pub most_rows : Format → ℕ
+most_rows One = 4096
+most_rows Two = 4096
+most_rows Four = 65536
 
 -- ---- types of values
 
@@ -71,10 +74,11 @@ document_keys =
     must_have (codes "format") is_integer ∷ must_have (codes "controllers") are_texts
     ∷ may_have (codes "cgroup") is_array ∷ may_have (codes "process") is_array ∷ []
 
--- an owner, a group and a mode; format 1 has no groups
+-- an owner, a group where the format has them, and a mode
 abbrev pub owner_keys : Format → List Key
-owner_keys One = may_have (codes "uid") is_integer ∷ may_have (codes "mode") is_integer ∷ []
-owner_keys Two = may_have (codes "uid") is_integer ∷ may_have (codes "gid") is_integer ∷ may_have (codes "mode") is_integer ∷ []
+owner_keys format =
+    may_have (codes "uid") is_integer
+    ∷ cond (has_groups format) (may_have (codes "gid") is_integer ∷ may_have (codes "mode") is_integer ∷ []) (may_have (codes "mode") is_integer ∷ [])
 
 -- of a limit file also its value
 abbrev pub limit_keys : Format → List Key

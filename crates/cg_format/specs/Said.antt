@@ -4,18 +4,26 @@ use Rattle.cg_cgroup.specs.Options.{◌>>=◌}
 use Rattle.cg_cgroup.specs.Paths.{Names, same_name, path_at, same_path}
 use Rattle.cg_cgroup.specs.Numbers.{is_pid, is_mode}
 use Rattle.cg_cgroup.specs.Users.{has_bit}
-use Rattle.cg_cgroup.specs.Files.{named_in_format_2, with_controller, no_controllers, default_value, accepts, entry_text}
+use Rattle.cg_cgroup.specs.Files.{controller_named, is_of, with_controller, no_controllers, default_value, accepts, entry_text}
 use Rattle.cg_cgroup.specs.declared.user.Entry.{Entry}
 use Rattle.cg_cgroup.specs.declared.files.Limit.{Limit}
 use Rattle.cg_cgroup.specs.declared.files.Limit.TheVariants.{Max as NoLimit, At}
 use Rattle.cg_cgroup.specs.declared.controllers.ControllerSet.{ControllerSet}
+use Rattle.cg_cgroup.specs.declared.files.Vocabulary.{Vocabulary}
+use Rattle.cg_cgroup.specs.declared.files.Vocabulary.TheVariants.{Format2, Format4}
 use Rattle.cg_cgroup.specs.declared.files.LimitFile.{LimitFile}
 use Rattle.cg_cgroup.specs.declared.files.EntryName.{EntryName}
 use Rattle.cg_cgroup.specs.declared.files.EntryName.TheVariants.{Dir, File}
 use Rattle.toml.specs.Data.{Data, string, integer, Members, no_members, get_member, as_str, as_integer, as_array, as_table}
-use Rattle.cg_format.specs.Form.{is_two, elements}
+use Rattle.cg_format.specs.Form.{has_groups, elements}
 use Rattle.cg_format.specs.declared.format.Format.{Format}
-use Rattle.cg_format.specs.declared.format.Format.TheVariants.{One, Two}
+use Rattle.cg_format.specs.declared.format.Format.TheVariants.{One, Two, Four}
+
+-- which controllers a format names
+abbrev pub vocabulary : Format → Vocabulary
+vocabulary One = Format2
+vocabulary Two = Format2
+vocabulary Four = Format4
 
 -- ---- numbers and names
 
@@ -35,7 +43,7 @@ id_read written = passing (λ number. nat_le number 4294967295) (number_or 0 wri
 
 -- a mode: 0 to 0o777, and in format 1 without the group's write bit 0o020
 abbrev pub mode_read : Format → ℕ → Option ℤ → Option ℕ
-mode_read format missing written = passing (λ number. is_mode number && (is_two format || not (has_bit number 16))) (number_or missing written)
+mode_read format missing written = passing (λ number. is_mode number && (has_groups format || not (has_bit number 16))) (number_or missing written)
 
 abbrev pub pid_read : ℤ → Option ℕ
 pid_read written = passing is_pid (number_or 0 (Some written))
@@ -46,14 +54,14 @@ accepted file value = cond (accepts file value) (Some value) None
 -- the controllers that texts name, beside those of a set
 abbrev pub controllers_from : ControllerSet → List (List ℕ) → Option ControllerSet
 controllers_from controllers [] = Some controllers
-controllers_from controllers (text ∷ texts) = option_and_then (λ controller. controllers_from (with_controller controllers controller true) texts) (named_in_format_2 text)
+controllers_from controllers (text ∷ texts) = option_and_then (λ controller. controllers_from (with_controller controllers controller true) texts) (controller_named text)
 
 abbrev pub controllers_read : List (List ℕ) → Option ControllerSet
 controllers_read texts = controllers_from no_controllers texts
 
--- 1 and 2
+-- 1, 2 and 4
 abbrev pub format_of : ℤ → Option Format
-format_of (pos number) = if number == 1 then Some One else (if number == 2 then Some Two else None)
+format_of (pos number) = if number == 1 then Some One else (if number == 2 then Some Two else (if number == 4 then Some Four else None))
 format_of (negsuc number) = None
 
 -- ---- what stands at a key, where it is of this type
@@ -82,6 +90,11 @@ path_said key members = option_and_then path_at (text_at key members)
 
 abbrev pub controllers_said : List ℕ → Members → Option ControllerSet
 controllers_said key members = controllers_read (texts_at key members)
+
+-- the controllers of a key, where the format names each of them
+abbrev pub known_said : Format → List ℕ → Members → Option ControllerSet
+known_said format key members =
+    option_and_then (λ set. cond (is_of (vocabulary format) set) (Some set) None) (controllers_said key members)
 
 abbrev pub format_said : Members → Option Format
 format_said document = option_and_then format_of (integer_at (codes "format") document)

@@ -20,7 +20,7 @@ use Rattle.cg_cgroup.specs.declared.files.LimitFile.{LimitFile}
 use Rattle.cg_cgroup.specs.declared.cgroup.LimitEntry.{LimitEntry}
 use Rattle.cg_cgroup.specs.declared.cgroup.Cgroup.{Cgroup}
 use Rattle.cg_cgroup.specs.declared.process.Process.{Process}
-use Rattle.cg_format.specs.Said.{path_said, controllers_said, entry_said, value_said, has_path, pid_said, uid_said}
+use Rattle.cg_format.specs.Said.{path_said, known_said, entry_said, value_said, has_path, pid_said, uid_said}
 use Rattle.cg_format.specs.TextOf.{OthersAreRoots, has_pid}
 use Rattle.cg_format.specs.TextFaults.{is_there, enabled_there, over}
 use Rattle.cg_format.specs.declared.format.Format.{Format}
@@ -29,7 +29,7 @@ use Rattle.cg_format.specs.declared.format.Format.{Format}
 
 -- a cgroup as a table says it, with the files that stand at it
 pub record IsEntryOf (format : Format) (tables : List Members) (table : Members) (cgroup : Cgroup) : Type 0 where
-  pub enabled : controllers_said (codes "enabled") table ≡ Some cgroup.enabled
+  pub enabled : known_said format (codes "enabled") table ≡ Some cgroup.enabled
   pub entries : (name : EntryName) (entry : Entry) → entry_in cgroup name ≡ Some entry → entry_said format table name ≡ Some entry
   pub values : (file : LimitFile) (held : LimitEntry) → file_of cgroup file ≡ Some held → value_said table file ≡ Some held.value
   pub files : (path : Names) (above : ControllerSet) → path_said (codes "path") table ≡ Some path → over (Some no_controllers) tables path ≡ Some above

@@ -8,7 +8,7 @@ use Rattle.cg_cgroup.specs.declared.controllers.ControllerSet.{ControllerSet}
 use Rattle.cg_cgroup.specs.declared.files.EntryName.TheVariants.{File}
 use Rattle.cg_model.specs.Clauses.{unless, absent, present}
 use Rattle.cg_format.specs.Form.{most_rows, document_keys, row_keys, live_keys, is_table}
-use Rattle.cg_format.specs.Said.{elements_at, tables_at, path_said, controllers_said, format_said, entry_said, value_said, is_named, has_path, pid_said, uid_said}
+use Rattle.cg_format.specs.Said.{elements_at, tables_at, path_said, controllers_said, known_said, format_said, entry_said, value_said, is_named, has_path, pid_said, uid_said}
 use Rattle.cg_format.specs.TextOf.{has_pid}
 use Rattle.cg_format.specs.TreeTexts.{longest_text, document_of}
 use Rattle.cg_format.specs.declared.format.Format.{Format}
@@ -30,14 +30,16 @@ each_process clauses rows = each clauses Process 1 [] rows
 
 -- ---- the form
 
-abbrev pub has_few : Members → Bool
-has_few document = nat_le (length (elements_at (codes "cgroup") document)) most_rows && nat_le (length (elements_at (codes "process") document)) most_rows
+abbrev pub has_few : Format → Members → Bool
+has_few format document =
+    nat_le (length (elements_at (codes "cgroup") document)) (most_rows format)
+    && nat_le (length (elements_at (codes "process") document)) (most_rows format)
 
 abbrev pub form_faults : Members → List TreeFault
 form_faults document =
     unless (is_table document_keys (table document)) (Shape Top)
     ++ absent (format_said document) BadFormat
-    ++ unless (has_few document) TooMany
+    ++ present (format_said document) (λ format. unless (has_few format document) TooMany)
     ++ present (format_said document) (λ format. each_cgroup (λ _ place held. unless (is_table (row_keys format) held) (Shape place)) (elements_at (codes "cgroup") document))
     ++ each_process (λ _ place held. unless (is_table live_keys held) (Shape place)) (elements_at (codes "process") document)
 
@@ -47,7 +49,7 @@ form_faults document =
 abbrev pub row_faults : Format → Place → Members → List TreeFault
 row_faults format place row =
     absent (path_said (codes "path") row) (BadPath place)
-    ++ absent (controllers_said (codes "enabled") row) (BadController place)
+    ++ absent (known_said format (codes "enabled") row) (BadController place)
     ++ unless (list_all (λ name. is_some (entry_said format row name)) all_entries) (BadEntry place)
     ++ unless (list_all (λ file. is_some (value_said row file)) all_files) (BadValue place)
 
@@ -93,9 +95,9 @@ process_faults cgroups earlier place row =
 
 abbrev pub said_faults : Format → Members → List TreeFault
 said_faults format document =
-    absent (controllers_said (codes "controllers") document) (BadController Top)
+    absent (known_said format (codes "controllers") document) (BadController Top)
     ++ each_cgroup (λ _. row_faults format) (tables_at (codes "cgroup") document)
-    ++ cgroup_faults (controllers_said (codes "controllers") document) (tables_at (codes "cgroup") document)
+    ++ cgroup_faults (known_said format (codes "controllers") document) (tables_at (codes "cgroup") document)
     ++ each_process (process_faults (tables_at (codes "cgroup") document)) (tables_at (codes "process") document)
 
 abbrev pub document_faults : Members → List TreeFault
@@ -103,4 +105,4 @@ document_faults document = form_faults document ++ present (format_said document
 
 abbrev pub text_faults : List ℕ → List TreeFault
 text_faults bytes =
-    unless (nat_le (length bytes) longest_text) TooLong ++ absent (document_of bytes) NotToml ++ present (document_of bytes) document_faults
+    unless (nat_le (length bytes) (longest_text bytes)) TooLong ++ absent (document_of bytes) NotToml ++ present (document_of bytes) document_faults

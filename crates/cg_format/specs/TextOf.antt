@@ -14,7 +14,7 @@ use Rattle.cg_cgroup.specs.declared.process.Process.{Process}
 use Rattle.cg_model.specs.States.{State, row_at, process_at, is_used}
 use Rattle.cg_model.specs.WellFormed.{has_row, IsWellFormed}
 use Rattle.cg_format.specs.Form.{most_rows, document_keys, row_keys, live_keys, is_table}
-use Rattle.cg_format.specs.Said.{elements_at, tables_at, path_said, controllers_said, format_said, entry_said, value_said, is_named, has_path, pid_said, uid_said}
+use Rattle.cg_format.specs.Said.{elements_at, tables_at, path_said, known_said, format_said, entry_said, value_said, is_named, has_path, pid_said, uid_said}
 use Rattle.cg_format.specs.TreeTexts.{longest_text, document_of}
 use Rattle.cg_format.specs.declared.format.Format.{Format}
 
@@ -22,12 +22,12 @@ use Rattle.cg_format.specs.declared.format.Format.{Format}
 pub record IsInForm (kind : Format) (document : Members) : Type 0 where
   pub top : is_table document_keys (table document) ≡ true
   pub format : format_said document ≡ Some kind
-  pub few_cgroups : length (elements_at (codes "cgroup") document) ≤ most_rows
-  pub few_processes : length (elements_at (codes "process") document) ≤ most_rows
+  pub few_cgroups : length (elements_at (codes "cgroup") document) ≤ most_rows kind
+  pub few_processes : length (elements_at (codes "process") document) ≤ most_rows kind
   pub cgroups : list_all (is_table (row_keys kind)) (elements_at (codes "cgroup") document) ≡ true
   pub processes : list_all (is_table live_keys) (elements_at (codes "process") document) ≡ true
 
--- The limit files that no text of formats 1 and 2 names are root's, with mode 0o644.
+-- The limit files that no text names are root's, with mode 0o644.
 pub record OthersAreRoots (cgroup : Cgroup) : Type 0 where
   pub freeze : cgroup.freeze ≡ root_file
   pub others : (controller : Controller) (entry : Entry) → other_in cgroup controller ≡ Some entry → entry ≡ root_file
@@ -38,7 +38,7 @@ pub record IsRowOf (format : Format) (st : State) (row : Members) : Type 0 where
   pub cgroup : Cgroup
   pub there : row_at st path ≡ Some cgroup
   pub named : path_said (codes "path") row ≡ Some path
-  pub enabled : controllers_said (codes "enabled") row ≡ Some cgroup.enabled
+  pub enabled : known_said format (codes "enabled") row ≡ Some cgroup.enabled
   pub entries : (name : EntryName) (entry : Entry) → entry_in cgroup name ≡ Some entry → entry_said format row name ≡ Some entry
   pub values : (file : LimitFile) (held : LimitEntry) → file_of cgroup file ≡ Some held → value_said row file ≡ Some held.value
   pub files : (name : EntryName) → is_named name row ≡ true → is_some (entry_in cgroup name) ≡ true
@@ -60,7 +60,7 @@ has_pid pid row = elim (pid_said row) [ None ↦ false | Some said ↦ nat_eq pi
 pub record IsDocumentOf (st : State) (document : Members) : Type 0 where
   pub format : Format
   pub form : IsInForm format document
-  pub controllers : controllers_said (codes "controllers") document ≡ Some st.controllers
+  pub controllers : known_said format (codes "controllers") document ≡ Some st.controllers
   pub cgroups : AllByRecursion (IsRowOf format st) (tables_at (codes "cgroup") document)
   pub paths : (path : Names) → count_by (has_path path) (tables_at (codes "cgroup") document) ≡ cond (has_row st path) 1 0
   pub processes : AllByRecursion (IsProcessOf st) (tables_at (codes "process") document)
@@ -68,9 +68,9 @@ pub record IsDocumentOf (st : State) (document : Members) : Type 0 where
   pub used : (pid : ℕ) → is_used st pid ≡ is_some (process_at st pid)
   pub formed : IsWellFormed st
 
--- A text of at most 16777216 bytes, whose document is one of the state.
+-- A text that isn't too long, whose document is one of the state.
 pub record IsTextOf (st : State) (bytes : List ℕ) : Type 0 where
-  pub short : length bytes ≤ longest_text
+  pub short : length bytes ≤ longest_text bytes
   pub document : Members
   pub parsed : document_of bytes ≡ Some document
   pub says : IsDocumentOf st document

@@ -16,17 +16,17 @@ pub enum Place {
 /// The first fault of a tree text, in the order in which texts are tested.
 #[derive(Clone, Copy, Debug, PartialEq, Eq)]
 pub enum TreeFault {
-    /// Over 16777216 bytes.
+    /// Over 16777216 bytes, and none of format 4 that says at its beginning that it is large, or over 67108864.
     TooLong,
     /// The bytes are no TOML document.
     NotToml,
     /// A key is missing, unknown or of the wrong type.
     Shape(Place),
-    /// The format is neither 1 nor 2.
+    /// The format is neither 1 nor 2 nor 4.
     Format,
-    /// Over 4096 cgroups or over 4096 processes.
+    /// Over 4096 cgroups or over 4096 processes; in format 4 over 65536.
     TooMany,
-    /// A text that should name a controller names none.
+    /// A text that should name a controller names none that the format has.
     BadController(Place),
     /// `path` is no path.
     BadPath(Place),

@@ -5,7 +5,8 @@ use Rattle.std.specs.Cmp.Lexicographic.{pointwise}
 use Rattle.std.specs.Option.{option_or}
 use Rattle.std.proofs.lemmas.Bool.{eqb-true}
 use Rattle.memchr.specs.Find.{Passes, is_byte, is_byte2}
-use Rattle.cg_help.specs.Modes.{behind, unspaced, number_at, mode_at, is_comment_behind, spelled_from}
+use Rattle.cg_format.specs.TreeTexts.{behind}
+use Rattle.cg_help.specs.Modes.{unspaced, number_at, mode_at, is_comment_behind, spelled_from}
 
 left_false : (p q : Bool) → ¬ (p || q ≡ true) → p ≡ false
 left_false true q unmet = absurd (unmet refl)

@@ -1,14 +1,10 @@
 -- Modes of a tree's text that are written in decimal where an octal number is likely to be meant. Own.
-use Rattle.std.specs.Prelude.{ℕ, Bool, false, cond, not, nat_eq, nat_le, ◌&&◌, ◌||◌, List, [], ◌∷◌, codes, take, drop, length, Option, Some, None, option_and_then}
-use Rattle.std.specs.Cmp.Lexicographic.{pointwise}
+use Rattle.std.specs.Prelude.{ℕ, Bool, false, cond, not, nat_eq, nat_le, ◌&&◌, ◌||◌, List, [], ◌∷◌, codes, Option, Some, None, option_and_then}
 use Rattle.std.specs.Option.{option_or, option_map_or}
+use Rattle.cg_format.specs.TreeTexts.{behind}
 use Rattle.text_places.specs.Shown.{indented}
 use Rattle.cg_help.specs.declared.modes.Spelled.{Spelled}
 use Rattle.cg_help.specs.declared.modes.Spelled.TheVariants.{Of400, Of440, Of444, Of500}
-
--- what stands behind a word at a text's front
-abbrev pub behind : List ℕ → List ℕ → Option (List ℕ)
-behind word text = cond (pointwise nat_eq (take (length word) text) word) (Some (drop (length word) text)) None
 
 -- a text without the spaces and tabs at its front
 abbrev pub unspaced : List ℕ → List ℕ

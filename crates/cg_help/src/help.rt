@@ -7,11 +7,13 @@ use crate::files::{read_again, why_unread};
 use crate::given::{other_of, paths_of, tree_of};
 use crate::lines::line_said;
 use crate::paths::{why_missing, why_no_path};
-use crate::trees::{missing_said, tree_said};
+use crate::trees::{missing_said, tree_said, vocabulary_of};
 use arguments::request::Request;
 use arguments::usage::usage_text;
+use cg_cgroup::files::Vocabulary;
 use cg_cgroup::memory::NoMemory;
 use cg_faults::fault::CliFault;
+use cg_format::fault::TreeFault;
 use cg_model::fault::CheckFault;
 use std::alloc::{AllocError, Global};
 use streams::files::Files;
@@ -117,13 +119,24 @@ fn fault_said<F: Files>(
             )
         }
         CliFault::Subtree(_) => missing_path(alloc, files, request, seen),
+        CliFault::Tree(TreeFault::TooLong) => plainly(
+            alloc,
+            "a text has at most 16777216 bytes, or 67108864 where format = 4 is its first line, or its second behind controllers = [..]",
+        ),
+        CliFault::Tree(TreeFault::TooMany) => plainly(
+            alloc,
+            "a tree has at most 4096 cgroups and 4096 processes, or 65536 of each with format = 4",
+        ),
         CliFault::Tree(fault) => match tree_bytes(alloc, files, request, seen)? {
             Some(bytes) => Ok(tree_said(alloc, *fault, bytes.as_slice())?),
             None => Ok(None),
         },
         CliFault::Read => unread(alloc, files, request),
         CliFault::Line { .. } => match seen.line {
-            Some(line) => Ok(Some(line_said(alloc, request, line)?)),
+            Some(line) => {
+                let vocabulary = vocabulary_seen(alloc, files, request, seen)?;
+                Ok(Some(line_said(alloc, request, vocabulary, line)?))
+            }
             None => Ok(None),
         },
         CliFault::TooManySteps => plainly(alloc, "a replay takes at most 65536 operations"),
@@ -172,6 +185,19 @@ fn tree_bytes<F: Files>(
             Some(bytes) => Ok(Some(Vec::from_slice(alloc, bytes)?)),
             None => Ok(None),
         },
+    }
+}
+
+/// Which controllers lines of operations name with the tree.
+fn vocabulary_seen<F: Files>(
+    alloc: Global,
+    files: &F,
+    request: &Request<'_>,
+    seen: Seen<'_, '_, '_>,
+) -> Result<Vocabulary, AllocError> {
+    match tree_bytes(alloc, files, request, seen)? {
+        Some(bytes) => Ok(vocabulary_of(alloc, bytes.as_slice())),
+        None => Ok(Vocabulary::Format2),
     }
 }
 

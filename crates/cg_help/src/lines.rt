@@ -1,8 +1,8 @@
 //! The line of operations or pairs at which it ended.
 use crate::input::kind_said;
-use crate::names::none_said;
+use crate::names::{controller_names, none_said};
 use arguments::request::Request;
-use cg_cgroup::files::{Controller, EntryName, LimitFile};
+use cg_cgroup::files::{Controller, EntryName, LimitFile, Vocabulary};
 use std::alloc::{AllocError, Global};
 use text_places::shown::quoted;
 
@@ -13,10 +13,11 @@ const OPERATIONS: [&str; 8] = [
 /// What a line of pairs looks like.
 const PAIR: &str = "pair UID PATH, or pair UID:GID,GID.. PATH";
 
-/// What is wrong with a line: its form, and of an operation's each word that is no name.
+/// What is wrong with a line: its form, and of an operation's each word that is no name. The tree has this vocabulary.
 pub(crate) fn line_said(
     alloc: Global,
     request: &Request<'_>,
+    vocabulary: Vocabulary,
     line: &[u8],
 ) -> Result<String, AllocError> {
     if let Some(kind) = kind_said(line) {
@@ -25,7 +26,7 @@ pub(crate) fn line_said(
     match std::str::from_utf8(line) {
         Ok(line) => match request {
             Request::AdvisePairs(_) => shown_with(alloc, line, PAIR),
-            _ => operation_said(alloc, line),
+            _ => operation_said(alloc, vocabulary, line),
         },
         Err(_) => String::from_str(alloc, "the line isn't UTF-8"),
     }
@@ -38,10 +39,10 @@ fn shown_with(alloc: Global, line: &str, form: &str) -> Result<String, AllocErro
     )
 }
 
-fn operation_said(alloc: Global, line: &str) -> Result<String, AllocError> {
+fn operation_said(alloc: Global, vocabulary: Vocabulary, line: &str) -> Result<String, AllocError> {
     let mut said = shown_with(alloc, line, form_of(first_word(line)))?;
     for (index, word) in line.split(' ').enumerate() {
-        if let Some(why) = word_said(alloc, first_word(line), index, word)? {
+        if let Some(why) = word_said(alloc, vocabulary, first_word(line), index, word)? {
             said.push_str("\n")?;
             said.push_str(why.as_str())?;
         }
@@ -77,6 +78,7 @@ fn first_word(line: &str) -> &str {
 /// What is to be written for a word that is no name, where one has to stand.
 fn word_said(
     alloc: Global,
+    vocabulary: Vocabulary,
     operation: &str,
     index: usize,
     word: &str,
@@ -85,25 +87,29 @@ fn word_said(
         Some(name) if operation == "control" => name,
         _ => word,
     };
-    let names = names_at(alloc, operation, index)?;
+    let names = names_at(alloc, vocabulary, operation, index)?;
     if names.is_empty() || word.is_empty() || names.as_slice().contains(&name) {
         return Ok(None);
     }
-    Ok(Some(none_said(alloc, name, names.as_slice())?))
+    let said = none_said(alloc, name, names.as_slice())?;
+    if operation == "control" && Controller::from_name(name).is_some() {
+        return Ok(Some(format!(in alloc; "{said}; with format = 4 it is one")?));
+    }
+    Ok(Some(said))
 }
 
 /// The names of which one has to stand at a place of an operation's line.
-fn names_at(alloc: Global, operation: &str, index: usize) -> Result<Vec<&'static str>, AllocError> {
+fn names_at(
+    alloc: Global,
+    vocabulary: Vocabulary,
+    operation: &str,
+    index: usize,
+) -> Result<Vec<&'static str>, AllocError> {
     match (operation, index) {
         (_, 0) => Vec::from_slice(alloc, &OPERATIONS),
         ("set", 2) => file_names(alloc),
         ("chmod", 2) => entry_names(alloc),
-        ("control", place) if 2 <= place => {
-            Vec::from_slice(
-                alloc,
-                &Controller::IN_FORMAT_2.map(|controller| controller.name()),
-            )
-        }
+        ("control", place) if 2 <= place => controller_names(alloc, vocabulary),
         _ => Ok(Vec::new(alloc)),
     }
 }

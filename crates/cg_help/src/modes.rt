@@ -1,6 +1,7 @@
 //! Modes of a tree's text that are written in decimal where an octal number is likely to be meant.
 ghost use Rattle.std.specs.Prelude.{◌≡◌, ◌≤◌, length, true, false, IfOk};
-ghost use Rattle.cg_help.specs.Modes.{behind, unspaced, goes_on, is_number, number_at, mode_at, is_comment_behind, spelled_from, spelled_mode, mode_words, mode_line};
+ghost use Rattle.cg_format.specs.TreeTexts.{behind};
+ghost use Rattle.cg_help.specs.Modes.{unspaced, goes_on, is_number, number_at, mode_at, is_comment_behind, spelled_from, spelled_mode, mode_words, mode_line};
 
 use cg_cgroup::memory::NoMemory;
 use memchr::{memchr, memchr2};

@@ -1,4 +1,5 @@
 //! Names of which one has to stand somewhere.
+use cg_cgroup::files::{Controller, Vocabulary};
 use std::alloc::{AllocError, Global};
 use text_places::near::nearest_of;
 use text_places::shown::quoted;
@@ -27,4 +28,18 @@ pub(crate) fn listed(alloc: Global, names: &[&str]) -> Result<String, AllocError
         list.push_str(name)?;
     }
     Ok(list)
+}
+
+/// The names of a vocabulary's controllers.
+pub(crate) fn controller_names(
+    alloc: Global,
+    vocabulary: Vocabulary,
+) -> Result<Vec<&'static str>, AllocError> {
+    let mut names = Vec::new(alloc);
+    for controller in Controller::ALL {
+        if vocabulary.has(controller) {
+            names.push(controller.name())?;
+        }
+    }
+    Ok(names)
 }

@@ -7,8 +7,9 @@ mod syntax;
 
 use crate::input::{is_blank, kind_said};
 use crate::paths::why_no_path;
+use cg_cgroup::files::Vocabulary;
 use cg_text::tree::TreeFault;
-use cg_text::tree::told::{Told, Wrong, paths_of, told_of};
+use cg_text::tree::told::{Told, Wrong, paths_of, told_of, vocabulary_at};
 use keys::{fronted, mistyped_said, unknown_said};
 use numbers::{number_said, value_said};
 use places::{RowAt, label};
@@ -43,6 +44,17 @@ pub(crate) fn tree_said(
         },
         Err(error) if error.is_memory() => Ok(None),
         Err(error) => Ok(Some(syntax_said(alloc, bytes, &error)?)),
+    }
+}
+
+/// Which controllers lines of operations name with the tree of a text: those of formats 1 and 2 where that can't be told.
+pub(crate) fn vocabulary_of(alloc: Global, bytes: &[u8]) -> Vocabulary {
+    if MOST_BYTES < bytes.len() {
+        return Vocabulary::Format2;
+    }
+    match toml::table_from_slice(alloc, bytes) {
+        Ok(top) => vocabulary_at(&top),
+        Err(_) => Vocabulary::Format2,
     }
 }
 
@@ -114,11 +126,14 @@ fn wrong_said(
     let why = match told.wrong {
         Wrong::NoGroups => return plainly(alloc, "in format 1 there is no key gid"),
         Wrong::NoGroupBit => return plainly(alloc, "in format 1 a mode has no bit 0o020"),
-        Wrong::Format => return plainly(alloc, "format is 1 or 2: write format = 2"),
+        Wrong::Format => return plainly(
+            alloc,
+            "format is 1, 2 or 4: write format = 2, or 4 for all nine controllers",
+        ),
         Wrong::NoPath => return path_said(alloc, told),
         Wrong::Again => return again_said(alloc, told),
         Wrong::NotAccepted(file) => return value_said(alloc, told, file),
-        Wrong::NoController(text) => controller_said(alloc, key, text)?,
+        Wrong::NoController { text, vocabulary } => controller_said(alloc, key, text, vocabulary)?,
         Wrong::NoParent(parent) => parent_said(alloc, top, parent)?,
         Wrong::NotEnabled { controller, above } => enabled_said(alloc, controller, above)?,
         Wrong::NoFile { controller, above } => file_said(alloc, key, controller, above)?,

@@ -5,3 +5,4 @@ pub mod LineChanges
 pub mod LineSpelled
 pub mod LineLaws
 pub mod LineLengths
+pub mod Wider

@@ -7,15 +7,17 @@ use Rattle.std.proofs.lemmas.Bool.{ne_eqb, ltb-true, ltb-false}
 use Rattle.std.proofs.lemmas.Option.{cond_some, none-some}
 use Rattle.std.proofs.lemmas.List.Sums.{fails_before_first}
 use Rattle.std.proofs.lemmas.List.Splits.{slice_split_none, slice_split_first}
+use Rattle.cg_cgroup.specs.declared.files.Vocabulary.{Vocabulary}
 use Rattle.cg_model.specs.declared.changes.Change.{Change}
 use Rattle.cg_lines.specs.LineReading.{is_space, cut, change_at, changes_at}
 use Rattle.cg_cgroup.specs.Options.{◌>>=◌}
 
 -- a word that begins with neither sign
-pub change_none : (word : List ℕ) → ((rest : List ℕ) → word ≢ 43 ∷ rest) → ((rest : List ℕ) → word ≢ 45 ∷ rest) → change_at word ≡ None
+pub change_none : (vocabulary : Vocabulary) (word : List ℕ) → ((rest : List ℕ) → word ≢ 43 ∷ rest) → ((rest : List ℕ) → word ≢ 45 ∷ rest)
+    → change_at vocabulary word ≡ None
 unfolding change_at
-change_none [] plus minus = refl
-change_none (b ∷ name) plus minus =
+change_none vocabulary [] plus minus = refl
+change_none vocabulary (b ∷ name) plus minus =
     rw (ne_eqb b 43 (λ e. plus name (ap (λ (c : ℕ). c ∷ name) e)), ne_eqb b 45 (λ e. minus name (ap (λ (c : ℕ). c ∷ name) e))) refl
 
 -- what has been read so far, before what the rest gives
@@ -42,42 +44,50 @@ split_whole text h =
     slice_split_none is_space text (λ k d s. fails_before_first is_space text k d (omega (arith, l)))
 
 -- a step of the loop over the words
-pub changes_more : (front : List Change) (text : List ℕ) (words : List ℕ × List ℕ) (change : Change) (read : Option (List Change))
-    → cut text ≡ Some words → change_at words.0 ≡ Some change → with_front front (changes_at (slice_split is_space text)) ≡ read
-    → with_front (front ++ (change ∷ [])) (changes_at (slice_split is_space words.1)) ≡ read
-changes_more front text words change read e f h =
-    elim (changes_at (slice_split is_space words.1)) as
+pub changes_more : (vocabulary : Vocabulary) (front : List Change) (text : List ℕ) (words : List ℕ × List ℕ) (change : Change)
+    (read : Option (List Change))
+    → cut text ≡ Some words → change_at vocabulary words.0 ≡ Some change
+    → with_front front (changes_at vocabulary (slice_split is_space text)) ≡ read
+    → with_front (front ++ (change ∷ [])) (changes_at vocabulary (slice_split is_space words.1)) ≡ read
+changes_more vocabulary front text words change read e f h =
+    elim (changes_at vocabulary (slice_split is_space words.1)) as
     (λ rest. with_front (front ++ (change ∷ [])) rest ≡ with_front front (rest >>= λ others. Some (change ∷ others))) [
       | None ↦ refl
       | Some others ↦ ap (λ (xs : List Change). Some xs) (append_assoc front (change ∷ []) others)
     ]
     ∙ ap
-    (λ (first : Option Change). with_front front (first >>= λ c. changes_at (slice_split is_space words.1) >>= λ others. Some (c ∷ others)))
+    (λ (first : Option Change).
+    with_front front (first >>= λ c. changes_at vocabulary (slice_split is_space words.1) >>= λ others. Some (c ∷ others)))
     (sym f)
-    ∙ ap (λ (ws : List (List ℕ)). with_front front (changes_at ws)) (sym (split_cut text words e))
+    ∙ ap (λ (ws : List (List ℕ)). with_front front (changes_at vocabulary ws)) (sym (split_cut text words e))
     ∙ h
 
 -- the last word
-pub changes_last : (front : List Change) (text : List ℕ) (change : Change) (read : Option (List Change)) → cut text ≡ None
-    → change_at text ≡ Some change → with_front front (changes_at (slice_split is_space text)) ≡ read → read ≡ Some (front ++ (change ∷ []))
-changes_last front text change read e f h =
+pub changes_last : (vocabulary : Vocabulary) (front : List Change) (text : List ℕ) (change : Change) (read : Option (List Change))
+    → cut text ≡ None
+    → change_at vocabulary text ≡ Some change → with_front front (changes_at vocabulary (slice_split is_space text)) ≡ read
+    → read ≡ Some (front ++ (change ∷ []))
+changes_last vocabulary front text change read e f h =
     sym h
-    ∙ ap (λ (ws : List (List ℕ)). with_front front (changes_at ws)) (split_whole text e)
+    ∙ ap (λ (ws : List (List ℕ)). with_front front (changes_at vocabulary ws)) (split_whole text e)
     ∙ ap (λ (first : Option Change). with_front front (first >>= λ c. Some (c ∷ []))) f
 
 -- a word that is no change
-pub changes_bad : (front : List Change) (text : List ℕ) (words : List ℕ × List ℕ) (read : Option (List Change)) → cut text ≡ Some words
-    → change_at words.0 ≡ None → with_front front (changes_at (slice_split is_space text)) ≡ read → read ≡ None
-changes_bad front text words read e f h =
+pub changes_bad : (vocabulary : Vocabulary) (front : List Change) (text : List ℕ) (words : List ℕ × List ℕ) (read : Option (List Change))
+    → cut text ≡ Some words
+    → change_at vocabulary words.0 ≡ None → with_front front (changes_at vocabulary (slice_split is_space text)) ≡ read → read ≡ None
+changes_bad vocabulary front text words read e f h =
     sym h
-    ∙ ap (λ (ws : List (List ℕ)). with_front front (changes_at ws)) (split_cut text words e)
+    ∙ ap (λ (ws : List (List ℕ)). with_front front (changes_at vocabulary ws)) (split_cut text words e)
     ∙ ap
-    (λ (first : Option Change). with_front front (first >>= λ c. changes_at (slice_split is_space words.1) >>= λ others. Some (c ∷ others)))
+    (λ (first : Option Change).
+    with_front front (first >>= λ c. changes_at vocabulary (slice_split is_space words.1) >>= λ others. Some (c ∷ others)))
     f
 
-pub changes_last_bad : (front : List Change) (text : List ℕ) (read : Option (List Change)) → cut text ≡ None → change_at text ≡ None
-    → with_front front (changes_at (slice_split is_space text)) ≡ read → read ≡ None
-changes_last_bad front text read e f h =
+pub changes_last_bad : (vocabulary : Vocabulary) (front : List Change) (text : List ℕ) (read : Option (List Change)) → cut text ≡ None
+    → change_at vocabulary text ≡ None
+    → with_front front (changes_at vocabulary (slice_split is_space text)) ≡ read → read ≡ None
+changes_last_bad vocabulary front text read e f h =
     sym h
-    ∙ ap (λ (ws : List (List ℕ)). with_front front (changes_at ws)) (split_whole text e)
+    ∙ ap (λ (ws : List (List ℕ)). with_front front (changes_at vocabulary ws)) (split_whole text e)
     ∙ ap (λ (first : Option Change). with_front front (first >>= λ c. Some (c ∷ []))) f

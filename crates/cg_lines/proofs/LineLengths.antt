@@ -7,7 +7,7 @@ use Rattle.std.proofs.lemmas.Bool.{and_parts, ltb-true, ne_eqb}
 use Rattle.std.proofs.lemmas.Fmt.{length-decimal-le}
 use Rattle.std.proofs.lemmas.List.Elements.{All-nil, All-cons}
 use Rattle.cg_cgroup.specs.Paths.{Names, path_text, IsPath}
-use Rattle.cg_cgroup.specs.Files.{controller_name, is_in_format_2, file_name, entry_text}
+use Rattle.cg_cgroup.specs.Files.{controller_name, is_known, file_name, entry_text}
 use Rattle.cg_cgroup.specs.declared.files.Limit.{Limit}
 use Rattle.cg_cgroup.specs.declared.files.Limit.TheVariants.{Max, At}
 use Rattle.cg_cgroup.specs.declared.files.LimitFile.{LimitFile}
@@ -15,14 +15,17 @@ use Rattle.cg_cgroup.specs.declared.files.LimitFile.TheVariants.{MaxDescendants}
 use Rattle.cg_cgroup.specs.declared.files.EntryName.{EntryName}
 use Rattle.cg_cgroup.specs.declared.files.EntryName.TheVariants.{Dir, Procs, SubtreeControl, File}
 use Rattle.cg_cgroup.specs.declared.files.Controller.{Controller}
+use Rattle.cg_cgroup.specs.declared.files.Controller.TheVariants.{Cpu}
+use Rattle.cg_cgroup.specs.declared.files.Vocabulary.{Vocabulary}
+use Rattle.cg_cgroup.specs.declared.files.Vocabulary.TheVariants.{Format2, Format4}
 use Rattle.cg_cgroup.proofs.ControllerLaws.{each_in_format_2}
 use Rattle.cg_cgroup.proofs.PathEnds.{path_bytes}
 use Rattle.cg_cgroup.specs.Numbers.{is_pid}
 use Rattle.cg_model.specs.declared.changes.Change.{Change}
 use Rattle.cg_model.specs.declared.operation.Op.{Op}
 use Rattle.cg_model.specs.declared.operation.Op.TheVariants.{Move, Control, Mkdir, Rmdir, Set, Fork, Exit, Chmod}
-use Rattle.cg_lines.specs.OperationLines.{change_word, are_in_format_2, limit_word, mode_word, words, spelling, IsInRange, IsLimitInRange}
-use Rattle.cg_lines.specs.LineLengths.{HasFewChanges}
+use Rattle.cg_lines.specs.OperationLines.{change_word, are_known, limit_word, mode_word, words, spelling, IsInRange, IsLimitInRange}
+use Rattle.cg_lines.specs.LineLengths.{most_changes, HasFewChanges}
 use Rattle.cg_lines.proofs.LineWords.{is_graphic, is_word, are_words}
 use Rattle.cg_lines.proofs.LineSpelled.{small_pid}
 use Rattle.cg_lines.proofs.LineLaws.{line_words}
@@ -53,10 +56,14 @@ limit_length : (value : Limit) → IsLimitInRange value → length (limit_word v
 limit_length Max h = omega arith
 limit_length (At value) h = number_length value h
 
-controller_length : (controller : Controller) → is_in_format_2 controller ≡ true → length (controller_name controller) ≤ 6
-controller_length controller known =
+known_length : (controller : Controller) → is_known Format2 controller ≡ true → length (controller_name controller) ≤ 6
+known_length controller known =
     each_in_format_2 (λ controller. length (controller_name controller) ≤ 6) (omega arith, (omega arith, (omega arith, tt)))
     controller known
+
+controller_length : (controller : Controller) → length (controller_name controller) ≤ 7
+controller_length Cpu = omega arith
+controller_length controller = omega arith
 
 -- two texts with a byte between them
 between : (first second : List ℕ) → length (first ++ (32 ∷ second)) ≡ length first + 1 + length second
@@ -72,33 +79,54 @@ three name first second third =
     let m = between name (first ++ (32 ∷ (second ++ (32 ∷ third)))) in
     omega (arith, l, m)
 
-changes_length : (word : List ℕ) (changes : List Change) → are_in_format_2 changes ≡ true
+known_changes : (word : List ℕ) (changes : List Change) → are_known Format2 changes ≡ true
     → length (join_with_byte 32 (word ∷ map change_word changes)) ≤ length word + 8 * length changes
-changes_length word [] known = omega arith
-changes_length word (change ∷ changes) known =
-    let parts = and_parts (is_in_format_2 change.controller) (are_in_format_2 changes) known in
-    let rest = changes_length (change_word change) changes parts.1 in
-    let one = controller_length change.controller parts.0 in
+known_changes word [] known = omega arith
+known_changes word (change ∷ changes) known =
+    let parts = and_parts (is_known Format2 change.controller) (are_known Format2 changes) known in
+    let rest = known_changes (change_word change) changes parts.1 in
+    let one = known_length change.controller parts.0 in
     let l = between word (join_with_byte 32 (change_word change ∷ map change_word changes)) in
     omega (arith, rest, one, l)
 
+any_changes : (word : List ℕ) (changes : List Change)
+    → length (join_with_byte 32 (word ∷ map change_word changes)) ≤ length word + 9 * length changes
+any_changes word [] = omega arith
+any_changes word (change ∷ changes) =
+    let rest = any_changes (change_word change) changes in
+    let one = controller_length change.controller in
+    let l = between word (join_with_byte 32 (change_word change ∷ map change_word changes)) in
+    omega (arith, rest, one, l)
+
+-- few changes fit behind the longest path
+changes_length : (vocabulary : Vocabulary) (word : List ℕ) (changes : List Change) → are_known vocabulary changes ≡ true
+    → length changes ≤ most_changes vocabulary → length (join_with_byte 32 (word ∷ map change_word changes)) ≤ length word + 4089
+changes_length Format2 word changes known few = let l = known_changes word changes known in omega (arith, l, few)
+changes_length Format4 word changes known few = let l = any_changes word changes in omega (arith, l, few)
+
+-- few in any vocabulary
+pub most_changes-least : (vocabulary : Vocabulary) → 454 ≤ most_changes vocabulary
+most_changes-least Format2 = omega arith
+most_changes-least Format4 = omega arith
+
 -- The line of an operation that can be held isn't too long.
-pub line_length : (op : Op) → IsInRange op → HasFewChanges op → length (spelling op) ≤ 8192
-line_length (Move pid to) h few = omega (arith, pid_length pid h.0, path_length to h.1, two (codes "move") (decimal pid) (path_text to))
-line_length (Control at changes) h few =
+pub line_length : (vocabulary : Vocabulary) (op : Op) → IsInRange vocabulary op → HasFewChanges vocabulary op → length (spelling op) ≤ 8192
+line_length vocabulary (Move pid to) h few =
+    omega (arith, pid_length pid h.0, path_length to h.1, two (codes "move") (decimal pid) (path_text to))
+line_length vocabulary (Control at changes) h few =
     let a = path_length at h.0 in
-    let l = changes_length (path_text at) changes h.1 in
+    let l = changes_length vocabulary (path_text at) changes h.1 few in
     let m = between (codes "control") (join_with_byte 32 (path_text at ∷ map change_word changes)) in
-    omega (arith, a, few, l, m)
-line_length (Mkdir path) h few = omega (arith, path_length path h, between (codes "mkdir") (path_text path))
-line_length (Rmdir path) h few = omega (arith, path_length path h, between (codes "rmdir") (path_text path))
-line_length (Set at file value) h few =
+    omega (arith, a, l, m)
+line_length vocabulary (Mkdir path) h few = omega (arith, path_length path h, between (codes "mkdir") (path_text path))
+line_length vocabulary (Rmdir path) h few = omega (arith, path_length path h, between (codes "rmdir") (path_text path))
+line_length vocabulary (Set at file value) h few =
     let words = three (codes "set") (path_text at) (file_name file) (limit_word value) in
     omega (arith, path_length at h.0, file_length file, limit_length value h.1, words)
-line_length (Fork parent child) h few =
+line_length vocabulary (Fork parent child) h few =
     omega (arith, pid_length parent h.0, pid_length child h.1, two (codes "fork") (decimal parent) (decimal child))
-line_length (Exit pid) h few = omega (arith, pid_length pid h, between (codes "exit") (decimal pid))
-line_length (Chmod at entry mode) h few =
+line_length vocabulary (Exit pid) h few = omega (arith, pid_length pid h, between (codes "exit") (decimal pid))
+line_length vocabulary (Chmod at entry mode) h few =
     omega (arith, path_length at h.0, entry_length entry, three (codes "chmod") (path_text at) (entry_text entry) (mode_word mode))
 
 -- ---- one line
@@ -127,5 +155,5 @@ words_line (word ∷ next ∷ words) h =
     word_line word (32 ∷ rest) p.0 (All-cons IsNoNewline 32 rest refl (words_line (next ∷ words) p.1))
 
 -- No newline stands in it.
-pub one_line : (op : Op) → IsInRange op → All IsNoNewline (spelling op)
-one_line op h = words_line (words op) (line_words op h)
+pub one_line : (vocabulary : Vocabulary) (op : Op) → IsInRange vocabulary op → All IsNoNewline (spelling op)
+one_line vocabulary op h = words_line (words op) (line_words vocabulary op h)

@@ -14,20 +14,20 @@ use Rattle.std.proofs.lemmas.Str.Parse.{digit_from_value}
 use Rattle.std.proofs.lemmas.Fmt.{decimal_is_IsNumeral, decimal_digit}
 use Rattle.cg_cgroup.specs.Paths.{Name, Names, same_name, is_name, is_name_byte, path_text, IsPath}
 use Rattle.cg_cgroup.specs.Numbers.{is_pid, pid_of, is_mode, mode_of}
-use Rattle.cg_cgroup.specs.Files.{controller_name, is_in_format_2, named_in_format_2, file_name, entry_text}
+use Rattle.cg_cgroup.specs.Files.{controller_name, is_known, known_as, file_name, entry_text}
 use Rattle.cg_cgroup.specs.declared.files.Limit.{Limit}
 use Rattle.cg_cgroup.specs.declared.files.Limit.TheVariants.{Max, At}
 use Rattle.cg_cgroup.specs.declared.files.Controller.{Controller}
 use Rattle.cg_cgroup.specs.declared.files.Controller.TheVariants.{Cpu}
+use Rattle.cg_cgroup.specs.declared.files.Vocabulary.{Vocabulary}
 use Rattle.cg_cgroup.specs.declared.files.LimitFile.{LimitFile}
 use Rattle.cg_cgroup.specs.declared.files.LimitFile.TheVariants.{MaxDescendants}
 use Rattle.cg_cgroup.specs.declared.files.EntryName.{EntryName}
 use Rattle.cg_cgroup.specs.declared.files.EntryName.TheVariants.{Dir, Procs, SubtreeControl, File}
 use Rattle.cg_cgroup.proofs.PathEnds.{path_names, is_name-bytes}
-use Rattle.cg_cgroup.proofs.ControllerLaws.{each_in_format_2}
-use Rattle.cg_cgroup.proofs.NameLaws.{name_in_format_2, known_in_format_2}
+use Rattle.cg_cgroup.proofs.NameLaws.{again_known, name_known, known_known}
 use Rattle.cg_model.specs.declared.changes.Change.{Change}
-use Rattle.cg_lines.specs.OperationLines.{change_word, are_in_format_2, limit_word, mode_word, IsLimitInRange}
+use Rattle.cg_lines.specs.OperationLines.{change_word, are_known, limit_word, mode_word, IsLimitInRange}
 use Rattle.cg_lines.specs.LineReading.{number_at, pid_at, limit_at, octal_at, mode_at, sign_at, change_at, changes_at}
 use Rattle.cg_cgroup.specs.Options.{◌>>=◌}
 use Rattle.cg_lines.proofs.LineWords.{is_graphic, is_word, are_words}
@@ -240,64 +240,58 @@ sign_takes b on h =
       | inr p ↦ let q = cond_some (nat_eq b 45) false on p.1 in eqb-true b 45 q.0 ∙ ap (λ (t : Bool). cond t 43 45) q.1
     ]
 
-change_takes : (word : List ℕ) (change : Change) → change_at word ≡ Some change → word ≡ change_word change
+change_takes : (vocabulary : Vocabulary) (word : List ℕ) (change : Change) → change_at vocabulary word ≡ Some change
+    → (is_known vocabulary change.controller ≡ true) × (word ≡ change_word change)
 unfolding change_at
-change_takes [] change h = absurd (none-some change h)
-change_takes (sign ∷ name) change h =
+change_takes vocabulary [] change h = absurd (none-some change h)
+change_takes vocabulary (sign ∷ name) change h =
     let on =
-    bind_some (sign_at sign) (λ on. named_in_format_2 name >>= λ controller. Some (record { on = on; controller = controller })) change h
+    bind_some (sign_at sign) (λ on. known_as vocabulary name >>= λ controller. Some (record { on = on; controller = controller })) change h
     in
-    let controller = bind_some (named_in_format_2 name) (λ controller. Some (record { on = on.0; controller = controller })) change on.2 in
-    let same = same_Some (record { on = on.0; controller = controller.0 }) change controller.2 in
-    ap (λ (b : ℕ). b ∷ name) (sign_takes sign on.0 on.1)
-    ∙ ap (λ (n : List ℕ). cond on.0 43 45 ∷ n) (name_in_format_2 name controller.0 controller.1)
-    ∙ ap change_word same
+    let controller =
+    bind_some (known_as vocabulary name) (λ controller. Some (record { on = on.0; controller = controller })) change on.2 in
+    let same = same_Some (record { on = on.0; controller = controller.0 }) change controller.2 in (
+      sym (ap (λ (c : Change). is_known vocabulary c.controller) same) ∙ known_known vocabulary name controller.0 controller.1,
+      ap (λ (b : ℕ). b ∷ name) (sign_takes sign on.0 on.1)
+          ∙ ap (λ (n : List ℕ). cond on.0 43 45 ∷ n) (name_known vocabulary name controller.0 controller.1)
+          ∙ ap change_word same,
+    )
 
-change_known : (word : List ℕ) (change : Change) → change_at word ≡ Some change → is_in_format_2 change.controller ≡ true
+change_again : (vocabulary : Vocabulary) (on : Bool) (controller : Controller) → is_known vocabulary controller ≡ true
+    → change_at vocabulary (cond on 43 45 ∷ controller_name controller) ≡ Some (record { on = on; controller = controller })
 unfolding change_at
-change_known [] change h = absurd (none-some change h)
-change_known (sign ∷ name) change h =
-    let on =
-    bind_some (sign_at sign) (λ on. named_in_format_2 name >>= λ controller. Some (record { on = on; controller = controller })) change h
-    in
-    let controller = bind_some (named_in_format_2 name) (λ controller. Some (record { on = on.0; controller = controller })) change on.2 in
-    let same = same_Some (record { on = on.0; controller = controller.0 }) change controller.2 in
-    sym (ap (λ (c : Change). is_in_format_2 c.controller) same) ∙ known_in_format_2 name controller.0 controller.1
+change_again vocabulary true controller known =
+    ap (λ (o : Option Controller). o >>= λ controller. Some (record { on = true; controller = controller }))
+    (again_known vocabulary controller known)
+change_again vocabulary false controller known =
+    ap (λ (o : Option Controller). o >>= λ controller. Some (record { on = false; controller = controller }))
+    (again_known vocabulary controller known)
 
-change_again : (on : Bool) (controller : Controller) → is_in_format_2 controller ≡ true
-    → change_at (cond on 43 45 ∷ controller_name controller) ≡ Some (record { on = on; controller = controller })
-unfolding change_at
-change_again true controller known =
-    each_in_format_2 (λ controller. change_at (43 ∷ controller_name controller) ≡ Some (record { on = true; controller = controller }))
-    (refl, (refl, (refl, tt))) controller known
-change_again false controller known =
-    each_in_format_2 (λ controller. change_at (45 ∷ controller_name controller) ≡ Some (record { on = false; controller = controller }))
-    (refl, (refl, (refl, tt))) controller known
+pub changes_takes : (vocabulary : Vocabulary) (words : List (List ℕ)) (changes : List Change) → changes_at vocabulary words ≡ Some changes
+    → (are_known vocabulary changes ≡ true) × (words ≡ map change_word changes)
+changes_takes vocabulary [] changes h =
+    let none = same_Some [] changes h in
+    (ap (are_known vocabulary) (sym none), ap (map change_word) none)
+changes_takes vocabulary (word ∷ words) changes h =
+    let first =
+    bind_some (change_at vocabulary word) (λ change. changes_at vocabulary words >>= λ others. Some (change ∷ others)) changes h in
+    let others = bind_some (changes_at vocabulary words) (λ others. Some (first.0 ∷ others)) changes first.2 in
+    let same = same_Some (first.0 ∷ others.0) changes others.2 in
+    let p = change_takes vocabulary word first.0 first.1 in
+    let q = changes_takes vocabulary words others.0 others.1 in (
+      sym (ap (are_known vocabulary) same) ∙ and_from _ _ p.0 q.0,
+      ap (λ (w : List ℕ). w ∷ words) p.1 ∙ ap (λ (ws : List (List ℕ)). change_word first.0 ∷ ws) q.1 ∙ ap (map change_word) same,
+    )
 
-pub changes_takes : (words : List (List ℕ)) (changes : List Change) → changes_at words ≡ Some changes → words ≡ map change_word changes
-changes_takes [] changes h = ap (map change_word) (same_Some [] changes h)
-changes_takes (word ∷ words) changes h =
-    let first = bind_some (change_at word) (λ change. changes_at words >>= λ others. Some (change ∷ others)) changes h in
-    let others = bind_some (changes_at words) (λ others. Some (first.0 ∷ others)) changes first.2 in
-    ap (λ (w : List ℕ). w ∷ words) (change_takes word first.0 first.1)
-    ∙ ap (λ (ws : List (List ℕ)). change_word first.0 ∷ ws) (changes_takes words others.0 others.1)
-    ∙ ap (map change_word) (same_Some (first.0 ∷ others.0) changes others.2)
-
-pub changes_known : (words : List (List ℕ)) (changes : List Change) → changes_at words ≡ Some changes → are_in_format_2 changes ≡ true
-changes_known [] changes h = ap are_in_format_2 (sym (same_Some [] changes h))
-changes_known (word ∷ words) changes h =
-    let first = bind_some (change_at word) (λ change. changes_at words >>= λ others. Some (change ∷ others)) changes h in
-    let others = bind_some (changes_at words) (λ others. Some (first.0 ∷ others)) changes first.2 in
-    sym (ap are_in_format_2 (same_Some (first.0 ∷ others.0) changes others.2))
-    ∙ and_from _ _ (change_known word first.0 first.1) (changes_known words others.0 others.1)
-
-pub changes_again : (changes : List Change) → are_in_format_2 changes ≡ true → changes_at (map change_word changes) ≡ Some changes
-changes_again [] known = refl
-changes_again (change ∷ changes) known =
-    let parts = and_parts (is_in_format_2 change.controller) (are_in_format_2 changes) known in
-    bind_at (change_at (change_word change)) change (λ first. changes_at (map change_word changes) >>= λ others. Some (first ∷ others))
-    (Some (change ∷ changes)) (change_again change.on change.controller parts.0)
-    (ap (λ (o : Option (List Change)). o >>= λ others. Some (change ∷ others)) (changes_again changes parts.1))
+pub changes_again : (vocabulary : Vocabulary) (changes : List Change) → are_known vocabulary changes ≡ true
+    → changes_at vocabulary (map change_word changes) ≡ Some changes
+changes_again vocabulary [] known = refl
+changes_again vocabulary (change ∷ changes) known =
+    let parts = and_parts (is_known vocabulary change.controller) (are_known vocabulary changes) known in
+    bind_at (change_at vocabulary (change_word change)) change
+    (λ first. changes_at vocabulary (map change_word changes) >>= λ others. Some (first ∷ others))
+    (Some (change ∷ changes)) (change_again vocabulary change.on change.controller parts.0)
+    (ap (λ (o : Option (List Change)). o >>= λ others. Some (change ∷ others)) (changes_again vocabulary changes parts.1))
 
 -- three digits that are written one by one, behind two words and before a newline
 pub written_mode : (at entry : List ℕ) (mode : ℕ) → mode ≤ 511

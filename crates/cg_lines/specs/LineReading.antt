@@ -6,9 +6,10 @@ use Rattle.std.specs.Str.Parse.{digits_value}
 use Rattle.std.specs.Fmt.{decimal}
 use Rattle.cg_cgroup.specs.Paths.{same_name, path_at}
 use Rattle.cg_cgroup.specs.Numbers.{pid_of, mode_of}
-use Rattle.cg_cgroup.specs.Files.{named_in_format_2, file_named, entry_named}
+use Rattle.cg_cgroup.specs.Files.{known_as, file_named, entry_named}
 use Rattle.cg_cgroup.specs.declared.files.Limit.{Limit}
 use Rattle.cg_cgroup.specs.declared.files.Limit.TheVariants.{Max, At}
+use Rattle.cg_cgroup.specs.declared.files.Vocabulary.{Vocabulary}
 use Rattle.cg_model.specs.declared.changes.Change.{Change}
 use Rattle.cg_model.specs.declared.operation.Op.{Op}
 use Rattle.cg_model.specs.declared.operation.Op.TheVariants.{Move, Control, Mkdir, Rmdir, Set, Fork, Exit, Chmod}
@@ -58,18 +59,19 @@ mode_at word = None
 abbrev pub sign_at : ℕ → Option Bool
 sign_at b = cond (b == 43) (Some true) (cond (b == 45) (Some false) None)
 
-unfoldable pub change_at : List ℕ → Option Change
-change_at [] = None
-change_at (sign ∷ name) = do
+-- a change of one of the vocabulary's controllers
+unfoldable pub change_at : Vocabulary → List ℕ → Option Change
+change_at vocabulary [] = None
+change_at vocabulary (sign ∷ name) = do
   on ← sign_at sign
-  controller ← named_in_format_2 name
+  controller ← known_as vocabulary name
   Some (record { on = on; controller = controller })
 
-abbrev pub changes_at : List (List ℕ) → Option (List Change)
-changes_at [] = Some []
-changes_at (word ∷ others) = do
-  change ← change_at word
-  changes ← changes_at others
+abbrev pub changes_at : Vocabulary → List (List ℕ) → Option (List Change)
+changes_at vocabulary [] = Some []
+changes_at vocabulary (word ∷ others) = do
+  change ← change_at vocabulary word
+  changes ← changes_at vocabulary others
   Some (change ∷ changes)
 
 -- what is made of two words, where each is read
@@ -96,15 +98,15 @@ three_words first second third made text = do
 unfoldable pub move_at : List ℕ → Option Op
 move_at text = two_words pid_at path_at Move text
 
-abbrev pub control_from : List ℕ → Option (List ℕ × List ℕ) → Option Op
-control_from text None = path_at text >>= λ at. Some (Control at [])
-control_from text (Some words) = do
+abbrev pub control_from : Vocabulary → List ℕ → Option (List ℕ × List ℕ) → Option Op
+control_from vocabulary text None = path_at text >>= λ at. Some (Control at [])
+control_from vocabulary text (Some words) = do
   at ← path_at words.0
-  changes ← changes_at (slice_split is_space words.1)
+  changes ← changes_at vocabulary (slice_split is_space words.1)
   Some (Control at changes)
 
-unfoldable pub control_at : List ℕ → Option Op
-control_at text = control_from text (cut text)
+unfoldable pub control_at : Vocabulary → List ℕ → Option Op
+control_at vocabulary text = control_from vocabulary text (cut text)
 
 unfoldable pub mkdir_at : List ℕ → Option Op
 mkdir_at text = path_at text >>= λ path. Some (Mkdir path)
@@ -124,10 +126,10 @@ exit_at text = pid_at text >>= λ pid. Some (Exit pid)
 unfoldable pub chmod_at : List ℕ → Option Op
 chmod_at text = three_words path_at entry_named mode_at Chmod text
 
-unfoldable pub operation_named : List ℕ → List ℕ → Option Op
-operation_named name text =
+unfoldable pub operation_named : Vocabulary → List ℕ → List ℕ → Option Op
+operation_named vocabulary name text =
     cond (same_name name (codes "move")) (move_at text)
-    (cond (same_name name (codes "control")) (control_at text)
+    (cond (same_name name (codes "control")) (control_at vocabulary text)
     (cond (same_name name (codes "mkdir")) (mkdir_at text)
     (cond (same_name name (codes "rmdir")) (rmdir_at text)
     (cond (same_name name (codes "set")) (set_at text)
@@ -135,7 +137,8 @@ operation_named name text =
     (cond (same_name name (codes "exit")) (exit_at text)
     (cond (same_name name (codes "chmod")) (chmod_at text) None)))))))
 
-unfoldable pub operation_at : List ℕ → Option Op
-operation_at line = do
+-- the operation of a line, which names controllers of a vocabulary
+unfoldable pub operation_at : Vocabulary → List ℕ → Option Op
+operation_at vocabulary line = do
   words ← cut line
-  operation_named words.0 words.1
+  operation_named vocabulary words.0 words.1

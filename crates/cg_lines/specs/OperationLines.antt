@@ -4,9 +4,10 @@ use Rattle.std.specs.List.{AllByRecursion, list_all, join_with_byte}
 use Rattle.std.specs.Fmt.{decimal}
 use Rattle.cg_cgroup.specs.Paths.{path_text, IsPath}
 use Rattle.cg_cgroup.specs.Numbers.{is_pid, is_mode}
-use Rattle.cg_cgroup.specs.Files.{controller_name, is_in_format_2, file_name, entry_text}
+use Rattle.cg_cgroup.specs.Files.{controller_name, is_known, file_name, entry_text}
 use Rattle.cg_cgroup.specs.declared.files.Limit.{Limit}
 use Rattle.cg_cgroup.specs.declared.files.Limit.TheVariants.{Max, At}
+use Rattle.cg_cgroup.specs.declared.files.Vocabulary.{Vocabulary}
 use Rattle.cg_model.specs.declared.changes.Change.{Change}
 use Rattle.cg_model.specs.declared.operation.Op.{Op}
 use Rattle.cg_model.specs.declared.operation.Op.TheVariants.{Move, Control, Mkdir, Rmdir, Set, Fork, Exit, Chmod}
@@ -42,29 +43,30 @@ abbrev pub IsLimitInRange : Limit → Type 0
 IsLimitInRange Max = Unit {0}
 IsLimitInRange (At value) = value < 2 ^ 64
 
--- the controllers are those that lines know
-abbrev pub are_in_format_2 : List Change → Bool
-are_in_format_2 changes = list_all (λ change. is_in_format_2 change.controller) changes
+-- the controllers are those that lines of the vocabulary name
+abbrev pub are_known : Vocabulary → List Change → Bool
+are_known vocabulary changes = list_all (λ change. is_known vocabulary change.controller) changes
 
-abbrev pub IsInFormat2 : Op → Type 0
-IsInFormat2 (Control at changes) = are_in_format_2 changes ≡ true
-IsInFormat2 op = Unit {0}
+abbrev pub HasKnownControllers : Vocabulary → Op → Type 0
+HasKnownControllers vocabulary (Control at changes) = are_known vocabulary changes ≡ true
+HasKnownControllers vocabulary op = Unit {0}
 
--- What an operation that a line knows can hold: paths that are paths, PIDs and modes in their ranges, values below 2 ^ 64.
-abbrev pub IsInRange : Op → Type 0
-IsInRange (Move pid to) = (is_pid pid ≡ true) × IsPath to
-IsInRange (Control at changes) = IsPath at × (are_in_format_2 changes ≡ true)
-IsInRange (Mkdir path) = IsPath path
-IsInRange (Rmdir path) = IsPath path
-IsInRange (Set at file value) = IsPath at × IsLimitInRange value
-IsInRange (Fork parent child) = (is_pid parent ≡ true) × (is_pid child ≡ true)
-IsInRange (Exit pid) = is_pid pid ≡ true
-IsInRange (Chmod at entry mode) = IsPath at × (is_mode mode ≡ true)
+-- What an operation of a line can hold: controllers of the vocabulary, paths that are paths, PIDs and modes in their ranges, values
+-- below 2 ^ 64.
+abbrev pub IsInRange : Vocabulary → Op → Type 0
+IsInRange vocabulary (Move pid to) = (is_pid pid ≡ true) × IsPath to
+IsInRange vocabulary (Control at changes) = IsPath at × (are_known vocabulary changes ≡ true)
+IsInRange vocabulary (Mkdir path) = IsPath path
+IsInRange vocabulary (Rmdir path) = IsPath path
+IsInRange vocabulary (Set at file value) = IsPath at × IsLimitInRange value
+IsInRange vocabulary (Fork parent child) = (is_pid parent ≡ true) × (is_pid child ≡ true)
+IsInRange vocabulary (Exit pid) = is_pid pid ≡ true
+IsInRange vocabulary (Chmod at entry mode) = IsPath at × (is_mode mode ≡ true)
 
 -- The operation can be held, and its line isn't too long to be read again.
-abbrev pub HasLine : Op → Type 0
-HasLine op = IsInRange op × (length (spelling op) ≤ 8192)
+abbrev pub HasLine : Vocabulary → Op → Type 0
+HasLine vocabulary op = IsInRange vocabulary op × (length (spelling op) ≤ 8192)
 
 -- Each operation has a line, and there are fewer than a replay takes.
-abbrev pub HaveLines : List Op → Type 0
-HaveLines ops = AllByRecursion HasLine ops × (length ops < 65536)
+abbrev pub HaveLines : Vocabulary → List Op → Type 0
+HaveLines vocabulary ops = AllByRecursion (HasLine vocabulary) ops × (length ops < 65536)

@@ -8,6 +8,6 @@ mod words;
 mod write;
 
 pub use fault::LineFault;
-pub use read::{LONGEST_LINE, read_op};
+pub use read::{LONGEST_LINE, read_op, read_op_in};
 pub use short::has_short_line;
 pub use write::op_text;

@@ -26,6 +26,15 @@ all-map_filter P g test (x ∷ xs) each =
       | false ↦ λ e. all-map_filter P g test xs each
     ] refl
 
+pub all-flat_filter : {A B : Type 0} (P : B → Type 0) (g : A → List B) (test : A → Bool) (xs : List A)
+    → ((x : A) → test x ≡ true → AllByRecursion P (g x)) → AllByRecursion P (flat_map g (filter test xs))
+all-flat_filter P g test [] each = tt
+all-flat_filter P g test (x ∷ xs) each =
+    elim (test x) as (λ b. test x ≡ b → AllByRecursion P (flat_map g (cond b (x ∷ filter test xs) (filter test xs)))) [
+      | true ↦ λ e. all-append P (g x) (flat_map g (filter test xs)) (each x e) (all-flat_filter P g test xs each)
+      | false ↦ λ e. all-flat_filter P g test xs each
+    ] refl
+
 pub all-both : {A : Type 0} (P Q R : A → Type 0) → ((x : A) → P x → Q x → R x) → (xs : List A) → AllByRecursion P xs → AllByRecursion Q xs
     → AllByRecursion R xs
 all-both P Q R both [] ps qs = tt

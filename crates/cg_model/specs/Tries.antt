@@ -1,11 +1,11 @@
 -- The tries: lists of operations among which one that breaks a subtree is looked for. Own.
-use Rattle.std.specs.Prelude.{ℕ, zero, suc, ◌+◌, Bool, true, false, cond, not, ◌&&◌, nat_eq, nat_le, List, [], ◌∷◌, ◌++◌, map, filter, find, length, take, Option, Some, None, codes}
+use Rattle.std.specs.Prelude.{ℕ, zero, suc, ◌+◌, Bool, true, false, cond, not, ◌&&◌, ◌||◌, nat_eq, nat_le, List, [], ◌∷◌, ◌++◌, map, filter, find, length, take, Option, Some, None, codes}
 use Rattle.std.specs.List.{flat_map}
 use Rattle.std.specs.Fmt.{decimal}
 use Rattle.cg_cgroup.specs.Paths.{Names, inside, parent, path_text}
 use Rattle.cg_cgroup.specs.Identity.{Identity}
 use Rattle.cg_cgroup.specs.Users.{writes, owns, opened}
-use Rattle.cg_cgroup.specs.Files.{all_files, format_2_controllers}
+use Rattle.cg_cgroup.specs.Files.{all_files, all_controllers, is_in_format_2, enables}
 use Rattle.cg_cgroup.specs.declared.files.Limit.{Limit}
 use Rattle.cg_cgroup.specs.declared.files.Limit.TheVariants.{Max, At}
 use Rattle.cg_cgroup.specs.declared.files.LimitFile.{LimitFile}
@@ -34,12 +34,19 @@ set_tries st subtree =
 abbrev pub change_of : Bool → Controller → Change
 change_of on controller = record { on = on; controller = controller }
 
--- each controller that brings a limit file off and on for the children of the subtree's parent
-abbrev pub control_tries : Names → List (List Op)
-control_tries subtree =
+-- those that bring a limit file are told of, and what else the root has
+abbrev pub is_told : State → Controller → Bool
+is_told st controller = is_in_format_2 controller || enables st.controllers controller
+
+unfoldable pub told_controllers : State → List Controller
+told_controllers st = filter (is_told st) all_controllers
+
+-- each controller that is told of off and on for the children of the subtree's parent
+abbrev pub control_tries : State → Names → List (List Op)
+control_tries st subtree =
     flat_map (λ controller.
     (Control (parent subtree) (change_of false controller ∷ []) ∷ [])
-    ∷ (Control (parent subtree) (change_of true controller ∷ []) ∷ []) ∷ []) format_2_controllers
+    ∷ (Control (parent subtree) (change_of true controller ∷ []) ∷ []) ∷ []) (told_controllers st)
 
 -- the paths on the other side of the subtree's edge than a place
 abbrev pub across : State → Names → Names → List Names
@@ -82,7 +89,7 @@ probe_tries st subtree (suc len) = probe_tries_at st subtree (take len subtree) 
 abbrev pub plain_tries : State → Names → List (List Op)
 plain_tries st subtree =
     [] ∷ (set_tries st subtree
-    ++ control_tries subtree
+    ++ control_tries st subtree
     ++ (Rmdir subtree ∷ []) ∷ (move_tries st subtree
     ++ probe_tries st subtree (length subtree)))
 

@@ -13,4 +13,5 @@ pub mod mend;
 pub mod operation;
 pub mod operations;
 pub mod outcome;
+pub mod told;
 pub mod verdict;

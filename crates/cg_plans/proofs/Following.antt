@@ -2,7 +2,9 @@
 use Rattle.std.proofs.Common.{◌≡◌, ◌<◌, List, [], ◌∷◌, ◌++◌, length, None, refl, sym, ap, ◌∙◌, subst}
 use Rattle.std.specs.List.{AllByRecursion}
 use Rattle.cg_cgroup.specs.Paths.{Names}
+use Rattle.cg_cgroup.specs.Files.{vocabulary_of}
 use Rattle.cg_cgroup.specs.Identity.{Identity}
+use Rattle.cg_cgroup.specs.declared.files.Vocabulary.{Vocabulary}
 use Rattle.cg_model.specs.States.{State}
 use Rattle.cg_model.specs.Bars.{bars}
 use Rattle.cg_model.specs.Clauses.{first}
@@ -35,12 +37,14 @@ allowed-more : (st : State) (user : Identity) (ops : List Op) (op : Op) → AreA
 allowed-more st user [] op all free = (free, tt)
 allowed-more st user (first ∷ ops) op all free = (all.0, allowed-more (after st user first) user ops op all.1 free)
 
-lines-more : (ops : List Op) (op : Op) → AllByRecursion HasLine ops → HasLine op → AllByRecursion HasLine (ops ++ op ∷ [])
-lines-more [] op all has = (has, tt)
-lines-more (first ∷ ops) op all has = (all.0, lines-more ops op all.1 has)
+lines-more : (vocabulary : Vocabulary) (ops : List Op) (op : Op) → AllByRecursion (HasLine vocabulary) ops → HasLine vocabulary op
+    → AllByRecursion (HasLine vocabulary) (ops ++ op ∷ [])
+lines-more vocabulary [] op all has = (has, tt)
+lines-more vocabulary (first ∷ ops) op all has = (all.0, lines-more vocabulary ops op all.1 has)
 
 pub follows-more : (start : State) (user : Identity) (subtree : Names) (run : Progress) (ops : List Op) (op : Op)
-    → Follows start user subtree run ops → first (bars run.state user op) ≡ None → HasLine op
+    → Follows start user subtree run ops → first (bars run.state user op) ≡ None
+    → HasLine (vocabulary_of start.controllers) op
     → Follows start user subtree (stepped run user op) (ops ++ op ∷ [])
 follows-more start user subtree run ops op at free has = record {
   of = at.of;
@@ -48,7 +52,7 @@ follows-more start user subtree run ops op at free has = record {
       (run-stepped run start (by_user user ops) user op at.follows);
   allowed = allowed-more start user ops op at.allowed
       (subst (λ st. bars st user op ≡ []) at.follows.state (none-bars _ free));
-  lines = lines-more ops op at.lines has;
+  lines = lines-more (vocabulary_of start.controllers) ops op at.lines has;
 }
 
 -- ---- the end

@@ -3,6 +3,7 @@
 use Rattle.std.specs.Prelude.{◌≡◌, List}
 use Rattle.std.specs.List.{AllByRecursion}
 use Rattle.cg_cgroup.specs.Paths.{Names}
+use Rattle.cg_cgroup.specs.Files.{vocabulary_of}
 use Rattle.cg_cgroup.specs.Identity.{Identity}
 use Rattle.cg_model.specs.States.{State}
 use Rattle.cg_model.specs.Held.{by_user}
@@ -17,4 +18,4 @@ pub record Follows (start : State) (user : Identity) (subtree : Names) (run : Pr
   pub of : run.subtree ≡ subtree
   pub follows : IsRunOf run start (by_user user ops)
   pub allowed : AreAllowed start user ops
-  pub lines : AllByRecursion HasLine ops
+  pub lines : AllByRecursion (HasLine (vocabulary_of start.controllers)) ops

@@ -1,11 +1,13 @@
 //! A list, replayed before it is given.
 ghost use Rattle.std.specs.Prelude.{◌≡◌, ◌<◌, true, length, Ok, IfOk, IfSome};
+ghost use Rattle.cg_cgroup.specs.Files.{vocabulary_of};
 ghost use Rattle.cg_cgroup.specs.Paths.{Names};
 ghost use Rattle.cg_model.specs.States.{State};
 ghost use Rattle.cg_model.specs.declared.verdict.Clause.{Clause};
 ghost use Rattle.cg_plans.specs.Breaking.{Breaks};
 ghost use Rattle.cg_plans.specs.Following.{Follows};
 
+use cg_cgroup::files::Vocabulary;
 use cg_cgroup::memory::NoMemory;
 use cg_cgroup::path::Path;
 use cg_cgroup::user::User;
@@ -32,9 +34,10 @@ pub fn replayed<H: Hierarchy + Drop>(
     let Ok(mut replay) = Replay::start(tree.try_clone(alloc)?, subtree.try_clone(alloc)?) else {
         return Ok(None);
     };
+    let vocabulary = Vocabulary::of(tree.controllers());
     let mut kept = Operations::new(alloc);
     for op in operations {
-        if !follow(alloc, user, &mut replay, &mut kept, op)? {
+        if !follow(alloc, vocabulary, user, &mut replay, &mut kept, op)? {
             return Ok(None);
         }
         if is_broken_by_last(replay.verdict(), kept.as_slice().len()) {
@@ -44,18 +47,21 @@ pub fn replayed<H: Hierarchy + Drop>(
     Ok(None)
 }
 
-/// Makes a step by an operation, and keeps it, unless its line can't be read or it is refused. Whether it was kept.
+/// Makes a step by an operation, and keeps it, unless its line can't be read with the tree at the start or it is refused. Whether it
+/// was kept.
 fn follow<H: Hierarchy>(
     alloc: Global,
+    vocabulary: Vocabulary,
     user: &User,
     replay: &mut Replay<H>,
     kept: &mut Operations,
     op: Op,
 ) -> Result<bool, NoMemory>
-    ensures { (start : State) (subtree : Names) → Follows start user.now subtree replay.old kept.old → result ≡ Ok true
+    ensures { (start : State) (subtree : Names) → vocabulary ≡ vocabulary_of start.controllers
+        → Follows start user.now subtree replay.old kept.old → result ≡ Ok true
         → Follows start user.now subtree replay.new kept.new }
 {
-    if !has_short_line(&op) {
+    if !has_short_line(vocabulary, &op) {
         return Ok(false);
     }
     match replay.step(alloc, user, &op) {

@@ -1,11 +1,12 @@
 -- The names of a set's controllers are read as that set.
 use Rattle.std.proofs.Common.{◌≡◌, Bool, true, false, ◌&&◌, ◌||◌, cond, filter, List, [], ◌∷◌, map as map_list, Some, option_and_then, refl, sym, ap, ◌∙◌}
-use Rattle.std.specs.List.{list_any, AllByRecursion}
-use Rattle.cg_cgroup.specs.Files.{format_2_controllers, controller_name, same_controller, is_in_format_2, is_of_format_2, enables, with_controller, no_controllers}
+use Rattle.std.specs.List.{list_any}
+use Rattle.cg_cgroup.specs.Files.{all_controllers, controller_name, same_controller, is_known, is_of, enables, with_controller, no_controllers}
 use Rattle.cg_cgroup.specs.declared.files.Controller.{Controller}
+use Rattle.cg_cgroup.specs.declared.files.Vocabulary.{Vocabulary}
 use Rattle.cg_cgroup.specs.declared.controllers.ControllerSet.{ControllerSet}
-use Rattle.cg_cgroup.proofs.NameLaws.{again_in_format_2}
-use Rattle.cg_cgroup.proofs.ControllerLaws.{same_controller-true, each_in_format_2, same_set, enables-set_by, enables-with_controller, enables-format_2}
+use Rattle.cg_cgroup.proofs.NameLaws.{controller_names}
+use Rattle.cg_cgroup.proofs.ControllerLaws.{same_controller-true, each_controller, same_set, enables-set_by, enables-with_controller, enables-known}
 use Rattle.cg_format.specs.Said.{controllers_from, controllers_read}
 use Rattle.cg_print.specs.Documents.{names_in}
 
@@ -13,24 +14,13 @@ abbrev added : ControllerSet → List Controller → ControllerSet
 added set [] = set
 added set (controller ∷ controllers) = added (with_controller set controller true) controllers
 
-abbrev AreKnown : List Controller → Type 0
-AreKnown controllers = AllByRecursion (λ controller. is_in_format_2 controller ≡ true) controllers
-
-names_read : (set : ControllerSet) (controllers : List Controller) → AreKnown controllers
+names_read : (set : ControllerSet) (controllers : List Controller)
     → controllers_from set (map_list controller_name controllers) ≡ Some (added set controllers)
-names_read set [] known = refl
-names_read set (controller ∷ controllers) known =
+names_read set [] = refl
+names_read set (controller ∷ controllers) =
     ap (option_and_then (λ found. controllers_from (with_controller set found true) (map_list controller_name controllers)))
-    (again_in_format_2 controller known.0)
-    ∙ names_read (with_controller set controller true) controllers known.1
-
-known_filtered : (test : Controller → Bool) (controllers : List Controller) → AreKnown controllers → AreKnown (filter test controllers)
-known_filtered test [] known = tt
-known_filtered test (controller ∷ controllers) known =
-    elim (test controller) as (λ b. AreKnown (cond b (controller ∷ filter test controllers) (filter test controllers))) [
-      | true ↦ (known.0, known_filtered test controllers known.1)
-      | false ↦ known_filtered test controllers known.1
-    ]
+    (controller_names.found controller)
+    ∙ names_read (with_controller set controller true) controllers
 
 joined : (any same base : Bool) → (any || cond same true base) ≡ ((same || any) || base)
 joined any true base = or_true any
@@ -77,22 +67,21 @@ among_filtered test (controller ∷ controllers) other =
     both false true there any h = ap (λ b. b && any) (sym (h refl)) ∙ ap (λ b. b && true) (h refl)
     both false false there any h = refl
 
-listed : (controller : Controller) → is_in_format_2 controller ≡ true
-    → list_any (λ one. same_controller one controller) format_2_controllers ≡ true
-listed controller known =
-    each_in_format_2 (λ controller. list_any (λ one. same_controller one controller) format_2_controllers ≡ true)
-    (refl, (refl, (refl, tt))) controller known
+listed : (controller : Controller) → list_any (λ one. same_controller one controller) all_controllers ≡ true
+listed controller = each_controller (λ controller. list_any (λ one. same_controller one controller) all_controllers) refl controller
 
-and_listed : (on there : Bool) → (on ≡ true → there ≡ true) → ((on && there) || false) ≡ on
-and_listed true there h = ap (λ b. b || false) (h refl)
-and_listed false there h = refl
+and_listed : (known on there : Bool) → (on ≡ true → known ≡ true) → there ≡ true → (((known && on) && there) || false) ≡ on
+and_listed known true there h is = (λ i. ((h refl i && true) && is i) || false)
+and_listed true false there h is = refl
+and_listed false false there h is = refl
 
-pub set_again : (set : ControllerSet) → is_of_format_2 set ≡ true → controllers_read (names_in set) ≡ Some set
-set_again set known =
-    names_read no_controllers (filter (enables set) format_2_controllers)
-    (known_filtered (enables set) format_2_controllers (refl, (refl, (refl, tt))))
-    ∙ ap Some (same_set (added no_controllers (filter (enables set) format_2_controllers)) set (λ other.
-    enables-added no_controllers (filter (enables set) format_2_controllers) other
-    ∙ (λ i. among_filtered (enables set) format_2_controllers other i || enables-set_by (λ controller. false) other i)
-    ∙ and_listed (enables set other) (list_any (λ one. same_controller one other) format_2_controllers)
-    (λ on. listed other (enables-format_2 set known other on))))
+pub set_again : (vocabulary : Vocabulary) (set : ControllerSet) → is_of vocabulary set ≡ true
+    → controllers_read (names_in vocabulary set) ≡ Some set
+set_again vocabulary set known =
+    let test : Controller → Bool = λ controller. is_known vocabulary controller && enables set controller in
+    names_read no_controllers (filter test all_controllers)
+    ∙ ap Some (same_set (added no_controllers (filter test all_controllers)) set (λ other.
+    enables-added no_controllers (filter test all_controllers) other
+    ∙ (λ i. among_filtered test all_controllers other i || enables-set_by (λ controller. false) other i)
+    ∙ and_listed (is_known vocabulary other) (enables set other) (list_any (λ one. same_controller one other) all_controllers)
+    (enables-known vocabulary set known other) (listed other)))

@@ -12,10 +12,11 @@ use Rattle.std.proofs.lemmas.Bool.{and_from}
 use Rattle.std.proofs.lemmas.List.{length-map}
 use Rattle.toml.specs.Data.{Members, table, as_table}
 use Rattle.cg_cgroup.specs.Paths.{Names, path_cmp, same_path}
-use Rattle.cg_cgroup.specs.Files.{is_of_format_2}
+use Rattle.cg_cgroup.specs.Files.{is_of}
+use Rattle.cg_cgroup.specs.declared.files.Vocabulary.{Vocabulary}
 use Rattle.cg_cgroup.specs.declared.cgroup.Cgroup.{Cgroup}
 use Rattle.cg_cgroup.specs.declared.process.Process.{Process}
-use Rattle.cg_cgroup.proofs.ControllerLaws.{enables-format_2, format_2-each}
+use Rattle.cg_cgroup.proofs.ControllerLaws.{enables-known, known-each}
 use Rattle.cg_cgroup.proofs.PathOrder.{path_cmp_total, path_cmp-IsAntisymmetric, same_path-ties}
 use Rattle.cg_model.specs.States.{State, row_at, process_at}
 use Rattle.cg_model.specs.WellFormed.{enabled_above}
@@ -27,9 +28,8 @@ use Rattle.cg_format.specs.Form.{Key, is_table, row_keys, live_keys}
 use Rattle.cg_format.specs.Said.{tables_at, path_said, has_path, pid_said}
 use Rattle.cg_format.specs.TextOf.{IsInForm, IsRowOf, IsProcessOf, has_pid, IsDocumentOf, IsTextOf}
 use Rattle.cg_format.specs.TreeTexts.{longest_text, document_of}
-use Rattle.cg_format.specs.declared.format.Format.TheVariants.{Two}
 use Rattle.cg_print.specs.Documents.{cgroup_table, process_table, tree_document}
-use Rattle.cg_print.specs.Carried.{IsNamedRow, IsNamedProcess, IsKept, IsCarried}
+use Rattle.cg_print.specs.Carried.{IsNamedRow, IsNamedProcess, IsKept, IsCarried, written_in}
 use Rattle.cg_print.proofs.Entries.{entries_there, held_there}
 use Rattle.cg_print.proofs.FormBack.{cgroup_in_form, process_in_form, top_in_form}
 use Rattle.cg_print.proofs.SaidBack.{path_back, enabled_back, entry_back, value_back, files_back, pid_back, uid_back, place_back, format_back, controllers_back, cgroups_back, processes_back}
@@ -105,7 +105,7 @@ module _ {K X : Type 0} {R : K → K → Ordering} (total : IsTotalOrder R) (wri
 
 -- ---- the whole
 
-module _ (st : State) (kept : IsKept st) where
+module _ (vocabulary : Vocabulary) (st : State) (kept : IsKept st) where
   abbrev cgroups : List (Names × Cgroup)
   cgroups = entries st.rows
 
@@ -113,31 +113,31 @@ module _ (st : State) (kept : IsKept st) where
   live = entries st.live
 
   abbrev row_written : Names × Cgroup → Members
-  row_written e = cgroup_table e.0 e.1
+  row_written e = cgroup_table vocabulary e.0 e.1
 
   abbrev process_written : ℕ × Process → Members
   process_written e = process_table e.0 e.1
 
-  -- a cgroup enables no controller that texts don't know, where the root has none
-  row_known : is_of_format_2 st.controllers ≡ true → (path : Names) (row : Cgroup) → row_at st path ≡ Some row
-      → is_of_format_2 row.enabled ≡ true
+  -- a cgroup enables no controller that the vocabulary hasn't, where the root has none
+  row_known : is_of vocabulary st.controllers ≡ true → (path : Names) (row : Cgroup) → row_at st path ≡ Some row
+      → is_of vocabulary row.enabled ≡ true
   row_known known path row there =
-      format_2-each row.enabled (λ controller on.
-      enables-format_2 st.controllers known controller (root_has st kept.formed controller path row there on))
+      known-each vocabulary row.enabled (λ controller on.
+      enables-known vocabulary st.controllers known controller (root_has st kept.formed controller path row there on))
 
-  row_back : IsCarried st → (e : Names × Cgroup) → row_at st e.0 ≡ Some e.1 → IsNamedRow e.0 e.1
-      → IsRowOf Two st (row_written e)
+  row_back : IsCarried vocabulary st → (e : Names × Cgroup) → row_at st e.0 ≡ Some e.1 → IsNamedRow e.0 e.1
+      → IsRowOf (written_in vocabulary) st (row_written e)
   row_back carried e there at =
       let formed = kept.formed.rows e.0 e.1 there in
       record {
         path = e.0;
         cgroup = e.1;
         there = there;
-        named = path_back e.0 e.1 at;
-        enabled = enabled_back e.0 e.1 (row_known carried.controllers e.0 e.1 there);
-        entries = entry_back e.0 e.1 (enabled_above st e.0) at formed;
-        values = value_back e.0 e.1 (enabled_above st e.0) at formed;
-        files = files_back e.0 e.1 (enabled_above st e.0) at formed;
+        named = path_back vocabulary e.0 e.1 at;
+        enabled = enabled_back vocabulary e.0 e.1 (row_known carried.controllers e.0 e.1 there);
+        entries = entry_back vocabulary e.0 e.1 (enabled_above st e.0) at formed;
+        values = value_back vocabulary e.0 e.1 (enabled_above st e.0) at formed;
+        files = files_back vocabulary e.0 e.1 (enabled_above st e.0) at formed;
         others = carried.others e.0 e.1 there;
       }
 
@@ -153,40 +153,48 @@ module _ (st : State) (kept : IsKept st) where
         place = place_back e.0 e.1 at (held_there path_cmp-IsAntisymmetric IsNamedRow st.rows kept.rows e.1.place row.0 row.1).path;
       }
 
-  rows_are : tables_at (codes "cgroup") (tree_document st) ≡ map_list row_written cgroups
-  rows_are = ap (filter_map as_table) (cgroups_back st) ∙ tables_again row_written cgroups
+  rows_are : tables_at (codes "cgroup") (tree_document vocabulary st) ≡ map_list row_written cgroups
+  rows_are = ap (filter_map as_table) (cgroups_back vocabulary st) ∙ tables_again row_written cgroups
 
-  lives_are : tables_at (codes "process") (tree_document st) ≡ map_list process_written live
-  lives_are = ap (filter_map as_table) (processes_back st) ∙ tables_again process_written live
+  lives_are : tables_at (codes "process") (tree_document vocabulary st) ≡ map_list process_written live
+  lives_are = ap (filter_map as_table) (processes_back vocabulary st) ∙ tables_again process_written live
 
-  in_form : IsCarried st → IsInForm Two (tree_document st)
+  in_form : IsCarried vocabulary st → IsInForm (written_in vocabulary) (tree_document vocabulary st)
   in_form carried = record {
-    top = top_in_form st;
-    format = format_back st;
-    few_cgroups = omega (arith, carried.cgroups, ap length (cgroups_back st), length-map cgroups (λ e. table (row_written e)));
-    few_processes = omega (arith, carried.processes, ap length (processes_back st), length-map live (λ e. table (process_written e)));
-    cgroups = ap (list_all (is_table (row_keys Two))) (cgroups_back st)
-        ∙ all_in_form row_written (row_keys Two) (λ e. cgroup_in_form e.0 e.1) cgroups;
-    processes = ap (list_all (is_table live_keys)) (processes_back st)
+    top = top_in_form vocabulary st;
+    format = format_back vocabulary st;
+    few_cgroups = omega (arith, carried.cgroups, ap length (cgroups_back vocabulary st), length-map cgroups (λ e. table (row_written e)));
+    few_processes = omega (
+      arith,
+      carried.processes,
+      ap length (processes_back vocabulary st),
+      length-map live (λ e. table
+          (process_written e)),
+    );
+    cgroups = ap (list_all (is_table (row_keys (written_in vocabulary)))) (cgroups_back vocabulary st)
+        ∙ all_in_form row_written (row_keys (written_in vocabulary)) (λ e. cgroup_in_form vocabulary e.0 e.1) cgroups;
+    processes = ap (list_all (is_table live_keys)) (processes_back vocabulary st)
         ∙ all_in_form process_written live_keys (λ e. process_in_form e.0 e.1) live;
   }
 
-  pub document_back : IsCarried st → IsDocumentOf st (tree_document st)
+  pub document_back : IsCarried vocabulary st → IsDocumentOf st (tree_document vocabulary st)
   document_back carried =
       let rows =
-      all-both _ _ (λ (e : Names × Cgroup). IsRowOf Two st (row_written e)) (row_back carried) cgroups
+      all-both _ _ (λ (e : Names × Cgroup). IsRowOf (written_in vocabulary) st (row_written e)) (row_back carried) cgroups
       (entries_there path_cmp path_cmp_total st.rows) kept.rows in
       let processes =
       all-both _ _ (λ (e : ℕ × Process). IsProcessOf st (process_written e)) process_back live
       (entries_there nat_cmp nat_cmp_total st.live) kept.live in
       record {
-        format = Two;
+        format = written_in vocabulary;
         form = in_form carried;
-        controllers = controllers_back st carried.controllers;
-        cgroups = subst (AllByRecursion (IsRowOf Two st)) (sym rows_are) (all_written row_written (IsRowOf Two st) cgroups rows);
+        controllers = controllers_back vocabulary st carried.controllers;
+        cgroups = subst (AllByRecursion (IsRowOf (written_in vocabulary) st)) (sym rows_are) (all_written row_written (IsRowOf
+            (written_in vocabulary) st) cgroups rows);
         paths = λ path. ap (count_by (has_path path)) rows_are
             ∙ each_once path_cmp_total row_written (has_path path) path st.rows
-            (all-each _ _ (λ (e : Names × Cgroup) at. path_ties (row_written e) e.0 (path_back e.0 e.1 at) path) cgroups kept.rows);
+            (all-each _ _ (λ (e : Names × Cgroup) at. path_ties (row_written e) e.0
+            (path_back vocabulary e.0 e.1 at) path) cgroups kept.rows);
         processes = subst (AllByRecursion (IsProcessOf st)) (sym lives_are) (all_written process_written (IsProcessOf st) live processes);
         pids = λ pid. ap (count_by (has_pid pid)) lives_are
             ∙ each_once nat_cmp_total process_written (has_pid pid) pid st.live
@@ -197,7 +205,7 @@ module _ (st : State) (kept : IsKept st) where
 
 -- ---- texts
 
-pub text_back : (text : List ℕ) (st : State) → document_of text ≡ Some (tree_document st) → IsKept st → IsCarried st
-    → length text ≤ longest_text → IsTextOf st text
-text_back text st parsed kept carried short =
-    record { short = short; document = tree_document st; parsed = parsed; says = document_back st kept carried }
+pub text_back : (text : List ℕ) (vocabulary : Vocabulary) (st : State) → document_of text ≡ Some (tree_document vocabulary st) → IsKept st
+    → IsCarried vocabulary st → length text ≤ longest_text text → IsTextOf st text
+text_back text vocabulary st parsed kept carried short =
+    record { short = short; document = tree_document vocabulary st; parsed = parsed; says = document_back vocabulary st kept carried }

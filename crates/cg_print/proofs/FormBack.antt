@@ -1,4 +1,4 @@
--- The tables of a tree's document are in the form of format 2.
+-- The tables of a tree's document are in the form of the format that is written: in format 4 they are as in format 2.
 use Rattle.std.proofs.Common.{◌≡◌, ℕ, Bool, true, List, [], ◌∷◌, codes, Option, Some, None, refl, ap, ◌∙◌}
 use Rattle.std.specs.Prelude.{fold}
 use Rattle.std.specs.List.{list_any, list_all}
@@ -11,6 +11,8 @@ use Rattle.cg_cgroup.specs.Cgroups.{file_of}
 use Rattle.cg_cgroup.specs.declared.user.Entry.{Entry}
 use Rattle.cg_cgroup.specs.declared.files.Limit.TheVariants.{Max, At}
 use Rattle.cg_cgroup.specs.declared.files.LimitFile.{LimitFile}
+use Rattle.cg_cgroup.specs.declared.files.Vocabulary.{Vocabulary}
+use Rattle.cg_cgroup.specs.declared.files.Vocabulary.TheVariants.{Format2, Format4}
 use Rattle.cg_cgroup.specs.declared.files.LimitFile.TheVariants.{MaxDescendants}
 use Rattle.cg_cgroup.specs.declared.cgroup.LimitEntry.{LimitEntry}
 use Rattle.cg_cgroup.specs.declared.cgroup.Cgroup.{Cgroup}
@@ -19,6 +21,7 @@ use Rattle.cg_cgroup.proofs.AllFiles.{each_passes, all_pass}
 use Rattle.cg_model.specs.States.{State}
 use Rattle.cg_format.specs.Form.{Key, fits_at, may_have, are_among, is_table, are_texts, document_keys, owner_keys, limit_keys, file_keys_of, row_keys, live_keys}
 use Rattle.cg_format.specs.declared.format.Format.TheVariants.{Two}
+use Rattle.cg_print.specs.Carried.{written_in}
 use Rattle.cg_print.specs.Keys.{with_key}
 use Rattle.cg_print.specs.Documents.{names_in, texts_array, entry_table, value_written, limit_table, table_of_file, with_file, files_table, cgroup_table, process_table, tree_document}
 use Rattle.cg_print.proofs.KeyLaws.{AsksEach, only-with_key, only-with_optional, or_none, look, get-with_key, get-with_optional}
@@ -122,12 +125,22 @@ texts_in_form : (names : List (List ℕ)) → are_texts (texts_array names) ≡ 
 texts_in_form [] = refl
 texts_in_form (name ∷ names) = texts_in_form names
 
-pub cgroup_in_form : (path : Names) (row : Cgroup) → is_table (row_keys Two) (table (cgroup_table path row)) ≡ true
+row_in_form : (vocabulary : Vocabulary) (path : Names) (row : Cgroup)
+    → is_table (row_keys Two) (table (cgroup_table vocabulary path row)) ≡ true
 unfolding cgroup_table with_key
-cgroup_in_form path row =
-    and_from (are_texts (texts_array (names_in row.enabled))) _ (texts_in_form (names_in row.enabled))
+row_in_form vocabulary path row =
+    and_from (are_texts (texts_array (names_in vocabulary row.enabled))) _ (texts_in_form (names_in vocabulary row.enabled))
     (and_from (is_table (owner_keys Two) (table (entry_table row.dir))) _ (entry_in_form row.dir)
     (and_from (is_table (file_keys_of Two) (table (files_table row))) true (files_in_form row) refl))
+
+keys_written : (vocabulary : Vocabulary) → row_keys (written_in vocabulary) ≡ row_keys Two
+keys_written Format2 = refl
+keys_written Format4 = refl
+
+pub cgroup_in_form : (vocabulary : Vocabulary) (path : Names) (row : Cgroup)
+    → is_table (row_keys (written_in vocabulary)) (table (cgroup_table vocabulary path row)) ≡ true
+cgroup_in_form vocabulary path row =
+    ap (λ keys. is_table keys (table (cgroup_table vocabulary path row))) (keys_written vocabulary) ∙ row_in_form vocabulary path row
 
 pub process_in_form : (pid : ℕ) (process : Process) → is_table live_keys (table (process_table pid process)) ≡ true
 unfolding process_table with_key
@@ -135,6 +148,7 @@ process_in_form pid process = refl
 
 -- ---- the top table
 
-pub top_in_form : (st : State) → is_table document_keys (table (tree_document st)) ≡ true
+pub top_in_form : (vocabulary : Vocabulary) (st : State) → is_table document_keys (table (tree_document vocabulary st)) ≡ true
 unfolding tree_document with_key
-top_in_form st = and_from (are_texts (texts_array (names_in st.controllers))) true (texts_in_form (names_in st.controllers)) refl
+top_in_form vocabulary st =
+    and_from (are_texts (texts_array (names_in vocabulary st.controllers))) true (texts_in_form (names_in vocabulary st.controllers)) refl

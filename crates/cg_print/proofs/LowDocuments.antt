@@ -14,6 +14,7 @@ use Rattle.cg_cgroup.specs.declared.user.Entry.{Entry}
 use Rattle.cg_cgroup.specs.declared.files.Limit.{Limit}
 use Rattle.cg_cgroup.specs.declared.files.Limit.TheVariants.{Max, At}
 use Rattle.cg_cgroup.specs.declared.files.LimitFile.{LimitFile}
+use Rattle.cg_cgroup.specs.declared.files.Vocabulary.{Vocabulary}
 use Rattle.cg_cgroup.specs.declared.cgroup.LimitEntry.{LimitEntry}
 use Rattle.cg_cgroup.specs.declared.cgroup.Cgroup.{Cgroup}
 use Rattle.cg_cgroup.specs.declared.process.Process.{Process}
@@ -120,12 +121,12 @@ low_texts (name ∷ names) = let rest = low_texts names in ((tt, rest.0), omega 
 low_names : (n : ℕ) (names : List (List ℕ)) → IsLow (n + 1) (texts_array names)
 low_names n names = let low = low_texts names in (low.0, omega (arith, low.1))
 
-low_cgroup : (e : Names × Cgroup) → HasLow 2 (cgroup_table e.0 e.1)
+low_cgroup : (vocabulary : Vocabulary) (e : Names × Cgroup) → HasLow 2 (cgroup_table vocabulary e.0 e.1)
 unfolding cgroup_table
-low_cgroup e =
+low_cgroup vocabulary e =
     low_key 2 _ (table (files_table e.1)) _ (low_table 1 _ (low_files e.1))
     (low_key 2 _ (table (entry_table e.1.dir)) _ (low_table 1 _ (low_entry 1 e.1.dir))
-    (low_key 2 _ (texts_array (names_in e.1.enabled)) _ (low_names 1 (names_in e.1.enabled))
+    (low_key 2 _ (texts_array (names_in vocabulary e.1.enabled)) _ (low_names 1 (names_in vocabulary e.1.enabled))
     (low_key 2 _ _ no_members (tt, omega arith) (no_keys 2))))
 
 low_process : (e : ℕ × Process) → HasLow 2 (process_table e.0 e.1)
@@ -141,18 +142,18 @@ low_rows write each (e ∷ es) =
     let rest = low_rows write each es in
     ((here.0, rest.0), omega (arith, here.1, rest.1))
 
-low_tree : (st : State) → HasLow 4 (tree_document st)
+low_tree : (vocabulary : Vocabulary) (st : State) → HasLow 4 (tree_document vocabulary st)
 unfolding tree_document
-low_tree st =
+low_tree vocabulary st =
     let processes = low_rows (λ (e : ℕ × Process). process_table e.0 e.1) low_process (finite.entries st.live) in
-    let cgroups = low_rows (λ (e : Names × Cgroup). cgroup_table e.0 e.1) low_cgroup (finite.entries st.rows) in
+    let cgroups = low_rows (λ (e : Names × Cgroup). cgroup_table vocabulary e.0 e.1) (low_cgroup vocabulary) (finite.entries st.rows) in
     low_key 4 _ (array (items_of (processes_written st))) _ (processes.0, omega (arith, processes.1))
-    (low_key 4 _ (array (items_of (cgroups_written st))) _ (cgroups.0, omega (arith, cgroups.1))
-    (low_key 4 _ (texts_array (names_in st.controllers)) _ (low_names 3 (names_in st.controllers))
+    (low_key 4 _ (array (items_of (cgroups_written vocabulary st))) _ (cgroups.0, omega (arith, cgroups.1))
+    (low_key 4 _ (texts_array (names_in vocabulary st.controllers)) _ (low_names 3 (names_in vocabulary st.controllers))
     (low_key 4 _ _ no_members (tt, omega arith) (no_keys 4))))
 
-pub plain_tree : (st : State) → HasPlain (tree_document st)
-plain_tree st = (low_tree st).0
+pub plain_tree : (vocabulary : Vocabulary) (st : State) → HasPlain (tree_document vocabulary st)
+plain_tree vocabulary st = (low_tree vocabulary st).0
 
-pub tree_depth : (st : State) → members_depth (tree_document st) ≤ 80
-tree_depth st = let low = (low_tree st).1 in omega (arith, low)
+pub tree_depth : (vocabulary : Vocabulary) (st : State) → members_depth (tree_document vocabulary st) ≤ 80
+tree_depth vocabulary st = let low = (low_tree vocabulary st).1 in omega (arith, low)

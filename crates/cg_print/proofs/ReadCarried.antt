@@ -7,25 +7,25 @@ use Rattle.std.specs.Cmp.{IsTotalOrder, Equal-is, nat_cmp_total}
 use Rattle.std.specs.FinMap as finite
 use Rattle.std.specs.FinMap.{FinMap, IsAntisymmetric, get, entries, find, nat_cmp-IsAntisymmetric}
 use Rattle.toml.specs.Data.{Data, Members, as_table}
-use Rattle.std.proofs.lemmas.Option.{none-some, same_Some}
-use Rattle.cg_cgroup.specs.Files.{same_controller, is_in_format_2, is_of_format_2, named_in_format_2, enables, with_controller, no_controllers}
-use Rattle.cg_cgroup.specs.declared.files.Controller.{Controller}
+use Rattle.std.specs.Option.{option_map_or}
+use Rattle.cg_cgroup.specs.declared.files.Vocabulary.TheVariants.{Format2}
 use Rattle.cg_cgroup.specs.Paths.{Names}
-use Rattle.cg_cgroup.specs.declared.controllers.ControllerSet.{ControllerSet}
 use Rattle.cg_cgroup.specs.declared.cgroup.Cgroup.{Cgroup}
 use Rattle.cg_cgroup.proofs.Options.{same_some}
-use Rattle.cg_cgroup.proofs.ControllerLaws.{same_controller-true, enables-with_controller, enables-format_2, format_2-each, format_2-none}
-use Rattle.cg_cgroup.proofs.NameLaws.{known_in_format_2}
 use Rattle.cg_cgroup.proofs.PathOrder.{path_cmp_total, path_cmp-IsAntisymmetric}
 use Rattle.cg_model.specs.States.{State, row_at}
 use Rattle.cg_model.specs.WellFormed.{has_row}
 use Rattle.cg_model.proofs.Lists.{all-each}
-use Rattle.cg_format.specs.Said.{controllers_from, elements_at, texts_at, tables_at, has_path}
+use Rattle.cg_format.specs.Form.{most_rows}
+use Rattle.cg_format.specs.Said.{vocabulary, elements_at, tables_at, has_path, format_said}
+use Rattle.cg_format.specs.Readings.{format_in, vocabulary_in}
 use Rattle.cg_format.specs.TextOf.{OthersAreRoots, IsRowOf, IsProcessOf, has_pid, IsDocumentOf, IsTextOf}
 use Rattle.cg_format.specs.declared.format.Format.{Format}
+use Rattle.cg_format.specs.declared.format.Format.TheVariants.{One, Two, Four}
 use Rattle.cg_format.proofs.Cuts.{any_counted}
 use Rattle.cg_format.proofs.OneState.{one_passes, path_is}
-use Rattle.cg_print.specs.Carried.{IsCarried}
+use Rattle.cg_format.proofs.ReadingLaws.{known_controllers}
+use Rattle.cg_print.specs.Carried.{IsCarried, written_in}
 use Rattle.cg_print.proofs.DocumentBack.{path_ties, pid_ties}
 
 -- ---- the tables of an array
@@ -109,31 +109,20 @@ module _ (st : State) where
   process_entry : (row : Members) → IsProcessOf st row → IsOfEntry st.live has_pid row
   process_entry row is = record { key = is.pid; held = is.process; there = is.there; ties = pid_ties row is.pid is.named }
 
--- ---- the controllers
+-- ---- the vocabulary
 
-format_2-with : (set : ControllerSet) (controller : Controller) → is_of_format_2 set ≡ true → is_in_format_2 controller ≡ true
-    → is_of_format_2 (with_controller set controller true) ≡ true
-format_2-with set controller known one =
-    format_2-each (with_controller set controller true) (λ other on.
-    elim (same_controller controller other) as
-    (λ b. same_controller controller other ≡ b → cond b true (enables set other) ≡ true → is_in_format_2 other ≡ true) [
-      | true ↦ λ same _. sym (ap is_in_format_2 (same_controller-true controller other same)) ∙ one
-      | false ↦ λ _ held. enables-format_2 set known other held
-    ] refl (sym (enables-with_controller set controller true other) ∙ on))
+rows_written : (format : Format) → most_rows (written_in (vocabulary format)) ≡ most_rows format
+rows_written One = refl
+rows_written Two = refl
+rows_written Four = refl
 
-known_from : (set : ControllerSet) (texts : List (List ℕ)) (found : ControllerSet) → is_of_format_2 set ≡ true
-    → controllers_from set texts ≡ Some found → is_of_format_2 found ≡ true
-known_from set [] found known h = sym (ap is_of_format_2 (same_Some set found h)) ∙ known
-known_from set (text ∷ texts) found known h =
-    elim (named_in_format_2 text) as
-    (λ one. named_in_format_2 text ≡ one
-    → option_and_then (λ controller. controllers_from (with_controller set controller true) texts) one ≡ Some found
-    → is_of_format_2 found ≡ true) [
-      | None ↦ λ _ none. absurd (none-some found none)
-      | Some controller ↦ λ is more.
-          known_from (with_controller set controller true) texts found
-          (format_2-with set controller known (known_in_format_2 text controller is)) more
-    ] refl h
+-- so many rows has a text of its own vocabulary at most
+rows_in : (text : List ℕ) (st : State) (is : IsTextOf st text) → most_rows (written_in (vocabulary_in text)) ≡ most_rows is.says.format
+rows_in text st is =
+    let said : format_in text ≡ Some is.says.format = ap (option_and_then format_said) is.parsed ∙ is.says.form.format in
+    ap (λ (found : Option Format). most_rows (written_in (option_map_or vocabulary found Format2))) said ∙ rows_written is.says.format
+
+-- ---- the whole
 
 others_read : (st : State) (document : Members) → IsDocumentOf st document → (path : Names) (row : Cgroup) → row_at st path ≡ Some row
     → OthersAreRoots row
@@ -143,7 +132,7 @@ others_read st document is path row there =
     let named : path ≡ found.1.path = path_is path found.1.path found.0 found.1.named found.2 in
     subst OthersAreRoots (same_some found.1.cgroup row (sym (ap (row_at st) named ∙ found.1.there) ∙ there)) found.1.others
 
-pub read_carried : (text : List ℕ) (st : State) → IsTextOf st text → IsCarried st
+pub read_carried : (text : List ℕ) (st : State) → IsTextOf st text → IsCarried (vocabulary_in text) st
 read_carried text st is =
     let rows : List Members = tables_at (codes "cgroup") is.document in
     let lives : List Members = tables_at (codes "process") is.document in
@@ -151,10 +140,11 @@ read_carried text st is =
     let of_lives = all-each _ _ (process_entry st) lives is.says.processes in
     let cgroups = entries_at_most st.rows has_path path_cmp_total path_cmp-IsAntisymmetric rows of_rows is.says.paths in
     let processes = entries_at_most st.live has_pid nat_cmp_total nat_cmp-IsAntisymmetric lives of_lives is.says.pids in
+    let most = rows_in text st is in
     record {
-      cgroups = omega (arith, is.says.form.few_cgroups, tables_at_most (elements_at (codes "cgroup") is.document), cgroups);
-      processes = omega (arith, is.says.form.few_processes, tables_at_most (elements_at (codes "process") is.document), processes);
-      controllers = known_from no_controllers (texts_at (codes "controllers") is.document) st.controllers format_2-none is.says.controllers;
+      cgroups = omega (arith, most, is.says.form.few_cgroups, tables_at_most (elements_at (codes "cgroup") is.document), cgroups);
+      processes = omega (arith, most, is.says.form.few_processes, tables_at_most (elements_at (codes "process") is.document), processes);
+      controllers = known_controllers text st is;
       others = others_read st is.document is.says;
       used = is.says.used;
     }

@@ -6,13 +6,15 @@ use Rattle.toml.specs.View.{items_of}
 use Rattle.cg_cgroup.specs.Options.{◌>>=◌}
 use Rattle.cg_cgroup.specs.Paths.{Names, IsPath}
 use Rattle.cg_cgroup.specs.Texts as texts
-use Rattle.cg_cgroup.specs.Files.{accepts, is_of_format_2}
+use Rattle.cg_cgroup.specs.Files.{accepts, is_of}
 use Rattle.cg_cgroup.specs.Cgroups.{file_of, entry_in}
 use Rattle.cg_cgroup.specs.declared.user.Entry.{Entry}
 use Rattle.cg_cgroup.specs.declared.files.Limit.{Limit}
 use Rattle.cg_cgroup.specs.declared.files.Limit.TheVariants.{Max, At}
 use Rattle.cg_cgroup.specs.declared.controllers.ControllerSet.{ControllerSet}
 use Rattle.cg_cgroup.specs.declared.files.LimitFile.{LimitFile}
+use Rattle.cg_cgroup.specs.declared.files.Vocabulary.{Vocabulary}
+use Rattle.cg_cgroup.specs.declared.files.Vocabulary.TheVariants.{Format2, Format4}
 use Rattle.cg_cgroup.specs.declared.files.EntryName.{EntryName}
 use Rattle.cg_cgroup.specs.declared.files.EntryName.TheVariants.{Dir, Procs, SubtreeControl, File}
 use Rattle.cg_cgroup.specs.declared.cgroup.LimitEntry.{LimitEntry}
@@ -23,11 +25,12 @@ use Rattle.cg_cgroup.proofs.PathAt.{path_at-text}
 use Rattle.cg_model.specs.States.{State}
 use Rattle.cg_model.specs.WellFormed.{IsFormedRow}
 use Rattle.cg_format.specs.Form.{elements}
-use Rattle.cg_format.specs.Said.{elements_at, id_read, mode_read, accepted, controllers_read, limit_of, path_said, controllers_said, format_said, owner_said, limit_said, mode_missing, table_of, entry_said, value_said, is_named, pid_said, uid_said}
+use Rattle.cg_format.specs.Said as said
+use Rattle.cg_format.specs.Said.{elements_at, id_read, mode_read, accepted, controllers_read, limit_of, path_said, known_said, format_said, owner_said, limit_said, mode_missing, table_of, entry_said, value_said, is_named, pid_said, uid_said}
 use Rattle.cg_format.specs.declared.format.Format.TheVariants.{Two}
 use Rattle.cg_print.specs.Keys.{with_key}
-use Rattle.cg_print.specs.Documents.{names_in, entry_table, value_written, limit_table, table_of_file, cgroup_table, process_table, cgroups_written, processes_written, tree_document}
-use Rattle.cg_print.specs.Carried.{IsId, HasIds, IsNamedRow, IsNamedProcess}
+use Rattle.cg_print.specs.Documents.{names_in, entry_table, value_written, limit_table, table_of_file, cgroup_table, process_table, cgroups_written, processes_written, format_number, tree_document}
+use Rattle.cg_print.specs.Carried.{IsId, HasIds, IsNamedRow, IsNamedProcess, written_in}
 use Rattle.cg_print.proofs.ControllersBack.{set_again}
 use Rattle.cg_print.proofs.FormBack.{at_key, at_file}
 
@@ -77,9 +80,17 @@ texts_again : (names : List (List ℕ)) → filter_map as_str (elements (items_o
 texts_again [] = refl
 texts_again (name ∷ names) = ap (λ rest. name ∷ rest) (texts_again names)
 
-controllers_again : (set : ControllerSet) → is_of_format_2 set ≡ true
-    → controllers_read (filter_map as_str (elements (items_of (map_list string (names_in set))))) ≡ Some set
-controllers_again set known = ap controllers_read (texts_again (names_in set)) ∙ set_again set known
+vocabulary_written : (vocabulary : Vocabulary) → said.vocabulary (written_in vocabulary) ≡ vocabulary
+vocabulary_written Format2 = refl
+vocabulary_written Format4 = refl
+
+controllers_again : (vocabulary : Vocabulary) (set : ControllerSet) → is_of vocabulary set ≡ true
+    → option_and_then (λ one. cond (is_of (said.vocabulary (written_in vocabulary)) one) (Some one) None)
+    (controllers_read (filter_map as_str (elements (items_of (map_list string (names_in vocabulary set)))))) ≡ Some set
+controllers_again vocabulary set known =
+    let read = ap controllers_read (texts_again (names_in vocabulary set)) ∙ set_again vocabulary set known in
+    ap (option_and_then (λ one. cond (is_of (said.vocabulary (written_in vocabulary)) one) (Some one) None)) read
+    ∙ (λ i. cond (is_of (vocabulary_written vocabulary i) set) (Some set) None) ∙ ap (λ b. cond b (Some set) None) known
 
 -- ---- the entries of a cgroup
 
@@ -94,12 +105,13 @@ of_file : (found : Option LimitEntry) → option_and_then as_table (table_of_fil
 of_file None = refl
 of_file (Some held) = refl
 
-table_again : (path : Names) (row : Cgroup) (name : EntryName) → table_of name (cgroup_table path row) ≡ table_written row name
+table_again : (vocabulary : Vocabulary) (path : Names) (row : Cgroup) (name : EntryName)
+    → table_of name (cgroup_table vocabulary path row) ≡ table_written row name
 unfolding cgroup_table with_key
-table_again path row Dir = refl
-table_again path row Procs = ap (option_and_then as_table) (at_key row texts.cgroup_procs)
-table_again path row SubtreeControl = ap (option_and_then as_table) (at_key row texts.cgroup_subtree_control)
-table_again path row (File file) = ap (option_and_then as_table) (at_file row file) ∙ of_file (file_of row file)
+table_again vocabulary path row Dir = refl
+table_again vocabulary path row Procs = ap (option_and_then as_table) (at_key row texts.cgroup_procs)
+table_again vocabulary path row SubtreeControl = ap (option_and_then as_table) (at_key row texts.cgroup_subtree_control)
+table_again vocabulary path row (File file) = ap (option_and_then as_table) (at_file row file) ∙ of_file (file_of row file)
 
 named_again : (row : Cgroup) (name : EntryName) → is_some (table_written row name) ≡ is_some (entry_in row name)
 named_again row Dir = refl
@@ -110,16 +122,24 @@ named_again row (File file) =
 
 -- ---- a cgroup
 
-pub path_back : (path : Names) (row : Cgroup) → IsNamedRow path row → path_said (codes "path") (cgroup_table path row) ≡ Some path
+pub path_back : (vocabulary : Vocabulary) (path : Names) (row : Cgroup) → IsNamedRow path row
+    → path_said (codes "path") (cgroup_table vocabulary path row) ≡ Some path
 unfolding cgroup_table with_key
-path_back path row at = path_at-text path at.path
+path_back vocabulary path row at = path_at-text path at.path
 
-pub enabled_back : (path : Names) (row : Cgroup) → is_of_format_2 row.enabled ≡ true
-    → controllers_said (codes "enabled") (cgroup_table path row) ≡ Some row.enabled
+pub enabled_back : (vocabulary : Vocabulary) (path : Names) (row : Cgroup) → is_of vocabulary row.enabled ≡ true
+    → known_said (written_in vocabulary) (codes "enabled") (cgroup_table vocabulary path row) ≡ Some row.enabled
 unfolding cgroup_table with_key
-enabled_back path row known = controllers_again row.enabled known
+enabled_back vocabulary path row known = controllers_again vocabulary row.enabled known
 
-module _ (path : Names) (row : Cgroup) (above : ControllerSet) (at : IsNamedRow path row) (formed : IsFormedRow above row) where
+-- what a table says of an entry is the same in format 4 as in format 2
+said_written : (vocabulary : Vocabulary) (table : Members) (name : EntryName) → entry_said (written_in vocabulary) table name
+    ≡ entry_said Two table name
+said_written Format2 table name = refl
+said_written Format4 table name = refl
+
+module _ (vocabulary : Vocabulary) (path : Names) (row : Cgroup) (above : ControllerSet) (at : IsNamedRow path row)
+    (formed : IsFormedRow above row) where
   owner_again : (name : EntryName) (entry : Entry) → entry_in row name ≡ Some entry
       → owner_said Two (mode_missing name) (entry_table entry) ≡ Some entry
   owner_again name entry is = entry_again (mode_missing name) entry (at.ids name entry is) (formed.modes name entry is)
@@ -138,19 +158,21 @@ module _ (path : Names) (row : Cgroup) (above : ControllerSet) (at : IsNamedRow 
       ∙ ap Some held.2
 
   pub entry_back : (name : EntryName) (entry : Entry) → entry_in row name ≡ Some entry
-      → entry_said Two (cgroup_table path row) name ≡ Some entry
+      → entry_said (written_in vocabulary) (cgroup_table vocabulary path row) name ≡ Some entry
   entry_back name entry is =
-      ap (λ found. owner_said Two (mode_missing name) (unwrap_or found no_members)) (table_again path row name)
+      said_written vocabulary (cgroup_table vocabulary path row) name
+      ∙ ap (λ found. owner_said Two (mode_missing name) (unwrap_or found no_members)) (table_again vocabulary path row name)
       ∙ written_again name entry is
 
   pub value_back : (file : LimitFile) (held : LimitEntry) → file_of row file ≡ Some held
-      → value_said (cgroup_table path row) file ≡ Some held.value
+      → value_said (cgroup_table vocabulary path row) file ≡ Some held.value
   value_back file held is =
-      ap (λ found. limit_said file (unwrap_or found no_members)) (table_again path row (File file) ∙ ap (option_map limit_table) is)
+      ap (λ found. limit_said file (unwrap_or found no_members)) (table_again vocabulary path row (File file)
+      ∙ ap (option_map limit_table) is)
       ∙ value_again file held (formed.values file held is)
 
-  pub files_back : (name : EntryName) → is_named name (cgroup_table path row) ≡ true → is_some (entry_in row name) ≡ true
-  files_back name is = sym (ap is_some (table_again path row name) ∙ named_again row name) ∙ is
+  pub files_back : (name : EntryName) → is_named name (cgroup_table vocabulary path row) ≡ true → is_some (entry_in row name) ≡ true
+  files_back name is = sym (ap is_some (table_again vocabulary path row name) ∙ named_again row name) ∙ is
 
 -- ---- a process
 
@@ -173,20 +195,24 @@ elements_again : (values : List Data) → elements (items_of values) ≡ values
 elements_again [] = refl
 elements_again (value ∷ values) = ap (λ rest. value ∷ rest) (elements_again values)
 
-module _ (st : State) where
-  pub format_back : format_said (tree_document st) ≡ Some Two
-  unfolding tree_document with_key
-  format_back = refl
+number_back : (vocabulary : Vocabulary) → said.format_of (pos (format_number vocabulary)) ≡ Some (written_in vocabulary)
+number_back Format2 = refl
+number_back Format4 = refl
 
-  pub controllers_back : is_of_format_2 st.controllers ≡ true
-      → controllers_said (codes "controllers") (tree_document st) ≡ Some st.controllers
+module _ (vocabulary : Vocabulary) (st : State) where
+  pub format_back : format_said (tree_document vocabulary st) ≡ Some (written_in vocabulary)
   unfolding tree_document with_key
-  controllers_back known = controllers_again st.controllers known
+  format_back = number_back vocabulary
 
-  pub cgroups_back : elements_at (codes "cgroup") (tree_document st) ≡ cgroups_written st
+  pub controllers_back : is_of vocabulary st.controllers ≡ true
+      → known_said (written_in vocabulary) (codes "controllers") (tree_document vocabulary st) ≡ Some st.controllers
   unfolding tree_document with_key
-  cgroups_back = elements_again (cgroups_written st)
+  controllers_back known = controllers_again vocabulary st.controllers known
 
-  pub processes_back : elements_at (codes "process") (tree_document st) ≡ processes_written st
+  pub cgroups_back : elements_at (codes "cgroup") (tree_document vocabulary st) ≡ cgroups_written vocabulary st
+  unfolding tree_document with_key
+  cgroups_back = elements_again (cgroups_written vocabulary st)
+
+  pub processes_back : elements_at (codes "process") (tree_document vocabulary st) ≡ processes_written st
   unfolding tree_document with_key
   processes_back = elements_again (processes_written st)

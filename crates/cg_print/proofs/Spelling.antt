@@ -3,6 +3,7 @@ use Rattle.std.proofs.Common.{◌≡◌, ℕ, Bool, true, false, List, [], ◌�
 use Rattle.toml.specs.Data.{Data, string, integer, float, boolean, datetime, array, table, Items, no_items, item, Members, no_members, member}
 use Rattle.toml.specs.Tables.{Definition, key_value, std_table, array_table, Expression}
 use Rattle.toml.specs.Text.{breaks_lines, IsValueText, IsItemsText, IsMembersText, is_section, are_tables, pairs, needs_header, header_of, sections, section, elements, IsLineText, IsLinesText, expressions}
+use Rattle.cg_cgroup.specs.declared.files.Vocabulary.{Vocabulary}
 use Rattle.cg_model.specs.States.{State}
 use Rattle.cg_print.proofs.LowDocuments.{IsPlain, ArePlain, HasPlain, plain_tree}
 use Rattle.cg_print.specs.Documents.{tree_document, IsSpelled}
@@ -112,9 +113,11 @@ mutual
         (plain_elements ds key plain.1),
   )
 
-pub spelled_once : (st : State) (one other : List ℕ) → IsSpelled st one → IsSpelled st other → one ≡ other
-spelled_once st one other a b =
-    lines_once false false (expressions (tree_document st)) one other
-    (plain_both (pairs (tree_document st)) (sections [] (tree_document st)) (plain_pairs (tree_document st) (plain_tree st))
-    (plain_sections (tree_document st) [] (plain_tree st)))
+pub spelled_once : (vocabulary : Vocabulary) (st : State) (one other : List ℕ) → IsSpelled vocabulary st one → IsSpelled vocabulary st other
+    → one ≡ other
+spelled_once vocabulary st one other a b =
+    lines_once false false (expressions (tree_document vocabulary st)) one other
+    (plain_both (pairs (tree_document vocabulary st)) (sections [] (tree_document vocabulary st)) (plain_pairs
+    (tree_document vocabulary st) (plain_tree vocabulary st))
+    (plain_sections (tree_document vocabulary st) [] (plain_tree vocabulary st)))
     a b

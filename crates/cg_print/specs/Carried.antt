@@ -4,11 +4,13 @@ use Rattle.std.specs.List.{AllByRecursion}
 use Rattle.std.specs.FinMap as map
 use Rattle.cg_cgroup.specs.Paths.{Names, IsPath}
 use Rattle.cg_cgroup.specs.Numbers.{is_pid}
-use Rattle.cg_cgroup.specs.Files.{is_of_format_2}
+use Rattle.cg_cgroup.specs.Files.{is_of}
 use Rattle.cg_cgroup.specs.Cgroups.{file_of, entry_in}
 use Rattle.cg_cgroup.specs.declared.user.Entry.{Entry}
 use Rattle.cg_cgroup.specs.declared.files.EntryName.{EntryName}
 use Rattle.cg_cgroup.specs.declared.files.LimitFile.{LimitFile}
+use Rattle.cg_cgroup.specs.declared.files.Vocabulary.{Vocabulary}
+use Rattle.cg_cgroup.specs.declared.files.Vocabulary.TheVariants.{Format2, Format4}
 use Rattle.cg_cgroup.specs.declared.cgroup.LimitEntry.{LimitEntry}
 use Rattle.cg_cgroup.specs.declared.cgroup.Cgroup.{Cgroup}
 use Rattle.cg_cgroup.specs.declared.process.Process.{Process}
@@ -17,6 +19,8 @@ use Rattle.cg_model.specs.WellFormed.{IsWellFormed}
 use Rattle.cg_format.specs.Form.{most_rows}
 use Rattle.cg_format.specs.TextOf.{OthersAreRoots}
 use Rattle.cg_format.specs.TreeTexts.{longest_text}
+use Rattle.cg_format.specs.declared.format.Format.{Format}
+use Rattle.cg_format.specs.declared.format.Format.TheVariants.{Two, Four}
 use Rattle.cg_print.specs.Documents.{IsSpelled}
 
 -- a uid or a gid
@@ -55,15 +59,20 @@ pub record IsKept (st : State) : Type 0 where
   pub rows : AreNamedRows (map.entries st.rows)
   pub live : AreNamedProcesses (map.entries st.live)
 
--- Few enough cgroups and processes; no controller that texts don't know; limit files that they don't name are root's; and a PID
+-- the format of a text that is written
+abbrev pub written_in : Vocabulary → Format
+written_in Format2 = Two
+written_in Format4 = Four
+
+-- Few enough cgroups and processes; no controller without a name there; limit files that texts don't name are root's; and a PID
 -- that isn't live was never used, as a text has no word for it.
-pub record IsCarried (st : State) : Type 0 where
-  pub cgroups : length (map.entries st.rows) ≤ most_rows
-  pub processes : length (map.entries st.live) ≤ most_rows
-  pub controllers : is_of_format_2 st.controllers ≡ true
+pub record IsCarried (vocabulary : Vocabulary) (st : State) : Type 0 where
+  pub cgroups : length (map.entries st.rows) ≤ most_rows (written_in vocabulary)
+  pub processes : length (map.entries st.live) ≤ most_rows (written_in vocabulary)
+  pub controllers : is_of vocabulary st.controllers ≡ true
   pub others : (path : Names) (row : Cgroup) → row_at st path ≡ Some row → OthersAreRoots row
   pub used : (pid : ℕ) → is_used st pid ≡ is_some (process_at st pid)
 
 -- the tree's text is longer than a tree text may be
-abbrev pub IsTooLong : State → Type 0
-IsTooLong st = (text : List ℕ) × IsSpelled st text × (longest_text < length text)
+abbrev pub IsTooLong : Vocabulary → State → Type 0
+IsTooLong vocabulary st = (text : List ℕ) × IsSpelled vocabulary st text × (longest_text text < length text)

@@ -1,5 +1,5 @@
--- The document that is written of a tree: format 2, with every key. Own.
-use Rattle.std.specs.Prelude.{ℕ, pos, false, List, map as map_list, fold, codes, Option}
+-- The document that is written of a tree: format 2 or 4, with every key. Own.
+use Rattle.std.specs.Prelude.{ℕ, pos, false, ◌&&◌, List, map as map_list, fold, codes, Option}
 use Rattle.std.specs.Option.{option_map}
 use Rattle.std.specs.List.{filter}
 use Rattle.std.specs.FinMap as map
@@ -8,12 +8,14 @@ use Rattle.toml.specs.Text.{IsDocumentText}
 use Rattle.toml.specs.View.{items_of}
 use Rattle.cg_cgroup.specs.Paths.{Names, path_text}
 use Rattle.cg_cgroup.specs.Texts as texts
-use Rattle.cg_cgroup.specs.Files.{format_2_controllers, controller_name, enables, all_files, file_name}
+use Rattle.cg_cgroup.specs.Files.{all_controllers, controller_name, enables, is_known, all_files, file_name}
 use Rattle.cg_cgroup.specs.Cgroups.{file_of}
 use Rattle.cg_cgroup.specs.declared.user.Entry.{Entry}
 use Rattle.cg_cgroup.specs.declared.files.Limit.{Limit}
 use Rattle.cg_cgroup.specs.declared.files.Limit.TheVariants.{Max, At}
 use Rattle.cg_cgroup.specs.declared.controllers.ControllerSet.{ControllerSet}
+use Rattle.cg_cgroup.specs.declared.files.Vocabulary.{Vocabulary}
+use Rattle.cg_cgroup.specs.declared.files.Vocabulary.TheVariants.{Format2, Format4}
 use Rattle.cg_cgroup.specs.declared.files.LimitFile.{LimitFile}
 use Rattle.cg_cgroup.specs.declared.cgroup.LimitEntry.{LimitEntry}
 use Rattle.cg_cgroup.specs.declared.cgroup.Cgroup.{Cgroup}
@@ -24,9 +26,10 @@ use Rattle.cg_print.specs.Keys.{with_key, with_optional}
 abbrev pub number : ℕ → Data
 number n = integer (pos n)
 
--- the names of the controllers of a set that texts know, in their order
-abbrev pub names_in : ControllerSet → List (List ℕ)
-names_in set = map_list controller_name (filter (enables set) format_2_controllers)
+-- the names of the controllers of a set that the vocabulary has, in their order
+abbrev pub names_in : Vocabulary → ControllerSet → List (List ℕ)
+names_in vocabulary set =
+    map_list controller_name (filter (λ controller. is_known vocabulary controller && enables set controller) all_controllers)
 
 abbrev pub texts_array : List (List ℕ) → Data
 texts_array texts = array (items_of (map_list string texts))
@@ -56,11 +59,11 @@ files_table row =
     fold (with_file row)
     (with_key texts.cgroup_subtree_control (table (entry_table row.subtree_control)) (with_key texts.cgroup_procs (table (entry_table row.procs)) no_members)) all_files
 
-unfoldable pub cgroup_table : Names → Cgroup → Members
-cgroup_table path row =
+unfoldable pub cgroup_table : Vocabulary → Names → Cgroup → Members
+cgroup_table vocabulary path row =
     with_key (codes "files") (table (files_table row))
     (with_key (codes "dir") (table (entry_table row.dir))
-    (with_key (codes "enabled") (texts_array (names_in row.enabled))
+    (with_key (codes "enabled") (texts_array (names_in vocabulary row.enabled))
     (with_key (codes "path") (string (path_text path)) no_members)))
 
 -- ---- one process
@@ -74,20 +77,25 @@ process_table pid process =
 -- ---- the whole
 
 -- the cgroups in the order of their paths
-abbrev pub cgroups_written : State → List Data
-cgroups_written st = map_list (λ e. table (cgroup_table e.0 e.1)) (map.entries st.rows)
+abbrev pub cgroups_written : Vocabulary → State → List Data
+cgroups_written vocabulary st = map_list (λ e. table (cgroup_table vocabulary e.0 e.1)) (map.entries st.rows)
 
 -- the live processes in the order of their PIDs
 abbrev pub processes_written : State → List Data
 processes_written st = map_list (λ e. table (process_table e.0 e.1)) (map.entries st.live)
 
-unfoldable pub tree_document : State → Members
-tree_document st =
+-- the format that is written
+abbrev pub format_number : Vocabulary → ℕ
+format_number Format2 = 2
+format_number Format4 = 4
+
+unfoldable pub tree_document : Vocabulary → State → Members
+tree_document vocabulary st =
     with_key (codes "process") (array (items_of (processes_written st)))
-    (with_key (codes "cgroup") (array (items_of (cgroups_written st)))
-    (with_key (codes "controllers") (texts_array (names_in st.controllers))
-    (with_key (codes "format") (number 2) no_members)))
+    (with_key (codes "cgroup") (array (items_of (cgroups_written vocabulary st)))
+    (with_key (codes "controllers") (texts_array (names_in vocabulary st.controllers))
+    (with_key (codes "format") (number (format_number vocabulary)) no_members)))
 
 -- the text of a tree's document, as `toml` spells it
-abbrev pub IsSpelled : State → List ℕ → Type 0
-IsSpelled st text = IsDocumentText false (tree_document st) text
+abbrev pub IsSpelled : Vocabulary → State → List ℕ → Type 0
+IsSpelled vocabulary st text = IsDocumentText false (tree_document vocabulary st) text

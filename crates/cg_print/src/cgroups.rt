@@ -17,7 +17,7 @@ ghost use Rattle.cg_print.specs.Documents.{entry_table, value_written, limit_tab
 
 use crate::keys::{id_value, names_array, path_value, put};
 use cg_cgroup::cgroup::{Cgroup, LimitEntry};
-use cg_cgroup::files::{Limit, LimitFile};
+use cg_cgroup::files::{Limit, LimitFile, Vocabulary};
 use cg_cgroup::memory::NoMemory;
 use cg_cgroup::path::Path;
 use cg_cgroup::user::Entry;
@@ -115,9 +115,14 @@ fn files_table(alloc: Global, cgroup: &Cgroup) -> Result<Table, NoMemory>
 
 /// The table of a cgroup, whose files' values are ones that they accept.
 #[tactic(auto, unfolding(crate::specs::Documents::cgroup_table))]
-fn cgroup_table(alloc: Global, path: &Path, cgroup: &Cgroup) -> Result<Table, NoMemory>
+fn cgroup_table(
+    alloc: Global,
+    vocabulary: Vocabulary,
+    path: &Path,
+    cgroup: &Cgroup,
+) -> Result<Table, NoMemory>
     requires { (file : LimitFile) (held : LimitEntry) → file_of cgroup.now file ≡ Some held → accepts file held.value ≡ true }
-    ensures written { IfOk result (λ keys. table_view keys ≡ cgroup_table path.now cgroup.now) }
+    ensures written { IfOk result (λ keys. table_view keys ≡ cgroup_table vocabulary path.now cgroup.now) }
     ensures named { IfOk result (λ _. IsNamedRow path.now cgroup.now) }
 {
     let mut keys = Table::new(alloc);
@@ -126,7 +131,7 @@ fn cgroup_table(alloc: Global, path: &Path, cgroup: &Cgroup) -> Result<Table, No
         alloc,
         &mut keys,
         "enabled",
-        names_array(alloc, cgroup.enabled)?,
+        names_array(alloc, vocabulary, cgroup.enabled)?,
     )?;
     let dir = entry_table(alloc, cgroup.dir)?;
     put(alloc, &mut keys, "dir", Value::Table(dir))?;
@@ -136,27 +141,36 @@ fn cgroup_table(alloc: Global, path: &Path, cgroup: &Cgroup) -> Result<Table, No
 }
 
 /// The table of the cgroup at a path of a tree.
-fn cgroup_value<H: Hierarchy>(alloc: Global, tree: &H, path: &Path) -> Result<Value, NoMemory>
+fn cgroup_value<H: Hierarchy>(
+    alloc: Global,
+    vocabulary: Vocabulary,
+    tree: &H,
+    path: &Path,
+) -> Result<Value, NoMemory>
     requires { has_row (H.state tree.now) path.now ≡ true }
     ensures written { IfOk result (λ value. Some (view value)
-        ≡ option_map (λ row. table (cgroup_table path.now row)) (row_at (H.state tree.now) path.now)) }
+        ≡ option_map (λ row. table (cgroup_table vocabulary path.now row)) (row_at (H.state tree.now) path.now)) }
     ensures named { IfOk result (λ _. (row : Cgroup) → row_at (H.state tree.now) path.now ≡ Some row → IsNamedRow path.now row) }
 {
     let Some(cgroup) = tree.get(path, path.depth()) else {
         unreachable!()
     };
-    Ok(Value::Table(cgroup_table(alloc, path, cgroup)?))
+    Ok(Value::Table(cgroup_table(alloc, vocabulary, path, cgroup)?))
 }
 
 /// The tables of a tree's cgroups, in the order of their paths. Fails where memory is wanted.
-pub(crate) fn cgroups_array<H: Hierarchy>(alloc: Global, tree: &H) -> Result<Value, NoMemory>
-    ensures written { IfOk result (λ value. view value ≡ array (items_of (cgroups_written (H.state tree.now)))) }
+pub(crate) fn cgroups_array<H: Hierarchy>(
+    alloc: Global,
+    vocabulary: Vocabulary,
+    tree: &H,
+) -> Result<Value, NoMemory>
+    ensures written { IfOk result (λ value. view value ≡ array (items_of (cgroups_written vocabulary (H.state tree.now)))) }
     ensures named { IfOk result (λ _. AreNamedRows (map.entries (H.state tree.now).rows)) }
 {
     let paths = tree.paths(alloc)?;
     let mut values = Vec::new(alloc);
     for path in &paths {
-        values.push(cgroup_value(alloc, tree, path)?)?;
+        values.push(cgroup_value(alloc, vocabulary, tree, path)?)?;
     }
     Ok(Value::Array(values))
 }

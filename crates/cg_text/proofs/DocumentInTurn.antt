@@ -12,7 +12,7 @@ use Rattle.cg_model.specs.States.{State}
 use Rattle.cg_model.proofs.ClauseLaws.{first_none, first_some}
 use Rattle.cg_text.specs.Faults.{or_fault}
 use Rattle.cg_format.specs.Form.{Key, is_table}
-use Rattle.cg_format.specs.Said.{tables_at, controllers_said, format_said}
+use Rattle.cg_format.specs.Said.{tables_at, known_said, format_said}
 use Rattle.cg_format.specs.TextOf.{IsInForm, IsDocumentOf, IsTextOf}
 use Rattle.cg_format.specs.TextFaults.{each_cgroup, each_process, form_faults, row_faults, cgroup_faults, process_faults, said_faults, document_faults, text_faults}
 use Rattle.cg_format.specs.TreeTexts.{longest_text, document_of}
@@ -48,22 +48,22 @@ module _ (document : Members) (format : Format) (passed : first (form_faults doc
   living = first (each_process (process_faults tables) (tables_at (codes "process") document))
 
   -- its faults, by its controllers
-  faults_behind : (controllers : Option ControllerSet) → controllers_said (codes "controllers") document ≡ controllers
+  faults_behind : (controllers : Option ControllerSet) → known_said format (codes "controllers") document ≡ controllers
       → first (document_faults document)
       ≡ option_or (option_or (option_or (first (absent controllers (BadController Top))) alone) (together controllers)) living
   faults_behind controllers is =
       first_none (form_faults document) (present (format_said document) (λ format. said_faults format document)) passed
       ∙ ap (λ o. first (present o (λ format. said_faults format document))) form.format
-      ∙ four_or (absent (controllers_said (codes "controllers") document) (BadController Top))
-      (each_cgroup (λ _. row_faults format) tables) (cgroup_faults (controllers_said (codes "controllers") document) tables)
+      ∙ four_or (absent (known_said format (codes "controllers") document) (BadController Top))
+      (each_cgroup (λ _. row_faults format) tables) (cgroup_faults (known_said format (codes "controllers") document) tables)
       (each_process (process_faults tables) (tables_at (codes "process") document))
       ∙ (λ i. option_or (option_or (option_or (first (absent (is i) (BadController Top))) alone) (together (is i))) living)
 
-  pub controllers_fault : controllers_said (codes "controllers") document ≡ None
+  pub controllers_fault : known_said format (codes "controllers") document ≡ None
       → first (document_faults document) ≡ Some (BadController Top)
   controllers_fault none = faults_behind None none
 
-  module _ (controllers : ControllerSet) (named : controllers_said (codes "controllers") document ≡ Some controllers)
+  module _ (controllers : ControllerSet) (named : known_said format (codes "controllers") document ≡ Some controllers)
       (fault : TreeFault) where
     pub row_fault : alone ≡ Some fault → first (document_faults document) ≡ Some fault
     row_fault is =
@@ -102,11 +102,11 @@ document_read None document is = cc
 document_read (Some other) document is = let same : other ≡ document = cc in ap Some same
 
 -- what is answered of a document holds of the text whose document it is
-pub text_read : (bytes : List ℕ) (document : Members) (result : Result State TreeFault) → length bytes ≤ longest_text
+pub text_read : (bytes : List ℕ) (document : Members) (result : Result State TreeFault) → length bytes ≤ longest_text bytes
     → document_of bytes ≡ Some document
     → MatchResult result (λ st. IsDocumentOf st document) (λ fault. fault ≢ NoMemory → first (document_faults document) ≡ Some fault)
     → MatchResult result (λ st. IsTextOf st bytes) (λ fault. fault ≢ NoMemory → first (text_faults bytes) ≡ Some fault)
 text_read bytes document (Ok st) short parsed read = record { short = short; document = document; parsed = parsed; says = read }
 text_read bytes document (Err fault) short parsed read = λ other.
-    let fits : nat_le (length bytes) longest_text ≡ true = le-leb (length bytes) longest_text short in
+    let fits : nat_le (length bytes) (longest_text bytes) ≡ true = le-leb (length bytes) (longest_text bytes) short in
     (λ i. first (unless (fits i) TooLong ++ absent (parsed i) NotToml ++ present (parsed i) document_faults)) ∙ read other

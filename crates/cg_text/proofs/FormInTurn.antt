@@ -1,5 +1,5 @@
 -- The clauses on a document's form, as the reader asks them in turn.
-use Rattle.std.proofs.Common.{◌≡◌, ◌≤◌, true, List, ◌++◌, length, map, nat_le, le-leb, codes, Some, None, sym, ap, ◌∙◌, subst, arith}
+use Rattle.std.proofs.Common.{◌≡◌, ℕ, ◌≤◌, true, List, ◌++◌, length, map, nat_le, le-leb, codes, Some, None, sym, ap, ◌∙◌, subst, arith}
 use Rattle.std.specs.Option.{option_or}
 use Rattle.std.proofs.lemmas.Bool.{and_from}
 use Rattle.std.proofs.lemmas.List.{length-map}
@@ -20,21 +20,22 @@ use Rattle.cg_format.specs.declared.format.Format.{Format}
 use Rattle.cg_text.proofs.EachRow.{first_or}
 use Rattle.cg_format.proofs.FormClauses.{in_form}
 
-few_are : (some : List Value) (all : List Data) → map view some ≡ all → length some ≤ most_rows → nat_le (length all) most_rows ≡ true
-few_are some all are few = le-leb (length all) most_rows (omega (arith, ap length are, length-map some view))
+few_are : (most : ℕ) (some : List Value) (all : List Data) → map view some ≡ all → length some ≤ most → nat_le (length all) most ≡ true
+few_are most some all are few = le-leb (length all) most (omega (arith, ap length are, length-map some view))
 
-pub has_few_rows : (document : Members) (cgroups processes : List Value) → map view cgroups ≡ elements_at (codes "cgroup") document
-    → length cgroups ≤ most_rows → map view processes ≡ elements_at (codes "process") document → length processes ≤ most_rows
-    → has_few document ≡ true
-has_few_rows document cgroups processes are few also few_also =
-    and_from _ _ (few_are cgroups (elements_at (codes "cgroup") document) are few)
-    (few_are processes (elements_at (codes "process") document) also few_also)
+pub has_few_rows : (format : Format) (document : Members) (cgroups processes : List Value)
+    → map view cgroups ≡ elements_at (codes "cgroup") document → length cgroups ≤ most_rows format
+    → map view processes ≡ elements_at (codes "process") document → length processes ≤ most_rows format
+    → has_few format document ≡ true
+has_few_rows format document cgroups processes are few also few_also =
+    and_from _ _ (few_are (most_rows format) cgroups (elements_at (codes "cgroup") document) are few)
+    (few_are (most_rows format) processes (elements_at (codes "process") document) also few_also)
 
 -- A document whose top table is in form, and which has few rows.
 pub record IsCounted (document : Members) (format : Format) : Type 0 where
   pub top : is_table document_keys (table document) ≡ true
   pub said : format_said document ≡ Some format
-  pub few : has_few document ≡ true
+  pub few : has_few format document ≡ true
 
 module _ (document : Members) (format : Format) (is : IsCounted document format) where
   abbrev cgroup_shapes : Format → List TreeFault
@@ -47,8 +48,10 @@ module _ (document : Members) (format : Format) (is : IsCounted document format)
   -- the rows are left
   rows_left : first (form_faults document) ≡ option_or (first (cgroup_shapes format)) (first process_shapes)
   rows_left =
-      (λ i. first (unless (is.top i) (Shape Top) ++ absent (is.said i) BadFormat ++ unless (is.few i) TooMany
-      ++ present (is.said i) cgroup_shapes ++ process_shapes)) ∙ first_or (cgroup_shapes format) process_shapes
+      (λ i. first (unless (is.top i) (Shape Top) ++ absent (is.said i) BadFormat
+      ++ present (is.said i) (λ format. unless (has_few format document) TooMany)
+      ++ present (is.said i) cgroup_shapes ++ process_shapes))
+      ∙ (λ i. first (unless (is.few i) TooMany ++ cgroup_shapes format ++ process_shapes)) ∙ first_or (cgroup_shapes format) process_shapes
 
   pub at_cgroup : (fault : TreeFault) → first (cgroup_shapes format) ≡ Some fault → first (form_faults document) ≡ Some fault
   at_cgroup fault found = rows_left ∙ ap (λ o. option_or o (first process_shapes)) found

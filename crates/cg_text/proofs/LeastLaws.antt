@@ -31,6 +31,7 @@ use Rattle.cg_text.specs.declared.tree.row.Row.{Row}
 use Rattle.cg_text.specs.declared.tree.walk.Least.{Least}
 use Rattle.cg_text.proofs.EachRow.{first_or}
 use Rattle.cg_text.proofs.Needed.{all_within}
+use Rattle.cg_format.proofs.SaidRanges.{said_of_known}
 use Rattle.cg_format.proofs.CgroupClauses.{CgroupClause, twice_clause, orphan_clause, within_clause, files_clause}
 use Rattle.cg_format.proofs.Cuts.{not_empty, head_of, find_filter, is_some-find, any_filter, filter_reverse, filter_none, cut_moved, once_kept}
 
@@ -74,7 +75,7 @@ module _ (format : Format) where
       → (is_some table ≡ is_some row)
       × (option_and_then (controllers_said (codes "enabled")) table ≡ option_map (λ (row : Row). row.cgroup.enabled) row)
   both_say None None are = (refl, refl)
-  both_say (Some table) (Some row) are = (refl, are.1.enabled)
+  both_say (Some table) (Some row) are = (refl, (said_of_known format (codes "enabled") table row.cgroup.enabled are.1.enabled).0)
   both_say table row are = absurd are
 
   module _ (i : ℕ) (tables : List Members) (rows : List Row) (read : AreReadAs format i tables rows) where
@@ -360,7 +361,8 @@ module _ (format : Format) (controllers : ControllerSet) (tables : List Members)
 
   within_tells : Tells format (within_clause controllers tables) TopDown (λ _. enables_more) 1 []
   within_tells earlier met i table row before said =
-      rw (said.path, said.enabled, over_is format 1 tables rows read controllers row.path)
+      let enabled = (said_of_known format (codes "enabled") table row.cgroup.enabled said.enabled).0 in
+      rw (said.path, enabled, over_is format 1 tables rows read controllers row.path)
       (past_fault row.cgroup.enabled (over_first controllers rows row.path) (TopDown (AtCgroup i)))
 
   files_tells : Tells format (files_clause tables) NoSuchFile (λ _. needs_more) 1 []

@@ -9,7 +9,7 @@ use Rattle.cg_cgroup.specs.declared.files.LimitFile.{LimitFile}
 use Rattle.cg_cgroup.proofs.AllFiles.{each_passes}
 use Rattle.cg_cgroup.proofs.ControllerLaws.{enables-set_by, same_controller-refl, same_controller-true, is_within-each, is_within-enables}
 use Rattle.cg_format.proofs.TablesSay.{all_so}
-use Rattle.cg_text.specs.Rows.{is_of, needs, needed_where}
+use Rattle.cg_text.specs.Rows.{is_file_of, needs, needed_where}
 
 none_of : {A : Type 0} (test : A → Bool) (xs : List A) → list_all (λ x. not (test x)) xs ≡ true → list_any test xs ≡ false
 none_of test [] h = refl
@@ -24,7 +24,7 @@ module _ (named : LimitFile → Bool) (above : ControllerSet) where
   passes file = not (named file) || stands_under above file
 
   abbrev names_of : Controller → LimitFile → Bool
-  names_of controller file = is_of controller file && named file
+  names_of controller file = is_file_of controller file && named file
 
   -- a file of a controller that isn't enabled isn't named
   unnamed : (controller : Controller) → enables above controller ≡ false → (own : Option Controller) (is_named : Bool)

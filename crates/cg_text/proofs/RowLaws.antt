@@ -27,7 +27,7 @@ use Rattle.cg_cgroup.specs.declared.files.EntryName.TheVariants.{Dir, Procs, Sub
 use Rattle.cg_cgroup.specs.declared.cgroup.LimitEntry.{LimitEntry}
 use Rattle.cg_cgroup.specs.declared.cgroup.Cgroup.{Cgroup}
 use Rattle.cg_model.specs.Clauses.{first, unless, absent}
-use Rattle.cg_format.specs.Said.{table_at, path_said, controllers_said, owner_said, limit_said, table_of, mode_missing}
+use Rattle.cg_format.specs.Said.{table_at, path_said, known_said, owner_said, limit_said, table_of, mode_missing}
 use Rattle.cg_format.specs.Said.{entry_said, value_said, is_named}
 use Rattle.cg_format.specs.TextFaults.{row_faults}
 use Rattle.cg_text.specs.Faults.{or_fault, Passes}
@@ -281,11 +281,12 @@ module _ (said : Entries) (row : Members) (dir : option_map (λ table. table_vie
 
   -- with a path and controllers, a row's faults are those of its entries and values
   pub faults_behind : (path : Names) (enabled : ControllerSet) → path_said (codes "path") row ≡ Some path
-      → controllers_said (codes "enabled") row ≡ Some enabled → first (row_faults said.format said.place row) ≡ first (entry_faults said)
+      → known_said said.format (codes "enabled") row ≡ Some enabled → first (row_faults said.format said.place row)
+      ≡ first (entry_faults said)
   faults_behind path enabled has_path has_enabled =
       let entries = unless (list_all (λ name. is_some (entry_said said.format row name)) all_entries) (BadEntry said.place) in
       let values = unless (list_all (λ file. is_some (value_said row file)) all_files) (BadValue said.place) in
-      let controllers = absent (controllers_said (codes "enabled") row) (BadController said.place) in
+      let controllers = absent (known_said said.format (codes "enabled") row) (BadController said.place) in
       ap (λ o. first (absent o (BadPath said.place) ++ controllers ++ entries ++ values)) has_path
       ∙ ap (λ o. first (absent o (BadController said.place) ++ entries ++ values)) has_enabled
       ∙ sym
@@ -295,7 +296,7 @@ module _ (said : Entries) (row : Members) (dir : option_map (λ table. table_vie
       ++ unless (list_all (λ file. is_some (value_is file i)) all_files) (BadValue said.place)))
 
   pub row_read : (i : ℕ) (enabled : ControllerSet) (made : Row) → made.number ≡ i → path_said (codes "path") row ≡ Some made.path
-      → controllers_said (codes "enabled") row ≡ Some enabled → IsCgroupOf said enabled made.cgroup → made.needed ≡ needed_by said
+      → known_said said.format (codes "enabled") row ≡ Some enabled → IsCgroupOf said enabled made.cgroup → made.needed ≡ needed_by said
       → IsReadAs said.format i row made
   row_read i enabled made number path has_enabled is needed = record {
     number = number;

@@ -24,7 +24,7 @@ use Rattle.cg_cgroup.specs.declared.files.EntryName.TheVariants.{Dir, Procs, Sub
 use Rattle.cg_format.specs.Form.{Key, must_have, may_have, are_among, fits_at, is_table, owner_keys, limit_keys, file_keys_of, row_keys, is_text}
 use Rattle.cg_text.specs.Keys.{flat_keys, takes, takes_all, allows_at, allows, allows_table}
 use Rattle.cg_format.specs.declared.format.Format.{Format}
-use Rattle.cg_format.specs.declared.format.Format.TheVariants.{One, Two}
+use Rattle.cg_format.specs.declared.format.Format.TheVariants.{One, Two, Four}
 use Rattle.cg_text.specs.declared.tree.form.FlatTable.{FlatTable}
 use Rattle.cg_text.specs.declared.tree.form.FlatTable.TheVariants.{Document, Process, Owner, Limit}
 
@@ -160,8 +160,10 @@ flat_apart Document = refl
 flat_apart Process = refl
 flat_apart (Owner One) = refl
 flat_apart (Owner Two) = refl
+flat_apart (Owner Four) = refl
 flat_apart (Limit One) = refl
 flat_apart (Limit Two) = refl
+flat_apart (Limit Four) = refl
 
 pub file_apart : (format : Format) → are_apart (file_keys_of format) ≡ true
 file_apart format = refl
@@ -174,11 +176,13 @@ row_apart format = refl
 pub owner_allowed : (format : Format) (held : Data) → allows_table (owner_keys format) held ≡ is_table (owner_keys format) held
 owner_allowed One (table rows) = refl
 owner_allowed Two (table rows) = refl
+owner_allowed Four (table rows) = refl
 owner_allowed format held = refl
 
 pub limit_allowed : (format : Format) (held : Data) → allows_table (limit_keys format) held ≡ is_table (limit_keys format) held
 limit_allowed One (table rows) = refl
 limit_allowed Two (table rows) = refl
+limit_allowed Four (table rows) = refl
 limit_allowed format held = refl
 
 pub files_allowed : (format : Format) (rows : Members) → allows (file_keys_of format) rows ≡ is_table (file_keys_of format) (table rows)

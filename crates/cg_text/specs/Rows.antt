@@ -21,7 +21,7 @@ use Rattle.cg_cgroup.specs.declared.files.EntryName.TheVariants.{Dir, File}
 use Rattle.cg_cgroup.specs.declared.cgroup.LimitEntry.{LimitEntry}
 use Rattle.cg_cgroup.specs.declared.cgroup.Cgroup.{Cgroup}
 use Rattle.cg_model.specs.Clauses.{unless}
-use Rattle.cg_format.specs.Said.{table_at, path_said, controllers_said, owner_said, limit_said, mode_missing, entry_said, value_said, is_named}
+use Rattle.cg_format.specs.Said.{table_at, path_said, known_said, owner_said, limit_said, mode_missing, entry_said, value_said, is_named}
 use Rattle.cg_format.specs.declared.format.Format.{Format}
 use Rattle.cg_format.specs.declared.fault.TreeFault.{TreeFault}
 use Rattle.cg_format.specs.declared.fault.TreeFault.TheVariants.{BadEntry, BadValue}
@@ -50,12 +50,12 @@ abbrev pub names : Entries → LimitFile → Bool
 names entries file = is_some (table_in entries (File file))
 
 -- whether a controller brings a file
-abbrev pub is_of : Controller → LimitFile → Bool
-is_of controller file = elim (controller_of file) [ None ↦ false | Some own ↦ same_controller own controller ]
+abbrev pub is_file_of : Controller → LimitFile → Bool
+is_file_of controller file = elim (controller_of file) [ None ↦ false | Some own ↦ same_controller own controller ]
 
 -- whether a file of a controller passes
 unfoldable pub needs : (LimitFile → Bool) → Controller → Bool
-needs named controller = list_any (λ file. is_of controller file && named file) all_files
+needs named controller = list_any (λ file. is_file_of controller file && named file) all_files
 
 -- the controllers of which a file passes
 abbrev pub needed_where : (LimitFile → Bool) → ControllerSet
@@ -87,7 +87,7 @@ pub record IsCgroupOf (said : Entries) (controllers : ControllerSet) (cgroup : C
 pub record IsReadAs (format : Format) (i : ℕ) (table : Members) (row : Row) : Type 0 where
   pub number : row.number ≡ i
   pub path : path_said (codes "path") table ≡ Some row.path
-  pub enabled : controllers_said (codes "enabled") table ≡ Some row.cgroup.enabled
+  pub enabled : known_said format (codes "enabled") table ≡ Some row.cgroup.enabled
   pub entries : (name : EntryName) → entry_said format table name ≡ entry_in row.cgroup name
   pub values : (file : LimitFile) → value_said table file ≡ value_at row.cgroup file
   pub needed : row.needed ≡ needed_where (λ file. is_named (File file) table)

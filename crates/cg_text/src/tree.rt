@@ -1,8 +1,9 @@
 //! Tree texts: from bytes to a tree, or the first fault of the text.
-ghost use Rattle.std.specs.Prelude.{◌≡◌, ◌≢◌, ◌<◌, length, Some, Err, MatchResult};
+ghost use Rattle.std.specs.Prelude.{◌≡◌, ◌≢◌, ◌<◌, length, Some, Err, MatchResult, IfOk};
 ghost use Rattle.toml.specs.View.{table_view};
 ghost use Rattle.cg_text.specs.Faults.{Reads, or_fault};
 ghost use Rattle.cg_format.specs.TreeTexts.{longest_text, document_of};
+ghost use Rattle.cg_format.specs.Readings.{vocabulary_in};
 ghost use Rattle.cg_model.specs.Clauses.{first};
 ghost use Rattle.cg_format.specs.TextOf.{IsDocumentOf, IsTextOf};
 ghost use Rattle.cg_format.specs.TextFaults.{document_faults, text_faults};
@@ -17,19 +18,25 @@ pub mod takes;
 pub mod told;
 mod walk;
 
+use cg_cgroup::files::Vocabulary;
 pub use cg_format::fault::{Place, TreeFault};
+use cg_format::large::longest_text;
 use cg_rows::rows::Rows;
 use cg_rows::tables::path_table::PathTable;
 use form::in_form;
 use processes::processes_of;
 use row::rows_of;
-use said::{controllers_at, elements_at, take_elements};
+use said::{elements_at, known_at, take_elements, vocabulary_at};
 use std::alloc::Global;
 use toml::Table;
 use walk::walked;
 
-/// The largest number of bytes of a tree text.
-const LONGEST_TEXT: usize = 16777216;
+/// What a text says: its tree, and which controllers are named in what is written of that, and in the lines of operations on it.
+#[derive(Drop)]
+pub struct Text {
+    pub vocabulary: Vocabulary,
+    pub rows: Rows,
+}
 
 /// The document that bytes are.
 fn document_of(alloc: Global, bytes: &[u8]) -> Result<Table, TreeFault>
@@ -53,7 +60,7 @@ fn tree_of(alloc: Global, mut document: Table) -> Result<Rows, TreeFault>
         (λ fault. fault ≢ TreeFault.NoMemory → first (document_faults (table_view document)) ≡ Some fault) }
 {
     let format = in_form(&document)?;
-    let controllers = controllers_at(&document, "controllers").ok_or(TreeFault::BadController(
+    let controllers = known_at(&document, "controllers", format).ok_or(TreeFault::BadController(
         Place::Top,
     ))?;
     // a row of the document is dropped once it is read
@@ -63,16 +70,28 @@ fn tree_of(alloc: Global, mut document: Table) -> Result<Rows, TreeFault>
     Ok(Rows::from_tables(cgroups, processes, controllers))
 }
 
-/// The tree that a text of format 1 or 2 is of, or the text's first fault. `NoMemory` where an allocation was refused.
+/// What a text says, or the text's first fault. `NoMemory` where an allocation was refused.
 /// A text that is too long takes no memory.
-pub fn read_tree(alloc: Global, bytes: &[u8]) -> Result<Rows, TreeFault>
-    ensures read { MatchResult result (λ rows. IsTextOf rows bytes.now)
+pub fn read_text(alloc: Global, bytes: &[u8]) -> Result<Text, TreeFault>
+    ensures read { MatchResult result (λ text. IsTextOf text.rows bytes.now)
         (λ fault. fault ≢ TreeFault.NoMemory → first (text_faults bytes.now) ≡ Some fault) }
-    ensures too_long { longest_text < length bytes.now → result ≡ Err TreeFault.TooLong }
+    ensures vocabulary { IfOk result (λ text. text.vocabulary ≡ vocabulary_in bytes.now) }
+    ensures too_long { longest_text bytes.now < length bytes.now → result ≡ Err TreeFault.TooLong }
 {
-    if bytes.len() > LONGEST_TEXT {
+    if bytes.len() > longest_text(bytes) {
         return Err(TreeFault::TooLong);
     }
     let document = document_of(alloc, bytes)?;
-    tree_of(alloc, document)
+    let vocabulary = vocabulary_at(&document);
+    let rows = tree_of(alloc, document)?;
+    Ok(Text { vocabulary, rows })
+}
+
+/// The tree that a text is of, or the text's first fault, as `read_text`.
+pub fn read_tree(alloc: Global, bytes: &[u8]) -> Result<Rows, TreeFault>
+    ensures read { MatchResult result (λ rows. IsTextOf rows bytes.now)
+        (λ fault. fault ≢ TreeFault.NoMemory → first (text_faults bytes.now) ≡ Some fault) }
+    ensures too_long { longest_text bytes.now < length bytes.now → result ≡ Err TreeFault.TooLong }
+{
+    Ok(read_text(alloc, bytes)?.rows)
 }

@@ -3,10 +3,10 @@ use Rattle.std.proofs.Common.{◌≡◌, Bool, true, false, cond, not, ◌&&◌,
 use Rattle.std.specs.List.{AllByRecursion}
 use Rattle.cg_cgroup.specs.Paths.{Names, parent, is_root}
 use Rattle.cg_cgroup.specs.Identity.{Identity}
-use Rattle.cg_cgroup.specs.Files.{enables, same_controller, is_in_format_2, stands_under, no_controllers}
+use Rattle.cg_cgroup.specs.Files.{all_controllers, enables, same_controller, stands_under, no_controllers}
 use Rattle.cg_cgroup.specs.Cgroups.{file_of, other_in}
 use Rattle.cg_cgroup.specs.declared.files.Controller.{Controller}
-use Rattle.cg_cgroup.specs.declared.files.Controller.TheVariants.{Cpu, Memory, Pids}
+use Rattle.cg_cgroup.specs.declared.files.Controller.TheVariants.{Cpu}
 use Rattle.cg_cgroup.specs.declared.controllers.ControllerSet.{ControllerSet}
 use Rattle.cg_cgroup.specs.declared.files.LimitFile.{LimitFile}
 use Rattle.cg_cgroup.proofs.Options.{some_value}
@@ -21,12 +21,13 @@ use Rattle.cg_model.specs.Changes.{enabled_after}
 use Rattle.cg_model.specs.Next.{next}
 use Rattle.cg_model.proofs.StepFormed.{formed-next}
 use Rattle.cg_model.proofs.AllowedControl.{enables-enabled_after}
+use Rattle.cg_model.proofs.Lists.{all-flat_filter}
 use Rattle.cg_model.specs.declared.operation.Op.{Op}
 use Rattle.cg_model.specs.declared.operation.Op.TheVariants.{Control}
 use Rattle.cg_model.specs.Guards.{IsSubtree}
 use Rattle.cg_model.specs.Verdicts.{broken}
 use Rattle.cg_model.specs.declared.verdict.Clause.{Clause}
-use Rattle.cg_model.specs.Tries.{change_of, control_tries}
+use Rattle.cg_model.specs.Tries.{is_told, told_controllers, change_of, control_tries}
 use Rattle.cg_model.specs.Escapes.{breaks}
 use Rattle.cg_tries.specs.Escapes.{IsUnbroken}
 use Rattle.cg_tries.specs.Finding.{allowed}
@@ -155,12 +156,14 @@ module _ (st : State) (user : Identity) (subtree : Names) (on : Bool) (controlle
   control_try = one_operation st user subtree op whole
       ∙ where_so (allowed st user op) _ _ (λ free. breaks_where (nothing_bars st user op free))
 
--- what holds of each change of one controller holds of all that are tried
-pub all-control_tries : (P : List Op → Type 0) (subtree : Names)
-    → ((on : Bool) (controller : Controller) → is_in_format_2 controller ≡ true
+-- what holds of each change of one controller that is told of holds of all that are tried
+pub all-control_tries : (P : List Op → Type 0) (st : State) (subtree : Names)
+    → ((on : Bool) (controller : Controller) → is_told st controller ≡ true
     → P (Control (parent subtree) (change_of on controller ∷ []) ∷ []))
-    → AllByRecursion P (control_tries subtree)
-all-control_tries P subtree each = (
-  each false Cpu refl,
-  (each true Cpu refl, (each false Memory refl, (each true Memory refl, (each false Pids refl, (each true Pids refl, tt))))),
-)
+    → AllByRecursion P (control_tries st subtree)
+unfolding told_controllers
+all-control_tries P st subtree each =
+    all-flat_filter P
+    (λ controller. (Control (parent subtree) (change_of false controller ∷ []) ∷ [])
+    ∷ (Control (parent subtree) (change_of true controller ∷ []) ∷ []) ∷ [])
+    (is_told st) all_controllers (λ controller told. (each false controller told, (each true controller told, tt)))

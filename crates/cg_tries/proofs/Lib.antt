@@ -10,3 +10,4 @@ pub mod FreeProbes
 pub mod ProbeWalk
 pub mod ProbeLaws
 pub mod PlainTries
+mod Told

@@ -1,7 +1,7 @@
 -- The first move over the edge that breaks: it depends on the process only by where it is.
 use Rattle.std.proofs.Common.{◌≡◌, ℕ, Bool, true, false, cond, not, ◌&&◌, ◌||◌, List, [], ◌∷◌, ◌++◌, length, map, filter, find, Option, Some, None, is_some, option_map, option_and_then, refl, sym, ap, ◌∙◌, true≢false}
 use Rattle.std.specs.Option.{option_or}
-use Rattle.std.specs.List.{flat_map, AllByRecursion}
+use Rattle.std.specs.List.{flat_map}
 use Rattle.std.specs.Cmp.Lexicographic.{bytes_decides}
 use Rattle.std.proofs.lemmas.Bool.{and_parts}
 use Rattle.std.proofs.Math.Bool.{and-true, and-false}
@@ -99,11 +99,6 @@ find-same p q (x ∷ xs) same = λ i. cond (same x i) (Some x) (find-same p q xs
 pub first_given-same : {A B : Type 0} (f g : A → Option B) (xs : List A) → ((x : A) → f x ≡ g x) → first_given f xs ≡ first_given g xs
 first_given-same f g [] same = refl
 first_given-same f g (x ∷ xs) same = λ i. option_or (same x i) (first_given-same f g xs same i)
-
-pub first_given-each : {A B : Type 0} (f g : A → Option B) (xs : List A) → AllByRecursion (λ x. f x ≡ g x) xs
-    → first_given f xs ≡ first_given g xs
-first_given-each f g [] same = refl
-first_given-each f g (x ∷ xs) same = λ i. option_or (same.0 i) (first_given-each f g xs same.1 i)
 
 -- ---- the first move
 

@@ -6,13 +6,12 @@ use Rattle.std.proofs.Math.Bool.{and-true, and-false}
 use Rattle.std.proofs.lemmas.Bool.{cases_lt}
 use Rattle.cg_cgroup.specs.Paths.{Names, parent, inside, common}
 use Rattle.cg_cgroup.specs.Identity.{Identity}
-use Rattle.cg_cgroup.specs.Files.{all_files, format_2_controllers, is_in_format_2, enables}
+use Rattle.cg_cgroup.specs.Files.{all_files, enables}
 use Rattle.cg_cgroup.specs.Users.{writes}
 use Rattle.cg_cgroup.proofs.PathLaws.{common-take_first, common-inside_first, common-inside_second, common_comm, inside-length}
 use Rattle.cg_cgroup.specs.declared.files.Limit.{Limit}
 use Rattle.cg_cgroup.specs.declared.files.LimitFile.{LimitFile}
 use Rattle.cg_cgroup.specs.declared.files.Controller.{Controller}
-use Rattle.cg_cgroup.specs.declared.files.Controller.TheVariants.{Cpu, Memory, Pids}
 use Rattle.cg_model.specs.States.{State, row_at, place_at, paths_of, pids_of, value_at}
 use Rattle.cg_model.specs.WellFormed.{IsWellFormed, enabled_at}
 use Rattle.cg_model.specs.Clauses.{present}
@@ -21,7 +20,7 @@ use Rattle.cg_model.specs.declared.operation.Op.{Op}
 use Rattle.cg_model.specs.declared.operation.Op.TheVariants.{Move, Control, Mkdir, Rmdir, Set}
 use Rattle.cg_model.specs.Guards.{IsSubtree}
 use Rattle.cg_model.specs.declared.verdict.Clause.{Clause}
-use Rattle.cg_model.specs.Tries.{other_value, set_tries, change_of, control_tries, move_tries, probe_tries, plain_tries}
+use Rattle.cg_model.specs.Tries.{other_value, set_tries, told_controllers, change_of, control_tries, move_tries, probe_tries, plain_tries}
 use Rattle.cg_model.specs.Escapes.{breaks}
 use Rattle.cg_tries.specs.Escapes.{IsUnbroken}
 use Rattle.cg_ops.specs.Moves.{passes_at}
@@ -29,7 +28,7 @@ use Rattle.cg_tries.specs.Finding.{allowed, if_allowed, first_given, set_of, fir
 use Rattle.cg_tries.proofs.Seen.{is_empty, breaks-run}
 use Rattle.cg_tries.proofs.Single.{set_try, rmdir_try}
 use Rattle.cg_tries.proofs.Controls.{control_try}
-use Rattle.cg_tries.proofs.Moves.{find-flat_map, first_given-same, first_given-each, first_move-is}
+use Rattle.cg_tries.proofs.Moves.{find-flat_map, first_given-same, first_move-is}
 use Rattle.cg_tries.proofs.ProbeWalk.{unwritten}
 use Rattle.cg_tries.proofs.ProbeLaws.{first_probe-is}
 
@@ -70,10 +69,10 @@ module _ (st : State) (user : Identity) (subtree : Names) (whole : IsUnbroken st
     with_effect off on false controller =
         (λ i. cond (and-false off i) (Some (change false controller ∷ [])) (cond (and-true on i) (Some (change true controller ∷ [])) None))
 
-    one_control : (controller : Controller) → is_in_format_2 controller ≡ true
+    one_control : (controller : Controller)
         → find (breaks st user subtree) ((change false controller ∷ []) ∷ (change true controller ∷ []) ∷ [])
         ≡ control_of st user subtree controller
-    one_control controller known =
+    one_control controller =
         (λ i. cond (control_try st user subtree false controller whole formed there i) (Some (change false controller ∷ []))
         (cond (control_try st user subtree true controller whole formed there i) (Some (change true controller ∷ [])) None))
         ∙ with_effect (allowed st user (change false controller)) (allowed st user (change true controller))
@@ -85,24 +84,23 @@ module _ (st : State) (user : Identity) (subtree : Names) (whole : IsUnbroken st
           | false ↦ refl
         ]
 
-    first_control-is : find (breaks st user subtree) (control_tries subtree) ≡ first_control st user subtree
+    first_control-is : find (breaks st user subtree) (control_tries st subtree) ≡ first_control st user subtree
     first_control-is =
         find-flat_map (breaks st user subtree) (λ controller. (change false controller ∷ []) ∷ (change true controller ∷ []) ∷ [])
-        format_2_controllers
-        ∙ first_given-each
+        (told_controllers st)
+        ∙ first_given-same
         (λ controller. find (breaks st user subtree) ((change false controller ∷ []) ∷ (change true controller ∷ []) ∷ []))
-        (control_of st user subtree) format_2_controllers
-        (one_control Cpu refl, (one_control Memory refl, (one_control Pids refl, tt)))
+        (control_of st user subtree) (told_controllers st) one_control
 
     pub plain-is : find (breaks st user subtree) (plain_tries st subtree)
         ≡ option_or (first_write st user subtree) (first_passage st user subtree)
     plain-is =
         let p = breaks st user subtree in
-        let writes : List (List Op) = set_tries st subtree ++ control_tries subtree in
+        let writes : List (List Op) = set_tries st subtree ++ control_tries st subtree in
         let others : List (List Op) = move_tries st subtree ++ probe_tries st subtree (length subtree) in
         ap (λ b. cond b (Some []) (find p (writes ++ (Rmdir subtree ∷ []) ∷ others))) nothing_kept
         ∙ find-append p writes ((Rmdir subtree ∷ []) ∷ others)
-        ∙ (λ i. option_or (find-append p (set_tries st subtree) (control_tries subtree) i)
+        ∙ (λ i. option_or (find-append p (set_tries st subtree) (control_tries st subtree) i)
         (cond (rmdir_try st user subtree whole i) (Some (Rmdir subtree ∷ []))
         (find-append p (move_tries st subtree) (probe_tries st subtree (length subtree)) i)))
         ∙ (λ i. option_or (option_or (first_set-is i) (first_control-is i))

@@ -5,7 +5,7 @@ use Rattle.std.specs.Option.{option_map, option_or}
 use Rattle.cg_cgroup.specs.Paths.{Names, inside, is_root, parent, path_text}
 use Rattle.cg_cgroup.specs.Identity.{Identity}
 use Rattle.cg_cgroup.specs.Users.{writes}
-use Rattle.cg_cgroup.specs.Files.{all_files, format_2_controllers, enables, enables_nothing}
+use Rattle.cg_cgroup.specs.Files.{all_files, enables, enables_nothing}
 use Rattle.cg_cgroup.specs.declared.files.Limit.{Limit}
 use Rattle.cg_cgroup.specs.declared.files.Limit.TheVariants.{Max, At}
 use Rattle.cg_cgroup.specs.declared.files.LimitFile.{LimitFile}
@@ -17,7 +17,7 @@ use Rattle.cg_model.specs.Bars.{bars, passes}
 use Rattle.cg_model.specs.Limits.{is_under}
 use Rattle.cg_model.specs.declared.operation.Op.{Op}
 use Rattle.cg_model.specs.declared.operation.Op.TheVariants.{Move, Control, Mkdir, Rmdir, Set}
-use Rattle.cg_model.specs.Tries.{other_value, change_of, probe, free_probe, is_inside}
+use Rattle.cg_model.specs.Tries.{other_value, is_told, told_controllers, change_of, probe, free_probe, is_inside}
 
 -- nothing bars the operation
 abbrev pub allowed : State → Identity → Op → Bool
@@ -45,8 +45,12 @@ abbrev pub control_of : State → Identity → Names → Controller → Option (
 control_of st user subtree controller =
     if_allowed st user (Control (parent subtree) (change_of (not (enables (enabled_at st (parent subtree)) controller)) controller ∷ []))
 
+-- of a controller that is told of
+abbrev pub told_control_of : State → Identity → Names → Controller → Option (List Op)
+told_control_of st user subtree controller = cond (is_told st controller) (control_of st user subtree controller) None
+
 abbrev pub first_control : State → Identity → Names → Option (List Op)
-first_control st user subtree = first_given (control_of st user subtree) format_2_controllers
+first_control st user subtree = first_given (control_of st user subtree) (told_controllers st)
 
 -- the first of these, or the removal
 abbrev pub first_write : State → Identity → Names → Option (List Op)

@@ -5,7 +5,7 @@ ghost use Rattle.cg_cgroup.specs.Files.{enables};
 ghost use Rattle.cg_model.specs.States.{row_at};
 ghost use Rattle.cg_model.specs.WellFormed.{enabled_at};
 ghost use Rattle.cg_model.specs.Tries.{other_value};
-ghost use Rattle.cg_tries.specs.Finding.{if_allowed, set_of, first_set, control_of, first_control, first_write};
+ghost use Rattle.cg_tries.specs.Finding.{if_allowed, set_of, first_set, control_of, told_control_of, first_control, first_write};
 
 use crate::asker::Asker;
 use cg_cgroup::cgroup::Cgroup;
@@ -15,6 +15,7 @@ use cg_model::changes::{Change, Changes};
 use cg_model::hierarchy::Hierarchy;
 use cg_model::operation::Op;
 use cg_model::operations::Operations;
+use cg_model::told::is_told;
 use cg_ops::refusal;
 
 /// An operation alone, where nothing refuses it.
@@ -102,13 +103,29 @@ fn control_of<H: Hierarchy>(
     if_allowed(asker, Op::Control { at, changes })
 }
 
-/// The first change of one controller, at the subtree's parent, that the user may make and that has an effect.
+/// The same of a controller that is told of; none of another.
+fn told_control_of<H: Hierarchy>(
+    asker: &Asker<H>,
+    controller: Controller,
+) -> Result<Option<Operations>, NoMemory>
+    requires { is_root asker.now.subtree.now ≡ false }
+    ensures { IfOk result (λ found. found ≡ told_control_of (H.state asker.now.tree.now) asker.now.user.now asker.now.subtree.now controller) }
+{
+    if is_told(asker.tree, controller) {
+        control_of(asker, controller)
+    } else {
+        Ok(None)
+    }
+}
+
+/// The first change of one controller that is told of, at the subtree's parent, that the user may make and that has an effect.
+#[tactic(auto, using(crate::proofs::Walks::first_control_told))]
 fn first_control<H: Hierarchy>(asker: &Asker<H>) -> Result<Option<Operations>, NoMemory>
     requires { is_root asker.now.subtree.now ≡ false }
     ensures { IfOk result (λ found. found ≡ first_control (H.state asker.now.tree.now) asker.now.user.now asker.now.subtree.now) }
 {
-    for controller in Controller::IN_FORMAT_2 {
-        if let Some(found) = control_of(asker, controller)? {
+    for controller in Controller::ALL {
+        if let Some(found) = told_control_of(asker, controller)? {
             return Ok(Some(found));
         }
     }

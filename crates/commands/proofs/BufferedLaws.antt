@@ -10,7 +10,7 @@ use Rattle.arguments.specs.declared.request.Request.{Request}
 use Rattle.arguments.specs.declared.request.Request.TheVariants as request
 use Rattle.arguments.specs.Given.{ids_of, tree_file, other_file}
 use Rattle.cg_model.specs.Listed.{Listed}
-use Rattle.cg_format.specs.Readings.{Reading}
+use Rattle.cg_format.specs.Readings.{Reading, vocabulary_in}
 use Rattle.cg_cli.specs.AllPairs.{all_report, ReportsPairs}
 use Rattle.cg_cli.specs.Advising.{advise_report}
 use Rattle.cg_cli.specs.Audits.{audit_report}
@@ -27,7 +27,8 @@ use Rattle.cg_cli.specs.Reports.{Report, Reports, report_on}
 use Rattle.cg_faults.specs.declared.fault.CliFault.{CliFault}
 use Rattle.cg_faults.specs.declared.fault.CliFault.TheVariants.{Read, Write, NoMemory}
 use Rattle.commands.specs.Requests.{Files, source, name_of, may_said, check_said, SettlesAs, AdviseSays, GuardsSay, FurtherSay}
-use Rattle.commands.specs.Requests.{AuditSays, ExplainSays, replay_said, pairs_said, IsUnread, OnTree, ReportsOnTree, OnPairs, ReplaysOver, CarriesOut}
+use Rattle.commands.specs.Requests.{AuditSays, ExplainSays, replay_said, pairs_said, IsUnread, OnTreeText, OnTree, ReportsOnTree, OnPairs, ReplaysOver, CarriesOut}
+use Rattle.cg_cgroup.specs.declared.files.Vocabulary.{Vocabulary}
 
 pub Appends-Keeps : (old mid new : Option (List ℕ)) (bs : List ℕ) → Appends old mid bs → Keeps mid new → Appends old new bs
 Appends-Keeps None mid new bs a k = tt
@@ -55,11 +56,19 @@ IsUnread-Keeps : (old mid new : Option (List ℕ)) (result : Result ℕ CliFault
     → IsUnread old new result
 IsUnread-Keeps old mid new result h k = (h.0, Keeps-Keeps old mid new h.1 k)
 
+OnTreeText-Keeps : (known : Option (List ℕ)) (before after : Vocabulary → Reading → Type 0) (old mid new : Option (List ℕ))
+    (result : Result ℕ CliFault) → ((vocabulary : Vocabulary) (tree : Reading) → before vocabulary tree → after vocabulary tree)
+    → OnTreeText known before old mid result → Keeps mid new
+    → OnTreeText known after old new result
+OnTreeText-Keeps known before after old mid new result passed (inl h) k =
+    inl (h.0, h.1, (h.2.0, h.2.1, passed (vocabulary_in h.0) h.2.0 h.2.2))
+OnTreeText-Keeps known before after old mid new result passed (inr h) k = inr (IsUnread-Keeps old mid new result h k)
+
 OnTree-Keeps : (known : Option (List ℕ)) (before after : Reading → Type 0) (old mid new : Option (List ℕ))
     (result : Result ℕ CliFault) → ((tree : Reading) → before tree → after tree) → OnTree known before old mid result → Keeps mid new
     → OnTree known after old new result
-OnTree-Keeps known before after old mid new result passed (inl h) k = inl (h.0, h.1, (h.2.0, h.2.1, passed h.2.0 h.2.2))
-OnTree-Keeps known before after old mid new result passed (inr h) k = inr (IsUnread-Keeps old mid new result h k)
+OnTree-Keeps known before after old mid new result passed h k =
+    OnTreeText-Keeps known (λ vocabulary. before) (λ vocabulary. after) old mid new result (λ vocabulary. passed) h k
 
 OnPairs-Keeps : (known pairs old mid new : Option (List ℕ)) (result : Result ℕ CliFault) → OnPairs known pairs old mid result
     → Keeps mid new → OnPairs known pairs old new result
@@ -136,9 +145,9 @@ AdviseSays-Keeps advise old mid new result tree said k =
     AdviseSays-by advise.settle tree (map ids_of advise.users.items) (map (λ subtree. subtree.now) advise.subtrees.items) old mid new result
     said k
 
-Upgrades-Keeps : (tree : Reading) (old mid new : Option (List ℕ)) (result : Result ℕ CliFault) → Upgrades old mid result tree
-    → Keeps mid new → Upgrades old new result tree
-Upgrades-Keeps tree old mid new result h k =
+Upgrades-Keeps : (vocabulary : Vocabulary) (tree : Reading) (old mid new : Option (List ℕ)) (result : Result ℕ CliFault)
+    → Upgrades vocabulary old mid result tree → Keeps mid new → Upgrades vocabulary old new result tree
+Upgrades-Keeps vocabulary tree old mid new result h k =
     record { text = h.text; written = h.written; reports = Reports-Keeps _ old mid new result h.reports k }
 
 Replays-Keeps : (lines : Reporting) (ops : List ℕ) (old mid new : Option (List ℕ)) (result : Result ℕ CliFault)
@@ -194,9 +203,11 @@ CarriesOut-Keeps (request.Advise advise) files given old mid new result h k =
 CarriesOut-Keeps (request.AdvisePairs advise) files given old mid new result h k = OnPairs-Keeps _ _ old mid new result h k
 CarriesOut-Keeps (request.Replay replay) files given old mid new result h k =
     let ops = source files (other_file replay.sources) given in
-    OnTree-Keeps (source files (tree_file replay.sources) given) (λ tree. ReplaysOver ops (replay_said replay tree) old mid result)
-    (λ tree. ReplaysOver ops (replay_said replay tree) old new result) old mid new result
-    (λ tree said. ReplaysOver-Keeps ops (replay_said replay tree) old mid new result said k) h k
+    OnTreeText-Keeps (source files (tree_file replay.sources) given)
+    (λ vocabulary tree. ReplaysOver ops (replay_said replay vocabulary tree) old mid result)
+    (λ vocabulary tree. ReplaysOver ops (replay_said replay vocabulary tree) old new result) old mid new result
+    (λ vocabulary tree said. ReplaysOver-Keeps ops (replay_said replay vocabulary tree) old mid new result said k) h k
 CarriesOut-Keeps (request.Upgrade upgrade) files given old mid new result h k =
-    OnTree-Keeps (source files (name_of upgrade.tree) given) (Upgrades old mid result) (Upgrades old new result) old mid new result
-    (λ tree said. Upgrades-Keeps tree old mid new result said k) h k
+    OnTreeText-Keeps (source files (name_of upgrade.tree) given) (λ vocabulary. Upgrades vocabulary old mid result)
+    (λ vocabulary. Upgrades vocabulary old new result) old mid new result
+    (λ vocabulary tree said. Upgrades-Keeps vocabulary tree old mid new result said k) h k

@@ -5,7 +5,6 @@ use Rattle.std.specs.List.{slice_split}
 use Rattle.std.specs.Option.{option_map}
 use Rattle.std.specs.Str.{is_utf8}
 use Rattle.cg_cgroup.specs.Paths.{path_at}
-use Rattle.cg_format.specs.TreeTexts.{longest_text}
 use Rattle.cg_lines.specs.declared.lines.fault.LineFault.TheVariants.{TooLong, BadWord, Cut}
 use Rattle.arguments.specs.UserWords.{pair_at}
 use Rattle.cg_cli.specs.AllPairs.{read_then}
@@ -58,6 +57,10 @@ pieces_read long done (piece ∷ pieces) =
       | next ∷ others ↦ followed_by (line_read done piece) (pieces_read long (done + 1) pieces)
     ]
 
+-- the largest number of bytes of a text of pairs
+abbrev pub longest_pairs : ℕ
+longest_pairs = 16777216
+
 -- The pairs of a text, in the order of its lines.
 abbrev pub pairs_read : List ℕ → Result (List GivenPair) CliFault
-pairs_read text = pieces_read (nat_lt longest_text (length text)) 0 (slice_split is_newline (take longest_text text))
+pairs_read text = pieces_read (nat_lt longest_pairs (length text)) 0 (slice_split is_newline (take longest_pairs text))

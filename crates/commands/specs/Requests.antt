@@ -12,7 +12,7 @@ use Rattle.arguments.specs.declared.request.Advise.{Advise}
 use Rattle.arguments.specs.declared.request.Replay.{Replay}
 use Rattle.arguments.specs.declared.request.Request.{Request}
 use Rattle.arguments.specs.declared.request.Request.TheVariants as request
-use Rattle.cg_format.specs.Readings.{Reading, OnText}
+use Rattle.cg_format.specs.Readings.{Reading, OnText, vocabulary_in}
 use Rattle.cg_cli.specs.May.{may_report}
 use Rattle.cg_cli.specs.Containment.{check_report}
 use Rattle.cg_cli.specs.Settling.{AskedReports, FurtherSays, IsFurther}
@@ -29,12 +29,14 @@ use Rattle.cg_cli.specs.Reports.{Report, Reports, report_on}
 use Rattle.cg_faults.specs.declared.fault.CliFault.{CliFault}
 use Rattle.cg_faults.specs.declared.fault.CliFault.TheVariants.{Read, NoMemory}
 use Rattle.commands.specs.PairLines.{pairs_read}
+use Rattle.cg_cgroup.specs.declared.files.Vocabulary.{Vocabulary}
+use Rattle.cg_format.specs.TreeTexts.{most_read}
 
 -- ---- what there is to read
 
--- one byte more than a tree's text may have
-abbrev pub most_bytes : ℕ
-most_bytes = 16777217
+-- one byte more than a text of pairs may have
+abbrev pub most_pairs : ℕ
+most_pairs = 16777217
 
 -- what the reader of a file has to give, by the file's name, where that is known
 abbrev pub Files : Type 0
@@ -50,11 +52,11 @@ name_of file = option_map (λ name. name.now) file
 
 -- The tree's text, of which no more is read than decides, where the bytes are known.
 abbrev pub IsTree : Option (List ℕ) → List ℕ → Type 0
-IsTree known tree = IfSome known (λ bytes. tree ≡ take most_bytes bytes)
+IsTree known tree = IfSome known (λ bytes. tree ≡ take (most_read bytes) bytes)
 
 -- The text of pairs, likewise.
 abbrev pub ArePairs : Option (List ℕ) → List ℕ → Type 0
-ArePairs known text = IsTree known text
+ArePairs known text = IfSome known (λ bytes. text ≡ take most_pairs bytes)
 
 -- ---- the report of a request's own words on what the text of a tree is read as
 
@@ -102,8 +104,8 @@ abbrev pub ExplainSays : Explain → Option (List ℕ) → Option (List ℕ) →
 ExplainSays explain old new result tree =
     ReportsTold (explain_asked tree (map ids_of explain.users.items) (map (λ subtree. subtree.now) explain.subtrees.items)) old new result
 
-abbrev pub replay_said : Replay → Reading → Reporting
-replay_said replay tree = lines_report tree replay.user.uid replay.user.gids.items (name_of replay.subtree)
+abbrev pub replay_said : Replay → Vocabulary → Reading → Reporting
+replay_said replay vocabulary tree = lines_report vocabulary tree replay.user.uid replay.user.gids.items (name_of replay.subtree)
 
 -- ---- what a command answers, and has written by then
 
@@ -111,9 +113,14 @@ replay_said replay tree = lines_report tree replay.user.uid replay.user.gids.ite
 abbrev pub IsUnread : Option (List ℕ) → Option (List ℕ) → Result ℕ CliFault → Type 0
 IsUnread old new result = ((result ≡ Err Read) ⊎ (result ≡ Err NoMemory)) × Keeps old new
 
--- What is answered on the text of a tree, of what that is read as.
+-- What is answered on the text of a tree, by which controllers it names and of what it is read as.
+abbrev pub OnTreeText : Option (List ℕ) → (Vocabulary → Reading → Type 0) → Option (List ℕ) → Option (List ℕ) → Result ℕ CliFault → Type 0
+OnTreeText known answers old new result =
+    ((tree : List ℕ) × IsTree known tree × OnText tree (answers (vocabulary_in tree))) ⊎ IsUnread old new result
+
+-- The same where it doesn't matter which controllers it names.
 abbrev pub OnTree : Option (List ℕ) → (Reading → Type 0) → Option (List ℕ) → Option (List ℕ) → Result ℕ CliFault → Type 0
-OnTree known answers old new result = ((tree : List ℕ) × IsTree known tree × OnText tree answers) ⊎ IsUnread old new result
+OnTree known answers old new result = OnTreeText known (λ vocabulary. answers) old new result
 
 -- The report of the text of a tree.
 abbrev pub ReportsOnTree : Option (List ℕ) → (Reading → Report) → Option (List ℕ) → Option (List ℕ) → Result ℕ CliFault → Type 0
@@ -137,8 +144,8 @@ abbrev pub ReplaysOver : Option (List ℕ) → Reporting → Option (List ℕ) �
 ReplaysOver before said old new result = ((left : Option (List ℕ)) × ReplaysFrom closed said before left old new result) ⊎ IsUnread old new result
 
 -- The report of operations on the text of a tree.
-abbrev pub ReplaysOnTree : Option (List ℕ) → Option (List ℕ) → (Reading → Reporting) → Option (List ℕ) → Option (List ℕ) → Result ℕ CliFault → Type 0
-ReplaysOnTree known ops said old new result = OnTree known (λ tree. ReplaysOver ops (said tree) old new result) old new result
+abbrev pub ReplaysOnTree : Option (List ℕ) → Option (List ℕ) → (Vocabulary → Reading → Reporting) → Option (List ℕ) → Option (List ℕ) → Result ℕ CliFault → Type 0
+ReplaysOnTree known ops said old new result = OnTreeText known (λ vocabulary tree. ReplaysOver ops (said vocabulary tree) old new result) old new result
 
 -- A request, with the files that there are and what standard input gives. Help has some text.
 abbrev pub CarriesOut : Request → Files → Option (List ℕ) → Option (List ℕ) → Option (List ℕ) → Result ℕ CliFault → Type 0
@@ -158,7 +165,7 @@ CarriesOut (request.Advise advise) files given old new result =
 CarriesOut (request.AdvisePairs advise) files given old new result =
     OnPairs (source files (tree_file advise.sources) given) (source files (other_file advise.sources) given) old new result
 CarriesOut (request.Upgrade upgrade) files given old new result =
-    OnTree (source files (name_of upgrade.tree) given) (Upgrades old new result) old new result
+    OnTreeText (source files (name_of upgrade.tree) given) (λ vocabulary. Upgrades vocabulary old new result) old new result
 CarriesOut (request.Replay replay) files given old new result =
     ReplaysOnTree (source files (tree_file replay.sources) given) (source files (other_file replay.sources) given) (replay_said replay)
     old new result

@@ -1,6 +1,6 @@
 //! A request is carried out: its tree is read, its files are opened, and one call answers.
 ghost use Rattle.std.specs.Prelude.{◌≡◌, ◌⊎◌, ◌∷◌, ℕ, List, [], map, None, Ok, IfOk, IfErr, MatchBool};
-ghost use Rattle.cg_format.specs.Readings.{OnText};
+ghost use Rattle.cg_format.specs.Readings.{OnText, vocabulary_in};
 ghost use Rattle.cg_cli.specs.Pairs.{pair_given};
 ghost use Rattle.cg_cli.specs.Advising.{advise_report};
 ghost use Rattle.cg_cli.specs.FurtherAdvice.{AdvisesFurther};
@@ -10,7 +10,7 @@ ghost use Rattle.cg_cli.specs.Upgrades.{Upgrades};
 ghost use Rattle.arguments.specs.Given.{ids_of, ids_of_pair, tree_file, other_file};
 ghost use Rattle.cg_help.specs.Modes.{spelled_mode};
 ghost use Rattle.commands.specs.Beside.{IsNoted, IsPlain, IsNotedFor};
-ghost use Rattle.commands.specs.Requests.{source, name_of, IsTree, may_said, check_said, AdviseSays, GuardsSay, FurtherSay, AuditSays, ExplainSays, OnTree, ReportsOnTree, SettlesOnTree, ArePairs, ReportsOnPairs, OnPairs, replay_said, ReplaysOver, ReplaysOnTree, CarriesOut};
+ghost use Rattle.commands.specs.Requests.{source, name_of, IsTree, may_said, check_said, AdviseSays, GuardsSay, FurtherSay, AuditSays, ExplainSays, OnTreeText, OnTree, ReportsOnTree, SettlesOnTree, ArePairs, ReportsOnPairs, OnPairs, replay_said, ReplaysOver, ReplaysOnTree, CarriesOut};
 
 use crate::pairs::{line_at, read_pairs};
 use arguments::named_pair::NamedPair;
@@ -34,6 +34,7 @@ use cg_cli::upgrade::upgrade_bytes;
 use cg_faults::fault::CliFault;
 use cg_help::beside::Beside;
 use cg_help::modes::spelled_mode;
+use cg_input::read::read_tree_input;
 use std::alloc::Global;
 use std::io::{BufReader, Read, Write};
 use streams::again::Again;
@@ -244,17 +245,17 @@ fn both_texts<F: Files, I: Read + Drop>(
     match sources {
         Sources::Files(tree, other) => {
             let tree = file_text(alloc, files, tree)?;
-            let other = file_text(alloc, files, other)?;
+            let other = read_input(alloc, opened(files, other)?)?;
             Ok(Texts { tree, other })
         }
         Sources::TreeGiven(other) => {
             let tree = tree_text(alloc, files, None, input)?;
-            let other = file_text(alloc, files, other)?;
+            let other = read_input(alloc, opened(files, other)?)?;
             Ok(Texts { tree, other })
         }
         Sources::OtherGiven(tree) => {
             let tree = file_text(alloc, files, tree)?;
-            let other = tree_text(alloc, files, None, input)?;
+            let other = read_input(alloc, input)?;
             Ok(Texts { tree, other })
         }
     }
@@ -419,8 +420,8 @@ fn upgrade<F: Files, I: Read + Drop, W: Write>(
     beside: &mut Beside,
     out: &mut W,
 ) -> Result<u8, CliFault>
-    ensures answer { OnTree (source (F.given files.now) (name_of asked.now.tree) (I.remaining input))
-        (Upgrades (W.contents out.old) (W.contents out.new) result) (W.contents out.old) (W.contents out.new) result }
+    ensures answer { OnTreeText (source (F.given files.now) (name_of asked.now.tree) (I.remaining input))
+        (λ vocabulary. Upgrades vocabulary (W.contents out.old) (W.contents out.new) result) (W.contents out.old) (W.contents out.new) result }
     ensures noted { IfOk result (λ _. IsPlain (source (F.given files.now) (name_of asked.now.tree) (I.remaining input)) beside.new) }
 {
     let tree = tree_text(alloc, files, asked.tree, input)?;
@@ -499,7 +500,7 @@ fn replay_file<F: Files, W: Write>(
     file: &str,
     out: &mut W,
 ) -> Result<u8, CliFault>
-    ensures { OnText tree.now (λ read. ReplaysOver (F.given files.now file.now) (replay_said of.entry.asked.now read)
+    ensures { OnText tree.now (λ read. ReplaysOver (F.given files.now file.now) (replay_said of.entry.asked.now (vocabulary_in tree.now) read)
         (W.contents out.old) (W.contents out.new) result) }
 {
     let ops = opened(files, file)?;
@@ -514,7 +515,7 @@ fn replayed<O: Read + Drop, W: Write>(
     ops: O,
     out: &mut W,
 ) -> Result<u8, CliFault>
-    ensures { OnText tree.now (λ read. ReplaysOver (O.remaining ops) (replay_said of.entry.asked.now read)
+    ensures { OnText tree.now (λ read. ReplaysOver (O.remaining ops) (replay_said of.entry.asked.now (vocabulary_in tree.now) read)
         (W.contents out.old) (W.contents out.new) result) }
 {
     let inner = LineKept {
@@ -579,7 +580,7 @@ fn tree_text<F: Files, I: Read + Drop>(
     ensures fault { IfErr result (λ fault. (fault ≡ CliFault.Read) ⊎ (fault ≡ CliFault.NoMemory)) }
 {
     match file {
-        None => Ok(read_input(alloc, input)?),
+        None => Ok(read_tree_input(alloc, input)?),
         Some(name) => file_text(alloc, files, name),
     }
 }
@@ -588,7 +589,7 @@ fn file_text<F: Files>(alloc: Global, files: &F, name: &str) -> Result<Vec<u8>, 
     ensures text { IfOk result (λ text. IsTree (F.given files.now name.now) text.items) }
     ensures fault { IfErr result (λ fault. (fault ≡ CliFault.Read) ⊎ (fault ≡ CliFault.NoMemory)) }
 {
-    Ok(read_input(alloc, opened(files, name)?)?)
+    Ok(read_tree_input(alloc, opened(files, name)?)?)
 }
 
 fn opened<F: Files>(files: &F, name: &str) -> Result<F::File, CliFault>

@@ -17,7 +17,7 @@ use std::alloc::Global;
 use std::str;
 
 /// How many bytes of a text are looked at, as many as a tree's text may have.
-const LONGEST_TEXT: usize = 16_777_216;
+const LONGEST_PAIRS: usize = 16_777_216;
 
 /// The pairs of a text, in the order of its lines. A line that doesn't begin as one that names a pair is passed over.
 ///
@@ -30,8 +30,8 @@ pub(crate) fn read_pairs<'a>(alloc: Global, text: &'a [u8]) -> Result<Vec<NamedP
         (λ fault. fault ≢ CliFault.NoMemory → pairs_read text.now ≡ Err fault) }
     ensures read { IfErr result (λ fault. fault ≢ CliFault.Write) }
 {
-    if text.len() > LONGEST_TEXT {
-        pairs_of(alloc, &text[..LONGEST_TEXT], true)
+    if text.len() > LONGEST_PAIRS {
+        pairs_of(alloc, &text[..LONGEST_PAIRS], true)
     } else {
         pairs_of(alloc, text, false)
     }
@@ -43,7 +43,7 @@ fn pairs_of<'a>(
     front: &'a [u8],
     is_long: bool,
 ) -> Result<Vec<NamedPair<'a>>, CliFault>
-    requires { length front.now < LONGEST_TEXT + 1 }
+    requires { length front.now < LONGEST_PAIRS + 1 }
     ensures pairs { MatchResult result
         (λ pairs. pieces_read is_long 0 (slice_split is_newline front.now) ≡ Ok (map ids_of_pair pairs.items))
         (λ fault. fault ≢ CliFault.NoMemory → pieces_read is_long 0 (slice_split is_newline front.now) ≡ Err fault) }
@@ -68,7 +68,7 @@ fn push_line<'a>(
     done: u32,
     line: &'a [u8],
 ) -> Result<(), CliFault>
-    requires { done < LONGEST_TEXT + 1 }
+    requires { done < LONGEST_PAIRS + 1 }
     ensures pairs { OnOk result ((more : List GivenPair) × (line_read done line.now ≡ Ok more)
         × (map ids_of_pair pairs.new.items ≡ map ids_of_pair pairs.old.items ++ more)) }
     ensures fault { IfErr result (λ fault. fault ≢ CliFault.NoMemory → line_read done line.now ≡ Err fault) }
@@ -116,7 +116,7 @@ fn pair_of<'a>(alloc: Global, words: &'a [u8]) -> Result<NamedPair<'a>, Argument
 
 /// Whether a text ends behind its last newline.
 fn test_end(is_long: bool, done: u32, rest: &[u8]) -> Result<(), CliFault>
-    requires { done < LONGEST_TEXT + 1 }
+    requires { done < LONGEST_PAIRS + 1 }
     ensures end { MatchResult result
         (λ _. text_end_read is_long done rest.now ≡ Ok [])
         (λ fault. text_end_read is_long done rest.now ≡ Err fault) }

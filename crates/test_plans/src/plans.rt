@@ -77,6 +77,22 @@ process = []
     expect_planned(&rt, tree, "/p/s", "control / +pids\ncontrol /p +pids\n")
 }
 
+/// Where the root has others, lines name these too.
+#[test]
+fn a_controller_goes_on_beside_others(rt: HostRuntime) -> Result<(), Fail> {
+    let tree = b"
+format = 4
+controllers = [\"rdma\", \"pids\", \"dmem\"]
+cgroup = [
+    { path = \"/\", enabled = [\"dmem\"], files = { \"cgroup.subtree_control\" = { uid = 1000 } } },
+    { path = \"/p\", enabled = [\"dmem\"], files = { \"cgroup.subtree_control\" = { uid = 1000 } } },
+    { path = \"/p/s\" },
+]
+process = []
+";
+    expect_planned(&rt, tree, "/p/s", "control / +pids\ncontrol /p +pids\n")
+}
+
 #[test]
 fn a_process_leaves_the_parent_first(rt: HostRuntime) -> Result<(), Fail> {
     let tree = b"

@@ -65,7 +65,7 @@ fn is_broken(
     )
 }
 
-/// Whether the subtree is gone, or one of its limits is another.
+/// Whether the subtree is gone, one of its limits is another, or files of a controller came to stand there or stand no more.
 fn is_changed(start: &Rows, now: &Rows, subtree: &Path) -> bool {
     let Some(old) = start.get(subtree, subtree.depth()) else {
         return true;
@@ -75,6 +75,11 @@ fn is_changed(start: &Rows, now: &Rows, subtree: &Path) -> bool {
     };
     for file in LimitFile::ALL {
         if old.limit(file) != new.limit(file) {
+            return true;
+        }
+    }
+    for controller in Controller::ALL {
+        if old.other(controller).is_some() != new.other(controller).is_some() {
             return true;
         }
     }
@@ -162,7 +167,7 @@ fn other_value(file: LimitFile, value: Limit) -> Limit {
     }
 }
 
-/// The sets of the subtree's limits, and the controls at its parent.
+/// The sets of the subtree's limits, and the controls at its parent of what is told of.
 fn writes(alloc: Global, tree: &Rows, subtree: &Path) -> Result<Vec<Vec<Op>>, NoMemory> {
     let mut tries = Vec::new(alloc);
     for file in LimitFile::ALL {
@@ -175,15 +180,25 @@ fn writes(alloc: Global, tree: &Rows, subtree: &Path) -> Result<Vec<Vec<Op>>, No
             tries.push(only(alloc, Op::Set { at, file, value })?)?;
         }
     }
-    for controller in Controller::IN_FORMAT_2 {
-        for on in [false, true] {
-            let at = subtree.try_prefix(alloc, subtree.depth().saturating_sub(1))?;
-            let mut changes = Changes::new(alloc);
-            changes.push(Change { on, controller })?;
-            tries.push(only(alloc, Op::Control { at, changes })?)?;
+    for controller in Controller::ALL {
+        if is_told(tree, controller) {
+            for on in [false, true] {
+                let at = subtree.try_prefix(alloc, subtree.depth().saturating_sub(1))?;
+                let mut changes = Changes::new(alloc);
+                changes.push(Change { on, controller })?;
+                tries.push(only(alloc, Op::Control { at, changes })?)?;
+            }
         }
     }
     Ok(tries)
+}
+
+/// Whether the root has a controller, or it is one of three that are tried in every tree.
+fn is_told(tree: &Rows, controller: Controller) -> bool {
+    match controller {
+        Controller::Cpu | Controller::Memory | Controller::Pids => true,
+        _ => tree.controllers().contains(controller),
+    }
 }
 
 /// Each process to each cgroup on the other side of the edge.

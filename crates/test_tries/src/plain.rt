@@ -23,11 +23,15 @@ fn is_there<H: Hierarchy>(tree: &H, path: &Path) -> bool
     tree.get(path, path.depth()).is_some()
 }
 
-/// The kind of a try: 0 for none, and then sets, controls, removals, moves and probes.
+/// The kind of a try: 0 for none, and then sets, controls, removals, moves and probes; 6 for a control of a controller that
+/// isn't tried in every tree.
 fn kind(found: Option<&[Op]>) -> usize {
     match found {
         Some([Op::Set { .. }]) => 1,
-        Some([Op::Control { .. }]) => 2,
+        Some([Op::Control { changes, .. }]) => match changes.as_slice() {
+            [change] if !change.controller.is_in_format_2() => 6,
+            _ => 2,
+        },
         Some([Op::Rmdir { .. }]) => 3,
         Some([Op::Move { .. }]) => 4,
         Some(_) => 5,
@@ -60,7 +64,7 @@ fn ask_all(
     alloc: Global,
     tree: &Rows,
     users: &[User],
-    kinds: &mut [u64; 6],
+    kinds: &mut [u64; 7],
 ) -> Result<(), Fail> {
     for subtree in &tree.paths(alloc)? {
         for user in users.iter().skip(1) {
@@ -78,7 +82,7 @@ fn ask_all(
 fn judge_agrees(rt: HostRuntime) -> Result<(), Fail> {
     let alloc = rt.alloc();
     let mut trees = Trees::new(20231123).ok_or("users")?;
-    let mut kinds = [0_u64; 6];
+    let mut kinds = [0_u64; 7];
     for _tree in 0..1000 {
         let tree = trees.tree(alloc)?;
         ask_all(&rt, alloc, &tree, &trees.users, &mut kinds)?;

@@ -66,7 +66,7 @@ fn control(alloc: Global, random: &mut Random, tree: &Rows) -> Result<Op, NoMemo
     let mut changes = Changes::new(alloc);
     changes.push(Change {
         on: random.below(3) > 0,
-        controller: random.one_of(&Controller::IN_FORMAT_2, Controller::Cpu),
+        controller: random.one_of(&Controller::ALL, Controller::Cpu),
     })?;
     Ok(Op::Control { at, changes })
 }
@@ -92,28 +92,35 @@ fn operation(alloc: Global, random: &mut Random, tree: &Rows) -> Result<Op, Path
     }
 }
 
-/// The controllers of this list, on at the cgroup of a text.
-fn enabling(alloc: Global, text: &str, controllers: &[Controller]) -> Result<Op, PathFault> {
+/// The controllers of a set, on at the cgroup of a text.
+fn enabling(alloc: Global, text: &str, controllers: ControllerSet) -> Result<Op, PathFault> {
     let mut changes = Changes::new(alloc);
-    for controller in controllers {
-        changes.push(Change {
-            on: true,
-            controller: *controller,
-        })?;
+    for controller in Controller::ALL {
+        if controllers.contains(controller) {
+            changes.push(Change {
+                on: true,
+                controller,
+            })?;
+        }
     }
     let at = Path::parse(alloc, text)?;
     Ok(Op::Control { at, changes })
 }
 
 /// How trees begin: a chain of two cgroups, of which the upper one enables and is written by many, and a process at its end.
-fn beginning(alloc: Global, random: &mut Random, place: u32) -> Result<Op, PathFault> {
+fn beginning(
+    alloc: Global,
+    random: &mut Random,
+    controllers: ControllerSet,
+    place: u32,
+) -> Result<Op, PathFault> {
     match place {
-        0 => enabling(alloc, "/", &Controller::IN_FORMAT_2),
+        0 => enabling(alloc, "/", controllers),
         1 => {
             let path = Path::parse(alloc, "/a")?;
             Ok(Op::Mkdir { path })
         }
-        2 => enabling(alloc, "/a", &[Controller::Pids, Controller::Memory]),
+        2 => enabling(alloc, "/a", controllers.with(Controller::Cpu, false)),
         3 => {
             let path = Path::parse(alloc, "/a/b")?;
             Ok(Op::Mkdir { path })
@@ -167,14 +174,23 @@ fn users() -> Option<[User; 3]> {
     ])
 }
 
+/// What a root has: cpu, memory and pids alone in half of the trees, and some of the others beside them in the rest.
+fn available(random: &mut Random) -> ControllerSet {
+    let mut available = ControllerSet::none();
+    let has_others = random.below(2) > 0;
+    for controller in Controller::ALL {
+        let has_it = controller.is_in_format_2() || (has_others && random.below(3) == 0);
+        available = available.with(controller, has_it);
+    }
+    available
+}
+
 /// A random tree: what some random steps of these users leave of a root that is the first user's, with three processes.
 fn tree(alloc: Global, random: &mut Random, users: &[User]) -> Result<Rows, PathFault> {
-    let all = ControllerSet {
-        flags: [false, true, false, true, false, true, false, false, false],
-    };
     let Some(keeper) = users.first() else {
         return Err(PathFault::BadPath);
     };
+    let all = available(random);
     let mut tree = Rows::new(alloc, all, Cgroup::made_by(keeper, ControllerSet::none()))?;
     for number in [3, 1, 4] {
         populate(alloc, &mut tree, number, keeper.uid())?;
@@ -182,7 +198,7 @@ fn tree(alloc: Global, random: &mut Random, users: &[User]) -> Result<Rows, Path
     for place in 0..8 {
         // one of four is left out
         if random.below(4) > 0 {
-            let op = beginning(alloc, random, place)?;
+            let op = beginning(alloc, random, all, place)?;
             step(alloc, &mut tree, keeper, &op)?;
         }
     }

@@ -45,7 +45,7 @@ use Rattle.arguments.specs.declared.request.Replay.{Replay}
 use Rattle.arguments.specs.declared.request.Request.{Request}
 use Rattle.arguments.specs.declared.request.Request.TheVariants as request
 use Rattle.streams.specs.declared.write.WriteFailed.{WriteFailed}
-use Rattle.commands.specs.Requests.{Files, IsUnread, source, name_of, may_said, check_said, SettlesAs, AdviseSays, pairs_said, GuardsSay, FurtherSay, AuditSays, ExplainSays, replay_said, OnTree, OnPairs, ReplaysOver, CarriesOut}
+use Rattle.commands.specs.Requests.{Files, IsUnread, source, name_of, may_said, check_said, SettlesAs, AdviseSays, pairs_said, GuardsSay, FurtherSay, AuditSays, ExplainSays, replay_said, OnTreeText, OnTree, OnPairs, ReplaysOver, CarriesOut}
 use Rattle.commands.specs.Runs.{IsFlushed, CarriesOutBuffered, LeadsTo, LiesBelow, RunsTo}
 use Rattle.commands.specs.declared.fault.Fault.{Fault}
 use Rattle.commands.specs.declared.fault.Fault.TheVariants.{Usage, Cli}
@@ -54,6 +54,9 @@ use Rattle.theorems.proofs.GuardedLaws.{contained_by_status}
 use Rattle.theorems.proofs.SettledLaws.{settled_as}
 use Rattle.theorems.proofs.FurtherLaws.{further_told, all_told, first_told}
 use Rattle.theorems.proofs.StatusLaws.{all_contained_by_status}
+use Rattle.cg_cgroup.specs.declared.files.Vocabulary.{Vocabulary}
+use Rattle.cg_format.specs.Readings.{vocabulary_in}
+use Rattle.cg_format.specs.TreeTexts.{most_read}
 
 -- ---- what lies in the first writer
 
@@ -106,19 +109,28 @@ read_whole : {P : Type 0} (known new : Option (List ℕ)) (status : ℕ) → IsU
 read_whole known new status (inl never, keeps) = let none : ⊥ = cc in absurd none
 read_whole known new status (inr never, keeps) = let none : ⊥ = cc in absurd none
 
-module _ (answers : Reading → Type 0) (known old new : Option (List ℕ)) (status : ℕ) (text : List ℕ) (st : State)
+module _ (answers : Vocabulary → Reading → Type 0) (known old new : Option (List ℕ)) (status : ℕ) (text : List ℕ) (st : State)
     (of_known : known ≡ Some text) (of_text : IsTextOf st text) where
-  of_state : (tree : List ℕ) → tree ≡ text → (read : Reading) → IsReading tree read → answers read → answers (Ok st)
+  of_state : (tree : List ℕ) → tree ≡ text → (read : Reading) → IsReading tree read → answers (vocabulary_in tree) read
+      → answers (vocabulary_in text) (Ok st)
   of_state tree same read is said =
-      subst answers (one_reading text read (Ok st) (subst (λ bytes. IsReading bytes read) same is) of_text) said
+      subst (answers (vocabulary_in text)) (one_reading text read (Ok st) (subst (λ bytes. IsReading bytes read) same is) of_text)
+      (subst (λ bytes. answers (vocabulary_in bytes) read) same said)
 
-  whole : (tree : List ℕ) → IfSome known (λ bytes. tree ≡ take 16777217 bytes) → tree ≡ text
+  whole : (tree : List ℕ) → IfSome known (λ bytes. tree ≡ take (most_read bytes) bytes) → tree ≡ text
   whole tree is =
-      subst (λ k. IfSome k (λ bytes. tree ≡ take 16777217 bytes)) of_known is ∙ take_all 16777217 text (omega (arith, of_text.short))
+      subst (λ k. IfSome k (λ bytes. tree ≡ take (most_read bytes) bytes)) of_known is
+      ∙ take_all (most_read text) text (omega (arith, of_text.short))
 
-  on_state : OnTree known answers old new (Ok status) → answers (Ok st)
-  on_state (inl read) = of_state read.0 (whole read.0 read.1) read.2.0 read.2.1 read.2.2
-  on_state (inr unread) = read_whole old new status unread
+  on_text : OnTreeText known answers old new (Ok status) → answers (vocabulary_in text) (Ok st)
+  on_text (inl read) = of_state read.0 (whole read.0 read.1) read.2.0 read.2.1 read.2.2
+  on_text (inr unread) = read_whole old new status unread
+
+-- where it doesn't matter which controllers the text names
+on_state : (answers : Reading → Type 0) (known old new : Option (List ℕ)) (status : ℕ) (text : List ℕ) (st : State)
+    → known ≡ Some text → IsTextOf st text → OnTree known answers old new (Ok status) → answers (Ok st)
+on_state answers known old new status text st of_known of_text said =
+    on_text (λ vocabulary. answers) known old new status text st of_known of_text said
 
 first_alone : (A B : Type 0) (all : Bool) → all ≡ false → MatchBool all A B → B
 first_alone A B all is said = subst (λ b. MatchBool b A B) is said
@@ -203,20 +215,24 @@ module _ (files : Files) (given old new : Option (List ℕ)) (status : ℕ) wher
 
     pub upgrade_ended : (upgrade : Upgrade) → CarriesOut (request.Upgrade upgrade) files given old new (Ok status)
         → source files (name_of upgrade.tree) given ≡ Some text → IsTextOf st text
-        → (anew : List ℕ) × IsNewText st anew × Reports (upgrade_report (Ok st) anew) old new (Ok status)
+        → (anew : List ℕ) × IsNewText (vocabulary_in text) st anew × Reports (upgrade_report (Ok st) anew) old new (Ok status)
     upgrade_ended upgrade carried of_known of_text =
         let upgrades =
-        on_state (Upgrades old new (Ok status)) (source files (name_of upgrade.tree) given) old new status text st of_known of_text
+        on_text (λ vocabulary. Upgrades vocabulary old new (Ok status)) (source files
+        (name_of upgrade.tree) given) old new status text st of_known of_text
         carried in
         (upgrades.text, upgrades.written st refl (λ never. cc), upgrades.reports)
 
     pub replay_ended : (replay : Replay) (ops : List ℕ) → CarriesOut (request.Replay replay) files given old new (Ok status)
         → source files (tree_file replay.sources) given ≡ Some text → source files (other_file replay.sources) given ≡ Some ops
         → IsTextOf st text
-        → Reports (replay_report (Ok st) replay.user.uid replay.user.gids.items (name_of replay.subtree) ops) old new (Ok status)
+        → Reports (replay_report (vocabulary_in text) (Ok st) replay.user.uid replay.user.gids.items
+        (name_of replay.subtree) ops) old new (Ok status)
     replay_ended replay ops carried of_known of_ops of_text =
-        on_operations (replay_said replay (Ok st)) (source files (other_file replay.sources) given) old new status ops of_ops
-        (on_state (λ read. ReplaysOver (source files (other_file replay.sources) given) (replay_said replay read) old new (Ok status))
+        on_operations (replay_said replay (vocabulary_in text) (Ok st)) (source files
+        (other_file replay.sources) given) old new status ops of_ops
+        (on_text (λ vocabulary read. ReplaysOver (source files (other_file replay.sources) given)
+        (replay_said replay vocabulary read) old new (Ok status))
         (source files (tree_file replay.sources) given) old new status text st of_known of_text carried)
 
     module _ (advise : Advise) (carried : CarriesOut (request.Advise advise) files given old new (Ok status))

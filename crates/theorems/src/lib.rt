@@ -39,7 +39,7 @@ ghost use Rattle.cg_advice.specs.AdviceLines.{pairs_lines};
 ghost use Rattle.cg_format.specs.TreeTexts.{longest_text, document_of};
 ghost use Rattle.cg_format.specs.TextOf.{IsTextOf};
 ghost use Rattle.cg_format.specs.TextFaults.{text_faults};
-ghost use Rattle.cg_format.specs.Readings.{Reading, IsReading};
+ghost use Rattle.cg_format.specs.Readings.{Reading, IsReading, vocabulary_in};
 ghost use Rattle.cg_print.specs.Documents.{tree_document, IsSpelled};
 ghost use Rattle.cg_print.specs.Carried.{IsKept, IsCarried};
 ghost use Rattle.cg_cli.specs.Reports.{Reports};
@@ -80,6 +80,7 @@ ghost use Rattle.commands.specs.Requests.{Files, source, name_of, may_said, chec
 ghost use Rattle.commands.specs.Runs.{LeadsTo, RunsTo};
 ghost use Rattle.commands.specs.declared.fault.Fault.{Fault};
 ghost use Rattle.streams.specs.declared.write.WriteFailed.{WriteFailed};
+ghost use Rattle.cg_cgroup.specs.declared.files.Vocabulary.{Vocabulary};
 
 /// Where the guards of a subtree hold for a user it is contained against them: whatever they do, in whatever order, nothing breaks it.
 /// So it is in the state of a text, of which `check` says `contained`, and ends with status 0, exactly where they hold.
@@ -151,7 +152,7 @@ pub fn escapes_are_replayed()
         → answer st user subtree ≡ Escapes ops → ¬ (IsHeld st (by_user user ops) subtree) }
     ensures bytes { (text : List ℕ) (tree : Reading) (uid : ℕ) (gids : List ℕ) (subtree : List ℕ)
         → IsReading text tree → (check_report tree uid gids subtree).ending ≡ Ok 1
-        → (ops : List Op) × IsReplayed tree uid gids subtree ops }
+        → (ops : List Op) × IsReplayed (vocabulary_in text) tree uid gids subtree ops }
 {}
 
 /// With the changes of the advice made the subtrees are contained against the users, all of them together, and of pairs each subtree
@@ -188,39 +189,41 @@ pub fn advice()
         × AreContainedAsNamed (advised st (paired users subtrees)) (paired users subtrees) }
 {}
 
-/// A text has a state exactly where it has no fault, and one at most. What is written of a state is one text, and it has that state
-/// where a text can carry it and this one isn't too long.
+/// A text has a state exactly where it has no fault, and one at most. What is written of a state in one of the formats is one text, and it
+/// has that state where a text of the format can carry it and this one isn't too long.
 pub fn texts()
     ensures faultless { (bytes : List ℕ) (st : State) → IsTextOf st bytes → text_faults bytes ≡ [] }
     ensures state { (bytes : List ℕ) → text_faults bytes ≡ [] → (st : State) × IsTextOf st bytes }
     ensures one_state { (bytes : List ℕ) (st other : State) → IsTextOf st bytes → IsTextOf other bytes → st ≡ other }
-    ensures one_text { (st : State) (text other : List ℕ) → IsSpelled st text → IsSpelled st other → text ≡ other }
-    ensures read_again { (text : List ℕ) (st : State) → document_of text ≡ Some (tree_document st) → IsKept st → IsCarried st
-        → length text ≤ longest_text → IsTextOf st text }
+    ensures one_text { (vocabulary : Vocabulary) (st : State) (text other : List ℕ)
+        → IsSpelled vocabulary st text → IsSpelled vocabulary st other → text ≡ other }
+    ensures read_again { (vocabulary : Vocabulary) (text : List ℕ) (st : State)
+        → document_of text ≡ Some (tree_document vocabulary st) → IsKept st → IsCarried vocabulary st
+        → length text ≤ longest_text text → IsTextOf st text }
 {}
 
 /// The outcome of each operation is written, each tried in the tree that those before it leave, up to the first line that is no
-/// operation; and behind all of them the verdict on the subtree that is watched.
+/// operation's by the controllers that lines name; and behind all of them the verdict on the subtree that is watched.
 pub fn replay()
-    ensures none { (st : State) (uid : ℕ) (gids : List ℕ) (user : Identity)
-        → user_read uid gids ≡ Ok user → replay_report (Ok st) uid gids None [] ≡ record { text = []; ending = Ok 0 } }
-    ensures one_more { (st : State) (uid : ℕ) (gids : List ℕ) (user : Identity) (ops : List Op) (op : Op)
-        → user_read uid gids ≡ Ok user → HaveLines (ops ++ op ∷ [])
-        → replay_report (Ok st) uid gids None (op_lines (ops ++ op ∷ [])) ≡ record {
-          text = (replay_report (Ok st) uid gids None (op_lines ops)).text
+    ensures none { (vocabulary : Vocabulary) (st : State) (uid : ℕ) (gids : List ℕ) (user : Identity)
+        → user_read uid gids ≡ Ok user → replay_report vocabulary (Ok st) uid gids None [] ≡ record { text = []; ending = Ok 0 } }
+    ensures one_more { (vocabulary : Vocabulary) (st : State) (uid : ℕ) (gids : List ℕ) (user : Identity) (ops : List Op) (op : Op)
+        → user_read uid gids ≡ Ok user → HaveLines vocabulary (ops ++ op ∷ [])
+        → replay_report vocabulary (Ok st) uid gids None (op_lines (ops ++ op ∷ [])) ≡ record {
+          text = (replay_report vocabulary (Ok st) uid gids None (op_lines ops)).text
               ++ outcome_text op (outcome_of (after_all st (by_user user ops)) user op);
           ending = Ok 0;
         } }
-    ensures fault { (st : State) (uid : ℕ) (gids : List ℕ) (user : Identity) (ops : List Op) (line rest : List ℕ)
-        → user_read uid gids ≡ Ok user → HaveLines ops → All (λ b. is_newline b ≡ false) line → length line ≤ longest_line
-        → operation_at line ≡ None → replay_report (Ok st) uid gids None (op_lines ops ++ line ++ 10 ∷ rest) ≡ record {
-          text = (replay_report (Ok st) uid gids None (op_lines ops)).text;
+    ensures fault { (vocabulary : Vocabulary) (st : State) (uid : ℕ) (gids : List ℕ) (user : Identity) (ops : List Op) (line rest : List ℕ)
+        → user_read uid gids ≡ Ok user → HaveLines vocabulary ops → All (λ b. is_newline b ≡ false) line → length line ≤ longest_line
+        → operation_at vocabulary line ≡ None → replay_report vocabulary (Ok st) uid gids None (op_lines ops ++ line ++ 10 ∷ rest) ≡ record {
+          text = (replay_report vocabulary (Ok st) uid gids None (op_lines ops)).text;
           ending = Err (Line (length ops + 1) BadWord);
         } }
-    ensures watched { (st : State) (uid : ℕ) (gids : List ℕ) (user : Identity) (word : List ℕ) (subtree : Names) (ops : List Op)
-        → user_read uid gids ≡ Ok user → path_read word ≡ Ok subtree → IsSubtree st subtree → HaveLines ops
-        → replay_report (Ok st) uid gids (Some word) (op_lines ops) ≡ record {
-          text = (replay_report (Ok st) uid gids None (op_lines ops)).text ++ verdict_text (verdict st (by_user user ops) subtree);
+    ensures watched { (vocabulary : Vocabulary) (st : State) (uid : ℕ) (gids : List ℕ) (user : Identity) (word : List ℕ) (subtree : Names) (ops : List Op)
+        → user_read uid gids ≡ Ok user → path_read word ≡ Ok subtree → IsSubtree st subtree → HaveLines vocabulary ops
+        → replay_report vocabulary (Ok st) uid gids (Some word) (op_lines ops) ≡ record {
+          text = (replay_report vocabulary (Ok st) uid gids None (op_lines ops)).text ++ verdict_text (verdict st (by_user user ops) subtree);
           ending = Ok (verdict_status (verdict st (by_user user ops) subtree));
         } }
 {}
@@ -312,9 +315,9 @@ pub fn the_program()
     ensures upgrade { (upgrade : Upgrade) (files : Files) (given old new : Option (List ℕ)) (status : ℕ) (text : List ℕ) (st : State)
         → CarriesOut (request.Upgrade upgrade) files given old new (Ok status)
         → source files (name_of upgrade.tree) given ≡ Some text → IsTextOf st text
-        → (anew : List ℕ) × IsNewText st anew × Reports (upgrade_report (Ok st) anew) old new (Ok status) }
+        → (anew : List ℕ) × IsNewText (vocabulary_in text) st anew × Reports (upgrade_report (Ok st) anew) old new (Ok status) }
     ensures replay { (replay : Replay) (files : Files) (given old new : Option (List ℕ)) (status : ℕ) (text ops : List ℕ) (st : State)
         → CarriesOut (request.Replay replay) files given old new (Ok status)
         → source files (tree_file replay.sources) given ≡ Some text → source files (other_file replay.sources) given ≡ Some ops → IsTextOf st text
-        → Reports (replay_report (Ok st) replay.user.uid replay.user.gids.items (name_of replay.subtree) ops) old new (Ok status) }
+        → Reports (replay_report (vocabulary_in text) (Ok st) replay.user.uid replay.user.gids.items (name_of replay.subtree) ops) old new (Ok status) }
 {}

@@ -37,7 +37,10 @@ fn of_text(tree: &[u8], trial: &mut Trial<'_>) -> Ended {
     match trial.words.next()? {
         "read_tree" => texts::tree_read(tree, trial),
         "read_long_tree" => texts::long_tree_read(trial),
+        "read_text" => texts::text_read(tree, trial),
+        "read_tree_input" => texts::input_read(tree, trial),
         "read_op" => texts::operation_read(trial),
+        "read_op_in" => texts::operation_read_in(trial),
         "read_long_op" => texts::long_operation_read(trial),
         "op_text" => texts::operation_written(trial),
         "outcome_text" => texts::outcome_written(tree, trial),

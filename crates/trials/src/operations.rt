@@ -3,9 +3,10 @@ use crate::begin::Stopped;
 use crate::lent::reads_alike;
 use crate::said::{answer_said, text_said};
 use crate::trial::{Ended, Trial};
+use cg_cgroup::files::Vocabulary;
 use cg_cgroup::path::Path;
 use cg_cgroup::user::User;
-use cg_lines::lines::read_op;
+use cg_lines::lines::read_op_in;
 use cg_model::hierarchy::Hierarchy;
 use cg_model::operation::Op;
 use cg_model::outcome::Outcome;
@@ -13,9 +14,9 @@ use cg_ops::{apply, refusal};
 use cg_runs::replay::Replay;
 use std::alloc::Global;
 
-/// The operation of a line.
+/// The operation of a line, of whatever controllers.
 pub fn operation(alloc: Global, line: &str) -> Result<Op, Stopped> {
-    Ok(read_op(alloc, line.as_bytes())?)
+    Ok(read_op_in(alloc, Vocabulary::Format4, line.as_bytes())?)
 }
 
 /// Makes the operations of all lines but the last, and gives that one's.

@@ -4,17 +4,19 @@ use crate::operations::{applied_before, operation};
 use crate::said::{Said, answer_said, text_said};
 use crate::trees::listed;
 use crate::trial::{Ended, Trial, answered};
+use cg_cgroup::files::Vocabulary;
 use cg_check::check;
 use cg_cli::arguments::UserIds;
 use cg_cli::check::check_bytes;
-use cg_faults::fault::fault_text;
-use cg_lines::lines::{LineFault, op_text, read_op};
+use cg_faults::fault::{CliFault, fault_text};
+use cg_input::read::read_tree_input;
+use cg_lines::lines::{LineFault, op_text, read_op, read_op_in};
 use cg_lines::outcome::outcome_text;
 use cg_ops::apply;
 use cg_report::answer::answer_text;
 use cg_report::verdict::verdict_text;
 use cg_runs::replay::Replay;
-use cg_text::tree::{TreeFault, read_tree};
+use cg_text::tree::{TreeFault, read_text, read_tree};
 use std::fmt::Debug;
 
 /// Makes a call that writes a text, and that fails where it wants memory alone.
@@ -45,6 +47,32 @@ pub fn tree_read(tree: &[u8], trial: &mut Trial<'_>) -> Ended {
     }
 }
 
+/// `text read_text`
+pub fn text_read(tree: &[u8], trial: &mut Trial<'_>) -> Ended {
+    let alloc = trial.alloc;
+    trial.begin()?;
+    let (wanted, answer) = answered(TreeFault::NoMemory, || read_text(alloc, tree));
+    match answer {
+        Ok(text) => {
+            let vocabulary = text.vocabulary;
+            let tree = listed(alloc, &text.rows)?;
+            Ok(text_said(wanted, true, format!(in alloc; "{vocabulary:?} {tree}")?))
+        }
+        Err(fault) => answer_said(alloc, wanted, true, &fault),
+    }
+}
+
+/// `text read_tree_input`, which says whether it is what there is to be read
+pub fn input_read(tree: &[u8], trial: &mut Trial<'_>) -> Ended {
+    let alloc = trial.alloc;
+    trial.begin()?;
+    let (wanted, answer) = answered(CliFault::NoMemory, || {
+        read_tree_input(alloc, tree).map_err(CliFault::from)
+    });
+    let read = answer.map(|read| read.as_slice() == tree);
+    answer_said(alloc, wanted, true, &read)
+}
+
 /// The fault of a text that is too long, of so many newlines.
 fn too_long<T: Drop, E: Debug + Drop>(
     trial: &mut Trial<'_>,
@@ -68,6 +96,18 @@ pub fn operation_read(trial: &mut Trial<'_>) -> Ended {
     let line = trial.words.next()?.as_bytes();
     trial.begin()?;
     let (wanted, answer) = answered(LineFault::NoMemory, || read_op(alloc, line));
+    answer_said(alloc, wanted, true, &answer)
+}
+
+/// `text read_op_in LINE`, of format 4
+pub fn operation_read_in(trial: &mut Trial<'_>) -> Ended {
+    let alloc = trial.alloc;
+    let line = trial.words.next()?.as_bytes();
+    trial.begin()?;
+    let (wanted, answer) = answered(
+        LineFault::NoMemory,
+        || read_op_in(alloc, Vocabulary::Format4, line),
+    );
     answer_said(alloc, wanted, true, &answer)
 }
 

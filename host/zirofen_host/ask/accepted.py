@@ -22,8 +22,8 @@ def take(options: Options, subtrees_of: SubtreesOf) -> Snapshot:
     """A snapshot of this host, or of a text."""
     if not options.tree:
         return snapshots.take(options, subtrees_of)
-    if options.only or options.keep:
-        raise Fault("--only and --keep go with a host, and not with --tree")
+    if options.only or options.keep or options.tree_format:
+        raise Fault("--only, --keep and --tree-format go with a host, and not with --tree")
     found = elsewhere.read(accept(options.tree, options.program), options.mount)
     subtrees = subtrees_of(found, found.changing) if found.changing else ()
     return replace(found, spoiled=spoiled_of(found.changing, subtrees))

@@ -3,11 +3,13 @@ from dataclasses import dataclass
 from typing import Callable, Iterable, List, Mapping, Sequence
 
 from zirofen_host.ask.model import Answers, Plan, Question
-from zirofen_host.ask.program import abilities_of
-from zirofen_host.ask.questions import Questions, bounded_plan, further_of, plan_of, questions_of
+from zirofen_host.ask.program import TooLarge, abilities_of
+from zirofen_host.ask.questions import Questions, Runs, bounded_further, bounded_plan, further_of, plan_of, questions_of
 from zirofen_host.ask.spoiled import spoiled
 from zirofen_host.ask.texts import Programs, Text, texts_of, write
+from zirofen_host.collect import bounded
 from zirofen_host.collect.accounts import Accounts
+from zirofen_host.collect.bounded import Spent
 from zirofen_host.collect.model import Snapshot, Tree, User
 from zirofen_host.options import Options
 from zirofen_host.profile import CgroupPath
@@ -33,8 +35,8 @@ def everybody(tree: Tree, plan: Plan, further: Iterable[Question]) -> List[User]
 
 
 def has_all_cgroups(snapshot: Snapshot, options: Options, texts: Sequence[Text]) -> bool:
-    """Whether one text has every cgroup of the host, on all of which an answer rests that isn't the guards'."""
-    return (options.only is None and len(texts) == 1 and len(texts[0].rows) == len(snapshot.tree.rows) and not snapshot.changing
+    """Whether the first text has every cgroup of the host, on all of which an answer rests that isn't the guards'."""
+    return (options.only is None and bool(texts) and len(texts[0].rows) == len(snapshot.tree.rows) and not snapshot.changing
             and not any(note.kind in LEFT_OUT for note in snapshot.notes))
 
 
@@ -45,26 +47,36 @@ def settleable(is_whole: bool, plan: Plan, not_asked: Mapping[CgroupPath, int]) 
 
 
 def ask_all(snapshot: Snapshot, accounts: Accounts, options: Options, folder: str) -> Asked:
-    """Asks the program of everybody who can matter for a subtree, in texts that stand in a folder."""
+    """Asks the program of everybody who can matter for a subtree, in texts that stand in a folder: in small ones alone where it has too
+    little memory or time for larger ones."""
+    try:
+        return ask_in_texts(snapshot, accounts, options, folder, True)
+    except TooLarge:
+        return ask_in_texts(snapshot, accounts, options, folder, False)
+
+
+def ask_in_texts(snapshot: Snapshot, accounts: Accounts, options: Options, folder: str, is_large: bool) -> Asked:
     questions = questions_of(snapshot, accounts)
     lost = spoiled(snapshot, questions)
     questions = questions.without(lost)
-    texts = texts_of(snapshot.tree, questions.subtrees, not options.no_processes)
+    made = {path for path in questions.subtrees if questions.makers.within(path)}
+    texts = texts_of(snapshot.tree, questions.subtrees, not options.no_processes, made, is_large)
     lost.update(texts.refused)
     questions = questions.without(texts.refused)
     texts.fill(lambda path: questions.holders[path].uids)
-    programs = write(texts, options, folder, snapshot)
+    programs = write(texts, options, f"{folder}/{'' if is_large else 'small-'}", snapshot)
     abilities = abilities_of(options.program)
-    plan, over = bounded_plan(questions, plan_of(questions))
+    runs = Runs(questions.makers, Spent(bounded.RUNS, accounts.payer))
+    plan, over = bounded_plan(questions, plan_of(questions), runs)
     lost.update(over)
     questions = questions.without(over)
     found, refused = programs.ask(plan.questions, abilities.has_audit_all)
-    further, not_asked = further_of(questions, plan, found)
+    further, not_asked = bounded_further(*further_of(questions, plan, found), runs)
     more, refused_then = programs.ask(further, abilities.has_audit_all)
     found.update(more)
     if abilities.has_settle and abilities.has_audit_all:
         found = programs.settled(found, everybody(snapshot.tree, plan, further), settleable(
-            has_all_cgroups(snapshot, options, texts.texts), plan, not_asked))
+            has_all_cgroups(snapshot, options, texts.texts), plan, not_asked), made)
     refused = {**lost, **refused, **refused_then}
     return Asked(questions.without(refused),
                  Answers(plan, further, found, not_asked, refused, () if options.no_processes else texts.without_processes(),

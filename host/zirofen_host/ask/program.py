@@ -7,9 +7,10 @@ which tells the first pair that isn't contained, again and again from behind the
 import os
 import signal
 import subprocess
+import time
 from concurrent.futures import ThreadPoolExecutor
-from dataclasses import dataclass
-from typing import Callable, Collection, Dict, Iterable, Iterator, List, NamedTuple, Optional, Sequence, Tuple, TypeVar
+from dataclasses import dataclass, replace
+from typing import Callable, Collection, Container, Dict, Iterable, Iterator, List, NamedTuple, Optional, Sequence, Tuple, TypeVar
 
 from zirofen_host import ending, output, progress
 from zirofen_host.ask.model import Abilities, Advice, Answer, Pair, Question
@@ -23,8 +24,12 @@ CONTAINED, ESCAPES, UNSETTLED = 0, 1, 2
 WORST_FIRST = (FAULT, ESCAPES, UNSETTLED, CONTAINED)
 WORDS = {"contained": CONTAINED, "escapes": ESCAPES, "unsettled": UNSETTLED}
 NOT_BUILT = 70
-# runs at once; one of the largest text of a host takes some 50 MB, and the timer's unit has 2 GB
-MOST_AT_ONCE = 16
+NO_MEMORY = "fault: memory"
+NO_TIME = "the program took too long"
+# runs at once, and bytes of memory that these take together, as long as one doesn't take more by itself
+MOST_AT_ONCE, MOST_MEMORY = 16, 1 << 30
+# so long subtrees are settled, so many in a run
+SETTLING_SECONDS, SETTLED = 300, 16
 # bytes of one run's arguments, each with its pointer; a kernel takes two millions at least, with the environment
 ROOM = 900_000
 
@@ -43,15 +48,19 @@ class Ended(NamedTuple):
 NOTHING_TOLD = Ended(CONTAINED, ["contained"])
 
 
+class TooLarge(Fault):
+    """A large text for which the program has too little memory or time."""
+
+
 class Refused(Exception):
     """The program's fault for one run; of the whole text, or maybe of one pair alone."""
 
-    def __init__(self, line: str, is_whole: bool, help_lines: Iterable[str] = ()) -> None:
+    def __init__(self, line: str, is_whole: bool, help_lines: Iterable[str] = (), is_too_large: bool = False) -> None:
         super().__init__(line)
-        self.is_whole, self.help_lines = is_whole, tuple(help_lines)
+        self.is_whole, self.help_lines, self.is_too_large = is_whole, tuple(help_lines), is_too_large
 
     def fault(self) -> Fault:
-        return Fault(str(self), self.help_lines)
+        return TooLarge(str(self)) if self.is_too_large else Fault(str(self), self.help_lines)
 
 
 def size(words: Iterable[str]) -> int:
@@ -91,9 +100,19 @@ class Program:
     """The program, and the tree text that it is asked of."""
     path: str
     tree: str
+    # bytes of memory that a run takes at most, as far as that is known
+    memory: int = 0
+    is_large: bool = False
+    # when what is asked in a large text has to have ended
+    end: Optional[float] = None
+
+    def until(self, end: float) -> "Program":
+        """The same, where the text is large as long as there is time."""
+        return replace(self, end=end) if self.is_large else self
 
     def start(self, words: Sequence[str]) -> "subprocess.CompletedProcess[str]":
-        return ending.run([self.path, *words], seconds_left())
+        bounds = (seconds_left(), None if self.end is None else max(self.end - time.monotonic(), 0.0))
+        return ending.run([self.path, *words], min((each for each in bounds if each is not None), default=None))
 
     def try_start(self, words: Sequence[str]) -> "subprocess.CompletedProcess[str]":
         try:
@@ -101,6 +120,8 @@ class Program:
         except OSError as error:
             raise Fault(f"can't run {self.path}: {error.strerror}") from None
         except subprocess.TimeoutExpired:
+            if self.end is not None:
+                raise Refused(NO_TIME, True, (), True) from None
             raise out_of_time() from None
 
     def run(self, *words: str) -> Ended:
@@ -108,7 +129,9 @@ class Program:
         if ended.returncode in (CONTAINED, ESCAPES, UNSETTLED) and ended.stdout:
             return Ended(ended.returncode, ended.stdout.splitlines())
         told = told_by(ended)
-        raise Refused(told[0], ended.returncode == NOT_BUILT or told[0].startswith("fault: tree"), help_below(told))
+        is_too_large = self.is_large and (told[0] == NO_MEMORY or ended.returncode == -signal.SIGKILL)
+        is_whole = is_too_large or ended.returncode == NOT_BUILT or told[0].startswith("fault: tree")
+        raise Refused(told[0], is_whole, help_below(told), is_too_large)
 
     def refuse_text(self) -> None:
         """Ends with the program's fault line where it doesn't take the text: no operation is tried in it."""
@@ -131,7 +154,7 @@ class Program:
             runs = [Question(some, run.subtrees) for run in runs for some in shares_of(run.users, os.cpu_count() or 1)]
         found: Answered = {}
         try:
-            for answers in at_once(lambda run: settle(audit, run.users, run.subtrees), runs):
+            for answers in at_once(lambda run: settle(audit, run.users, run.subtrees), runs, self.memory):
                 found.update(answers)
         except Refused as refused:
             raise refused.fault() from None
@@ -142,18 +165,22 @@ class Program:
         words += [word for path in subtrees for word in ("--subtree", text_of(path))]
         return self.run("audit", *options, "--tree", self.tree, *words)
 
-    def settled(self, found: Answered, users: Sequence[User]) -> Answered:
+    def settled(self, found: Answered, users: Sequence[User], made: Container[CgroupPath] = ()) -> Answered:
         """The answers, with what `audit --settle` says of those that are unsettled, where all users can be asked of in one run: it
-        holds of them together."""
-        left = sorted({pair.subtree for pair, answer in found.items() if answer.status == UNSETTLED})
+        holds of them together. What somebody made comes last, since there is a bound of time."""
+        unsettled = {pair.subtree for pair, answer in found.items() if answer.status == UNSETTLED}
+        left = sorted(unsettled, key=lambda path: (path in made, path))
         asked: Dict[Pair, Optional[Answer]] = {}
         together = set(users)
         if sum(size(["--uid", user_word(user)]) for user in users) <= ROOM // 2:
-            for subtrees in blocks_of(left, lambda path: ["--subtree", text_of(path)], ROOM // 2):
+            bounded = replace(self, end=time.monotonic() + SETTLING_SECONDS)
+            for subtrees in blocks_of(left, lambda path: ["--subtree", text_of(path)], ROOM // 2, SETTLED):
                 progress.tell(f"settling {len(subtrees)} subtrees")
                 try:
-                    answers = self.listed(users, subtrees, "--all", "--settle")
+                    answers = bounded.listed(users, subtrees, "--all", "--settle")
                 except Refused as refused:
+                    if refused.is_too_large:
+                        break
                     if refused.is_whole:
                         raise refused.fault() from None
                     continue
@@ -236,10 +263,10 @@ def version_of(program: Program) -> Optional[str]:
         return None
 
 
-def at_once(call: Callable[[Item], Result], items: Sequence[Item]) -> List[Result]:
-    """Calls with each of the items, several at once; the results in their order."""
+def at_once(call: Callable[[Item], Result], items: Sequence[Item], memory: int) -> List[Result]:
+    """Calls with each of the items, each of which takes so many bytes, several at once; the results in their order."""
     results = []
-    with ThreadPoolExecutor(min(os.cpu_count() or 1, MOST_AT_ONCE)) as workers:
+    with ThreadPoolExecutor(max(min(os.cpu_count() or 1, MOST_AT_ONCE, MOST_MEMORY // max(memory, 1)), 1)) as workers:
         for result in workers.map(call, items):
             results.append(result)
             progress.tell(f"{len(results)} of {len(items)} runs of the program are done")
@@ -302,13 +329,14 @@ def signal_name(number: int) -> str:
         return str(number)
 
 
-def blocks_of(items: Iterable[Item], words: Callable[[Item], Iterable[str]], room: int) -> Iterator[List[Item]]:
-    """Items in lists whose words fit."""
+def blocks_of(items: Iterable[Item], words: Callable[[Item], Iterable[str]], room: int,
+              most: Optional[int] = None) -> Iterator[List[Item]]:
+    """Items in lists whose words fit, of so many at most."""
     block: List[Item] = []
     used = 0
     for item in items:
         cost = size(words(item))
-        if block and used + cost > room:
+        if block and (used + cost > room or len(block) == most):
             yield block
             block, used = [], 0
         block.append(item)

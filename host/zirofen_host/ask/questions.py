@@ -97,10 +97,17 @@ class Questions:
 
     def is_asked_as_holder(self, user: User, path: CgroupPath) -> bool:
         """Whether a user holds a subtree and isn't above it, or nobody holds it who isn't."""
-        if not self.holds(user, path):
-            return False
-        is_above = [self.is_above(uid, path) for uid in self.holders[path].uids]
-        return all(is_above) or not self.is_above(user.uid, path)
+        return self.holds(user, path) and (not self.is_above(user.uid, path) or self.is_held_from_above(path))
+
+    def is_held_from_above(self, path: CgroupPath) -> bool:
+        """Whether all who hold a subtree are above it."""
+        if path not in self._held_from_above:
+            self._held_from_above[path] = all(self.is_above(uid, path) for uid in self.holders[path].uids)
+        return self._held_from_above[path]
+
+    @cached_property
+    def _held_from_above(self) -> Dict[CgroupPath, bool]:
+        return {}
 
     def is_above(self, uid: int, path: CgroupPath) -> bool:
         """Whether a uid's person has a directory above, in their own name or a subordinate one."""
@@ -156,6 +163,11 @@ class Questions:
         row = self.tree.rows[subtree]
         limits = [row.values.get(name, "max") for name in ("cgroup.max.descendants", "cgroup.max.depth")]
         return any(isinstance(limit, int) and count > limit for count, limit in zip(self.below[subtree], limits))
+
+    @cached_property
+    def makers(self) -> Holds:
+        """Whose making each cgroup is."""
+        return Holds(self.tree.rows, self.accounts.payer, handed_in(self.marks))
 
     @cached_property
     def below(self) -> Mapping[CgroupPath, Tuple[int, int]]:
@@ -285,6 +297,9 @@ def with_questions(plan: Plan, questions: Questions, asked: Mapping[CgroupPath, 
     """A plan with everybody of every subtree that isn't open to everybody; of the others those whom an entry names. Further
     users are asked of some subtrees alone."""
     everybody = frozenset(plan.asked_as.values())
+    by_uid: DefaultDict[int, List[User]] = defaultdict(list)
+    for user in everybody:
+        by_uid[user.uid].append(user)
     by_users: DefaultDict[FrozenSet[User], List[CgroupPath]] = defaultdict(list)
     expected_of = {}
     for owners, paths in by_owners_above(questions).items():
@@ -295,32 +310,46 @@ def with_questions(plan: Plan, questions: Questions, asked: Mapping[CgroupPath, 
         if len(left) < len(everybody):
             expected_of[owners] = tuple(paths)
             for some in (paths[start:start + BLOCK] for start in range(0, len(paths), BLOCK)):
-                holders = frozenset(user for user in everybody if any(questions.is_asked_as_holder(user, path) for path in some))
-                by_users[holders] += some
+                holders: Set[User] = set()
+                for path in some:
+                    those = (user for uid in questions.holders[path].uids for user in by_uid.get(uid, ()) if user not in holders)
+                    holders.update([user for user in those if questions.is_asked_as_holder(user, path)])
+                by_users[frozenset(holders)] += some
     asks = tuple(Question(tuple(sorted(users)), tuple(paths)) for users, paths in by_users.items() if users)
     return replace(plan, questions=asks, expected_of=expected_of)
 
 
-def bounded_plan(questions: Questions, plan: Plan) -> Tuple[Plan, Dict[CgroupPath, str]]:
+@dataclass(frozen=True)
+class Runs:
+    """What the questions for what each person made have cost."""
+    makers: Holds
+    spent: Spent
+
+    def affordable(self, asked: Iterable[Question]) -> Tuple[List[Question], Dict[CgroupPath, str]]:
+        """Questions without what is over somebody's budget, and the subtrees that this is, each with why."""
+        kept: List[Question] = []
+        over: Dict[CgroupPath, str] = {}
+        for each in asked:
+            makers = {path: self.makers.within(path) or 0 for path in each.subtrees}
+            dropped = {maker for maker in set(makers.values()) if not self.spent.take(maker)}
+            over.update({path: self.spent.budget.told(maker) for path, maker in makers.items() if maker in dropped})
+            kept.append(Question(each.users, tuple(path for path in each.subtrees if makers[path] not in dropped)))
+        return [each for each in kept if each.subtrees], over
+
+
+def bounded_plan(questions: Questions, plan: Plan, runs: Runs) -> Tuple[Plan, Dict[CgroupPath, str]]:
     """A plan with no more uids of one person's than are asked of, and no more questions for what one person made: of what is over
     these budgets nothing is asked, and it is told of which subtrees, each with why."""
     payer = questions.accounts.payer
-    holds = Holds(questions.tree.rows, payer, handed_in(questions.marks))
-    runs, users = Spent(bounded.RUNS, payer), Spent(bounded.USERS, payer)
+    users = Spent(bounded.USERS, payer)
     uids = {user.uid for each in plan.questions for user in each.users}
     left_out = {uid for uid in sorted(uids, key=lambda uid: (payer(uid) != uid, uid)) if not users.take(uid)}
-    over, kept = {}, []
-    for each in plan.questions:
-        makers = {path: holds.within(path) or 0 for path in each.subtrees}
-        dropped = {maker for maker in set(makers.values()) if not runs.take(maker)}
-        over.update({path: bounded.RUNS.told(maker) for path, maker in makers.items() if maker in dropped})
-        some = Question(tuple(user for user in each.users if user.uid not in left_out),
-                        tuple(path for path in each.subtrees if makers[path] not in dropped))
-        kept += [some] if some.users and some.subtrees else []
+    asked, over = runs.affordable(plan.questions)
+    kept = [Question(tuple(user for user in each.users if user.uid not in left_out), each.subtrees) for each in asked]
     lost = {payer(uid) for uid in left_out}
     over.update({path: bounded.USERS.told(person) for path in questions.subtrees for person in lost
                  if any(payer(uid) == person for uid in questions.holders[path].uids)} if lost else {})
-    return replace(plan, questions=tuple(kept)), over
+    return replace(plan, questions=tuple(each for each in kept if each.users)), over
 
 
 def named_as_asked(plan: Plan, path: CgroupPath) -> Set[User]:
@@ -362,3 +391,15 @@ def further_of(questions: Questions, plan: Plan, found: Mapping[Pair, Answer]) -
             left = len(everybody - of) - len(some)
             not_asked.update({path: left} if left else {})
     return tuple(Question(users, tuple(paths)) for users, paths in further.items() if users), not_asked
+
+
+def bounded_further(further: Iterable[Question], not_asked: Mapping[CgroupPath, int],
+                    runs: Runs) -> Tuple[Tuple[Question, ...], Dict[CgroupPath, int]]:
+    """Further questions without what is over somebody's budget, and of how many users each subtree isn't asked about."""
+    further = tuple(further)
+    kept, over = runs.affordable(further)
+    left: Dict[CgroupPath, int] = Counter(not_asked)
+    for users, paths in further:
+        for path in paths:
+            left[path] += len(users) if path in over else 0
+    return tuple(kept), {path: count for path, count in left.items() if count}

@@ -2,12 +2,16 @@
 
 A `contained` rests on the subtree's ancestors and on what is inside, so that these are all in one text; of processes, on
 which no `contained` rests, those inside go in first, and then as many of the others as there is room for, with their places.
+
+Each run of the program reads a whole text, and what isn't contained takes it as long as the text is large. So what somebody made, who
+may make much of that, is asked of in small texts, however large the one of the host is.
 """
+import time
 from bisect import bisect_left
 from dataclasses import dataclass
 from functools import partial
 from itertools import accumulate
-from typing import AbstractSet, Callable, Dict, Iterable, List, Mapping, Sequence, Set, Tuple
+from typing import AbstractSet, Callable, Container, Dict, Iterable, List, Mapping, Sequence, Set, Tuple
 
 from zirofen_host import output, progress
 from zirofen_host.ask.model import Advice, Pair, Question
@@ -18,10 +22,17 @@ from zirofen_host.collect.model import Note, Placed, Snapshot, Tree, User
 from zirofen_host.collect.tree import head_text, in_order, process_text, row_text
 from zirofen_host.fault import Fault
 from zirofen_host.options import Options
-from zirofen_host.profile import LONGEST_TEXT, MOST_PROCESSES, MOST_ROWS, CgroupPath, ancestors, parent_of
+from zirofen_host.profile import TEXT_FORMATS, CgroupPath, TextFormat, ancestors, parent_of
 
-# for the lines at the head of a text
-ROOM = LONGEST_TEXT - 4096
+# bytes for the lines at the head of a text
+HEAD = 4096
+# of this format each text is a small one
+SMALL = 2
+# bytes of memory that a run of the program takes at most: for each byte of a text that is written here, and for each of its cgroups
+# and processes besides
+OF_BYTE, OF_ROW = 16, 3072
+# so long the program is asked in large texts, before it is in small ones
+LARGE_SECONDS = 150
 
 
 @dataclass(frozen=True)
@@ -54,7 +65,7 @@ class Layout:
 def layout_of(tree: Tree) -> Layout:
     order = in_order(tree.rows)
     numbers = {path: number for number, path in enumerate(order)}
-    row_texts = [row_text(tree.rows[path]) for path in order]
+    row_texts = [row_text(tree.rows[path], tree.format) for path in order]
     numbered = sorted((numbers[process[2]], process) for process in tree.processes)
     counts, sizes = [0] * len(order), [0] * len(order)
     for number, process in numbered:
@@ -78,13 +89,30 @@ def ends_of(order: Sequence[CgroupPath], numbers: Mapping[CgroupPath, int]) -> L
 class Text:
     """A text that is being filled with what its subtrees need."""
 
-    def __init__(self, layout: Layout, with_processes: bool) -> None:
+    def __init__(self, layout: Layout, with_processes: bool, most: TextFormat) -> None:
         self.layout = layout
+        # of this format it is no more than it takes, whichever it is written in
+        self.most = most
         self.with_processes = with_processes
         self.rows: Set[CgroupPath] = set()
         self.processes: List[Placed] = []
         self.subtrees: List[CgroupPath] = []
         self.bytes = self.end = 0
+
+    @property
+    def room(self) -> int:
+        """How many bytes of rows and processes it takes."""
+        return self.most.longest - HEAD
+
+    @property
+    def is_large(self) -> bool:
+        small = TEXT_FORMATS[SMALL]
+        return (len(self.rows) > small.most_rows or len(self.processes) > small.most_processes or self.bytes > small.longest - HEAD)
+
+    @property
+    def memory(self) -> int:
+        """How many bytes of memory a run of the program takes for it, at most."""
+        return OF_BYTE * self.bytes + OF_ROW * (len(self.rows) + len(self.processes))
 
     def needs(self, subtree: CgroupPath) -> Tuple[List[CgroupPath], Tuple[int, int]]:
         """The ancestors and the numbers of rows that a subtree needs and that don't stand here yet."""
@@ -102,8 +130,8 @@ class Text:
         if self.with_processes:
             inside = layout.counts[end] - layout.counts[start]
             size += layout.process_sizes[end] - layout.process_sizes[start]
-        if (len(self.rows) + len(above) + end - start > MOST_ROWS or self.bytes + size > ROOM
-                or len(self.processes) + inside > MOST_PROCESSES):
+        if (len(self.rows) + len(above) + end - start > self.most.most_rows or self.bytes + size > self.room
+                or len(self.processes) + inside > self.most.most_processes):
             return False
         self.rows.update(above, layout.order[start:end])
         if inside:
@@ -120,7 +148,7 @@ class Text:
         taken = {pid for pid, _, _ in self.processes}
         others = sorted(self.layout.tree.processes, key=lambda process: (process[1] not in first, process[1] == 0))
         for process in others:
-            if len(self.processes) == MOST_PROCESSES:
+            if len(self.processes) == self.most.most_processes:
                 return
             if process[0] not in taken:
                 self.add_process(process)
@@ -129,7 +157,7 @@ class Text:
         place = process[2]
         above = [path for path in (place, *ancestors(place)) if path not in self.rows]
         size = len(process_text(process)) + sum(self.layout.size(path) for path in above)
-        if len(self.rows) + len(above) <= MOST_ROWS and self.bytes + size <= ROOM:
+        if len(self.rows) + len(above) <= self.most.most_rows and self.bytes + size <= self.room:
             self.rows.update(above)
             self.processes.append(process)
             self.bytes += size
@@ -139,7 +167,7 @@ class Text:
 
     def written(self, head: Sequence[str]) -> str:
         layout = self.layout
-        parts = [head_text(layout.tree.controllers, head)]
+        parts = [head_text(layout.tree, head)]
         parts += [layout.row_texts[number] for number, path in enumerate(layout.order) if path in self.rows]
         return "".join(parts + list(map(process_text, sorted(self.processes))))
 
@@ -160,27 +188,39 @@ class Texts:
             text.fill({uid for path in text.subtrees for uid in uids_of(path)})
 
 
-def texts_of(tree: Tree, subtrees: Iterable[CgroupPath], with_processes: bool = True) -> Texts:
-    """One text of everything where it fits, else texts with as many subtrees each as fit. Where the processes inside of a
-    subtree don't, it goes without any."""
-    layout = layout_of(tree)
-    whole = Text(layout, with_processes)
-    if whole.take(layout.order[0]):
-        whole.subtrees = in_order(subtrees)
-        return Texts([whole], {})
-    texts, without = packed(layout, in_order(subtrees), True) if with_processes else ([], in_order(subtrees))
-    more, refused = packed(layout, without, False)
-    return Texts(texts + more, {path: why_refused(layout, path) for path in refused})
+def texts_of(tree: Tree, subtrees: Iterable[CgroupPath], with_processes: bool = True, made: Container[CgroupPath] = (),
+             is_large: bool = True) -> Texts:
+    """One text of everything where it fits, else texts with as many subtrees each as fit. Where that is large those of `made` are in
+    small texts beside it, and all are where it may not be."""
+    layout, some, small = layout_of(tree), in_order(subtrees), TEXT_FORMATS[SMALL]
+    most = tree.format if is_large else small
+    whole = Text(layout, with_processes, most)
+    has_whole = whole.take(layout.order[0])
+    is_apart = whole.is_large if has_whole else most.most_rows > small.most_rows
+    theirs = [path for path in some if is_apart and path in made]
+    mine = [path for path in some if not is_apart or path not in made]
+    whole.subtrees = mine
+    of_mine = Texts([whole], {}) if has_whole else parted(layout, mine, with_processes, most)
+    of_theirs = parted(layout, theirs, with_processes, small)
+    return Texts([*of_mine.texts, *of_theirs.texts], {**of_mine.refused, **of_theirs.refused})
 
 
-def packed(layout: Layout, subtrees: Iterable[CgroupPath], with_processes: bool) -> Tuple[List[Text], List[CgroupPath]]:
+def parted(layout: Layout, subtrees: Sequence[CgroupPath], with_processes: bool, most: TextFormat) -> Texts:
+    """Texts with as many subtrees each as fit. Where the processes inside of a subtree don't, it goes without any."""
+    texts, without = packed(layout, subtrees, True, most) if with_processes else ([], subtrees)
+    more, refused = packed(layout, without, False, most)
+    return Texts([*texts, *more], {path: why_refused(layout, path, most) for path in refused})
+
+
+def packed(layout: Layout, subtrees: Iterable[CgroupPath], with_processes: bool,
+           most: TextFormat) -> Tuple[List[Text], List[CgroupPath]]:
     """Texts with the subtrees that fit, one after another, and the subtrees that fit into none."""
     texts: List[Text] = []
     left = []
     for path in subtrees:
         if texts and texts[-1].take(path):
             continue
-        text = Text(layout, with_processes)
+        text = Text(layout, with_processes, most)
         if text.take(path):
             texts.append(text)
         else:
@@ -188,11 +228,11 @@ def packed(layout: Layout, subtrees: Iterable[CgroupPath], with_processes: bool)
     return texts, left
 
 
-def why_refused(layout: Layout, path: CgroupPath) -> str:
+def why_refused(layout: Layout, path: CgroupPath, most: TextFormat) -> str:
     start, end = layout.span(path)
     count = end - start + len(list(ancestors(path)))
-    if count > MOST_ROWS:
-        return f"{count} cgroups, and a tree text has {MOST_ROWS} at most"
+    if count > most.most_rows:
+        return f"{count} cgroups, and a tree text has {most.most_rows} at most"
     return "what it needs goes into no tree text: its paths are too long"
 
 
@@ -208,6 +248,7 @@ class Programs:
         """The answers that aren't contained, and the subtrees whose text was refused, each with the program's line."""
         found: Answered = {}
         refused: Dict[CgroupPath, str] = {}
+        until = time.monotonic() + LARGE_SECONDS
         for number, text in enumerate(self.texts, 1):
             mine = set(text.subtrees)
             some = [Question(each.users, tuple(path for path in each.subtrees if path in mine)) for each in questions]
@@ -215,37 +256,39 @@ class Programs:
             if some:
                 progress.tell(f"asking of {len(text.subtrees)} subtrees in text {number} of {len(self.texts)}")
                 try:
-                    found.update(self.of[text.subtrees[0]].ask(some, has_audit_all))
+                    found.update(self.of[text.subtrees[0]].until(until).ask(some, has_audit_all))
                 except Fault as fault:
                     if len(self.texts) == 1 or not str(fault).startswith("fault: tree"):
                         raise
                     refused.update(dict.fromkeys(text.subtrees, str(fault)))
         return found, refused
 
-    def settled(self, found: Answered, users: Sequence[User], may_settle: Callable[[CgroupPath], bool]) -> Answered:
-        """The answers, with those of some subtrees settled where they were unsettled; these are all in one text."""
-        some = {pair: answer for pair, answer in found.items() if may_settle(pair.subtree) and pair.subtree in self.of}
+    def settled(self, found: Answered, users: Sequence[User], may_settle: Callable[[CgroupPath], bool],
+                made: Container[CgroupPath]) -> Answered:
+        """The answers, with those of some subtrees of the first text settled where they were unsettled, those of `made` last."""
+        first = set(self.texts[0].subtrees) if self.texts else set()
+        some = {pair: answer for pair, answer in found.items() if may_settle(pair.subtree) and pair.subtree in first}
         if not any(answer.status == UNSETTLED for answer in some.values()):
             return found
         others = {pair: answer for pair, answer in found.items() if pair not in some}
-        return {**others, **self.of[next(iter(some)).subtree].settled(some, users)}
+        return {**others, **self.of[next(iter(some)).subtree].settled(some, users, made)}
 
     def advise(self, pairs: Sequence[Pair]) -> List[Advice]:
         """What is advised for pairs of one text."""
         return self.of[pairs[0].subtree].advise(pairs)
 
 
-def write(texts: Texts, options: Options, folder: str, snapshot: Snapshot) -> Programs:
-    """Writes the texts into a folder for the program to be asked in them, and to where they are to be kept."""
+def write(texts: Texts, options: Options, place: str, snapshot: Snapshot) -> Programs:
+    """Writes the texts for the program to be asked in them, into files whose paths begin so, and to where they are to be kept."""
     of: Dict[CgroupPath, Program] = {}
     looks = Looks()
     for number, text in enumerate(texts.texts, 1):
         file = snapshot.source.file
         if not (file and text.is_whole()):
-            file, written = f"{folder}/{number}.toml", text.written(snapshots.head(snapshot))
+            file, written = f"{place}{number}.toml", text.written(snapshots.head(snapshot))
             output.make(file, written.encode("ascii"))
             if options.keep:
                 kept = f"{options.keep}.{number}" if number > 1 else options.keep
                 looks.at("keep", partial(output.write, kept, [written], "the tree text"), None)
-        of.update(dict.fromkeys(text.subtrees, Program(options.program, file)))
+        of.update(dict.fromkeys(text.subtrees, Program(options.program, file, text.memory, text.is_large)))
     return Programs(texts.texts, of, looks.failed)

@@ -4,12 +4,12 @@ from dataclasses import replace
 from typing import Callable, Dict, Iterable, Iterator, List, Mapping, NoReturn, Sequence, Tuple
 
 from zirofen_host.collect.accounts import is_id
-from zirofen_host.collect.model import DEFAULT_FILE, Cgroup, Entry, Placed, Row, Snapshot, Tree, Value
+from zirofen_host.collect.model import DEFAULT_FILE, Cgroup, Entry, Placed, Row, Snapshot, Value
 from zirofen_host.collect.snapshot import LARGEST_PID
 from zirofen_host.collect.walk import MARKS
 from zirofen_host.fault import Fault
 from zirofen_host.files import is_known
-from zirofen_host.profile import (CONTROL_FILES, CONTROLLERS, DIRECTORY_MODE, LIMIT_FILES, LONGEST_PATH, CgroupPath, accepts, ancestors,
+from zirofen_host.profile import (CONTROL_FILES, DIRECTORY_MODE, LIMIT_FILES, LONGEST_PATH, CgroupPath, accepts, ancestors,
                                   is_inside, is_name, is_number, is_root, parent_of, path_of, shown, text_of)
 
 DIRECTORY = Entry(0, 0, DIRECTORY_MODE)
@@ -39,7 +39,7 @@ class Changes:
         self.placed: Dict[int, Placed] = {each.pid: each for each in snapshot.tree.processes}
 
     def changed(self) -> Snapshot:
-        tree = Tree(self.snapshot.tree.controllers, self.rows, list(self.placed.values()))
+        tree = replace(self.snapshot.tree, rows=self.rows, processes=list(self.placed.values()))
         return replace(self.snapshot, cgroups=self.cgroups, tree=tree)
 
     def carry_out(self, lines: Iterable[Tuple[int, Words]]) -> None:
@@ -143,11 +143,11 @@ class Changes:
 
     def control(self, words: Words) -> None:
         word, *changes = words
-        path = self.path(word)
+        path, known = self.path(word), self.snapshot.tree.format.controllers
         enabled = set(self.rows[path].enabled)
         for change in changes:
             sign, name = change[:1], change[1:]
-            if sign not in ("+", "-") or name not in CONTROLLERS:
+            if sign not in ("+", "-") or name not in known:
                 raise ValueError
             if sign == "+" and name not in self.controllers_for(path):
                 refuse(f"{name} isn't there to be enabled at {shown(path)}")
@@ -156,7 +156,7 @@ class Changes:
             (enabled.add if sign == "+" else enabled.discard)(name)
         if enabled and not is_root(path) and any(each.at == path for each in self.placed.values()):
             refuse(f"there are processes in {shown(path)}, and so it enables nothing")
-        self.enable(path, tuple(name for name in CONTROLLERS if name in enabled))
+        self.enable(path, tuple(name for name in known if name in enabled))
 
     def enable(self, path: CgroupPath, enabled: Tuple[str, ...]) -> None:
         children = self.children(path)

@@ -18,7 +18,7 @@ from zirofen_host.collect.mount import read_kernel_list
 from zirofen_host.collect.tree import number_in, parts_in, table_in, text_in, texts_in
 from zirofen_host.fault import Fault
 from zirofen_host.files import OF_LIMITS, is_known
-from zirofen_host.profile import CONTROL_FILES, LIMIT_FILES, LONGEST_TEXT, CgroupPath, is_other_limit, is_root, path_of, text_of
+from zirofen_host.profile import CONTROL_FILES, LIMIT_FILES, CgroupPath, is_other_limit, is_root, path_of, text_of
 
 MARK = "#= "
 ABOUT = {"host", "kernel", "time", "mount", "options", "delegate"}
@@ -270,13 +270,13 @@ def fitting_text(snapshot: Snapshot, holds: Holds, values: Callable[[Snapshot], 
     """One text with what it carries, and what it is of: what is inside of whoever has most is left out until it fits."""
     if not with_processes:
         snapshot = replace(snapshot, tree=replace(snapshot.tree, processes=()))
-    snapshot = fitting.fitted(snapshot, holds)
+    snapshot, most = fitting.fitted(snapshot, holds), snapshot.tree.format.longest
     while True:
         text = text_with(snapshot, values(snapshot), with_processes)
-        if len(text) <= LONGEST_TEXT:
+        if len(text) <= most:
             return snapshot, text
         person = fitting.heaviest(snapshot, holds, fitting.length(snapshot))
         if person is None:
-            raise Fault(f"{len(text)} bytes, and a tree text has {LONGEST_TEXT} at most: --only PATH writes less, and so does a text "
+            raise Fault(f"{len(text)} bytes, and a tree text has {most} at most: --only PATH writes less, and so does a text "
                         "without --with-host, whose accounts are named by --accounts")
-        snapshot = fitting.without_inside(snapshot, holds, person, f"a text has {LONGEST_TEXT} bytes at most")
+        snapshot = fitting.without_inside(snapshot, holds, person, f"a text has {most} bytes at most")

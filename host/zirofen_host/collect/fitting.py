@@ -7,7 +7,7 @@ from typing import Callable, DefaultDict, Dict, Iterable, List, Mapping, Optiona
 from zirofen_host.collect.holds import Holds
 from zirofen_host.collect.model import Note, Placed, Snapshot
 from zirofen_host.collect.tree import row_text
-from zirofen_host.profile import MOST_PROCESSES, MOST_ROWS, CgroupPath, ancestors, parent_of, path_of, text_of, topmost
+from zirofen_host.profile import CgroupPath, ancestors, parent_of, path_of, text_of, topmost
 
 # how much each cgroup takes of what there is too much of
 Weight = Callable[[CgroupPath], int]
@@ -15,11 +15,12 @@ Weight = Callable[[CgroupPath], int]
 
 def fitted(snapshot: Snapshot, holds: Holds) -> Snapshot:
     """A snapshot with no more cgroups and processes than a text takes, where those of somebody's own making can be left out."""
-    while len(snapshot.tree.rows) > MOST_ROWS:
+    most = snapshot.tree.format.most_rows
+    while len(snapshot.tree.rows) > most:
         person = heaviest(snapshot, holds, lambda _: 1)
         if person is None:
             return snapshot
-        snapshot = without_inside(snapshot, holds, person, f"a text has {MOST_ROWS} cgroups at most")
+        snapshot = without_inside(snapshot, holds, person, f"a text has {most} cgroups at most")
     return without_processes(snapshot, holds)
 
 
@@ -41,7 +42,8 @@ def length(snapshot: Snapshot) -> Weight:
 
     def of(path: CgroupPath) -> int:
         marks = snapshot.cgroups[path].marks.values()
-        return len(row_text(snapshot.tree.rows[path])) + lengths[path] + 40 * len(snapshot.cgroups[path].files) + sum(map(len, marks))
+        row = row_text(snapshot.tree.rows[path], snapshot.tree.format)
+        return len(row) + lengths[path] + 40 * len(snapshot.cgroups[path].files) + sum(map(len, marks))
     return of
 
 
@@ -71,12 +73,12 @@ def without_inside(snapshot: Snapshot, holds: Holds, person: int, why: str) -> S
 def without_processes(snapshot: Snapshot, holds: Holds) -> Snapshot:
     """A snapshot with no more processes than a text takes: those of whoever has most are left out."""
     processes: List[Placed] = list(snapshot.tree.processes)
-    notes = list(snapshot.notes)
-    while len(processes) > MOST_PROCESSES:
+    notes, most = list(snapshot.notes), snapshot.tree.format.most_processes
+    while len(processes) > most:
         counts = Counter(holds.payer(each.uid) if each.uid else 0 for each in processes)
         person = max(sorted(counts), key=lambda each: (each != 0, counts[each]))
         processes = [each for each in processes if (holds.payer(each.uid) if each.uid else 0) != person]
-        notes.append(Note("processes", "/", f"{counts[person]} of uid {person} left out: a text has {MOST_PROCESSES} at most"))
+        notes.append(Note("processes", "/", f"{counts[person]} of uid {person} left out: a text has {most} at most"))
     return replace(snapshot, tree=replace(snapshot.tree, processes=processes), notes=tuple(notes))
 
 

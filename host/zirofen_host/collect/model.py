@@ -2,7 +2,7 @@
 from dataclasses import dataclass, field
 from typing import Collection, FrozenSet, List, Mapping, NamedTuple, Optional, Sequence, Tuple, Union
 
-from zirofen_host.profile import DIRECTORY_MODE, FILE_MODE, LIMIT_FILES, CgroupPath, parent_of
+from zirofen_host.profile import DIRECTORY_MODE, FILE_MODE, LIMIT_FILES, TEXT_FORMATS, CgroupPath, TextFormat, parent_of
 
 OWNER, GROUP, OTHERS = CLASSES = ("owner", "group", "others")
 
@@ -81,10 +81,11 @@ class Placed(NamedTuple):
 
 @dataclass(frozen=True)
 class Tree:
-    """What a tree text carries: the root's controllers, rows by path, and processes."""
+    """What a tree text carries: the root's controllers, rows by path, and processes; and the format that it is written in."""
     controllers: Tuple[str, ...]
     rows: Mapping[CgroupPath, Row]
     processes: Sequence[Placed] = ()
+    format: TextFormat = TEXT_FORMATS[2]
 
     def limit_files(self, path: CgroupPath) -> List[str]:
         """The limit files that stand at a cgroup, in their order."""

@@ -15,8 +15,8 @@ from zirofen_host.collect.processes import Reader, lacking_notes
 from zirofen_host.collect.tree import tree_text as text_of_tree
 from zirofen_host.fault import Fault
 from zirofen_host.options import PROC, Options
-from zirofen_host.profile import (CONTROL_FILES, CONTROLLERS, KERNEL_LIST, LIMIT_FILES, MOST_ROWS, ROOT, CgroupPath, accepts,
-                                  is_inside, is_root, parent_of, shown, text_of, topmost)
+from zirofen_host.profile import (CONTROL_FILES, KERNEL_LIST, LIMIT_FILES, ROOT, CgroupPath, TextFormat, accepts, is_inside, is_root,
+                                  parent_of, shown, text_of, topmost)
 
 ANY_MODE = 0o777
 LARGEST_PID = 4194303
@@ -42,9 +42,9 @@ def name_notes(walked: walk.Walk) -> Iterator[Note]:
             yield Note("file-name", shown(path), "named as a file: a controller with that file can't be enabled above")
 
 
-def controller_notes(cgroups: Cgroups) -> Iterator[Note]:
-    """Controllers that a tree text leaves out, as far as a cgroup enables them."""
-    others = Counter(name for found in cgroups.values() for name in found.enabled if name not in CONTROLLERS)
+def controller_notes(cgroups: Cgroups, text_format: TextFormat) -> Iterator[Note]:
+    """Controllers that a format leaves out, as far as a cgroup enables them."""
+    others = Counter(name for found in cgroups.values() for name in found.enabled if name not in text_format.controllers)
     if others:
         told = ", ".join(f"{name} ({count})" for name, count in sorted(others.items()))
         yield Note("controller", "/", f"left out, with how many cgroups enable each: {told}")
@@ -65,8 +65,9 @@ def version_1_notes(mounts: Mounts) -> Iterator[Note]:
 class Bending:
     """What a tree text carries of cgroups, with a note of each thing that it bends or leaves out."""
 
-    def __init__(self, cgroups: Cgroups) -> None:
+    def __init__(self, cgroups: Cgroups, text_format: TextFormat) -> None:
         self.cgroups = cgroups
+        self.text_format = text_format
         self.notes: List[Note] = []
 
     def note(self, kind: str, path: CgroupPath, detail: str) -> None:
@@ -90,7 +91,7 @@ class Bending:
                 values[file] = self.value(path, file, found.texts[file])
             else:
                 self.note("file", path, f"{file} left out: the parent doesn't enable {controller}")
-        return Row(path, directory, files, values, tuple(name for name in CONTROLLERS if name in found.enabled))
+        return Row(path, directory, files, values, tuple(name for name in self.text_format.controllers if name in found.enabled))
 
     def plain(self, path: CgroupPath, name: str, entry: Entry) -> Entry:
         """An entry without what its mode has beside read, write and search."""
@@ -149,15 +150,17 @@ def snapshot_of(settled: walk.Settled, reader: Reader, options: Options, mounts:
     walked, processes = settled.walk, reader.found
     cgroups: Cgroups = walked.found
     root = cgroups[ROOT]
-    bending = Bending(cgroups)
-    bending.notes += [*changing_notes(settled.changing), *name_notes(walked), *controller_notes(cgroups), *process_notes(reader)]
+    text_format = options.text_format
+    bending = Bending(cgroups, text_format)
+    bending.notes += [*changing_notes(settled.changing), *name_notes(walked), *controller_notes(cgroups, text_format),
+                      *process_notes(reader)]
     looks = Looks()
     rows = {row.path: row for row in looks.each("cgroups", cgroups, lambda path: bending.row(path, cgroups[path]))}
     kept = walk.whole(rows)
     rows = kept if len(kept) < len(rows) else rows
     cgroups = {path: cgroups[path] for path in rows}
     placed, threads = bending.placed(rows, processes)
-    tree = Tree(tuple(name for name in CONTROLLERS if name in root.available), rows, placed)
+    tree = Tree(tuple(name for name in text_format.controllers if name in root.available), rows, placed, text_format)
     lacking = () if options.plain_folder else looks.all("capabilities", lambda: lacking_notes(PROC))
     kernel_list = looks.at("delegate", lambda: read_kernel_list(None if options.plain_folder else KERNEL_LIST), read_kernel_list(None))
     return Snapshot(about=about_this_host(), mount=options.mount, mount_options=tuple(mounts.options(options.mount)), cgroups=cgroups,
@@ -224,9 +227,10 @@ def head(snapshot: Snapshot) -> List[str]:
 
 def tree_text(snapshot: Snapshot, with_processes: bool = True) -> str:
     """One tree text of everything."""
-    tree = snapshot.tree if with_processes else Tree(snapshot.tree.controllers, snapshot.tree.rows)
-    if len(tree.rows) > MOST_ROWS:
-        raise Fault(f"{len(tree.rows)} cgroups, and a tree text has {MOST_ROWS} at most: --only PATH writes less")
+    tree = snapshot.tree if with_processes else replace(snapshot.tree, processes=())
+    most = tree.format.most_rows
+    if len(tree.rows) > most:
+        raise Fault(f"{len(tree.rows)} cgroups, and a tree text has {most} at most: --only PATH writes less")
     return text_of_tree(tree, head(snapshot))
 
 

@@ -1,11 +1,11 @@
-"""A tree text of format 2: what is in it, and its spelling."""
+"""A tree text: what is in it, and its spelling."""
 import sys
 from typing import Callable, Iterable, List, Mapping, Sequence, Tuple, Type, TypeVar
 
 from zirofen_host.collect.model import Entry, Placed, Row, Tree, Value
 from zirofen_host.fault import Fault
-from zirofen_host.profile import (CONTROL_FILES, CONTROLLERS, DIRECTORY_MODE, FILE_MODE, LIMIT_FILES, CgroupPath, is_root, parent_of,
-                                  parts_of, path_of, text_of)
+from zirofen_host.profile import (CONTROL_FILES, DIRECTORY_MODE, FILE_MODE, LIMIT_FILES, TEXT_FORMATS, CgroupPath, TextFormat, is_root,
+                                  parent_of, parts_of, path_of, text_of)
 
 Table = Mapping[str, object]
 Kind = TypeVar("Kind")
@@ -33,10 +33,11 @@ def file_line(row: Row, file: str) -> List[str]:
     return [f'"{file}" = {{ {", ".join(parts)} }}'] if parts else []
 
 
-def row_lines(row: Row) -> List[str]:
+def row_lines(row: Row, text_format: TextFormat) -> List[str]:
     lines = ["", "[[cgroup]]", f"path = {literal(text_of(row.path))}"]
-    if row.enabled:
-        lines.append(f"enabled = [{names(row.enabled)}]")
+    enabled = names(row.enabled, text_format)
+    if enabled:
+        lines.append(f"enabled = [{enabled}]")
     parts = entry_parts(row.directory, DIRECTORY_MODE)
     if parts:
         lines.append(f"dir = {{ {', '.join(parts)} }}")
@@ -44,12 +45,13 @@ def row_lines(row: Row) -> List[str]:
     return lines + (["[cgroup.files]"] + files if files else [])
 
 
-def names(controllers: Iterable[str]) -> str:
-    return ", ".join(f'"{name}"' for name in CONTROLLERS if name in controllers)
+def names(controllers: Iterable[str], text_format: TextFormat) -> str:
+    """Controllers as a format lists them."""
+    return ", ".join(f'"{name}"' for name in text_format.controllers if name in controllers)
 
 
-def row_text(row: Row) -> str:
-    return "\n".join(row_lines(row)) + "\n"
+def row_text(row: Row, text_format: TextFormat) -> str:
+    return "\n".join(row_lines(row, text_format)) + "\n"
 
 
 def process_text(process: Placed) -> str:
@@ -62,13 +64,16 @@ def in_order(paths: Iterable[CgroupPath]) -> List[CgroupPath]:
     return sorted(paths, key=parts_of)
 
 
-def head_text(controllers: Iterable[str], head: Iterable[str]) -> str:
-    return "\n".join([*(f"# {line}" for line in head), "", "format = 2", f"controllers = [{names(controllers)}]", ""])
+def head_text(tree: Tree, head: Iterable[str]) -> str:
+    """What stands before the cgroups. Of a format that takes more bytes than the others the first line tells it."""
+    told, comments = f"format = {tree.format.number}", [f"# {line}" for line in head]
+    first = [*comments, "", told] if tree.format.number == 2 else [told, *comments, ""]
+    return "\n".join([*first, f"controllers = [{names(tree.controllers, tree.format)}]", ""])
 
 
 def tree_text(tree: Tree, head: Iterable[str]) -> str:
     """The text of a tree, with comment lines at its head."""
-    return "".join([head_text(tree.controllers, head), *(row_text(tree.rows[path]) for path in in_order(tree.rows)),
+    return "".join([head_text(tree, head), *(row_text(tree.rows[path], tree.format) for path in in_order(tree.rows)),
                     *map(process_text, sorted(tree.processes))])
 
 
@@ -141,7 +146,8 @@ def read_tree(text: str) -> Tree:
         rows = {row.path: row for row in map(read_row, tables_in(document.get("cgroup", [])))}
         processes = [Placed(number_in(each["pid"]), number_in(each["uid"]), path_of(text_in(each["at"])))
                      for each in tables_in(document.get("process", []))]
-        tree = Tree(texts_in(document["controllers"]), rows, processes)
+        text_format = TEXT_FORMATS.get(number_in(document["format"]), TEXT_FORMATS[2])
+        tree = Tree(texts_in(document["controllers"]), rows, processes, text_format)
     except (AttributeError, KeyError, TypeError, ValueError, RecursionError):
         raise Fault("this is no tree text that this helper reads, which is TOML 1.0") from None
     if not any(map(is_root, rows)) or any(not is_root(path) and parent_of(path) not in rows for path in rows):

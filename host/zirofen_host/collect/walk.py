@@ -15,8 +15,8 @@ from zirofen_host.collect.bounded import Payer, Spent
 from zirofen_host.collect.model import Cgroup, Entry, FilePlace
 from zirofen_host.fault import Fault
 from zirofen_host.files import may_set
-from zirofen_host.profile import (CONTROL_FILES, LIMIT_FILES, LONGEST_PATH, ROOT, CgroupPath, ancestors, is_name, parent_of, shown,
-                                  topmost)
+from zirofen_host.profile import (CONTROL_FILES, CONTROLLERS, LIMIT_FILES, LONGEST_PATH, ROOT, CgroupPath, ancestors, is_name,
+                                  parent_of, shown, topmost)
 
 MANAGERS_MARK, OWNERS_MARK = MARKS = ("trusted.delegate", "user.delegate")
 MOST_WALKS = 8
@@ -254,9 +254,16 @@ class Walk:
     def differing(self, before: "Walk") -> Dict[CgroupPath, str]:
         """What two walks in a row don't agree on, of what this one was of; each with why."""
         paths = {*self.found, *self.gone, *filter(self.covers, before.found), *filter(self.covers, before.gone)}
-        differing = {path: CHANGED for path in paths if not is_alike(self.found.get(path), before.found.get(path))}
+        differing = {path: CHANGED for path in paths
+                     if not is_alike(self.found.get(path), before.found.get(path)) or not self.is_top_down(path)}
         # a file may go in the midst of a change; what can't be read twice can't be read
         return {**differing, **{path: why if before.unread.get(path) == why else CHANGED for path, why in self.unread.items()}}
+
+    def is_top_down(self, path: CgroupPath) -> bool:
+        """Whether a cgroup enables no controller that the one above it doesn't: where it does, one of them was changed in between."""
+        found, parent = self.found.get(path), parent_of(path)
+        above = self.found.get(parent) if parent else None
+        return found is None or above is None or not set(found.enabled).intersection(CONTROLLERS).difference(above.enabled)
 
     def take(self, later: "Walk") -> None:
         """Puts a later walk in the place of what it was of."""

@@ -35,7 +35,8 @@ def advise(checked: Checked) -> Advised:
         return Advised({}, faults)
     changes: DefaultDict[Place, List[Change]] = defaultdict(list)
     runs = runs_of(checked)
-    for pairs, advice in zip(runs, at_once(lambda pairs: advice_of(checked, pairs), runs)):
+    memory = max((checked.programs.of[pairs[0].subtree].memory for pairs in runs), default=0)
+    for pairs, advice in zip(runs, at_once(lambda pairs: advice_of(checked, pairs), runs, memory)):
         if isinstance(advice, str):
             for user, subtree in pairs:
                 faults.setdefault((user, advice), []).append(subtree)

@@ -2,7 +2,7 @@
 import contextlib
 import os
 import pwd
-from dataclasses import dataclass
+from dataclasses import dataclass, replace
 from typing import AbstractSet, Callable, Dict, Iterable, Iterator, List, Mapping, Optional, Tuple
 
 from zirofen_host import output
@@ -82,12 +82,12 @@ def program_for(snapshot: Snapshot, options: AskOptions, folder: str, delegation
             raise Fault(f"nothing is asked of {shown(options.path)}: {snapshot.spoiled[place]}")
     if path not in tree.rows or is_root(path):
         root = path_of("/")
-        tree = Tree(tree.controllers, {root: tree.rows[root]})
+        tree = replace(tree, rows={root: tree.rows[root]}, processes=())
     texts = texts_of(tree, [path], not options.no_processes)
     if texts.refused:
         raise Fault(f"nothing is asked of {options.path}: {texts.refused[path]}")
     texts.fill(lambda _: uids)
-    return write(texts, options, folder, snapshot)
+    return write(texts, options, f"{folder}/", snapshot)
 
 
 def as_asked(one: One, users: Iterable[User], warn: Warn) -> Dict[User, int]:

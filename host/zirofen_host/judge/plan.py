@@ -88,8 +88,8 @@ def before(options: PlanOptions) -> Accepted:
     """The tree as it is: a text, or this host's."""
     if not options.tree:
         return accept(text_of_host(options), options)
-    if options.only:
-        raise Fault("--only goes with a host, and not with --tree")
+    if options.only or options.tree_format:
+        raise Fault("--only and --tree-format go with a host, and not with --tree")
     return accepted.accept(options.tree, options.program)
 
 
@@ -100,7 +100,7 @@ def planned_text(found: Accepted, lines: str, options: PlanOptions) -> str:
 
 
 def report(found: Accepted, options: PlanOptions) -> Report:
-    options = dataclasses.replace(options, tree=found.file, only=None)
+    options = dataclasses.replace(options, tree=found.file, only=None, tree_format=None)
     return check.report(accepted.take(options, subtrees_by(options)), options, True)
 
 

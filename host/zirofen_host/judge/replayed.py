@@ -35,7 +35,7 @@ def looked_for(options: CommandsOptions, user: User, subtree: Optional[str], ope
     if subtree is None:
         return Tried(tuple(operations), "these are the program's own processes: no subtree is named, by --subtree or in the list")
     asked = AskOptions(options.mount, proc=options.proc, plain_folder=options.plain_folder, accounts=options.accounts,
-                       program=program_at(options.program), path=subtree)
+                       tree_format=options.tree_format, program=program_at(options.program), path=subtree)
     path = path_of(subtree)
     try:
         snapshot = take(asked, lambda *_: [path])

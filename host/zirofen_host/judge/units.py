@@ -28,6 +28,10 @@ UNITS = {"": 1, "B": 1, "K": 2**10, "M": 2**20, "G": 2**30, "T": 2**40, "P": 2**
 YES, NO = ("1", "yes", "y", "true", "t", "on"), ("0", "no", "n", "false", "f", "off")
 # the limit file that each setting sets, with what it is in
 LIMITS: Dict[str, str] = {setting.rstrip("="): file for file, setting in SETTINGS.items() if setting and file in LIMIT_FILES}
+# the controllers that a manager enables, all of them for a unit with Delegate=yes; and the settings for which it enables some
+MANAGED = ("cpuset", "cpu", "io", "memory", "pids")
+ENABLING = {"cpuset": re.compile(r"(Startup)?Allowed(CPUs|MemoryNodes)\Z"), "cpu": re.compile(r"(Startup)?CPU(Weight|Shares|Quota)"),
+            "io": re.compile(r"(Startup)?(Block)?IO(?!Scheduling|Accounting)")}
 # settings of what a cgroup has or who runs in it, which this can't tell; others have no bearing on owners, modes and limits
 CONTROLLED = re.compile(r"CPU(?!Scheduling|Affinity)|Memory(?!DenyWriteExecute|KSM|THP)|IO(?!Scheduling)|BlockIO|Tasks|Allowed|Startup|"
                         r"DefaultMemory|DefaultStartup|ManagedOOM|DisableControllers|OOMPolicy")
@@ -146,7 +150,7 @@ class Started:
         found: Optional[Set[str]] = None
         for value in self.unit.of("Delegate"):
             if value.lower() in YES:
-                found = set(CONTROLLERS)
+                found = set(MANAGED)
             elif value.lower() in NO:
                 found = None
             else:
@@ -200,9 +204,10 @@ class Started:
         wanted = set(delegated or ())
         wanted |= {name for name, setting in (("memory", "MemoryAccounting"), ("pids", "TasksAccounting"))
                    if (self.unit.last(setting) or "yes").lower() not in NO}
+        wanted |= {name for name, setting in (("io", "IOAccounting"), ("io", "BlockIOAccounting"))
+                   if (self.unit.last(setting) or "no").lower() in YES}
         wanted |= {str(LIMIT_FILES[file][0]) for setting, file in LIMITS.items() if self.is_limited(setting, file)}
-        return wanted | ({"cpu"} if any(each.name.startswith("CPU") and not ACCOUNTING.match(each.name)
-                                        for each in self.unit.settings) else set())
+        return wanted | {name for name, enabling in ENABLING.items() if any(enabling.match(each.name) for each in self.unit.settings)}
 
     def is_limited(self, setting: str, file: str) -> bool:
         """Whether it has a limit. Of processes a service has the manager's DefaultTasksMax=, where it says nothing."""

@@ -6,6 +6,7 @@ import itertools
 import re
 
 from . import explained, rules, settled
+from .controllers import controllers_in
 from .documents import Fault
 from .rules import text_of
 from .texts import LAST_ID, tree_of
@@ -29,21 +30,21 @@ OPTIONS = {
 
 
 @functools.lru_cache(maxsize=1024)
-def operation_of(line):
-    """The operation of a line without its newline, or None."""
+def operation_of(line, form=2):
+    """The operation of a line without its newline, of a tree of a format, or None."""
     try:
         words = line.decode("ascii").split(" ")
     except UnicodeDecodeError:
         return None
     kind, rest = words[0], words[1:]
     if kind == "control" and rest:
-        read = [rules.path_of(rest[0]), tuple(map(change_word, rest[1:]))]
+        read = [rules.path_of(rest[0]), tuple(change_word(word, form) for word in rest[1:])]
         return None if read[0] is None or None in read[1] else (kind, *read)
     forms = {"move": (pid_word, rules.path_of), "mkdir": (rules.path_of,), "rmdir": (rules.path_of,), "fork": (pid_word, pid_word),
              "set": (rules.path_of, limit_word, value_word), "exit": (pid_word,), "chmod": (rules.path_of, entry_word, mode_word)}
     if len(forms.get(kind, ())) != len(rest) or kind not in forms:
         return None
-    read = [form(word) for form, word in zip(forms[kind], rest)]
+    read = [each(word) for each, word in zip(forms[kind], rest)]
     return None if None in read else (kind, *read)
 
 
@@ -52,8 +53,8 @@ def pid_word(word):
     return found if 1 <= found <= rules.LAST_PID else None
 
 
-def change_word(word):
-    return (word[0], word[1:]) if word[:1] in ("+", "-") and word[1:] in rules.CONTROLLERS else None
+def change_word(word, form):
+    return (word[0], word[1:]) if word[:1] in ("+", "-") and word[1:] in controllers_in(form) else None
 
 
 def limit_word(word):
@@ -84,8 +85,8 @@ def spelling(operation):
     return " ".join([kind, *words])
 
 
-def lines_of(data):
-    """Each line's operation; raises the fault that ends them."""
+def lines_of(data, form):
+    """Each line's operation, of a tree of a format; raises the fault that ends them."""
     *lines, end = data.split(b"\n")
     for number, line in enumerate(lines + ([end] if end else []), 1):
         if number > MOST_STEPS:
@@ -94,7 +95,7 @@ def lines_of(data):
             raise Fault(f"line {number} too-long")
         if number > len(lines):
             raise Fault(f"line {number} cut")
-        operation = operation_of(line)
+        operation = operation_of(line, form)
         if operation is None:
             raise Fault(f"line {number} bad-word")
         yield operation
@@ -299,11 +300,11 @@ def check(call, state, tops, _files, lines):
     return STATUS[answer[0]]
 
 
-def answer_of(lines):
-    """The answer that lines spell, or None."""
+def answer_of(lines, form=2):
+    """The answer of a tree of a format that lines spell, or None."""
     kind, *words = lines[0].split(" ") if lines else [""]
     if kind == "escapes" and not words:
-        operations = [operation_of(line.encode()) if len(line) <= LONGEST_LINE else None for line in lines[1:]]
+        operations = [operation_of(line.encode(), form) if len(line) <= LONGEST_LINE else None for line in lines[1:]]
         return None if None in operations else (kind, operations)
     if len(lines) != 1 or kind not in STATUS or len(words) != (2 if kind == "unsettled" else 0):
         return None
@@ -314,15 +315,16 @@ def settle(call, state, tops, _files, lines):
     user, top = call.users[0], tops[0]
     known = settled.known(state, user, top)
     if known is None:
-        lines.append(Open(lambda said, status: is_said(said, status, lambda answer: settled.is_right(state, user, top, answer))))
+        lines.append(Open(lambda said, status: is_said(
+            state.form, said, status, lambda answer: settled.is_right(state, user, top, answer))))
         return None
     lines += answer_lines(known)
     return STATUS[known[0]]
 
 
-def is_said(lines, status, is_right):
+def is_said(form, lines, status, is_right):
     """Whether lines spell an answer that is right, with its status."""
-    answer = answer_of(lines)
+    answer = answer_of(lines, form)
     return answer is not None and status == STATUS[answer[0]] and is_right(answer)
 
 
@@ -338,13 +340,14 @@ def is_first_said(state, users, tops, said, status):
         return status == 0 and settled.are_listed(state, users, tops, {})
     pairs = list(itertools.product(users, tops))
     named = [at for at, (user, top) in enumerate(pairs) if said[:1] == [head_of(user[:1], top)]]
-    return is_said(said[1:], status, lambda answer: any(settled.is_first(state, users, pairs[:at], pairs[at], answer) for at in named))
+    return is_said(state.form, said[1:], status,
+                   lambda answer: any(settled.is_first(state, users, pairs[:at], pairs[at], answer) for at in named))
 
 
 def is_list_said(state, users, tops, said, status):
     heads = {head_of(user, top): (user, top) for user, top in itertools.product(users, tops)}
     starts = [at for at, line in enumerate(said) if line in heads]
-    listed = {heads[said[start]]: answer_of(said[start + 1:end]) for start, end in zip(starts, [*starts[1:], None])}
+    listed = {heads[said[start]]: answer_of(said[start + 1:end], state.form) for start, end in zip(starts, [*starts[1:], None])}
     if not starts:
         return said == ["contained"] and status == 0 and settled.are_listed(state, users, tops, {})
     in_order = starts[0] == 0 and [said[start] for start in starts] == [head for head, pair in heads.items() if pair in listed]
@@ -384,7 +387,7 @@ def replay(call, state, tops, files, lines):
     if files[call.one("--ops")] is False:
         raise Fault("read")
     states = [state]
-    for operation in lines_of(files[call.one("--ops")]):
+    for operation in lines_of(files[call.one("--ops")], state.form):
         state, refusal = rules.step(state, call.users[0], operation)
         lines.append(f"refused {refusal}" if refusal else "ok")
         states.append(state)
@@ -438,14 +441,15 @@ def upgrade(_call, state, _tops, _files, lines):
 def document_of(state):
     rows = [full_row(path, state.cgroups[path]) for path in sorted(state.cgroups)]
     processes = [{"pid": pid, "uid": uid, "at": text_of(path)} for pid, (uid, path) in sorted(state.live.items())]
-    return {"format": 2, "controllers": [c for c in rules.CONTROLLERS if c in state.controllers], "cgroup": rows, "process": processes}
+    controllers = [c for c in rules.ALL_CONTROLLERS if c in state.controllers]
+    return {"format": state.form, "controllers": controllers, "cgroup": rows, "process": processes}
 
 
 def full_row(path, cgroup):
     files = {name: {"uid": entry.uid, "gid": entry.gid, "mode": entry.mode} for name, entry in cgroup.entries.items()}
     for name, value in cgroup.values.items():
         files[name]["value"] = value
-    enabled = [c for c in rules.CONTROLLERS if c in cgroup.enabled]
+    enabled = [c for c in rules.ALL_CONTROLLERS if c in cgroup.enabled]
     return {"path": text_of(path), "enabled": enabled, "dir": files.pop(rules.DIR), "files": files}
 
 

@@ -10,7 +10,12 @@ import math
 import re
 import tomllib
 
-MOST_BYTES, NESTED = 16777216, 80
+from .controllers import ALL_CONTROLLERS
+
+MOST_BYTES, MOST_LARGE, NESTED = 16777216, 67108864, 80
+# how a large text begins, and what may stand in the brackets beside commas
+LARGE = re.compile(rb"(?:controllers = \[([^\n]*)\]\n)?format = 4\n")
+QUOTED_NAMES = [b'"%s"' % name.encode() for name in ALL_CONTROLLERS]
 # the pieces of a text that tell which TOML it is: texts and comments whole, dates and times by their beginning, and marks
 PIECES = re.compile(r"""
     (?P<escaped> \"{3} (?:[^\\]|\\.)*? \"{3,5} | " (?:[^"\\\n]|\\.)* " )
@@ -79,10 +84,21 @@ def float_of(word):
     return float(word)
 
 
+def is_large(data):
+    """Whether a text says at its beginning that it is a large one of format 4."""
+    begins = LARGE.match(data)
+    return bool(begins) and (not begins[1] or are_in_order(begins[1].split(b", ")))
+
+
+def are_in_order(names):
+    """Whether these are controllers in quotes, each once and in their order."""
+    return names == [name for name in QUOTED_NAMES if name in names]
+
+
 @functools.lru_cache(maxsize=2)
 def reading_of(data):
     """The document of a text, or what stands in its place; kept, since several models ask of one text."""
-    if len(data) > MOST_BYTES:
+    if len(data) > (MOST_LARGE if is_large(data) else MOST_BYTES):
         return Fault("tree too-long")
     try:
         text = data.decode("utf-8").removeprefix("\ufeff")

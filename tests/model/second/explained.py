@@ -2,7 +2,7 @@
 docs/FORMATS.md and docs/MODEL.md. Written from these pages alone, as rules.py is.
 """
 from . import lasting, rules
-from .rules import CONTROL, CONTROLLERS, DEPTH, DESCENDANTS, DIR, PROCS, text_of
+from .rules import CONTROL, DEPTH, DESCENDANTS, DIR, PROCS, text_of
 
 
 def lines_of(state, user, top):
@@ -28,7 +28,7 @@ def entry_line(user, guard, path, name, entry):
 def second_row(state, users, top):
     found = lasting.lasting_of(state, users)
     lines = [line_of(top in found.stays, "stays", text_of(top), stays_by(state, users, found, top))]
-    for controller in CONTROLLERS:
+    for controller in rules.controllers_of(state):
         by = control_by(state, users, found, top[:-1], controller)
         lines.append(line_of(by != "turned", "control", text_of(top[:-1]), controller, by))
     reached = any(lasting.is_reached(state, users, top, file) for file in rules.LIMIT_FILES)

@@ -2,10 +2,11 @@
 
 What lasts is found by taking away what nothing supports until all that is left is supported: the greatest.
 """
+import itertools
 from dataclasses import dataclass
 
 from . import rules
-from .rules import CONTROL, CONTROLLERS, DEPTH, DESCENDANTS, DIR, MAX, PROCS
+from .rules import CONTROL, DEPTH, DESCENDANTS, DIR, MAX, PROCS
 
 
 @dataclass
@@ -33,7 +34,7 @@ def supported(those, is_supported):
 def lasting_of(state, users):
     stays = supported(set(state.cgroups), lambda path, others: not path or not is_reached(state, users, path[:-1], DIR)
                       or any(child in others for child in rules.children(state, path)))
-    pairs = {(path, controller) for path in stays for controller in CONTROLLERS}
+    pairs = set(itertools.product(stays, rules.controllers_of(state)))
     on = supported({(path, c) for path, c in pairs if c in state.cgroups[path].enabled},
                    lambda pair, others: is_on(state, users, others, *pair))
     off = supported({(path, c) for path, c in pairs if c not in state.cgroups[path].enabled},
@@ -77,7 +78,7 @@ def second_row_holds(state, users, top):
     lasting = lasting_of(state, users)
     if top not in lasting.stays or rules.over(state, top):
         return False
-    if any((top[:-1], controller) not in lasting.on | lasting.off for controller in CONTROLLERS):
+    if any((top[:-1], controller) not in lasting.on | lasting.off for controller in rules.controllers_of(state)):
         return False
     if any(is_reached(state, users, top, file) for file in rules.LIMIT_FILES):
         return False

@@ -8,7 +8,8 @@ A path is a tuple of names. A user is (uid, gids). A state and what it holds are
 import itertools
 from dataclasses import dataclass, replace
 
-CONTROLLERS = ("cpu", "memory", "pids")
+from .controllers import ALL_CONTROLLERS, CONTROLLERS
+
 MOST = 2 ** 63 - 1
 MAX = "max"
 # each limit file, in the order used everywhere: its controller, default, least and greatest number, whether it takes `max`
@@ -48,11 +49,13 @@ class Cgroup:
 
 @dataclass(frozen=True)
 class State:
-    """`cgroups` by path, `live` from a PID to (uid, path), `used` the PIDs that a process ever had."""
+    """`cgroups` by path, `live` from a PID to (uid, path), `used` the PIDs that a process ever had; the format in which it is written,
+    which is 2 or 4."""
     controllers: frozenset
     cgroups: dict
     live: dict
     used: frozenset
+    form: int = 2
 
 
 def text_of(path):
@@ -129,10 +132,19 @@ def available(state, path):
     return state.cgroups[path[:-1]].enabled if path else state.controllers
 
 
+def brought(state, path):
+    """The controllers whose files stand at a path."""
+    return state.cgroups[path[:-1]].enabled if path else frozenset()
+
+
+def controllers_of(state):
+    """`cpu`, `memory`, `pids` and what else the root has: all others are off everywhere for good."""
+    return [c for c in ALL_CONTROLLERS if c in CONTROLLERS or c in state.controllers]
+
+
 def files_at(state, path):
     """The limit files that belong at a path, in their order."""
-    brought = state.cgroups[path[:-1]].enabled if path else frozenset()
-    return [file for file, (controller, *_) in LIMIT_FILES.items() if controller is None or controller in brought]
+    return [file for file, (controller, *_) in LIMIT_FILES.items() if controller is None or controller in brought(state, path)]
 
 
 def default_of(file):
@@ -191,7 +203,7 @@ def effective(changes):
 def enabled_after(state, path, changes):
     last = effective(changes)
     enabled = state.cgroups[path].enabled
-    return frozenset(c for c in CONTROLLERS if last.get(c, "+" if c in enabled else "-") == "+")
+    return frozenset(c for c in ALL_CONTROLLERS if last.get(c, "+" if c in enabled else "-") == "+")
 
 
 def control_bars(state, user, path, changes):
@@ -199,7 +211,7 @@ def control_bars(state, user, path, changes):
         return missing(state, path)
     found = entry_bar(state, user, path, CONTROL)
     last = effective(changes)
-    for controller in CONTROLLERS:
+    for controller in ALL_CONTROLLERS:
         used = any(controller in state.cgroups[child].enabled for child in children(state, path))
         if last.get(controller) == "+" and controller not in available(state, path):
             found.append(f"not-available {controller}")
@@ -358,6 +370,11 @@ def over(state, top):
     return {file: count for file, count in there.items() if values[file] != MAX and count > values[file]}
 
 
+def limits_of(state, top):
+    """The values of the limit files that stand at a cgroup, and the controllers whose other files stand there."""
+    return state.cgroups[top].values, brought(state, top)
+
+
 def broken(limits, before, after, top):
     """The first thing that a step breaks of a subtree whose limits at the start of the run are given, or None."""
     if top not in after.cgroups:
@@ -365,7 +382,7 @@ def broken(limits, before, after, top):
     crossed = crossing(before, after, top)
     if crossed:
         return f"crossed {crossed[0]}"
-    if after.cgroups[top].values != limits:
+    if limits_of(after, top) != limits:
         return "limits"
     exceeded = over(after, top)
     if DESCENDANTS in exceeded:
@@ -375,7 +392,7 @@ def broken(limits, before, after, top):
 
 def verdict(states, top):
     """Over the states of a run, the first of which is its start."""
-    limits = states[0].cgroups[top].values
+    limits = limits_of(states[0], top)
     for number, after in enumerate(states):
         before = states[max(number - 1, 0)]
         # a step that left the state as it was breaks nothing
@@ -408,7 +425,7 @@ def plain_tries(state, top):
     yield []
     for file in files_at(state, top):
         yield [("set", top, file, other_value(file, state.cgroups[top].values[file]))]
-    for controller, sign in itertools.product(CONTROLLERS, "-+"):
+    for controller, sign in itertools.product(controllers_of(state), "-+"):
         yield [("control", top[:-1], ((sign, controller),))]
     yield [("rmdir", top)]
     for pid in rising(state):

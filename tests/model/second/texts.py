@@ -5,10 +5,13 @@ import functools
 import itertools
 
 from . import rules
+from .controllers import controllers_in
 from .documents import Fault, document_of
 from .rules import Cgroup, Entry, State
 
-MOST_ROWS, LAST_ID = 4096, 2 ** 32 - 1
+LAST_ID = 2 ** 32 - 1
+# of each format how many cgroups, and how many processes, there may be
+MOST_ROWS = {1: 4096, 2: 4096, 4: 65536}
 
 
 def is_a(value, kind):
@@ -32,7 +35,7 @@ def number(value):
 
 def entry_form(form, holds_value):
     tests = {"uid": number, "mode": number}
-    if form == 2:
+    if form != 1:
         tests["gid"] = number
     if holds_value:
         tests["value"] = lambda value: number(value) or is_a(value, str)
@@ -60,18 +63,18 @@ def tree_of(data):
     if not has_form(document, {"format": number, "controllers": texts}, {"cgroup": rows_form, "process": rows_form}):
         raise Fault("tree shape top")
     form, rows, processes = document["format"], document.get("cgroup", []), document.get("process", [])
-    if form not in (1, 2):
+    if form not in MOST_ROWS:
         raise Fault("tree format")
-    if max(len(rows), len(processes)) > MOST_ROWS:
+    if max(len(rows), len(processes)) > MOST_ROWS[form]:
         raise Fault("tree too-many")
     first("shape cgroup", rows, lambda row: not cgroup_form(form)(row))
     first("shape process", processes, lambda row: not process_form(row))
-    if not set(document["controllers"]) <= set(rules.CONTROLLERS):
+    if not set(document["controllers"]) <= set(controllers_in(form)):
         raise Fault("tree bad-controller top")
     for (place, row), (what, is_bad) in itertools.product(enumerate(rows, 1), OWN_FAULTS):
         if is_bad(form, row):
             raise Fault(f"tree {what} cgroup {place}")
-    return state_of(document["controllers"], rows, processes)
+    return state_of(form, document["controllers"], rows, processes)
 
 
 def first(what, rows, is_bad):
@@ -85,8 +88,8 @@ def bad_path(_form, row):
     return rules.path_of(row["path"]) is None
 
 
-def bad_controller(_form, row):
-    return not set(row.get("enabled", [])) <= set(rules.CONTROLLERS)
+def bad_controller(form, row):
+    return not set(row.get("enabled", [])) <= set(controllers_in(form))
 
 
 def has_bad_entry(form, row):
@@ -110,21 +113,22 @@ def bad_value(name, value):
     return not (value == rules.MAX or number(value)) or not rules.accepts(name, value)
 
 
-def state_of(controllers, rows, processes):
+def state_of(form, controllers, rows, processes):
     paths = [rules.path_of(row["path"]) for row in rows]
     at = {path: frozenset(row.get("enabled", [])) for path, row in zip(paths, rows)}
     numbered = list(enumerate(rows))
-    first("duplicate cgroup", numbered, lambda each: paths[each[0]] in paths[:each[0]])
+    firsts = {path: place for place, path in reversed(list(enumerate(paths)))}
+    first("duplicate cgroup", numbered, lambda each: firsts[paths[each[0]]] < each[0])
     if () not in at:
         raise Fault("tree no-root")
     first("no-parent cgroup", paths, lambda path: path and path[:-1] not in at)
     first("top-down cgroup", paths, lambda path: not at[path] <= (at[path[:-1]] if path else set(controllers)))
-    bare = State(frozenset(controllers), {path: Cgroup({}, {}, at[path]) for path in paths}, {}, frozenset())
+    bare = State(frozenset(controllers), {path: Cgroup({}, {}, at[path]) for path in paths}, {}, frozenset(), max(form, 2))
     limits = [set(row.get("files", {})) & rules.LIMIT_FILES.keys() for row in rows]
     first("no-such-file cgroup", numbered, lambda each: not limits[each[0]] <= set(rules.files_at(bare, paths[each[0]])))
     cgroups = {path: cgroup_of(bare, path, row) for path, row in zip(paths, rows)}
     live = live_of(cgroups, processes)
-    return State(frozenset(controllers), cgroups, live, frozenset(live))
+    return State(bare.controllers, cgroups, live, frozenset(live), bare.form)
 
 
 def cgroup_of(bare, path, row):

@@ -9,9 +9,10 @@ import unittest
 
 sys.path.insert(0, os.path.dirname(os.path.dirname(os.path.abspath(__file__))))
 from second import commands, rules
-from trials import cases, labels, programs, spelling, trees, mutants
+from trials import cases, format_4, labels, programs, spelling, trees, mutants
 
-ALL = frozenset([*commands.OPTIONS, "audit --all", "advise --pairs", "audit --settle", "advise --settle"])
+OLDER = frozenset([*commands.OPTIONS, "audit --all", "advise --pairs", "audit --settle", "advise --settle"])
+ALL = OLDER | {format_4.FORMAT_4}
 EXAMPLES = os.path.join(os.path.dirname(os.path.abspath(__file__)), "../../../examples")
 
 
@@ -46,7 +47,7 @@ class ModelTest(unittest.TestCase):
 
 class TrialsTest(unittest.TestCase):
     def test_each_wrong_model_differs_by_a_text_that_stands_once(self):
-        self.assertGreaterEqual(len(mutants.MUTANTS), 130)
+        self.assertGreaterEqual(len(mutants.MUTANTS), 210)
         for name in mutants.MUTANTS:
             self.assertIsNot(mutants.respond_of(name), commands.respond)
             self.assertIsNone(programs.expected_of(cases.Case(["upgrade"], b"x = 07:32"), mutants.respond_of(name)), name)
@@ -81,6 +82,22 @@ class TrialsTest(unittest.TestCase):
             case = cases.random_case("seed", number, ALL)
             self.assertEqual(case, cases.random_case("seed", number, ALL))
             self.assertEqual(case, cases.Case.of_record(json.loads(json.dumps(case.as_record()))))
+
+    def test_cases_of_other_formats_are_those_of_a_program_without_format_4(self):
+        wide = [cases.is_wide("seed", number, ALL) for number in range(60)]
+        self.assertIn(True, wide)
+        for number in [number for number in range(60) if not wide[number]]:
+            self.assertEqual(cases.random_case("seed", number, ALL), cases.random_case("seed", number, OLDER))
+        self.assertFalse(any(cases.is_wide("seed", number, OLDER) for number in range(60)))
+
+    def test_a_mutant_of_format_4_is_asked_of_its_cases(self):
+        self.assertEqual({*mutants.able(ALL)}, {*mutants.MUTANTS})
+        self.assertEqual({*mutants.able(ALL)} - {*mutants.able(OLDER)}, {name for _, _, turns in mutants.KINDS_4 for name in turns})
+        short, large = cases.Case(["upgrade"], b"format = 4\n"), cases.Case(["upgrade"], b"#" * 16777217)
+        for name, case, wide, shown in (("format 3 is one", short, True, True), ("format 3 is one", short, False, False),
+                                        ("every text is large", short, True, False), ("every text is large", large, True, True),
+                                        ("three controllers last", short, True, False), ("format 1 has gids", short, False, True)):
+            self.assertEqual(mutants.shows(name, case, wide), shown, name)
 
     def test_a_difference_is_seen(self):
         expected = (["ok", "kept"], 0, "")

@@ -3,10 +3,13 @@ import random
 from dataclasses import dataclass, field
 
 from second import commands, documents, rules, texts
+from second.controllers import controllers_in
 from second.rules import text_of
-from trials import faults, small, spelling, trees
+from trials import faults, format_4, small, spelling, trees
 
 TREE, OPS, PAIRS = "tree.toml", "list.ops", "list.pairs"
+# the first case of format 4 that may be of a large text, or of many rows: by then most mutants are told apart, which are asked of it
+FIRST_HEAVY, ONE_LARGE_OF = 400, 30
 
 
 @dataclass
@@ -34,42 +37,70 @@ class Case:
         return lines, status, fault
 
 
+def is_wide(seed, number, known):
+    """Whether a case is mostly of format 4, where the program reads that; by a number of its own, so that all other cases are those of a
+    program that doesn't."""
+    return format_4.FORMAT_4 in known and (is_large(number) or random.Random(f"format {seed} {number}").random() < 0.3)
+
+
+def is_large(number):
+    """Whether a case is of a text of about as many bytes as may be: every so many, each of another kind."""
+    return number >= FIRST_HEAVY and number % ONE_LARGE_OF == 0
+
+
 def random_case(seed, number, known):
     """The case of a seed and a number, of the commands that the program has."""
-    rng = random.Random(f"{seed} {number}")
+    rng, wide = random.Random(f"{seed} {number}"), is_wide(seed, number, known)
+    large = wide and is_large(number)
     tree = trees.random_tree(rng)
+    data = text_of_tree(rng, tree, wide)
+    if large:
+        data = format_4.large_text(rng, tree.document(rng), number // ONE_LARGE_OF)
+    able = [name for name in MAKERS if name.removesuffix(" alone") in known]
+    command = rng.choices(able, [WEIGHTS[name] for name in able])[0]
+    if not large and ("settle" in command and rng.random() < 0.75 or command == "explain" and rng.random() < 0.5):
+        tree = trees.tree_of_state(rng, 35 if command in ("audit --settle", "advise --settle") else 9, wide)
+        data = spelling.document(rng, tree.document(rng))
+    case = Case(MAKERS[command](rng, tree, state_of(data)))
+    if command.startswith("replay"):
+        case.files[OPS] = operations(rng, tree, data, case.words, wide)
+    if command == "advise --pairs":
+        case.files[PAIRS] = pair_lines(rng, tree, state_of(data))
+    if wide and number >= FIRST_HEAVY and command in ("may", "upgrade") and rng.random() < 0.06:
+        data = format_4.with_many(rng, data)
+    give_tree(rng, case, data)
+    if rng.random() < 0.15 and not large:
+        for _ in range(rng.choice([1, 1, 1, 2, 3])):
+            turn_words(rng, case)
+    case.full = not command.startswith("replay") and rng.random() < 0.01
+    return case
+
+
+def text_of_tree(rng, tree, wide):
+    """A tree's text, mostly of format 4 where that is asked for; at times a faulty one, or one of about as many bytes as may be."""
+    if wide and rng.random() < 0.9:
+        format_4.widen(rng, tree)
     parts = tree.document(rng)
-    faulty = rng.random() < 0.25
-    if faulty:
-        faults.turn_document(rng, parts)
+    if rng.random() < 0.25:
+        (format_4 if wide and rng.random() < 0.6 else faults).turn_document(rng, parts)
     data = spelling.document(rng, parts)
     if rng.random() < 0.05:
         data = faults.turn_bytes(rng, data)
     if rng.random() < 0.006:
         data += b"#" * (documents.MOST_BYTES + rng.choice([0, 0, 1]) - len(data))
-    able = [name for name in MAKERS if name.removesuffix(" alone") in known]
-    command = rng.choices(able, [WEIGHTS[name] for name in able])[0]
-    if "settle" in command and rng.random() < 0.75 or command == "explain" and rng.random() < 0.5:
-        tree = trees.tree_of_state(rng, *[35] * (command in ("audit --settle", "advise --settle")))
-        data = spelling.document(rng, tree.document(rng))
-    case = Case(MAKERS[command](rng, tree, state_of(data)))
-    if command.startswith("replay"):
-        case.files[OPS] = operations(rng, tree, data, case.words)
-    if command == "advise --pairs":
-        case.files[PAIRS] = pair_lines(rng, tree, state_of(data))
+    return data
+
+
+def give_tree(rng, case, data):
+    """As standard input or as a file, beside pairs, which then may be standard input."""
     if rng.random() < 0.5:
         case.stdin = data
-    else:
-        case.files[TREE] = data
-        case.words[1:1] = ["--tree", TREE]
-        if PAIRS in case.files and rng.random() < 0.3:
-            case.stdin = case.files.pop(PAIRS)
-            case.words[case.words.index(PAIRS)] = "-"
-    if rng.random() < 0.15:
-        for _ in range(rng.choice([1, 1, 1, 2, 3])):
-            turn_words(rng, case)
-    case.full = not command.startswith("replay") and rng.random() < 0.01
-    return case
+        return
+    case.files[TREE] = data
+    case.words[1:1] = ["--tree", TREE]
+    if PAIRS in case.files and rng.random() < 0.3:
+        case.stdin = case.files.pop(PAIRS)
+        case.words[case.words.index(PAIRS)] = "-"
 
 
 def state_of(data):
@@ -252,7 +283,7 @@ WEIGHTS = {"may": 14, "check": 30, "audit": 12, "audit --all": 12, "advise": 14,
 # Operations
 
 
-def operations(rng, tree, data, words):
+def operations(rng, tree, data, words, wide=False):
     """A list of operations, most of which are chosen in the tree that those before them leave."""
     if rng.random() < 0.018:
         count = rng.choice([commands.MOST_STEPS, commands.MOST_STEPS + 1]) if rng.random() < 0.85 else commands.MOST_STEPS - 1
@@ -266,7 +297,10 @@ def operations(rng, tree, data, words):
             state = rules.step(state, user, operation)[0]
             lines.append(commands.spelling(operation).encode("ascii"))
     if rng.random() < 0.16:
-        lines.insert(rng.randrange(len(lines) + 1), bad_line(rng, lines))
+        near = format_4.bad_line(rng) if wide and rng.random() < 0.6 else bad_line(rng, lines)
+        lines.insert(rng.randrange(len(lines) + 1), near)
+    if wide and tree.form != 4:
+        lines.insert(rng.randrange(len(lines) + 1), format_4.later_line(rng))
     return b"".join(line + b"\n" for line in lines) + (rng.choice([b"exit 7", b"x", b" "]) if rng.random() < 0.04 else b"")
 
 
@@ -299,7 +333,7 @@ def next_operation(rng, tree, state, user, last):
 
 
 def random_operation(rng, tree, state, user):
-    kind = rng.choices(list(OPERATIONS), [5, 6, 6, 4, 4, 3, 2, 4])[0]
+    kind = rng.choices(list(OPERATIONS), [5, 6 if state.form < 4 else 12, 6, 4, 4, 5, 2, 4])[0]
     return (kind, *OPERATIONS[kind](rng, tree, state, user))
 
 
@@ -330,12 +364,15 @@ def written_path(rng, state, user, name):
     return rng.choice(written) if written and rng.random() < 0.6 else some_path(rng, state)
 
 
-def some_control(rng, _tree, state, user):
+def some_control(rng, tree, state, user):
+    if state.form == 4 and rng.random() < 0.5:
+        return format_4.some_control(rng, tree, state, user)
     path = written_path(rng, state, user, rules.CONTROL)
     if path in state.cgroups and state.cgroups[path].enabled and rng.random() < 0.3:
         return path, (("-", rng.choice(sorted(state.cgroups[path].enabled))),)
-    able = [c for c in rules.CONTROLLERS if path in state.cgroups and c in rules.available(state, path)]
-    controllers = able if able and rng.random() < 0.7 else rules.CONTROLLERS
+    every = controllers_in(state.form)
+    able = [c for c in every if path in state.cgroups and c in rules.available(state, path)]
+    controllers = able if able and rng.random() < 0.7 else every
     return path, tuple((rng.choice("++-"), rng.choice(controllers)) for _ in range(rng.choice([0, 1, 1, 1, 2, 3, 4])))
 
 

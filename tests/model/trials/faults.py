@@ -35,7 +35,7 @@ def shape_top(rng, parts):
 
 
 def form(rng, parts):
-    parts["format"] = rng.choice([0, 3, -1, 2 ** 63 - 1])
+    parts["format"] = rng.choice([0, 3, 5, -1, 2 ** 63 - 1])
 
 
 def too_many(rng, parts):
@@ -104,7 +104,7 @@ def bad_entry(rng, parts):
     name = rng.choice([rules.PROCS, rules.CONTROL, *rules.LIMIT_FILES])
     entry = row.setdefault("files", {}).setdefault(name, {}) if rng.random() < 0.6 else row.setdefault("dir", {})
     entry.update(rng.choice([{"uid": -1}, {"uid": 2 ** 32}, {"mode": 0o1000}, {"mode": -1}, {"mode": 644}, {"uid": -2 ** 63}]))
-    if parts["format"] == 2 and rng.random() < 0.3:
+    if parts["format"] in (2, 4) and rng.random() < 0.3:
         entry["gid"] = rng.choice([-1, 2 ** 32, 2 ** 63 - 1])
 
 

@@ -15,6 +15,7 @@ pid = 7
 uid = 1000
 at = "/"
 """
+SMALL_4 = SMALL.replace(b"2", b"4", 1).replace(b'["cpu"]', b'["cpu", "io"]')
 HEAD = b"format = 1\ncontrollers = []\n"
 ROOT = HEAD + b"[[cgroup]]\npath = '/'\n"
 LEVELS = [1, 8, 40, 76, 77, 78, 79, 80, 81, 82, 83, 160, 1000, 20000]
@@ -101,14 +102,22 @@ def operation_texts():
             yield part * min(count, 1 + 2 ** 21 // len(part))
 
 
-def large_trees():
-    """A tree as deep, and one with as many cgroups, as may be. Who is asked moves what is below /a, and of no subtree there more is shown
-    by the guards."""
+def operation_texts_4():
+    """Of controllers that a tree of format 4 may name."""
+    line = b"control /a +io -io\n"
+    yield from cut(line)
+    yield from changed(line)
+    yield from changed(b"control / -dmem +hugetlb\n")
+
+
+def large_trees(with_format_4):
+    """A tree as deep, and of each format one with as many cgroups, as may be. Who is asked moves what is below /a, and of no subtree there
+    more is shown by the guards."""
     opened = b"files = { 'cgroup.procs' = { uid = 1000 } }\n"
-    names = [b"/a/n%d" % number for number in range(4093)]
-    for paths in ([b"/a" * levels for levels in range(2, 2048)], [b"/a/a", *names]):
+    wide = [[b"/a/a", *(b"/a/n%d" % number for number in range(most - 3))] for most in (4096, 65536)]
+    for form, paths in ((b"1", [b"/a" * levels for levels in range(2, 2048)]), *zip([b"1", *[b"4"] * with_format_4], wide)):
         rows = b"".join(b"[[cgroup]]\npath = '%s'\n" % path for path in paths)
-        yield ROOT + b"[[cgroup]]\npath = '/a'\n" + opened + rows
+        yield ROOT.replace(b"1", form) + b"[[cgroup]]\npath = '/a'\n" + opened + rows
 
 
 def growing(size):

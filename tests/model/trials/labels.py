@@ -1,8 +1,10 @@
 """What a case shows: its command, answer, guards, clauses and faults, each as a label that is counted."""
 import re
 
-from second import commands, rules
+from second import commands, documents, rules
+from second.controllers import CONTROLLERS
 from trials.cases import OPS, TREE, state_of
+from trials.format_4 import FORMAT_4, FURTHER
 
 CLAUSES = {
     "move": ["ok", "no-such-cgroup", "no-access destination", "no-such-process", "no-access common ancestor", "internal-process"],
@@ -25,6 +27,14 @@ FAULTS = ["usage", "uid", "gid", "pid", "path", "subtree root", "subtree missing
           "too-many-steps", "read", "write", *("tree " + name for name in re.split(r",\s+", TREE_FAULTS))]
 STATUSES = {"may": 2, "check": 3, "audit": 3, "audit --all": 3, "replay": 2, "upgrade": 1, "advise": 2, "advise --pairs": 2, "settle": 3,
             "audit --settle": 3, "audit --all --settle": 3, "advise --settle": 2, "explain": 3}
+# of trees of format 4, and of controllers that other formats don't have
+FAULTS_4 = """bad-controller cgroup, bad-controller top, bad-entry cgroup, internal-process process, shape cgroup, too-many, top-down cgroup"""
+WIDE = ["upgrade", "a bad word", "read past 4096 rows", "read past 16777216 bytes", "too-long past 16777216 bytes",
+        "too-long past 67108864 bytes", "broken limits by its controllers", "escapes by a control of its controllers",
+        "escapes by an opened control of its controllers", "its controllers in another's text", "its controllers in a line for another",
+        *(f"settle: {kind}" for kind in commands.STATUS), *(f"explain: a controller of its own is {by}" for by in ("on", "off", "turned")),
+        *(f"control of its controllers: {outcome}" for outcome in CLAUSES["control"]),
+        *(f"fault: tree {name}" for name in re.split(r",\s+", FAULTS_4))]
 # what is told of a guarded entry, and of the second row
 BY = ["owner", "group", "others"]
 TOLD = ["holds stays spared", "holds stays upheld", "fails stays removed", "holds control on", "holds control off", "fails control turned",
@@ -50,6 +60,8 @@ def wanted(known):
         labels += [f"settle: {guard} fails first, then {kind}" for guard in SETTLED for kind in commands.STATUS]
     if "explain" in known:
         labels += [f"explain: {told}" for told in wanted_of_explain()]
+    if FORMAT_4 in known:
+        labels += [f"format 4: {name}" for name in WIDE]
     return labels + [f"fault: {name}" for name in FAULTS]
 
 
@@ -71,13 +83,74 @@ def labels_of(case, expected):
         found += replay_labels(case, lines)
     if not fault and name in LABELS:
         found += LABELS[name](case, lines)
-    return found
+    wide = wide_labels(case, lines, status, fault) if form_of(case) == 4 else labels_of_others(case, fault)
+    return found + [f"format 4: {label}" for label in sorted({*wide} & {*WIDE})]
+
+
+def document_of(case):
+    """The document of a case's tree, or what is told of one that is too long or no TOML."""
+    data = case.files.get(TREE, case.stdin)
+    try:
+        return documents.document_of(data)
+    except (documents.Fault, documents.Unsure):
+        return {"format": 4} if len(data) > documents.MOST_BYTES and documents.is_large(data) else {}
+
+
+def form_of(case):
+    return 4 if document_of(case).get("format") == 4 else 2
+
+
+def labels_of_others(case, fault):
+    """Of a tree of another format what comes up of format 4: its controllers, and texts as long as one of it may be."""
+    if fault == "fault: tree too-long":
+        yield "too-long past 16777216 bytes"
+    if fault == "fault: tree bad-controller top" and not {*FURTHER}.isdisjoint(document_of(case)["controllers"]):
+        yield "its controllers in another's text"
+    where = re.fullmatch(r"fault: line ([0-9]+) bad-word", fault)
+    if where and OPS in case.files and commands.operation_of(case.files[OPS].split(b"\n")[int(where[1]) - 1], 4):
+        yield "its controllers in a line for another"
+
+
+def wide_labels(case, lines, status, fault):
+    """What comes up of a tree of format 4, and more."""
+    yield "too-long past 67108864 bytes" if fault == "fault: tree too-long" else re.sub(r" [0-9]+$", "", fault)
+    if status != 3:
+        document, data = document_of(case), case.files.get(TREE, case.stdin)
+        yield from case.words[:1]
+        yield "read past 16777216 bytes" if len(data) > documents.MOST_BYTES else ""
+        yield "read past 4096 rows" if max(len(document.get(name, [])) for name in ("cgroup", "process")) > 4096 else ""
+    yield from wide_answers(case, [line.split(" ") for line in lines if isinstance(line, str)])
+    if case.words[:1] == ["replay"]:
+        yield from wide_replay(case, lines, fault)
+
+
+def wide_answers(case, lines):
+    opened = "an opened" if any(words[0] == "chmod" for words in lines) else "a"
+    for words in lines:
+        if words[0] == "control" and any(word[1:] not in CONTROLLERS for word in words[2:]):
+            yield f"escapes by {opened} control of its controllers"
+        if words[1:2] == ["control"] and words[3] not in CONTROLLERS:
+            yield f"explain: a controller of its own is {words[-1]}"
+    if case.words[:1] == ["settle"] and lines:
+        yield f"settle: {lines[0][0]}"
+
+
+def wide_replay(case, lines, fault):
+    spelled = case.files.get(OPS, b"").split(b"\n")
+    further = [commands.operation_of(line, 4) != commands.operation_of(line) for line in spelled]
+    for is_further, line in zip(further, lines):
+        if is_further:
+            yield f"control of its controllers: {outcome_of(('control',), line)}"
+    if lines and re.fullmatch("broken [1-9][0-9]* limits", lines[-1]) and further[int(lines[-1].split(" ")[1]) - 1]:
+        yield "broken limits by its controllers"
+    if fault.endswith("bad-word"):
+        yield "a bad word"
 
 
 def replay_labels(case, lines):
     found = set()
     for spelled, line in zip(case.files[OPS].split(b"\n"), lines):
-        operation = commands.operation_of(spelled)
+        operation = commands.operation_of(spelled, form_of(case))
         if operation:
             found.add(f"operation {operation[0]}: {outcome_of(operation[:1] + operation[1:], line)}")
     if lines and lines[-1].startswith(("kept", "broken")):

@@ -3,11 +3,12 @@ import functools
 import sys
 import types
 
-from second import commands, documents, explained, lasting, rules, settled, texts
+from second import commands, controllers, documents, explained, lasting, rules, settled, texts
+from trials.format_4 import FORMAT_4
 
 # in the order in which one takes from another: those before the one that is changed are the right model's own
-MODULES = {"documents": documents, "rules": rules, "lasting": lasting, "settled": settled, "explained": explained, "texts": texts,
-           "commands": commands}
+MODULES = {"controllers": controllers, "documents": documents, "rules": rules, "lasting": lasting, "settled": settled,
+           "explained": explained, "texts": texts, "commands": commands}
 USERS = "return list(itertools.product(dict.fromkeys(call.users), dict.fromkeys(tops)))"
 MEMBER = 'return "group" if entry.gid in user[1] else "others"'
 LIVE_ITEMS = "for other, process in state.live.items() if other != pid}"
@@ -17,6 +18,8 @@ HAS_PROCESSES = '    if lives_at(state, path):\n        found.append(f"has-proce
 SHAPES = ['    first("shape cgroup", rows, lambda row: not cgroup_form(form)(row))\n',
           '    first("shape process", processes, lambda row: not process_form(row))\n']
 REFUSED_PLACES = ['("duplicate-pid", pid in live)', '("no-such-place", path not in cgroups)']
+FIRSTS = """firsts = {path: place for place, path in reversed(list(enumerate(paths)))}
+    first("duplicate cgroup", numbered, lambda each: firsts[paths[each[0]]] < each[0])"""
 OVER = ["DESCENDANTS: len(below(state, top))", "DEPTH: depth_below(state, top)"]
 MANY_GIDS = '        if len(gids) > MOST_GIDS:\n'
 
@@ -63,9 +66,10 @@ OF_RULES = {
     "what begins as the subtree's text is inside": (
         "return path[:len(top)] == top", "return text_of(path).startswith(text_of(top))"),
     "limits are compared with those at the end": (
-        "limits = states[0].cgroups[top].values", "limits = states[-1].cgroups.get(top, states[0].cgroups[top]).values"),
+        "limits = limits_of(states[0], top)", "limits = limits_of(states[-1] if top in states[-1].cgroups else states[0], top)"),
     "a limit file that goes is no change": (
-        "if after.cgroups[top].values != limits:", "if not after.cgroups[top].values.items() <= limits.items():"),
+        "if limits_of(after, top) != limits:",
+        "if not (after.cgroups[top].values.items() <= limits[0].items() and brought(after, top) <= limits[1]):"),
     "of two counts the depth is told": ("if DESCENDANTS in exceeded:", "if DESCENDANTS in exceeded and DEPTH not in exceeded:"),
     "of two counts the depth is mended first": ("{%s, %s}" % (*OVER,), "{%s, %s}" % (*OVER[::-1],)),
     "who owns an entry doesn't reach it": ("return writes(user, entry) or owns(user, entry)", "return writes(user, entry)"),
@@ -78,7 +82,8 @@ OF_RULES = {
         '[("parent-dir", top[:-1], DIR), ("parent-control", top[:-1], CONTROL)]'),
     "tries another weight": ("return 1 if value == 100 else 100", "return 100 if value == 1 else 1"),
     "tries to disable all before it enables": (
-        'controller, sign in itertools.product(CONTROLLERS, "-+")', 'sign, controller in itertools.product("-+", CONTROLLERS)'),
+        'controller, sign in itertools.product(controllers_of(state), "-+")',
+        'sign, controller in itertools.product("-+", controllers_of(state))'),
     "tries processes inside alone": ("if inside(path, top) != is_in)", "if is_in and not inside(path, top))"),
     "tries the first 4 processes": ("return sorted(state.live)", "return sorted(state.live)[:4]"),
     "tries paths in the order of their texts": (
@@ -108,7 +113,7 @@ OF_COMMANDS = {
     "a list is too long behind one operation more": ("if number > MOST_STEPS:", "if number > MOST_STEPS + 1:"),
     "a line of 8192 bytes is too long": ("if len(line) > LONGEST_LINE:", "if len(line) >= LONGEST_LINE:"),
     "a list is read whole first": (
-        'in lines_of(files[call.one("--ops")]):', 'in list(lines_of(files[call.one("--ops")])):'),
+        'in lines_of(files[call.one("--ops")], state.form):', 'in list(lines_of(files[call.one("--ops")], state.form)):'),
     "a value may be 2^64": ("int(word) < 2 ** 64", "int(word) <= 2 ** 64"),
     "a verdict counts what is accepted alone": ("states.append(state)", "states += [] if refusal else [state]"),
     "uid 0 is a fault without groups alone": ("if uid == 0:", "if uid == 0 and not gids:"),
@@ -160,7 +165,8 @@ OF_LASTING = {
     "no process is moved": ("all(takes_none(state, users, lasting, path) and", "all("),
     "of a user's reach owning is none": (
         "any(rules.reaches(user, entry) for user in users)", "any(rules.writes(user, entry) for user in users)"),
-    "the parent's controllers go unasked": ("if any((top[:-1], controller) not in lasting.on | lasting.off for controller in CONTROLLERS):",
+    "the parent's controllers go unasked": ("if any((top[:-1], controller) not in lasting.on | lasting.off "
+                                            "for controller in rules.controllers_of(state)):",
                                             "if False:"),
     "places beside the subtree go unasked": ("or rules.common(path, top) in edges]", "]"),
 }
@@ -236,39 +242,143 @@ OF_EXPLAINED = {
 }
 OF_TEXTS = {
     "format 1 has the group's bit": ("0 <= mode <= 0o777) or form == 1 and mode & 0o020 != 0", "0 <= mode <= 0o777)"),
-    "format 1 has gids": ("if form == 2:", "if form:"),
-    "4096 rows are too many": ("max(len(rows), len(processes)) > MOST_ROWS", "max(len(rows), len(processes)) >= MOST_ROWS"),
+    "format 1 has gids": ("if form != 1:", "if form:"),
+    "4096 rows are too many": ("max(len(rows), len(processes)) > MOST_ROWS[form]", "max(len(rows), len(processes)) >= MOST_ROWS[form]"),
     "the shape of processes is tested first": ("".join(SHAPES), "".join(SHAPES[::-1])),
     "tests of a row by itself go by the test": (
         "for (place, row), (what, is_bad) in itertools.product(enumerate(rows, 1), OWN_FAULTS):",
         "for (what, is_bad), (place, row) in itertools.product(OWN_FAULTS, enumerate(rows, 1)):"),
-    "of equal rows the first is a fault": ("in paths[:each[0]])", "in paths[each[0] + 1:])"),
+    "of equal rows the first is a fault": (
+        FIRSTS, FIRSTS.replace("reversed(list(enumerate(paths)))", "enumerate(paths)").replace("<", ">")),
     "a row enables what its tree has": ("(at[path[:-1]] if path else set(controllers))", "set(controllers)"),
     "of a process the place is tested before its PID": (", ".join(REFUSED_PLACES), ", ".join(REFUSED_PLACES[::-1])),
     "a directory's mode is a file's": ('entry_of(row.get("dir", {}), rules.DIR_MODE)', 'entry_of(row.get("dir", {}), rules.FILE_MODE)'),
 }
+TOO_LONG = "len(data) > (MOST_LARGE if is_large(data) else MOST_BYTES)"
 OF_DOCUMENTS = {
     "a byte order mark is no TOML": ('.removeprefix("\\ufeff")', ""),
-    "16777216 bytes are too many": ("len(data) > MOST_BYTES", "len(data) >= MOST_BYTES"),
+    "16777216 bytes are too many": (TOO_LONG, TOO_LONG.replace("MOST_BYTES", "MOST_BYTES - 1")),
+}
+# of format 4
+NINE = '"cpuset", "cpu", "io", "memory", "hugetlb", "pids", "rdma", "misc", "dmem"'
+NAMES = controllers.ALL_CONTROLLERS
+OF_FORM = "return ALL_CONTROLLERS if form == 4"
+OF_CONTROLLERS_4 = {
+    "formats 1 and 2 have nine controllers": (OF_FORM, OF_FORM.replace("form == 4", "form")),
+    "format 4 has three controllers": (OF_FORM, OF_FORM.replace("form == 4", "form > 4")),
+    **{f"format 4 has no {name}": (NINE, NINE.replace(f'"{name}", ', "").replace(f', "{name}"', ""))
+       for name in NAMES if name not in controllers.CONTROLLERS},
+    **{f"{other} comes before {one}": (NINE, NINE.replace(f'"{one}", "{other}"', f'"{other}", "{one}"')) for one, other in zip(NAMES, NAMES[1:])},
+}
+EVERY = "[c for c in ALL_CONTROLLERS if c in CONTROLLERS or c in state.controllers]"
+UNLIKE = "limits_of(after, top) != limits:"
+KEPT_OUT = "if to and to in state.cgroups and state.cgroups[to].enabled:"
+TURNED = "frozenset(c for c in ALL_CONTROLLERS if last"
+OF_RULES_4 = {
+    "three controllers are told and tried": (EVERY, "CONTROLLERS"),
+    "nine controllers are told": (EVERY, "ALL_CONTROLLERS"),
+    "what the root has is told and tried": (EVERY, "[c for c in ALL_CONTROLLERS if c in state.controllers]"),
+    "the three are told and tried first": (EVERY, "[*CONTROLLERS, *sorted(state.controllers - {*CONTROLLERS}, key=ALL_CONTROLLERS.index)]"),
+    "three controllers bar a control": ("for controller in ALL_CONTROLLERS:", "for controller in CONTROLLERS:"),
+    "a control bars in the order of its changes": ("for controller in ALL_CONTROLLERS:", "for controller in last:"),
+    "a control turns three controllers": (TURNED, TURNED.replace("frozenset", "enabled - {*CONTROLLERS} | frozenset").replace("ALL_", "")),
+    "files of other controllers come and go unseen": ("values, brought(state, top)", "values, frozenset()"),
+    "other files that go are no change": (UNLIKE, "limits_of(after, top)[0] != limits[0] or not brought(after, top) <= limits[1]:"),
+    "other files that come are no change": (UNLIKE, "limits_of(after, top)[0] != limits[0] or not brought(after, top) >= limits[1]:"),
+    "the three alone keep a move out": (KEPT_OUT, KEPT_OUT.replace("enabled:", "enabled & {*CONTROLLERS}:")),
+    "cpuset, cpu and pids let a move in": (KEPT_OUT, KEPT_OUT.replace("enabled:", 'enabled - {"cpuset", "cpu", "pids"}:')),
+    "processes bar the three alone": (
+        "- state.cgroups[path].enabled and lives_at(state, path)", "- state.cgroups[path].enabled & {*CONTROLLERS} and lives_at(state, path)"),
+}
+OF_LASTING_4 = {
+    "any controller but cpuset, cpu and pids takes none": (
+        BY_MEMORY, "any(is_on(state, users, lasting.on, path, one) for one in state.cgroups[path].enabled - {'cpuset', 'cpu', 'pids'})"),
+    "three of the parent's controllers are asked of": ("for controller in rules.controllers_of(state)):", "for controller in rules.CONTROLLERS):"),
+    "three controllers last": ("itertools.product(stays, rules.controllers_of(state))", "itertools.product(stays, rules.CONTROLLERS)"),
+}
+OF_EXPLAINED_4 = {
+    "explain tells of three controllers": ("for controller in rules.controllers_of(state):", "for controller in rules.CONTROLLERS:"),
+}
+OF_ROOT, OF_CGROUP = 'set(document["controllers"]) <= set(controllers_in(form))', 'set(row.get("enabled", [])) <= set(controllers_in(form))'
+OCCUPIED = "bool(path) and path in cgroups and bool(cgroups[path].enabled)"
+OF_TEXTS_4 = {
+    "format 3 is one": ("4: 65536}", "4: 65536, 3: 4096}"),
+    "format 5 is one": ("4: 65536}", "4: 65536, 5: 65536}"),
+    "format 1 has 65536 rows": ("1: 4096,", "1: 65536,"),
+    "format 2 has 65536 rows": ("2: 4096,", "2: 65536,"),
+    "format 4 has 4096 rows": ("4: 65536}", "4: 4096}"),
+    "format 4 has 65535 rows": ("4: 65536}", "4: 65535}"),
+    "format 4 has 65537 rows": ("4: 65536}", "4: 65537}"),
+    "format 4 has no gids": ("if form != 1:", "if form == 2:"),
+    "format 4 hasn't the group's bit": ("form == 1 and mode & 0o020", "form != 2 and mode & 0o020"),
+    "a root of format 4 has three controllers": (OF_ROOT, OF_ROOT.replace("controllers_in(form)", "controllers_in(1)")),
+    "a root of format 2 has nine controllers": (OF_ROOT, OF_ROOT.replace("controllers_in(form)", "controllers_in(4)")),
+    "a cgroup of format 4 enables three controllers": (OF_CGROUP, OF_CGROUP.replace("controllers_in(form)", "controllers_in(1)")),
+    "a cgroup of format 2 enables nine controllers": (OF_CGROUP, OF_CGROUP.replace("controllers_in(form)", "controllers_in(4)")),
+    "the three alone keep a process out": (OCCUPIED, OCCUPIED.replace(".enabled", ".enabled & {*rules.CONTROLLERS}")),
+    "a tree of format 4 is one of format 2": ("frozenset(), max(form, 2))", "frozenset())"),
+    "a tree of format 2 is one of format 4": ("frozenset(), max(form, 2))", "frozenset(), 4)"),
+}
+BEGINS, BEGINNING = "LARGE.match(data)", "LARGE.match(data"
+BRACKETS, ORDERED = 'are_in_order(begins[1].split(b", "))', "names == [name for name in QUOTED_NAMES if name in names]"
+OF_DOCUMENTS_4 = {
+    "no text is large": ("MOST_LARGE if is_large(data) else", "MOST_LARGE if False else"),
+    "every text is large": ("MOST_LARGE if is_large(data) else", "MOST_LARGE if True else"),
+    "67108864 bytes are too many": ("67108864", "67108863"),
+    "67108865 bytes aren't too many": ("67108864", "67108865"),
+    "a large text begins with its format": ("return bool(begins) and (", "return bool(begins) and begins[1] is None and ("),
+    "a large text begins with its controllers": ("return bool(begins) and (", "return bool(begins) and begins[1] is not None and ("),
+    "a large text has a controller": ("(not begins[1] or", "(begins[1] is None or"),
+    "a large text has any controllers": (BRACKETS, "True"),
+    "controllers of a large text stand in any order": (ORDERED, "sorted(names) == sorted(name for name in QUOTED_NAMES if name in names)"),
+    "a controller of a large text may stand twice": (ORDERED, ORDERED.replace("names ==", "list(dict.fromkeys(names)) ==")),
+    "controllers of a large text need no space": (BRACKETS, 'are_in_order(begins[1].replace(b" ", b"").split(b","))'),
+    "controllers of a large text stand in any quotes": (BRACKETS, """are_in_order(begins[1].replace(b"'", b'"').split(b", "))"""),
+    "controllers of a large text end with a comma": (BRACKETS, BRACKETS.replace("begins[1]", 'begins[1].rstrip(b",")')),
+    "a mark may stand before a large text": (BEGINNING, f'{BEGINNING}.removeprefix(b"\\xef\\xbb\\xbf")'),
+    "empty lines may stand before a large text": (BEGINNING, f'{BEGINNING}.lstrip(b"\\n")'),
+    "a comment may stand before a large text": (BEGINNING, f'{BEGINNING}.removeprefix(b"# x\\n")'),
+    "another key may stand before a large text": (BEGINNING, f'{BEGINNING}.removeprefix(b"process = []\\n")'),
+    "a large text has its format anywhere": (BEGINS, BEGINS.replace("match", "search")),
+    "lines of a large text end with two bytes": (BEGINNING, f'{BEGINNING}[:300].replace(b"\\r\\n", b"\\n")'),
+    "spaces of a large text are any": ("format = 4\\n\")", " ?format ?= ?4 ?\\n\")"),
+    "a text of format 2 may be large": ("format = 4\\n\")", "format = [24]\\n\")"),
+}
+OF_COMMANDS_4 = {
+    "a list for any format may name nine controllers": ("word[1:] in controllers_in(form)", "word[1:] in controllers_in(4)"),
+    "a list for format 4 may name three controllers": ("word[1:] in controllers_in(form)", "word[1:] in controllers_in(2)"),
+    "upgrade writes format 2 of every tree": ('{"format": state.form,', '{"format": 2,'),
+    "upgrade writes format 4 of every tree": ('{"format": state.form,', '{"format": 4,'),
+    "upgrade writes three controllers of the root": (
+        "controllers = [c for c in rules.ALL_CONTROLLERS if", "controllers = [c for c in rules.CONTROLLERS if"),
+    "upgrade writes three controllers of a cgroup": ("enabled = [c for c in rules.ALL_CONTROLLERS if", "enabled = [c for c in rules.CONTROLLERS if"),
 }
 # of each kind the module, and the command without which a program isn't told from what is turned there
 KINDS = [("documents", "may", OF_DOCUMENTS), ("rules", "may", OF_RULES), ("lasting", "settle", OF_LASTING),
          ("settled", "audit --settle", OF_SETTLED), ("explained", "explain", OF_EXPLAINED), ("texts", "may", OF_TEXTS),
          ("commands", "may", OF_COMMANDS), ("commands", "advise --settle", OF_SETTLED_ADVICE), ("commands", "explain", OF_EXPLAIN)]
+KINDS_4 = [("controllers", FORMAT_4, OF_CONTROLLERS_4), ("rules", FORMAT_4, OF_RULES_4), ("texts", FORMAT_4, OF_TEXTS_4),
+           ("documents", FORMAT_4, OF_DOCUMENTS_4), ("commands", FORMAT_4, OF_COMMANDS_4), ("lasting", "settle", OF_LASTING_4),
+           ("explained", "explain", OF_EXPLAINED_4)]
+KINDS += KINDS_4
 MUTANTS = {name: (module, *turn) for module, _, turns in KINDS for name, turn in turns.items()}
 
 
 def able(known):
     """The wrong models of which something shows in the commands that a program has."""
-    return [name for _, command, turns in KINDS if command in known for name in turns]
+    return [name for kind in KINDS if kind[1] in known and (FORMAT_4 in known or kind not in KINDS_4) for name in kind[2]]
 
 
-def shows(name, words):
-    """Whether a mutant can differ on a command line."""
-    needed = next(command for _, command, turns in KINDS if name in turns)
+def shows(name, case, wide):
+    """Whether a mutant is asked of a case, which is mostly of format 4 or of another."""
+    words, needed = case.words, next(command for _, command, turns in KINDS if name in turns)
+    if name in OF_DOCUMENTS_4 and max(map(len, [case.stdin, *case.files.values()])) <= documents.MOST_BYTES:
+        return False
+    if not wide and any(name in turns for _, _, turns in KINDS_4):
+        return False
     if needed == "settle":
         return not {"settle", "--settle", "explain"}.isdisjoint(words)
-    return needed == "may" or words[:1] == needed.split(" ")[:1] and {*needed.split(" ")} <= {*words}
+    return needed in ("may", FORMAT_4) or words[:1] == needed.split(" ")[:1] and {*needed.split(" ")} <= {*words}
 
 
 @functools.lru_cache(maxsize=None)
@@ -290,11 +400,17 @@ def respond_of(name):
 
 def made_anew(package, module, text="", other=""):
     """A module of a package, made from its source with a text changed that stands there once."""
+    made = types.ModuleType(f"{package.__name__}.{module}")
+    made.__package__ = package.__name__
+    exec(code_of(module, text, other), made.__dict__)
+    return made
+
+
+@functools.lru_cache(maxsize=len(MODULES))
+def code_of(module, text, other):
+    """Kept, since most modules of a mutant are as they are."""
     with open(MODULES[module].__file__) as source:
         whole = source.read()
     if text and whole.count(text) != 1:
         raise ValueError(f"stands not once in {module}.py: {text}")
-    made = types.ModuleType(f"{package.__name__}.{module}")
-    made.__package__ = package.__name__
-    exec(compile(whole.replace(text, other) if text else whole, made.__name__, "exec"), made.__dict__)
-    return made
+    return compile(whole.replace(text, other) if text else whole, module, "exec")

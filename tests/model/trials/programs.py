@@ -1,5 +1,6 @@
 """Runs a program on cases, and compares what it writes with what it should."""
 import dataclasses
+import functools
 import os
 import re
 import shutil
@@ -9,19 +10,21 @@ import tempfile
 import tomllib
 
 from second import commands, documents, rules
+from trials import format_4
 
 SECONDS = 60
 
 
 def known_commands(program):
-    """The commands that a program lists in its help, and those with an option where their help has it."""
+    """The commands that a program lists in its help, those with an option where their help has it, and format 4 where it reads that."""
     lines = help_of(program)
     listed = lines[lines.index("Commands:") + 1:]
     names = {line.split()[0] for line in listed[:listed.index("")]} & commands.OPTIONS.keys()
     for command, option in (("audit", "--all"), ("advise", "--pairs"), ("audit", "--settle"), ("advise", "--settle")):
         if command in names and any(re.search(rf"{option}\b", line) for line in help_of(program, command)):
             names |= {f"{command} {option}"}
-    return frozenset(names)
+    reads = subprocess.run([program, "upgrade"], input=format_4.TREE, capture_output=True).returncode == 0
+    return frozenset(names | {format_4.FORMAT_4} if reads else names)
 
 
 def help_of(program, *words):
@@ -140,12 +143,18 @@ def is_open(lines):
     return bool(lines) and type(lines[0]).__name__ == commands.Open.__name__
 
 
+@functools.lru_cache(maxsize=2)
+def document_of(stdout):
+    """The document of a report, or None; kept, since several models are compared with one report."""
+    try:
+        return tomllib.loads(stdout.decode("ascii"))
+    except ValueError:
+        return None
+
+
 def same_report(stdout, lines):
     if lines and isinstance(lines[0], dict):
-        try:
-            return tomllib.loads(stdout.decode("ascii")) == lines[0]
-        except ValueError:
-            return False
+        return document_of(stdout) == lines[0]
     return stdout == "".join(line + "\n" for line in lines).encode("ascii")
 
 

@@ -1,5 +1,8 @@
 """Small random states for a search: few cgroups and processes, and entries that one or two users reach in each way."""
+from dataclasses import replace
+
 from second import rules
+from second.controllers import ALL_CONTROLLERS
 from second.rules import CONTROLLERS, DEPTH, DESCENDANTS, DIR, MAX, Cgroup, Entry, State
 
 USERS = [(1000, (5,)), (1001, ())]
@@ -7,12 +10,12 @@ STRANGER = 0
 PIDS = [1, 2, 3]
 
 
-def random_state(rng, most=6):
-    """A well-formed state of 3 cgroups or more, of which some are about room for new ones alone."""
+def random_state(rng, most=6, names=CONTROLLERS):
+    """A well-formed state of 3 cgroups or more, of which some are about room for new ones alone; of some controllers of those named."""
     paths = random_paths(rng, rng.randint(3, most))
     if rng.random() < 0.4:
         return state_about_room(rng, paths)
-    controllers = frozenset(rng.sample(CONTROLLERS, rng.choice([0, 1, 1, 1, 2])))
+    controllers = frozenset(rng.sample(names, rng.choice([0, 1, 1, 1, 2])))
     chances = {name: rng.choice([0.0, 0.1, 0.5, 0.8]) for name in rules.STANDING}
     often = rng.choice([0.2, 0.5, 0.8])
     enabled = {(): frozenset(c for c in sorted(controllers) if rng.random() < often)}
@@ -20,6 +23,15 @@ def random_state(rng, most=6):
         enabled[path] = frozenset(c for c in sorted(enabled[path[:-1]]) if rng.random() < often)
     cgroups = cgroups_of(rng, controllers, enabled, chances)
     return with_limits(rng, with_processes(rng, controllers, cgroups), rng.choice([0, 0, 0.3, 0.8]))
+
+
+def in_format_4(rng, state):
+    """A state in format 4, at times with a controller more, or two, that other formats don't have."""
+    more, cgroups = rng.sample([c for c in ALL_CONTROLLERS if c not in CONTROLLERS], rng.choice([0, 1, 1, 2])), {}
+    for path, cgroup in sorted(state.cgroups.items()):
+        able = [c for c in more if not path or c in cgroups[path[:-1]].enabled and not rules.lives_at(state, path)]
+        cgroups[path] = replace(cgroup, enabled=cgroup.enabled | {c for c in able if rng.random() < 0.6})
+    return replace(state, controllers=state.controllers | {*more}, cgroups=cgroups, form=4)
 
 
 def state_about_room(rng, paths):

@@ -3,6 +3,7 @@ import itertools
 from dataclasses import dataclass
 
 from second import commands, rules
+from second.controllers import ALL_CONTROLLERS
 from second.rules import text_of
 from trials import small
 
@@ -54,9 +55,9 @@ def user_of(rng):
 
 def random_tree(rng):
     chance = rng.random()
-    if chance < 0.07:
+    if chance < 0.09:
         return tree_to_probe(rng)
-    if chance < 0.19:
+    if chance < 0.21:
         return tree_of_doors(rng)
     paths = random_paths(rng)
     form = rng.choice([1, 2, 2])
@@ -85,16 +86,22 @@ def random_tree(rng):
     return tree
 
 
-def tree_of_state(rng, of_two=9):
+def tree_of_state(rng, of_two=9, wide=False):
     """A small state of a search, most of whose subtrees fail a guard and break by no try; of so many in 100 two users have to break
-    one together."""
-    states = [small.random_state, small.state_of_site, small.state_of_two]
+    one together. It is of format 2 or of format 4."""
+    states = [wide_state if wide else small.random_state, small.state_of_site, small.state_of_two]
     state = rng.choices(states, [89 - of_two, 11, of_two])[0](rng)
+    if wide:
+        state = small.in_format_4(rng, state)
     parts = commands.document_of(state)
     rows = {path: row for path, row in zip(sorted(state.cgroups), parts["cgroup"])}
     pairs = list(itertools.product(small.USERS, [path for path in rows if path]))
     hard = [(user, top) for user, top in pairs if rules.answer(state, user, top)[0] == "unsettled"]
-    return Tree(2, parts["controllers"], rows, parts["process"], *rng.choice(hard or pairs))
+    return Tree(state.form, parts["controllers"], rows, parts["process"], *rng.choice(hard or pairs))
+
+
+def wide_state(rng):
+    return small.random_state(rng, names=ALL_CONTROLLERS)
 
 
 def tree_to_probe(rng):
@@ -115,6 +122,8 @@ def tree_to_probe(rng):
     tree = Tree(rng.choice([1, 2]), [controller], rows, [], user_of(rng), top)
     for name in (rules.PROCS, rules.DIR):
         share(rng, tree, above[shared], name)
+    if rng.random() < 0.15:
+        tree.entry(above[shared], rules.PROCS).update({"uid": tree.user[0], "mode": 0o444})
     if rng.random() < 0.5:
         tree.entry(above[shared], rules.DIR).update(tree.entry(above[shared], rules.PROCS))
     tree.processes.append({"pid": rng.choice(PIDS), "uid": 1000, "at": text_of(top)})
@@ -232,7 +241,7 @@ def share(rng, tree, path, name):
     gids = [*gids[:3], *gids[3:][-1:] * 4]
     entry = tree.entry(path, name)
     ways = [{"uid": uid}, {"uid": uid, "mode": 0o444}, {"uid": uid, "mode": 0o446}, {"mode": 0o646}, {"uid": 7, "mode": 0o602}]
-    if tree.form == 2:
+    if tree.form != 1:
         ways += [{"gid": gid, "mode": mode} for gid in [*gids, 77] for mode in (0o664, 0o666, 0o646, 0o620)]
         ways += [{"uid": uid, "gid": gid, "mode": mode} for gid in gids for mode in (0o464, 0o446, 0o664, 0o666)]
     entry.update(rng.choice(ways))
@@ -247,7 +256,7 @@ def scatter(rng, tree):
                 entry["uid"] = rng.choice(UIDS)
                 if rng.random() < 0.5:
                     entry["mode"] = rng.choice([0, 0o644, 0o646, 0o755, 0o444, 0o200, 0o002, 0o757, 0o555])
-                if tree.form == 2:
+                if tree.form != 1:
                     entry["gid"] = rng.choice(GIDS)
                     entry["mode"] = entry.get("mode", 0o644) | rng.choice([0, 0o020])
 

@@ -1,7 +1,7 @@
 //! Operation lines that a reader gives.
 ghost use Rattle.std.specs.Prelude.{◌≡◌, ◌+◌, ◌≤◌, OnOk, IfOk, IfErr, Err};
 ghost use Rattle.std.specs.Option.{option_map};
-ghost use Rattle.cg_format.specs.Readings.{OnText};
+ghost use Rattle.cg_format.specs.Readings.{OnText, vocabulary_in};
 ghost use Rattle.cg_cli.specs.Arguments.{user_read};
 ghost use Rattle.cg_cli.specs.Courses.{HasMade, came_to};
 ghost use Rattle.cg_cli.specs.Replays.{closed, lines_report};
@@ -11,6 +11,7 @@ use super::course_of;
 use crate::arguments::{UserIds, read_user};
 use crate::replay::course::{OnCourse, write_closing};
 use crate::replay::run::Run;
+use cg_cgroup::files::Vocabulary;
 use cg_cgroup::user::User;
 use cg_faults::fault::CliFault;
 use std::alloc::Global;
@@ -33,28 +34,29 @@ pub fn replay_from<R: BufRead, W: Write>(
     out: &mut W,
 ) -> Result<u8, CliFault>
     ensures replays { OnText tree.now (λ read. ReplaysFrom closed
-        (lines_report read user.entry.uid user.entry.gids.now (option_map (λ text. text.now) subtree.entry))
+        (lines_report (vocabulary_in tree.now) read user.entry.uid user.entry.gids.now (option_map (λ text. text.now) subtree.entry))
         (R.remaining ops.old) (R.remaining ops.new) (W.contents out.old) (W.contents out.new) result) }
     ensures user { IfErr (user_read user.entry.uid user.entry.gids.now) (λ fault. result ≡ Err fault) }
 {
     let user = read_user(user)?;
-    let course = course_of(alloc, tree, subtree)?;
-    reader_closed(alloc, course, user, ops, out)
+    let (vocabulary, course) = course_of(alloc, tree, subtree)?;
+    reader_closed(alloc, vocabulary, course, user, ops, out)
 }
 
 /// A whole replay over the bytes of a reader, and what is said at its end.
 fn reader_closed<C: OnCourse, R: BufRead, W: Write>(
     alloc: Global,
+    vocabulary: Vocabulary,
     course: C,
     user: User,
     ops: &mut R,
     out: &mut W,
 ) -> Result<u8, CliFault>
     requires { HasMade 0 (C.course course) }
-    ensures { ReplaysFrom closed (coming (from_start (C.course course) user))
+    ensures { ReplaysFrom closed (coming (from_start vocabulary (C.course course) user))
         (R.remaining ops.old) (R.remaining ops.new) (W.contents out.old) (W.contents out.new) result }
 {
-    let course = replay_reader(alloc, Run::new(alloc, course, user), ops, out)?;
+    let course = replay_reader(alloc, Run::new(alloc, course, user, vocabulary), ops, out)?;
     write_closing(alloc, &course, out)
 }
 

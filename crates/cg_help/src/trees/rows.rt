@@ -1,24 +1,43 @@
 //! Rows that don't go together, and texts that name nothing.
+use crate::names::{controller_names, listed};
 use crate::paths::why_missing;
 use crate::trees::places::shown_value;
-use cg_cgroup::files::Controller;
+use cg_cgroup::files::{Controller, Vocabulary};
 use cg_text::tree::told::{Told, paths_of};
 use std::alloc::{AllocError, Global};
 use text_places::near::nearest_of;
 use text_places::shown::quoted;
 use toml::Table;
 
-/// Which text of `controllers` or `enabled` is no controller.
-pub(super) fn controller_said(alloc: Global, key: &str, text: &str) -> Result<String, AllocError> {
-    let names = Controller::IN_FORMAT_2.map(|controller| controller.name());
+/// Which text of `controllers` or `enabled` is no controller of the format.
+pub(super) fn controller_said(
+    alloc: Global,
+    key: &str,
+    text: &str,
+    vocabulary: Vocabulary,
+) -> Result<String, AllocError> {
+    let names = controller_names(alloc, vocabulary)?;
     let shown = quoted(alloc, text)?;
-    match nearest_of(alloc, text, &names)? {
-        Some(name) => format!(in alloc;
+    if Controller::from_name(text).is_some() {
+        return format!(in alloc;
+            "'{shown}' of {key} isn't cpu, memory or pids: left out, its limits count in no answer; format = 4 has it"
+        );
+    }
+    if let Some(name) = nearest_of(alloc, text, names.as_slice())? {
+        return format!(in alloc;
             "'{shown}' of {key} is no controller: write {name}; left out, its limits count in no answer"
-        ),
-        None => format!(in alloc;
+        );
+    }
+    match vocabulary {
+        Vocabulary::Format2 => format!(in alloc;
             "'{shown}' of {key} isn't cpu, memory or pids: left out, its limits count in no answer"
         ),
+        Vocabulary::Format4 => {
+            let names = listed(alloc, names.as_slice())?;
+            format!(in alloc;
+                "'{shown}' of {key} is none of{names}: left out, its limits count in no answer"
+            )
+        }
     }
 }
 

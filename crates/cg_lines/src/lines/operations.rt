@@ -6,7 +6,7 @@ ghost use Rattle.cg_lines.specs.LineReading.{ReadsAs, is_space, changes_at, move
 
 use crate::lines::fault::LineFault;
 use crate::lines::words::{change_of, cut, limit_of, mode_of, pid_of};
-use cg_cgroup::files::{EntryName, LimitFile};
+use cg_cgroup::files::{EntryName, LimitFile, Vocabulary};
 use cg_cgroup::path::Path;
 use cg_model::changes::Changes;
 use cg_model::operation::Op;
@@ -19,16 +19,16 @@ fn path_of(alloc: Global, word: &str) -> Result<Path, LineFault>
 }
 
 /// The changes of one word or more.
-fn changes_of(alloc: Global, words: &str) -> Result<Changes, LineFault>
-    ensures { ReadsAs result (changes_at (slice_split is_space words.now)) }
+fn changes_of(alloc: Global, vocabulary: Vocabulary, words: &str) -> Result<Changes, LineFault>
+    ensures { ReadsAs result (changes_at vocabulary (slice_split is_space words.now)) }
 {
     let mut changes = Changes::new(alloc);
     let mut rest = words;
     while let Some((word, others)) = cut(rest) {
-        changes.push(change_of(word).ok_or(LineFault::BadWord)?)?;
+        changes.push(change_of(vocabulary, word).ok_or(LineFault::BadWord)?)?;
         rest = others;
     }
-    changes.push(change_of(rest).ok_or(LineFault::BadWord)?)?;
+    changes.push(change_of(vocabulary, rest).ok_or(LineFault::BadWord)?)?;
     Ok(changes)
 }
 
@@ -43,8 +43,8 @@ fn move_of(alloc: Global, text: &str) -> Result<Op, LineFault>
 }
 
 #[tactic(auto, unfolding(crate::specs::LineReading::control_at))]
-fn control_of(alloc: Global, text: &str) -> Result<Op, LineFault>
-    ensures { ReadsAs result (control_at text.now) }
+fn control_of(alloc: Global, vocabulary: Vocabulary, text: &str) -> Result<Op, LineFault>
+    ensures { ReadsAs result (control_at vocabulary text.now) }
 {
     let Some((at, words)) = cut(text) else {
         let at = path_of(alloc, text)?;
@@ -52,7 +52,7 @@ fn control_of(alloc: Global, text: &str) -> Result<Op, LineFault>
         return Ok(Op::Control { at, changes });
     };
     let at = path_of(alloc, at)?;
-    let changes = changes_of(alloc, words)?;
+    let changes = changes_of(alloc, vocabulary, words)?;
     Ok(Op::Control { at, changes })
 }
 
@@ -115,12 +115,17 @@ fn chmod_of(alloc: Global, text: &str) -> Result<Op, LineFault>
 }
 
 #[tactic(auto, unfolding(crate::specs::LineReading::operation_named))]
-fn operation_named(alloc: Global, name: &str, text: &str) -> Result<Op, LineFault>
-    ensures { ReadsAs result (operation_named name.now text.now) }
+fn operation_named(
+    alloc: Global,
+    vocabulary: Vocabulary,
+    name: &str,
+    text: &str,
+) -> Result<Op, LineFault>
+    ensures { ReadsAs result (operation_named vocabulary name.now text.now) }
 {
     match name {
         "move" => move_of(alloc, text),
-        "control" => control_of(alloc, text),
+        "control" => control_of(alloc, vocabulary, text),
         "mkdir" => mkdir_of(alloc, text),
         "rmdir" => rmdir_of(alloc, text),
         "set" => set_of(alloc, text),
@@ -131,11 +136,11 @@ fn operation_named(alloc: Global, name: &str, text: &str) -> Result<Op, LineFaul
     }
 }
 
-/// The operation of a line.
+/// The operation of a line, which names controllers of a vocabulary.
 #[tactic(auto, unfolding(crate::specs::LineReading::operation_at))]
-pub fn operation_of(alloc: Global, line: &str) -> Result<Op, LineFault>
-    ensures { ReadsAs result (operation_at line.now) }
+pub fn operation_of(alloc: Global, vocabulary: Vocabulary, line: &str) -> Result<Op, LineFault>
+    ensures { ReadsAs result (operation_at vocabulary line.now) }
 {
     let (name, text) = cut(line).ok_or(LineFault::BadWord)?;
-    operation_named(alloc, name, text)
+    operation_named(alloc, vocabulary, name, text)
 }

@@ -2,47 +2,58 @@
 ghost use Rattle.std.specs.Prelude.{◌≡◌, ◌↔◌, ◌&&◌, nat_le, length, true, IsTrue};
 ghost use Rattle.cg_cgroup.specs.Numbers.{is_pid, is_mode};
 ghost use Rattle.cg_cgroup.specs.Paths.{IsPath};
-ghost use Rattle.cg_lines.specs.LineLengths.{HasFewChanges};
-ghost use Rattle.cg_lines.specs.OperationLines.{HasLine, IsInFormat2, IsInRange, IsLimitInRange, are_in_format_2};
+ghost use Rattle.cg_cgroup.specs.declared.files.Vocabulary.{Vocabulary};
+ghost use Rattle.cg_lines.specs.LineLengths.{HasFewChanges, most_changes};
+ghost use Rattle.cg_lines.specs.OperationLines.{HasKnownControllers, HasLine, IsInRange, IsLimitInRange, are_known};
 
-use cg_cgroup::files::Limit;
+use cg_cgroup::files::{Limit, Vocabulary};
 use cg_cgroup::path::Path;
 use cg_cgroup::process::Pid;
 use cg_cgroup::user::Mode;
 use cg_model::changes::Change;
 use cg_model::operation::Op;
 
-/// Whether an operation has at most 511 changes, each of a controller that lines know, as all have but some of `control`.
-/// Then it has a line, of at most 8192 bytes.
-pub fn has_short_line(op: &Op) -> bool
-    ensures few { IsTrue result ↔ (IsInFormat2 op.now × HasFewChanges op.now) }
-    ensures line { result ≡ true → HasLine op.now }
+/// Whether an operation has few changes, each of a controller that lines of a vocabulary name, as all have but some of
+/// `control`: at most 511 in formats 1 and 2, and 454 in format 4. Then it has a line, of at most 8192 bytes.
+pub fn has_short_line(vocabulary: Vocabulary, op: &Op) -> bool
+    ensures few { IsTrue result ↔ (HasKnownControllers vocabulary op.now × HasFewChanges vocabulary op.now) }
+    ensures line { result ≡ true → HasLine vocabulary op.now }
 {
     hold(op);
     match op {
-        Op::Control { changes, .. } => are_spelled(changes.as_slice()),
+        Op::Control { changes, .. } => are_spelled(vocabulary, changes.as_slice()),
         _ => true,
     }
 }
 
-/// Whether lines know the controllers of so few changes that a line can hold them.
-fn are_spelled(changes: &[Change]) -> bool
-    ensures { result ≡ (are_in_format_2 changes.now && nat_le (length changes.now) 511) }
+/// Whether a vocabulary has the controllers of so few changes that a line can hold them.
+fn are_spelled(vocabulary: Vocabulary, changes: &[Change]) -> bool
+    ensures { result ≡ (are_known vocabulary changes.now && nat_le (length changes.now) (most_changes vocabulary)) }
 {
-    are_in_format_2(changes) && changes.len() <= 511
+    are_known(vocabulary, changes) && changes.len() <= most_changes(vocabulary)
 }
 
-fn are_in_format_2(changes: &[Change]) -> bool
-    ensures { result ≡ are_in_format_2 changes.now }
+/// How many changes fit into a line behind the longest path.
+fn most_changes(vocabulary: Vocabulary) -> usize
+    ensures { result ≡ most_changes vocabulary }
+{
+    match vocabulary {
+        Vocabulary::Format2 => 511,
+        Vocabulary::Format4 => 454,
+    }
+}
+
+fn are_known(vocabulary: Vocabulary, changes: &[Change]) -> bool
+    ensures { result ≡ are_known vocabulary changes.now }
 {
     changes
         .iter()
-        .all(|change| change.controller.is_in_format_2())
+        .all(|change| vocabulary.has(change.controller))
 }
 
-/// What an operation holds is in range, as all that can be held is, where lines know its controllers.
+/// What an operation holds is in range, as all that can be held is, where lines of a vocabulary name its controllers.
 fn hold(op: &Op)
-    ensures { IsInFormat2 op.now → IsInRange op.now }
+    ensures { (vocabulary : Vocabulary) → HasKnownControllers vocabulary op.now → IsInRange vocabulary op.now }
 {
     match op {
         Op::Move { pid, to } => {

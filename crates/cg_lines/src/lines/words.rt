@@ -3,7 +3,7 @@ ghost use Rattle.std.specs.Prelude.{◌≡◌};
 ghost use Rattle.std.specs.Option.{option_map};
 ghost use Rattle.cg_lines.specs.LineReading.{cut, number_at, pid_at, limit_at, octal_at, mode_at, change_at};
 
-use cg_cgroup::files::{Controller, Limit};
+use cg_cgroup::files::{Limit, Vocabulary};
 use cg_cgroup::process::Pid;
 use cg_cgroup::user::Mode;
 use cg_model::changes::Change;
@@ -70,15 +70,15 @@ pub fn mode_of(word: &str) -> Option<Mode>
     Mode::new(owner * 64 + group * 8 + others)
 }
 
-/// The change of a word: a sign and a controller.
+/// The change of a word: a sign and a controller of the vocabulary.
 #[tactic(auto, unfolding(crate::specs::LineReading::change_at))]
-pub fn change_of(word: &str) -> Option<Change>
-    ensures { result ≡ change_at word.now }
+pub fn change_of(vocabulary: Vocabulary, word: &str) -> Option<Change>
+    ensures { result ≡ change_at vocabulary word.now }
 {
     let (on, name) = match word.strip_prefix('+') {
         Some(name) => (true, name),
         None => (false, word.strip_prefix('-')?),
     };
-    let controller = Controller::from_format_2(name)?;
+    let controller = vocabulary.controller(name)?;
     Some(Change { on, controller })
 }

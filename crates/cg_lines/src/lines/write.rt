@@ -3,8 +3,9 @@ ghost use Rattle.std.specs.Prelude.{◌≡◌, ◌++◌, true, [], ◌∷◌, If
 ghost use Rattle.std.specs.String.{string_bytes};
 ghost use Rattle.std.specs.List.{flat_map};
 ghost use Rattle.cg_cgroup.specs.Paths.{path_text, IsPath};
+ghost use Rattle.cg_cgroup.specs.declared.files.Vocabulary.{Vocabulary};
 ghost use Rattle.cg_model.specs.declared.operation.Op.TheVariants.{Move, Control, Mkdir, Rmdir, Set, Fork, Exit, Chmod};
-ghost use Rattle.cg_lines.specs.OperationLines.{change_word, limit_word, mode_word, spelling, are_in_format_2, IsInFormat2, IsInRange};
+ghost use Rattle.cg_lines.specs.OperationLines.{change_word, limit_word, mode_word, spelling, are_known, HasKnownControllers, IsInRange};
 
 use cg_cgroup::files::{EntryName, Limit, LimitFile};
 use cg_cgroup::memory::NoMemory;
@@ -24,7 +25,7 @@ fn whole(path: &Path) -> &str
 
 fn move_line(alloc: Global, pid: Pid, to: &Path) -> Result<String, NoMemory>
     ensures text { IfOk result (λ line. string_bytes line ≡ spelling (Move pid to.now) ++ 10 ∷ []) }
-    ensures held { IsInRange (Move pid to.now) }
+    ensures held { (vocabulary : Vocabulary) → IsInRange vocabulary (Move pid to.now) }
 {
     let pid = pid.get();
     let to = whole(to);
@@ -50,7 +51,7 @@ fn push_changes(line: &mut String, changes: &[Change]) -> Result<(), NoMemory>
 
 fn control_line(alloc: Global, at: &Path, changes: &Changes) -> Result<String, NoMemory>
     ensures text { IfOk result (λ line. string_bytes line ≡ spelling (Control at.now changes.now) ++ 10 ∷ []) }
-    ensures held { are_in_format_2 changes.now ≡ true → IsInRange (Control at.now changes.now) }
+    ensures held { (vocabulary : Vocabulary) → are_known vocabulary changes.now ≡ true → IsInRange vocabulary (Control at.now changes.now) }
 {
     let at = whole(at);
     let mut line = format!(in alloc; "control {at}")?;
@@ -61,7 +62,7 @@ fn control_line(alloc: Global, at: &Path, changes: &Changes) -> Result<String, N
 
 fn mkdir_line(alloc: Global, path: &Path) -> Result<String, NoMemory>
     ensures text { IfOk result (λ line. string_bytes line ≡ spelling (Mkdir path.now) ++ 10 ∷ []) }
-    ensures held { IsInRange (Mkdir path.now) }
+    ensures held { (vocabulary : Vocabulary) → IsInRange vocabulary (Mkdir path.now) }
 {
     let path = whole(path);
     Ok(format!(in alloc; "mkdir {path}\n")?)
@@ -69,7 +70,7 @@ fn mkdir_line(alloc: Global, path: &Path) -> Result<String, NoMemory>
 
 fn rmdir_line(alloc: Global, path: &Path) -> Result<String, NoMemory>
     ensures text { IfOk result (λ line. string_bytes line ≡ spelling (Rmdir path.now) ++ 10 ∷ []) }
-    ensures held { IsInRange (Rmdir path.now) }
+    ensures held { (vocabulary : Vocabulary) → IsInRange vocabulary (Rmdir path.now) }
 {
     let path = whole(path);
     Ok(format!(in alloc; "rmdir {path}\n")?)
@@ -77,7 +78,7 @@ fn rmdir_line(alloc: Global, path: &Path) -> Result<String, NoMemory>
 
 fn set_line(alloc: Global, at: &Path, file: LimitFile, value: Limit) -> Result<String, NoMemory>
     ensures text { IfOk result (λ line. string_bytes line ≡ spelling (Set at.now file value) ++ 10 ∷ []) }
-    ensures held { IsInRange (Set at.now file value) }
+    ensures held { (vocabulary : Vocabulary) → IsInRange vocabulary (Set at.now file value) }
 {
     let (at, file) = (whole(at), file.name());
     match value {
@@ -88,7 +89,7 @@ fn set_line(alloc: Global, at: &Path, file: LimitFile, value: Limit) -> Result<S
 
 fn fork_line(alloc: Global, parent: Pid, child: Pid) -> Result<String, NoMemory>
     ensures text { IfOk result (λ line. string_bytes line ≡ spelling (Fork parent child) ++ 10 ∷ []) }
-    ensures held { IsInRange (Fork parent child) }
+    ensures held { (vocabulary : Vocabulary) → IsInRange vocabulary (Fork parent child) }
 {
     let parent = parent.get();
     let child = child.get();
@@ -97,7 +98,7 @@ fn fork_line(alloc: Global, parent: Pid, child: Pid) -> Result<String, NoMemory>
 
 fn exit_line(alloc: Global, pid: Pid) -> Result<String, NoMemory>
     ensures text { IfOk result (λ line. string_bytes line ≡ spelling (Exit pid) ++ 10 ∷ []) }
-    ensures held { IsInRange (Exit pid) }
+    ensures held { (vocabulary : Vocabulary) → IsInRange vocabulary (Exit pid) }
 {
     let pid = pid.get();
     Ok(format!(in alloc; "exit {pid}\n")?)
@@ -105,7 +106,7 @@ fn exit_line(alloc: Global, pid: Pid) -> Result<String, NoMemory>
 
 fn chmod_line(alloc: Global, at: &Path, entry: EntryName, mode: Mode) -> Result<String, NoMemory>
     ensures text { IfOk result (λ line. string_bytes line ≡ spelling (Chmod at.now entry mode) ++ 10 ∷ []) }
-    ensures held { IsInRange (Chmod at.now entry mode) }
+    ensures held { (vocabulary : Vocabulary) → IsInRange vocabulary (Chmod at.now entry mode) }
 {
     let at = whole(at);
     let entry = entry.name();
@@ -118,7 +119,7 @@ fn chmod_line(alloc: Global, at: &Path, entry: EntryName, mode: Mode) -> Result<
 
 fn line_of(alloc: Global, op: &Op) -> Result<String, NoMemory>
     ensures text { IfOk result (λ line. string_bytes line ≡ spelling op.now ++ 10 ∷ []) }
-    ensures held { IsInFormat2 op.now → IsInRange op.now }
+    ensures held { (vocabulary : Vocabulary) → HasKnownControllers vocabulary op.now → IsInRange vocabulary op.now }
 {
     match op {
         Op::Move { pid, to } => move_line(alloc, *pid, to),
@@ -132,11 +133,11 @@ fn line_of(alloc: Global, op: &Op) -> Result<String, NoMemory>
     }
 }
 
-/// The line of an operation, and a newline. `read_op` of the line gives the operation back, where it has at most 8192
-/// bytes and names no controller but those of format 2.
+/// The line of an operation, and a newline. `read_op_in` of the line gives the operation back, where it has at most 8192
+/// bytes and names controllers of the vocabulary alone.
 pub fn op_text(alloc: Global, op: &Op) -> Result<Vec<u8>, NoMemory>
     ensures text { IfOk result (λ text. text.items ≡ spelling op.now ++ 10 ∷ []) }
-    ensures held { IsInFormat2 op.now → IsInRange op.now }
+    ensures held { (vocabulary : Vocabulary) → HasKnownControllers vocabulary op.now → IsInRange vocabulary op.now }
 {
     Ok(line_of(alloc, op)?.into_bytes())
 }

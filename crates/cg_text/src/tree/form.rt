@@ -5,7 +5,7 @@ ghost use Rattle.cg_model.specs.Clauses.{first, unless};
 ghost use Rattle.toml.specs.Data.{Data, table, get_member};
 ghost use Rattle.toml.specs.View.{view, table_view};
 ghost use Rattle.cg_format.specs.declared.fault.TreeFault.TheVariants.{Shape};
-ghost use Rattle.cg_format.specs.Form.{most_rows, document_keys, owner_keys, limit_keys, file_keys_of, row_keys, live_keys, is_table};
+ghost use Rattle.cg_format.specs.Form.{document_keys, owner_keys, limit_keys, file_keys_of, row_keys, live_keys, is_table};
 ghost use Rattle.cg_format.specs.TextFaults.{each_cgroup, each_process, form_faults};
 ghost use Rattle.cg_format.specs.TextOf.{IsInForm};
 ghost use Rattle.cg_text.specs.Faults.{Passes};
@@ -15,12 +15,12 @@ use crate::tree::said::{elements_at, format_at};
 use crate::tree::takes::Takes;
 use cg_cgroup::files::EntryName;
 use cg_format::fault::{Place, TreeFault};
-use cg_format::format::{Format, MOST_ROWS};
+use cg_format::format::{Format, MOST_ROWS_OF_4};
 use toml::{Table, Value};
 
 /// The number of a row that stands at `index` in its array.
 pub fn row_number(index: usize) -> u32
-    requires { index < most_rows }
+    requires { index < MOST_ROWS_OF_4 }
     ensures { result ≡ index + 1 }
 {
     index as u32 + 1
@@ -40,7 +40,7 @@ fn owner_takes(format: Format, key: &str) -> Option<Takes>
     ensures { (held : Data) → takes_as result held ≡ takes (owner_keys format) key.now held }
 {
     match (format, key) {
-        (_, "uid" | "mode") | (Format::Two, "gid") => Some(Takes::Integer),
+        (_, "uid" | "mode") | (Format::Two | Format::Four, "gid") => Some(Takes::Integer),
         _ => None,
     }
 }
@@ -195,7 +195,7 @@ fn is_document(document: &Table) -> bool
 
 /// Tests the form of each cgroup.
 fn cgroups_in_form(format: Format, cgroups: &[Value]) -> Result<(), TreeFault>
-    requires { length cgroups.now ≤ most_rows }
+    requires { length cgroups.now ≤ MOST_ROWS_OF_4 }
     ensures { Passes (λ _. Unit {0})
         (first (each_cgroup (λ _ place held. unless (is_table (row_keys format) held) (Shape place)) (map view cgroups.now))) result }
 {
@@ -209,7 +209,7 @@ fn cgroups_in_form(format: Format, cgroups: &[Value]) -> Result<(), TreeFault>
 
 /// Tests the form of each process.
 fn processes_in_form(processes: &[Value]) -> Result<(), TreeFault>
-    requires { length processes.now ≤ most_rows }
+    requires { length processes.now ≤ MOST_ROWS_OF_4 }
     ensures { Passes (λ _. Unit {0})
         (first (each_process (λ _ place held. unless (is_table live_keys held) (Shape place)) (map view processes.now))) result }
 {
@@ -231,7 +231,8 @@ pub fn in_form(document: &Table) -> Result<Format, TreeFault>
     let format = format_at(document).ok_or(TreeFault::Format)?;
     let cgroups = elements_at(document, "cgroup");
     let processes = elements_at(document, "process");
-    if cgroups.len() > MOST_ROWS || processes.len() > MOST_ROWS {
+    let most = format.most_rows();
+    if cgroups.len() > most || processes.len() > most {
         return Err(TreeFault::TooMany);
     }
     cgroups_in_form(format, cgroups)?;

@@ -8,7 +8,7 @@ ghost use Rattle.toml.specs.View.{view, table_view};
 ghost use Rattle.cg_cgroup.specs.Paths.{path_at};
 ghost use Rattle.cg_model.specs.Clauses.{first};
 ghost use Rattle.cg_format.specs.Said.{pid_said, uid_said, path_said};
-ghost use Rattle.cg_format.specs.Form.{most_rows};
+ghost use Rattle.cg_format.specs.declared.format.TheConstants.{MOST_ROWS_OF_4};
 ghost use Rattle.cg_format.specs.TextFaults.{each_process, process_faults};
 ghost use Rattle.cg_text.specs.Faults.{Passes};
 ghost use Rattle.cg_format.specs.Tables.{IsAmong, IsLive, AreProcesses};
@@ -86,7 +86,7 @@ fn live_of(
     cgroups: &PathTable<Cgroup>,
     elements: &[Value],
 ) -> Result<BTreeMap<Pid, Process>, TreeFault>
-    requires few { length elements.now ≤ most_rows }
+    requires few { length elements.now ≤ MOST_ROWS_OF_4 }
     requires tables { list_all (λ held. is_some (as_table (view held))) elements.now ≡ true }
     ensures { (tables : List Members) → IsAmong tables cgroups.now
         → Passes (AreLive (filter_map as_table (map view elements.now)))
@@ -110,7 +110,7 @@ pub fn processes_of(
     cgroups: &PathTable<Cgroup>,
     elements: &[Value],
 ) -> Result<Processes, TreeFault>
-    requires few { length elements.now ≤ most_rows }
+    requires few { length elements.now ≤ MOST_ROWS_OF_4 }
     requires tables { list_all (λ held. is_some (as_table (view held))) elements.now ≡ true }
     ensures { (tables : List Members) → IsAmong tables cgroups.now
         → Passes (λ all. AreProcesses (filter_map as_table (map view elements.now)) all.live all.used)

@@ -9,13 +9,13 @@ ghost use Rattle.cg_cgroup.specs.declared.files.EntryName.TheVariants.{File};
 ghost use Rattle.cg_model.specs.Clauses.{first};
 ghost use Rattle.cg_format.specs.declared.fault.Place.TheVariants.{Cgroup as AtCgroup};
 ghost use Rattle.cg_format.specs.declared.fault.TreeFault.TheVariants.{BadEntry, BadValue};
-ghost use Rattle.cg_format.specs.Form.{most_rows};
+ghost use Rattle.cg_format.specs.declared.format.TheConstants.{MOST_ROWS_OF_4};
 ghost use Rattle.cg_format.specs.TextFaults.{each_cgroup, row_faults};
 ghost use Rattle.cg_text.specs.Faults.{Passes, or_fault};
-ghost use Rattle.cg_text.specs.Rows.{table_in, owner_in, limit_in, entry_with, is_of, names, needs, needed_by, file_in, entry_faults, IsCgroupOf, IsReadAs, AreReadAs};
+ghost use Rattle.cg_text.specs.Rows.{table_in, owner_in, limit_in, entry_with, is_file_of, names, needs, needed_by, file_in, entry_faults, IsCgroupOf, IsReadAs, AreReadAs};
 
 use crate::tree::form::row_number;
-use crate::tree::said::{controllers_at, limit_of, owner_of, path_at, table_at};
+use crate::tree::said::{known_at, limit_of, owner_of, path_at, table_at};
 use cg_cgroup::brought::BroughtFiles;
 use cg_cgroup::cgroup::{Cgroup, LimitEntry};
 use cg_cgroup::files::{BROUGHT_COUNT, Controller, ControllerSet, EntryName, Limit, LimitFile};
@@ -110,7 +110,7 @@ impl<'a> Entries<'a> {
     {
         LimitFile::ALL
             .iter()
-            .any(|file| is_of(controller, *file) && self.names(*file))
+            .any(|file| is_file_of(controller, *file) && self.names(*file))
     }
 
     /// The controllers whose files are named.
@@ -190,8 +190,8 @@ impl<'a> Entries<'a> {
 }
 
 /// Whether a controller brings a file.
-fn is_of(controller: Controller, file: LimitFile) -> bool
-    ensures { result ≡ is_of controller file }
+fn is_file_of(controller: Controller, file: LimitFile) -> bool
+    ensures { result ≡ is_file_of controller file }
 {
     match file.controller() {
         None => false,
@@ -213,7 +213,7 @@ fn row_of(alloc: Global, format: Format, number: u32, table: &Table) -> Result<R
 {
     let place = Place::Cgroup(number);
     let path = path_at(alloc, table, "path", TreeFault::BadPath(place))?;
-    let enabled = controllers_at(table, "enabled").ok_or(TreeFault::BadController(place))?;
+    let enabled = known_at(table, "enabled", format).ok_or(TreeFault::BadController(place))?;
     let entries = Entries {
         place,
         format,
@@ -242,7 +242,7 @@ fn row_in(alloc: Global, format: Format, number: u32, element: Value) -> Result<
 
 /// The rows of cgroups' tables, or the first fault of the first that has one. A table is dropped once it is read.
 pub fn rows_of(alloc: Global, format: Format, elements: Vec<Value>) -> Result<Vec<Row>, TreeFault>
-    requires few { length elements.items ≤ most_rows }
+    requires few { length elements.items ≤ MOST_ROWS_OF_4 }
     requires tables { list_all (λ held. is_some (as_table (view held))) elements.items ≡ true }
     ensures { Passes (λ rows. AreReadAs format 1 (filter_map as_table (map view elements.items)) rows.items)
         (first (each_cgroup (λ _. row_faults format) (filter_map as_table (map view elements.items)))) result }

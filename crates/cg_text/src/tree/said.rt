@@ -1,16 +1,16 @@
 //! What a table says at its keys, as far as it is in range.
 ghost use Rattle.std.specs.Prelude.{◌≡◌, ℕ, List, false, map, Some, option_and_then};
-ghost use Rattle.std.specs.Option.{option_map, option_copied};
+ghost use Rattle.std.specs.Option.{option_map, option_map_or, option_copied};
 ghost use Rattle.std.specs.Ordering.{is_eq, nat_cmp};
 ghost use Rattle.std.specs.Cmp.Lexicographic.{slice_cmp};
 ghost use Rattle.cg_model.specs.Clauses.{first, absent};
 ghost use Rattle.toml.specs.Data.{get_member, as_array};
 ghost use Rattle.toml.specs.View.{view, array_view, table_view};
-ghost use Rattle.cg_format.specs.Said.{id_read, mode_read, pid_read, controllers_said, elements_at, text_at, integer_at, table_at, format_said, path_said, owner_said, limit_of, limit_said};
+ghost use Rattle.cg_format.specs.Said.{id_read, mode_read, pid_read, controllers_said, known_said, vocabulary, elements_at, text_at, integer_at, table_at, format_said, path_said, owner_said, limit_of, limit_said};
 ghost use Rattle.cg_text.specs.Faults.{Passes};
 ghost use Rattle.cg_text.specs.Rows.{written};
 
-use cg_cgroup::files::{Controller, ControllerSet, Limit, LimitFile};
+use cg_cgroup::files::{Controller, ControllerSet, Limit, LimitFile, Vocabulary};
 use cg_cgroup::path::{Path, PathFault};
 use cg_cgroup::process::Pid;
 use cg_cgroup::user::Entry;
@@ -90,22 +90,45 @@ pub fn format_at(document: &Table) -> Option<Format>
     match integer_at(document, "format")? {
         1 => Some(Format::One),
         2 => Some(Format::Two),
+        4 => Some(Format::Four),
         _ => None,
     }
 }
 
+/// Which controllers a document's format names; those of formats 1 and 2 where it says no format.
+pub fn vocabulary_at(document: &Table) -> Vocabulary
+    ensures { result ≡ option_map_or vocabulary (format_said (table_view document.now)) Vocabulary.Format2 }
+{
+    match format_at(document) {
+        Some(format) => format.vocabulary(),
+        None => Vocabulary::Format2,
+    }
+}
+
 /// The controllers that the texts at a key name. `None` where one names none.
-pub fn controllers_at(table: &Table, key: &str) -> Option<ControllerSet>
+fn controllers_at(table: &Table, key: &str) -> Option<ControllerSet>
     ensures { result ≡ controllers_said key.now (table_view table.now) }
 {
     let elements = elements_at(table, key);
     let mut controllers = ControllerSet::none();
     for element in elements {
         if let Some(text) = element.as_str() {
-            controllers = controllers.with(Controller::from_format_2(text)?, true);
+            controllers = controllers.with(Controller::from_name(text)?, true);
         }
     }
     Some(controllers)
+}
+
+/// The controllers that the texts at a key name. `None` where one names none that the format has.
+pub fn known_at(table: &Table, key: &str, format: Format) -> Option<ControllerSet>
+    ensures { result ≡ known_said format key.now (table_view table.now) }
+{
+    let controllers = controllers_at(table, key)?;
+    if format.vocabulary().has_all(controllers) {
+        Some(controllers)
+    } else {
+        None
+    }
 }
 
 /// The path at a key, or `fault` where there is none.

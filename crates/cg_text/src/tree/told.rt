@@ -8,9 +8,10 @@ pub mod keys;
 mod rows;
 mod together;
 
+pub use crate::tree::said::vocabulary_at;
 use crate::tree::said::{elements_at, integer_at, member, table_at, text_at};
 use crate::tree::takes::Takes;
-use cg_cgroup::files::{Controller, LimitFile};
+use cg_cgroup::files::{Controller, LimitFile, Vocabulary};
 use cg_format::fault::{Place, TreeFault};
 use keys::Kind;
 use rows::{bad_controller, bad_entry, bad_value, misshapen};
@@ -80,8 +81,11 @@ pub enum Wrong<'d> {
     NoGroupBit,
     /// There is no such format.
     Format,
-    /// This text names no controller.
-    NoController(&'d str),
+    /// This text names none of the controllers that the format has.
+    NoController {
+        text: &'d str,
+        vocabulary: Vocabulary,
+    },
     /// The text is no path.
     NoPath,
     /// No uid, gid or mode has this number.
@@ -245,7 +249,7 @@ fn wrong_in<'d>(
     match fault {
         TreeFault::Format => Some((At::key("format"), Wrong::Format)),
         TreeFault::Shape(_) => Some(misshapen(place, row)),
-        TreeFault::BadController(_) => bad_controller(place, row),
+        TreeFault::BadController(_) => bad_controller(vocabulary_at(document), place, row),
         TreeFault::BadPath(_) => Some((At::key("path"), Wrong::NoPath)),
         TreeFault::BadEntry(_) => Some(bad_entry(place, row)),
         TreeFault::BadValue(_) => bad_value(row),

@@ -15,6 +15,17 @@ pub const MEMORY_MAX: &str = "\"memory.max\" = { value = 1073741824 }";
 
 pub const FORMAT_2: Change = ("format = 1", "format = 2");
 
+pub const FORMAT_4: Change = ("format = 1", "format = 4");
+
+/// The delegation's root has `io` and `dmem` too, and its text is of format 4.
+pub const OTHERS: [Change; 2] = [
+    FORMAT_4,
+    (
+        "controllers = [\"cpu\", \"memory\", \"pids\"]",
+        "controllers = [\"pids\", \"dmem\", \"memory\", \"io\", \"cpu\"]",
+    ),
+];
+
 /// User 1000 owns the limit on the memory of `/c0`.
 pub const MEMORY_MAX_OWNED: Change = (
     MEMORY_MAX,

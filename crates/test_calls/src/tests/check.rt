@@ -1,8 +1,8 @@
 //! `check_bytes` on rows worked out by hand, and on faults, of which those of `advise_bytes` are the same.
 use super::calls::{Call, expect, expect_fault};
 use super::changed::{
-    Change, FORMAT_2, GROUP_WRITES, MEMORY_MAX, MEMORY_MAX_OWNED, ROOT, ROOT_PROCS_OPEN,
-    ROOT_PROCS_OWNED, TOO_MANY, delegation_with,
+    Change, FORMAT_2, FORMAT_4, GROUP_WRITES, MEMORY_MAX, MEMORY_MAX_OWNED, OTHERS, ROOT,
+    ROOT_PROCS_OPEN, ROOT_PROCS_OWNED, TOO_MANY, delegation_with,
 };
 use crate::tests::users::{MANY_GROUPS, MOST_GROUPS, USER, user};
 use cg_faults::fault::{CliFault, fault_text};
@@ -103,6 +103,70 @@ fn a_subtree_is_contained_escaped_from_or_unsettled(rt: HostRuntime) -> Result<(
     for (change, report, status) in OF_A_PARENT {
         let tree = changed(rt.alloc(), PARENT_DELEGATED, &[change])?;
         let call = Call::Check(USER, "/p/s");
+        expect(&rt, rt.alloc(), tree.as_bytes(), call, report, status);
+    }
+    Ok(())
+}
+
+/// A parent whose `cgroup.subtree_control` is user 1000's, in format 4: what the root has and what the parent enables, and what is said
+/// of user 1000 and `/p/s`. The root enables what the parent does.
+const OF_OTHERS: [(&str, &str, &str, u8); 6] = [
+    ("\"cpu\", \"io\"", "\"io\"", "escapes\ncontrol /p -io\n", 1),
+    (
+        "\"dmem\", \"io\", \"pids\"",
+        "\"dmem\", \"pids\"",
+        "escapes\ncontrol /p -pids\n",
+        1,
+    ),
+    (
+        "\"dmem\", \"cpuset\"",
+        "\"dmem\"",
+        "escapes\ncontrol /p -dmem\n",
+        1,
+    ),
+    (
+        "\"hugetlb\", \"cpuset\"",
+        "\"hugetlb\", \"cpuset\"",
+        "escapes\ncontrol /p -cpuset\n",
+        1,
+    ),
+    ("\"io\", \"rdma\"", "", "unsettled parent-control /p\n", 2),
+    ("", "", "unsettled parent-control /p\n", 2),
+];
+
+#[test]
+fn controls_of_what_else_the_root_has(rt: HostRuntime) -> Result<(), Fail> {
+    for (controllers, enabled, report, status) in OF_OTHERS {
+        let tree = format!(in rt.alloc();
+            "format = 4
+controllers = [{controllers}]
+[[cgroup]]
+path = \"/\"
+enabled = [{enabled}]
+[[cgroup]]
+path = \"/p\"
+enabled = [{enabled}]
+[cgroup.files]
+\"cgroup.subtree_control\" = {{ uid = 1000 }}
+[[cgroup]]
+path = \"/p/s\"
+"
+        )?;
+        let call = Call::Check(USER, "/p/s");
+        expect(&rt, rt.alloc(), tree.as_bytes(), call, report, status);
+    }
+    Ok(())
+}
+
+/// Of the delegation in format 4, whose root has other controllers or hasn't, the same is said but where these are tried.
+#[test]
+fn a_delegation_of_format_4(rt: HostRuntime) -> Result<(), Fail> {
+    for (change, report, status) in OF_DELEGATION {
+        let tree = delegation_with(rt.alloc(), &[FORMAT_4, change])?;
+        let call = Call::Check(USER, "/c0");
+        expect(&rt, rt.alloc(), tree.as_bytes(), call, report, status);
+        let [format, controllers] = OTHERS;
+        let tree = delegation_with(rt.alloc(), &[format, controllers, change])?;
         expect(&rt, rt.alloc(), tree.as_bytes(), call, report, status);
     }
     Ok(())

@@ -1,6 +1,6 @@
 //! `explain_bytes` on rows worked out by hand; `audit` has its faults.
 use super::calls::{Call, expect, expect_fault};
-use super::changed::{Change, ROOT, SECOND_USER, TOO_MANY, delegation_with};
+use super::changed::{Change, OTHERS, ROOT, SECOND_USER, TOO_MANY, delegation_with};
 use crate::tests::users::{USER, user};
 use cg_faults::fault::CliFault;
 use cg_model::fault::CheckFault;
@@ -92,6 +92,24 @@ fn the_second_row_is_told_where_a_guard_fails(rt: HostRuntime) -> Result<(), Fai
     )?;
     let call = Call::Explain(&users, &["/c0"]);
     expect(&rt, rt.alloc(), tree.as_bytes(), call, both.as_str(), 1);
+    Ok(())
+}
+
+/// The lines of controllers are those of the three and of what else the root has.
+#[test]
+fn other_controllers_are_told(rt: HostRuntime) -> Result<(), Fail> {
+    let [format, controllers] = OTHERS;
+    let tree = delegation_with(rt.alloc(), &[format, controllers, SECOND_USER])?;
+    let users = [user(1001, &[7, 8])];
+    let told = ESCAPES
+        .replace(rt.alloc(), "cpu off\n", "cpu off\nholds control / io off\n")?
+        .replace(
+            rt.alloc(),
+            "pids off\n",
+            "pids off\nholds control / dmem off\n",
+        )?;
+    let call = Call::Explain(&users, &["/c0"]);
+    expect(&rt, rt.alloc(), tree.as_bytes(), call, told.as_str(), 1);
     Ok(())
 }
 

@@ -4,13 +4,12 @@ ghost use Rattle.std.specs.Prelude.{◌≡◌, None};
 use std::io;
 use std::io::{BufRead, ErrorKind, Read};
 
-/// Gives a byte for ever.
+/// Gives bytes for ever, those that stand where they are read to.
 #[derive(Drop)]
 pub struct Endless;
 
 impl Read for Endless {
     fn read(&mut self, buf: &mut [u8]) -> io::Result<usize> {
-        buf.fill(b'#');
         Ok(buf.len())
     }
 }
@@ -35,6 +34,23 @@ impl Read for FailsAfter {
                 Ok(1)
             }
         }
+    }
+}
+
+/// Is interrupted at every second read.
+#[derive(Drop)]
+pub struct Interrupted<R> {
+    pub inner: R,
+    pub turn: u64,
+}
+
+impl<R: Read> Read for Interrupted<R> {
+    fn read(&mut self, buf: &mut [u8]) -> io::Result<usize> {
+        self.turn = self.turn.saturating_add(1);
+        if self.turn % 2 == 1 {
+            return Err(io::Error::from(ErrorKind::Interrupted));
+        }
+        self.inner.read(buf)
     }
 }
 

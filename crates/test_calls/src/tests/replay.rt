@@ -1,5 +1,8 @@
 //! `replay_bytes` and `replay_from` on rows worked out by hand.
-use super::changed::{MEMORY_MAX_OWNED, ROOT_PROCS_OPEN, TOO_MANY, delegation_with};
+use super::changed::{
+    Change, FORMAT_2, FORMAT_4, MEMORY_MAX_OWNED, OTHERS, ROOT, ROOT_PROCS_OPEN, TOO_MANY,
+    delegation_with,
+};
 use super::readers::{Pieces, Uneven};
 use crate::tests::users::{USER, user};
 use cg_cli::arguments::UserIds;
@@ -167,6 +170,66 @@ fn a_line_that_is_none_ends_a_replay(rt: HostRuntime) {
             replayed.expect(&rt, rt.alloc(), DELEGATION);
         }
     }
+}
+
+/// User 1000 owns what the root enables.
+const ROOT_CONTROL_OWNED: Change = (
+    ROOT,
+    "enabled = [\"memory\"]\n[cgroup.files]\n\"cgroup.subtree_control\" = { uid = 1000 }\n",
+);
+
+/// Lines of controllers beyond the three, what is said of each where the root has `io` and `dmem` and where it has neither, and
+/// the verdicts on `/c0`.
+const OF_FORMAT_4: [(&str, [&str; 2]); 4] = [
+    (
+        "control / +io\ncontrol / -io\n",
+        [
+            "ok\nok\nbroken 1 limits\n",
+            "refused not-available io\nok\nkept\n",
+        ],
+    ),
+    (
+        "control /c0 +dmem\ncontrol /c0 +cpuset -cpuset\n",
+        [
+            "refused not-available dmem\nok\nkept\n",
+            "refused not-available dmem\nok\nkept\n",
+        ],
+    ),
+    (
+        "control / +dmem +memory\ncontrol /c0 +dmem\ncontrol / -dmem\ncontrol / +misc\n",
+        [
+            "ok\nok\nrefused child-uses dmem\nrefused not-available misc\nbroken 1 limits\n",
+            "refused not-available dmem\nrefused not-available dmem\nok\nrefused not-available misc\nkept\n",
+        ],
+    ),
+    (
+        "mkdir /c0/io\nset /c0/io cgroup.max.depth 1\nrmdir /c0/io\n",
+        ["ok\nok\nok\nkept\n", "ok\nok\nok\nkept\n"],
+    ),
+];
+
+#[test]
+fn all_controllers_are_named_where_a_text_is_of_format_4(rt: HostRuntime) -> Result<(), Fail> {
+    let [format, controllers] = OTHERS;
+    let has = delegation_with(rt.alloc(), &[format, controllers, ROOT_CONTROL_OWNED])?;
+    let has_not = delegation_with(rt.alloc(), &[FORMAT_4, ROOT_CONTROL_OWNED])?;
+    for (ops, reports) in OF_FORMAT_4 {
+        for (tree, report) in [&has, &has_not].iter().zip(reports) {
+            let status = u8::from(!report.ends_with("kept\n"));
+            watched(ops, report, Ok(status)).expect(&rt, rt.alloc(), tree.as_bytes());
+        }
+    }
+    let ending = Err(CliFault::Line {
+        number: 2,
+        fault: LineFault::BadWord,
+    });
+    let unknown = watched("exit 11\ncontrol / +perf_event\n", "ok\n", ending);
+    unknown.expect(&rt, rt.alloc(), has.as_bytes());
+    let unknown = watched("exit 11\ncontrol / +io\nexit 10\n", "ok\n", ending);
+    unknown.expect(&rt, rt.alloc(), DELEGATION);
+    let of_2 = delegation_with(rt.alloc(), &[FORMAT_2])?;
+    unknown.expect(&rt, rt.alloc(), of_2.as_bytes());
+    Ok(())
 }
 
 /// The delegation, where anyone writes `cgroup.procs` of the root, with `/c01` and process 14 in it.

@@ -1,7 +1,7 @@
 //! `upgrade_bytes`: what is read from what was written is the same tree, and written anew it is the same bytes.
 use super::answers_written::Written;
 use super::calls::{self, Call, expect_fault};
-use super::changed::{MEMORY_MAX, ROOT, delegation_with};
+use super::changed::{FORMAT_4, MEMORY_MAX, OTHERS, ROOT, delegation_with};
 use super::vectors::{BASE, Parts, text_of};
 use crate::tests::users::USER;
 use cg_cgroup::process::Pid;
@@ -72,7 +72,20 @@ fn the_samples_stay_the_same_trees(rt: HostRuntime) -> Result<(), Fail> {
 }
 
 /// Changes of the delegation example: a group, modes, limits at their bounds, other controllers.
-const CHANGES: [&[(&str, &str)]; 6] = [
+const CHANGES: [&[(&str, &str)]; 9] = [
+    &[FORMAT_4],
+    &OTHERS,
+    &[
+        ("format = 1", "format = 4"),
+        (
+            "controllers = [\"cpu\", \"memory\", \"pids\"]",
+            "controllers = [\"dmem\", \"misc\", \"rdma\", \"pids\", \"hugetlb\", \"memory\", \"io\", \"cpu\", \"cpuset\", \"io\"]",
+        ),
+        (
+            ROOT,
+            "enabled = [\"misc\", \"memory\", \"dmem\", \"cpuset\", \"memory\"]\n",
+        ),
+    ],
     &[
         ("format = 1", "format = 2"),
         (
@@ -186,11 +199,55 @@ fn a_root_alone_has_no_processes(rt: HostRuntime) -> Result<(), Fail> {
     Ok(())
 }
 
+/// A root of format 4, and what is written of it up to what is written of every root.
+const ROOTS_OF_4: [(&[u8], &str); 3] = [
+    (
+        b"format = 4\ncontrollers = []\ncgroup = [{ path = '/' }]\n",
+        "controllers = []\nformat = 4\nprocess = []\n\n[[cgroup]]\nenabled = []\n",
+    ),
+    (
+        b"# two\n'format' = 0x4\ncontrollers = ['io', 'cpu', 'io']\ncgroup = [{ path = '/', enabled = ['io', 'io'] }]\n",
+        "controllers = [\"cpu\", \"io\"]\nformat = 4\nprocess = []\n\n[[cgroup]]\nenabled = [\"io\"]\n",
+    ),
+    (
+        b"format = 4\ncontrollers = ['misc', 'io', 'dmem', 'cpuset', 'cpu', 'rdma', 'hugetlb', 'memory', 'pids']\n[[cgroup]]\npath = '/'\nenabled = ['rdma', 'misc', 'hugetlb', 'rdma']\n",
+        "controllers = [\"cpuset\", \"cpu\", \"io\", \"memory\", \"hugetlb\", \"pids\", \"rdma\", \"misc\", \"dmem\"]\nformat = 4\nprocess = []\n\n[[cgroup]]\nenabled = [\"hugetlb\", \"rdma\", \"misc\"]\n",
+    ),
+];
+
+#[test]
+fn controllers_are_written_in_their_order_and_once(rt: HostRuntime) -> Result<(), Fail> {
+    let (_, rest) = ROOT_WRITTEN
+        .split_once("enabled = []\n")
+        .ok_or("no such part")?;
+    for (text, front) in ROOTS_OF_4 {
+        expect(&rt, text)?;
+        let written = upgraded(rt.alloc(), text)?;
+        let wanted = format!(in rt.alloc(); "{front}{rest}")?;
+        assert_eq!(rt; from_utf8(written.as_slice())?, wanted.as_str());
+    }
+    Ok(())
+}
+
+/// Of the delegation in format 4 the same is written but for the number.
+#[test]
+fn the_format_is_its_number_alone(rt: HostRuntime) -> Result<(), Fail> {
+    let of_1 = upgraded(rt.alloc(), DELEGATION)?;
+    let text = delegation_with(rt.alloc(), &[FORMAT_4])?;
+    let of_4 = upgraded(rt.alloc(), text.as_bytes())?;
+    let wanted = from_utf8(of_1.as_slice())?.replace(rt.alloc(), "format = 2\n", "format = 4\n")?;
+    assert_eq!(rt; from_utf8(of_4.as_slice())?, wanted.as_str());
+    Ok(())
+}
+
 #[test]
 fn what_is_said_of_it_is_the_same(rt: HostRuntime) -> Result<(), Fail> {
-    let written = upgraded(rt.alloc(), DELEGATION)?;
-    let call = Call::Check(USER, "/c0");
-    calls::expect(&rt, rt.alloc(), written.as_slice(), call, "contained\n", 0);
+    let others = delegation_with(rt.alloc(), &OTHERS)?;
+    for text in [DELEGATION, others.as_bytes()] {
+        let written = upgraded(rt.alloc(), text)?;
+        let call = Call::Check(USER, "/c0");
+        calls::expect(&rt, rt.alloc(), written.as_slice(), call, "contained\n", 0);
+    }
     Ok(())
 }
 

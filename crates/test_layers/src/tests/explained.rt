@@ -312,6 +312,47 @@ fn what_the_parent_does_is_told(rt: HostRuntime) -> Result<(), Fail> {
     Ok(())
 }
 
+/// A tree of format 4 in which user 1000 writes what `/a` enables, which has `io` and `cpuset` above it, and what `/a/b` enables.
+fn tree_of_others(alloc: Global, enabled: &str) -> Result<Rows, Fail> {
+    let text = format!(in alloc;
+        "format = 4
+controllers = [\"dmem\", \"io\", \"cpuset\"]
+[[cgroup]]
+path = \"/\"
+enabled = [\"cpuset\", \"io\"]
+[[cgroup]]
+path = \"/a\"
+enabled = [\"io\"]
+[cgroup.files]
+\"cgroup.subtree_control\" = {OWNED}
+[[cgroup]]
+path = \"/a/b\"
+enabled = [{enabled}]
+"
+    )?;
+    Ok(read_tree(alloc, text.as_bytes())?)
+}
+
+/// The controllers are those of every tree and what else the root has, in their order.
+#[test]
+fn other_controllers_are_told(rt: HostRuntime) -> Result<(), Fail> {
+    for (enabled, io) in [("", "turned"), ("\"io\"", "on")] {
+        let tree = tree_of_others(rt.alloc(), enabled)?;
+        let words = format!(in rt.alloc();
+            "stays spared\ncpuset turned\ncpu off\nio {io}\nmemory off\npids off\ndmem off\nfiles spared\n"
+        )?;
+        let told = second_words(rt.alloc(), &tree, "/a/b")?;
+        assert_eq!(rt; told.as_str(), words.as_str());
+        assert!(rt; !rows_held(rt.alloc(), &tree, "/a/b")?[1]);
+        let told = second_words(rt.alloc(), &tree, "/a")?;
+        assert_eq!(rt;
+            told.as_str(),
+            "stays spared\ncpuset on\ncpu off\nio on\nmemory off\npids off\ndmem off\nfiles spared\n"
+        );
+    }
+    Ok(())
+}
+
 /// Of trees in which one or two entries are the user's all that is told holds exactly where the row does.
 #[test]
 fn what_is_told_holds_where_the_rows_do(rt: HostRuntime) -> Result<(), Fail> {

@@ -1,5 +1,5 @@
 //! Controllers, limit files and the names of entries.
-use cg_cgroup::files::{Controller, ControllerSet, EntryName, Limit, LimitFile};
+use cg_cgroup::files::{Controller, ControllerSet, EntryName, Limit, LimitFile, Vocabulary};
 
 /// The limit files in their order, by the names that the kernel gives them.
 pub const NAMED: [(LimitFile, &str); 8] = [
@@ -51,6 +51,29 @@ fn values_and_places(rt: HostRuntime) {
     assert!(rt; !LimitFile::MaxDepth.accepts(Limit::At(9223372036854775808)));
     assert_eq!(rt; LimitFile::MemoryLow.controller(), Some(Controller::Memory));
     assert!(rt; LimitFile::MaxDepth.stands_under(ControllerSet::none()));
+}
+
+#[test]
+fn vocabularies(rt: HostRuntime) {
+    let (small, great) = (Vocabulary::Format2, Vocabulary::Format4);
+    for (controller, name) in Controller::ALL.iter().zip(CONTROLLERS) {
+        let known = controller.is_in_format_2();
+        assert!(rt;
+            small.has(*controller) == known && great.has(*controller),
+            "{name}"
+        );
+        assert_eq!(rt; small.controller(name), known.then_some(*controller));
+        assert_eq!(rt; great.controller(name), Some(*controller));
+        let alone = ControllerSet::none().with(*controller, true);
+        for set in [alone, alone.with(Controller::Pids, true)] {
+            assert!(rt; small.has_all(set) == known && great.has_all(set), "{name}");
+            assert_eq!(rt; Vocabulary::of(set), if known { small } else { great });
+        }
+    }
+    for name in ["perf_event", "IO", "io.max", ""] {
+        assert_eq!(rt; great.controller(name), None, "{name}");
+    }
+    assert_eq!(rt; Vocabulary::of(ControllerSet::none()), small);
 }
 
 #[test]

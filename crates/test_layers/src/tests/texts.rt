@@ -1,3 +1,4 @@
-//! Operation lines and the lines of outcomes.
+//! Operation lines, the lines of outcomes, and beginnings of tree texts.
+mod beginnings;
 mod lines;
 mod outcomes;

@@ -53,7 +53,7 @@ const ROWS: [(&str, &str); 28] = [
     ),
     (
         "enabled = ['memory', 'io']",
-        "Cgroup(2) '/a', enabled is array: NoController(\"io\")",
+        "Cgroup(2) '/a', enabled is array: NoController { text: \"io\", vocabulary: Format2 }",
     ),
     (
         "dir.uid = -1",
@@ -118,16 +118,37 @@ const ROWS: [(&str, &str); 28] = [
 ];
 
 /// Whole texts whose fault is told of the top table, of a row that is no table, or in format 1.
-const TEXTS: [(&str, &str); 7] = [
+const TEXTS: [(&str, &str); 13] = [
     ("controllers = []", "Top, format: Missing"),
     ("format = 3\ncontrollers = []", "Top, format is 3: Format"),
+    ("format = 5\ncontrollers = []", "Top, format is 5: Format"),
     (
         "format = 2\ncontrollers = []\ncgroups = 5",
         "Top, cgroups is 5: Unknown(Top)",
     ),
     (
         "format = 2\ncontrollers = ['io']",
-        "Top, controllers is array: NoController(\"io\")",
+        "Top, controllers is array: NoController { text: \"io\", vocabulary: Format2 }",
+    ),
+    (
+        "format = 1\ncontrollers = ['cpu', 'dmem']",
+        "Top, controllers is array: NoController { text: \"dmem\", vocabulary: Format2 }",
+    ),
+    (
+        "format = 4\ncontrollers = ['io', 'ios']",
+        "Top, controllers is array: NoController { text: \"ios\", vocabulary: Format4 }",
+    ),
+    (
+        "format = 4\ncontrollers = ['io']\n[[cgroup]]\npath = '/'\nenabled = ['io', 'IO']",
+        "Cgroup(1) '/', enabled is array: NoController { text: \"IO\", vocabulary: Format4 }",
+    ),
+    (
+        "format = 4\ncontrollers = ['io']\n[[cgroup]]\npath = '/'\nenabled = ['io', 'rdma']",
+        "Cgroup(1) '/', enabled is array: NotEnabled { controller: \"rdma\", above: None }",
+    ),
+    (
+        "format = 4\ncontrollers = ['io']\n[[cgroup]]\npath = '/'\nfiles.'io.max'.uid = 5",
+        "Cgroup(1) '/', files io.max is table: Unknown(Files)",
     ),
     (
         "format = 2\ncontrollers = []\ncgroup = [5]",

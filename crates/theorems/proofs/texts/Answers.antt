@@ -11,5 +11,5 @@ returns c = record {
   state = state_of_text;
   one_state = one_state;
   one_text = spelled_once;
-  read_again = text_back;
+  read_again = λ vocabulary text st. text_back text vocabulary st;
 }

@@ -13,9 +13,10 @@ returns-in-Ok g c =
     record {
       again =
           λ carried.
-          read_again c.as_slice.result.now st (laws.one c.as_slice.result.now) (laws.fault c.as_slice.result.now st) c.read_tree.result
-          (subst (IsSpelled st) (sym same) c.in-Ok.ensures.spelled)
+          read_again c.args.vocabulary c.as_slice.result.now st (laws.one c.as_slice.result.now)
+          (laws.fault c.as_slice.result.now st) c.read_tree.result
+          (subst (IsSpelled c.args.vocabulary st) (sym same) c.in-Ok.ensures.spelled)
           (λ short. subst (λ (bytes : List ℕ). IsTextOf st bytes) (sym same)
-          (c.in-Ok.ensures.state carried (subst (λ (bytes : List ℕ). length bytes ≤ longest_text) same short)))
+          (c.in-Ok.ensures.state carried (subst (λ (bytes : List ℕ). length bytes ≤ longest_text bytes) same short)))
           c.read_tree.ensures.too_long c.read_tree.ensures.read;
     }

@@ -3,13 +3,13 @@ use Rattle.std.proofs.lemmas.Result.{err_from_is_err_and}
 use Rattle.cg_cli.proofs.CourseReads.{unwatched_fault}
 use Rattle.cg_cli.proofs.replay.unwatched.Goals as goal
 
-pub returns-in_err-read_tree : goal.returns-in_err-read_tree
-returns-in_err-read_tree c = λ read is.
+pub returns-in_err-text-clause-read : goal.returns-in_err-text-clause-read
+returns-in_err-text-clause-read c = λ read is.
     let p = err_from_is_err_and c.from_residual.result c.from_residual.ensures.1 in
-    rw (p.1, p.2) (unwatched_fault read c.in_err-read_tree.field-0.0 (c.in_err-read_tree.ensures.read read is))
+    rw (p.1, p.2) (unwatched_fault read c.in_err-text.field-0.0 (c.in_err-text.ensures.read read is))
 
-pub returns-in_err-tree : goal.returns-in_err-tree
-returns-in_err-tree c = λ read is. let found = c.in_ok-read_tree.ensures.read read is in search rules
+pub returns-in_err-kept-clause-read : goal.returns-in_err-kept-clause-read
+returns-in_err-kept-clause-read c = λ read is. let found = c.in_ok-text.ensures.read read is in search rules
 
-pub returns : goal.returns
-returns c = λ read is. let found = c.in_ok-read_tree.ensures.read read is in search rules
+pub returns-clause-read : goal.returns-clause-read
+returns-clause-read c = λ read is. let found = c.in_ok-text.ensures.read read is in search rules

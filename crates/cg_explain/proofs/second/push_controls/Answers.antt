@@ -1,7 +1,8 @@
 use Rattle.std.proofs.Common.{◌++◌, [], ◌∷◌, cond, get_or, sym, ap, ◌∙◌, append-nil, arith}
 use Rattle.cg_cgroup.specs.Files.{all_controllers}
 use Rattle.cg_cgroup.specs.declared.files.Controller.TheVariants.{Cpuset}
-use Rattle.cg_explain.specs.SecondRow.{control_asked, controls_asked, is_told}
+use Rattle.cg_model.specs.Tries.{is_told, told_controllers}
+use Rattle.cg_explain.specs.SecondRow.{control_asked}
 use Rattle.cg_explain.specs.declared.second.Asked.TheVariants.{Control}
 use Rattle.cg_explain.proofs.Told.{written_more, written_whole}
 use Rattle.cg_explain.proofs.second.push_controls.Goals as goal
@@ -29,7 +30,7 @@ loop-controller-preserved g c =
     ])
 
 pub returns : goal.returns
-unfolding controls_asked
+unfolding told_controllers
 returns g c =
     let s = c.args.survey.now in
     let st = g.H.Hierarchy.state s.tree.now in

@@ -1,7 +1,8 @@
 use Rattle.std.proofs.Common.{◌≡◌, ◌++◌, map, take}
 use Rattle.std.specs.List.{filter}
 use Rattle.cg_cgroup.specs.Files.{all_controllers}
-use Rattle.cg_explain.specs.SecondRow.{control_asked, is_told}
+use Rattle.cg_model.specs.Tries.{is_told}
+use Rattle.cg_explain.specs.SecondRow.{control_asked}
 use Rattle.cg_explain.proofs.second.push_controls.Given as goal
 
 -- those that were passed are told

@@ -24,7 +24,7 @@ returns g c =
     record {
       written =
           ap Some (view-Table c.in_ok-cgroup_table.field-0 ∙ ap table c.in_ok-cgroup_table.ensures.written)
-          ∙ ap (option_map (λ (row : Cgroup). table (cgroup_table c.args.path.now row))) row;
+          ∙ ap (option_map (λ (row : Cgroup). table (cgroup_table c.args.vocabulary c.args.path.now row))) row;
       named =
           λ other is.
           subst (IsNamedRow c.args.path.now) (same_some c.in-Some.cgroup.now other (row ∙ is)) c.in_ok-cgroup_table.ensures.named;

@@ -18,7 +18,7 @@ pub loop-path-preserved : goal.loop-path-preserved
 loop-path-preserved g c =
     more path_cmp_total (g.H.Hierarchy.state c.args.tree.now).rows c.deref-path-items.result.now
     (c.deref-path-items.ensures.value ∙ c.in_ok-paths.ensures) c.loop-path.path-index c.path-item.result c.loop-path-test.true
-    c.path-item.is (λ path row. table (cgroup_table path row)) IsNamedRow c.loop-path.values.items c.push.new.self.items
+    c.path-item.is (λ path row. table (cgroup_table c.args.vocabulary path row)) IsNamedRow c.loop-path.values.items c.push.new.self.items
     c.in_ok-cgroup_value.field-0 c.in_ok-push.ensures.items c.loop-path.invariant
     c.in_ok-cgroup_value.ensures.written c.in_ok-cgroup_value.ensures.named
 
@@ -27,5 +27,5 @@ returns g c =
     let all =
     all_written (g.H.Hierarchy.state c.args.tree.now).rows c.deref-path-items.result.now
     (c.deref-path-items.ensures.value ∙ c.in_ok-paths.ensures) c.loop-path.path-index c.loop-path-test.false
-    (λ path row. table (cgroup_table path row)) IsNamedRow c.loop-path.values.items c.loop-path.invariant in
+    (λ path row. table (cgroup_table c.args.vocabulary path row)) IsNamedRow c.loop-path.values.items c.loop-path.invariant in
     record { written = view-Array c.loop-path.values ∙ ap (λ ds. array (items_of ds)) all.0; named = all.1 }

@@ -6,5 +6,5 @@ use Rattle.cg_print.proofs.cgroups.cgroups_array.Given as goal
 
 abbrev pub invariant-loop-path : goal.invariant-loop-path
 invariant-loop-path g l =
-    AreWritten (g.H.Hierarchy.state l.tree).rows (λ path row. table (cgroup_table path row)) IsNamedRow
+    AreWritten (g.H.Hierarchy.state l.tree).rows (λ path row. table (cgroup_table l.vocabulary path row)) IsNamedRow
     l.path-index l.values.items

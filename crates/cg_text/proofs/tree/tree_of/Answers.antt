@@ -5,7 +5,7 @@ use Rattle.toml.specs.Data.{as_table}
 use Rattle.toml.specs.View.{view, table_view}
 use Rattle.cg_model.specs.Clauses.{first}
 use Rattle.cg_format.specs.Form.{row_keys, live_keys, is_table}
-use Rattle.cg_format.specs.Said.{elements_at, tables_at, controllers_said}
+use Rattle.cg_format.specs.Said.{elements_at, tables_at, known_said}
 use Rattle.cg_format.specs.TextFaults.{each_cgroup, row_faults, cgroup_faults}
 use Rattle.cg_format.specs.TextOf.{IsDocumentOf}
 use Rattle.cg_format.specs.Tables.{AreEntriesOf}
@@ -20,8 +20,8 @@ use Rattle.cg_text.proofs.tree.tree_of.Goals.{In_ok-controllers, In_ok-rows, In_
 -- ---- what has been read
 
 named : (c : In_ok-controllers)
-    → controllers_said (codes "controllers") (table_view c.args.document) ≡ Some c.in_ok-controllers.controllers
-named c = sym c.controllers_at.ensures ∙ c.in_ok-controllers.ensures.ok_part
+    → known_said c.in_ok-format.format (codes "controllers") (table_view c.args.document) ≡ Some c.in_ok-controllers.controllers
+named c = sym c.known_at.ensures ∙ c.in_ok-controllers.ensures.ok_part
 
 alone : (c : In_ok-rows)
     → first (each_cgroup (λ _. row_faults c.in_ok-format.format) (tables_at (codes "cgroup") (table_view c.args.document))) ≡ None
@@ -51,11 +51,11 @@ pub returns-in_err-controllers : goal.returns-in_err-controllers
 returns-in_err-controllers c =
     let p = err_from_is_err_and c.from_residual-in_err-controllers.result c.from_residual-in_err-controllers.ensures.1 in
     let none = c.in_err-controllers.ensures.ok_part in
-    let same = missing_is c.controllers_at.result (BadController Top) c.in_err-controllers.field-0.0
+    let same = missing_is c.known_at.result (BadController Top) c.in_err-controllers.field-0.0
     (sym c.in_err-controllers.ensures.value) none in
     rw (p.1, p.2) (λ _.
     controllers_fault (table_view c.args.document) c.in_ok-format.format c.in_ok-format.ensures.0 c.in_ok-format.ensures.1
-    (sym c.controllers_at.ensures ∙ none)
+    (sym c.known_at.ensures ∙ none)
     ∙ ap Some (sym same))
 
 pub rows_of-requires-clause-tables : goal.rows_of-requires-clause-tables

@@ -40,7 +40,7 @@ impl Kind {
         }
     }
 
-    /// What a key takes in format 2; nothing where there is no such key.
+    /// What a key takes in formats 2 and 4; nothing where there is no such key.
     fn takes(self, key: &str) -> Option<Takes> {
         match self {
             Kind::Top => flat_takes(FlatTable::Document, key),
@@ -64,7 +64,7 @@ impl Kind {
         }
     }
 
-    /// The keys of format 2.
+    /// The keys of formats 2 and 4.
     pub fn keys(self, alloc: Global) -> Result<Vec<&'static str>, AllocError> {
         match self {
             Kind::Files => file_keys(alloc),

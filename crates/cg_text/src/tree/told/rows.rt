@@ -2,7 +2,7 @@
 use crate::tree::said::{elements_at, id_read, integer_at, limit_of, mode_read, table_at};
 use crate::tree::told::keys::{Kind, misfit};
 use crate::tree::told::{At, Found, Wrong};
-use cg_cgroup::files::{Controller, LimitFile};
+use cg_cgroup::files::{LimitFile, Vocabulary};
 use cg_format::fault::Place;
 use cg_format::format::Format;
 use toml::{Table, Value};
@@ -104,20 +104,24 @@ pub(super) fn bad_value<'d>(row: &'d Table) -> Option<Found<'d>> {
     None
 }
 
-/// The first text that names no controller.
-pub(super) fn bad_controller<'d>(place: Place, row: &'d Table) -> Option<Found<'d>> {
+/// The first text that names none of these controllers.
+pub(super) fn bad_controller<'d>(
+    vocabulary: Vocabulary,
+    place: Place,
+    row: &'d Table,
+) -> Option<Found<'d>> {
     let key = match place {
         Place::Top => "controllers",
         _ => "enabled",
     };
-    let text = no_controller(elements_at(row, key))?;
-    Some((At::key(key), Wrong::NoController(text)))
+    let text = no_controller(vocabulary, elements_at(row, key))?;
+    Some((At::key(key), Wrong::NoController { text, vocabulary }))
 }
 
-fn no_controller(elements: &[Value]) -> Option<&str> {
+fn no_controller(vocabulary: Vocabulary, elements: &[Value]) -> Option<&str> {
     for element in elements {
         if let Some(text) = element.as_str() {
-            if Controller::from_format_2(text).is_none() {
+            if vocabulary.controller(text).is_none() {
                 return Some(text);
             }
         }

@@ -1,10 +1,12 @@
-//! What format 2 has and format 1 hasn't: groups, and the bit of a group's members.
+//! What formats 2 and 4 have and format 1 hasn't: groups, and the bit of a group's members.
 use super::{Asked, BASE, Parts, READ, cgroup_of, entry_keys, expect, expect_keys, expect_line};
-use crate::tests::changed::{FORMAT_2, delegation_with};
+use crate::tests::changed::{FORMAT_2, FORMAT_4, delegation_with};
 use cg_cgroup::user::Entry;
 use std::test::Fail;
 
 const TOP_2: &str = "format = 2\ncontrollers = [\"cpu\"]";
+
+const TOP_4: &str = "format = 4\ncontrollers = [\"cpu\"]";
 
 /// Process 11 of the delegation example to `/c0/c01`.
 const TO_C01: Asked<'static> = Asked {
@@ -29,8 +31,10 @@ fn groups_of_the_delegation_example(rt: HostRuntime) -> Result<(), Fail> {
     ] {
         let text = delegation_with(rt.alloc(), &[(old, new)])?;
         expect_line(&rt, rt.alloc(), text.as_bytes(), TO_C01, line)?;
-        let text = delegation_with(rt.alloc(), &[FORMAT_2, (old, new)])?;
-        expect_line(&rt, rt.alloc(), text.as_bytes(), TO_C01, "granted")?;
+        for format in [FORMAT_2, FORMAT_4] {
+            let text = delegation_with(rt.alloc(), &[format, (old, new)])?;
+            expect_line(&rt, rt.alloc(), text.as_bytes(), TO_C01, "granted")?;
+        }
     }
     Ok(())
 }
@@ -41,7 +45,7 @@ const BAD_ENTRY: &str = "fault: tree bad-entry cgroup 2";
 
 const NO_PROCESS: &str = "fault: tree shape process 1";
 
-/// An entry of a cgroup, its keys, what is said of them in format 1, and what in format 2.
+/// An entry of a cgroup, its keys, what is said of them in format 1, and what in formats 2 and 4.
 const KEYS: [(&str, &str, &str, &str); 15] = [
     ("dir", "gid = 0", SHAPE, READ),
     ("dir", "gid = 4294967295", SHAPE, READ),
@@ -61,25 +65,26 @@ const KEYS: [(&str, &str, &str, &str); 15] = [
 ];
 
 #[test]
-fn keys_of_both_formats(rt: HostRuntime) -> Result<(), Fail> {
-    let top = TOP_2;
+fn keys_of_each_format(rt: HostRuntime) -> Result<(), Fail> {
     for (name, keys, first, second) in KEYS {
         let keys = entry_keys(rt.alloc(), name, keys)?;
         let keys = keys.as_str();
         expect_keys(&rt, rt.alloc(), keys, first)?;
-        expect(&rt, rt.alloc(), Parts { top, keys, ..BASE }, second)?;
+        for top in [TOP_2, TOP_4] {
+            expect(&rt, rt.alloc(), Parts { top, keys, ..BASE }, second)?;
+        }
     }
     let rest = "[[process]]\npid = 7\nuid = 0\ngid = 0\nat = '/a'";
-    expect(&rt, rt.alloc(), Parts { rest, ..BASE }, NO_PROCESS)?;
-    expect(&rt, rt.alloc(), Parts { top, rest, ..BASE }, NO_PROCESS)
+    for top in [BASE.top, TOP_2, TOP_4] {
+        expect(&rt, rt.alloc(), Parts { top, rest, ..BASE }, NO_PROCESS)?;
+    }
+    Ok(())
 }
 
 #[test]
 fn a_group_is_kept(rt: HostRuntime) -> Result<(), Fail> {
     let keys =
         "dir = { gid = 4294967295, mode = 0o775 }\nfiles = { 'cgroup.procs' = { uid = 3, gid = 5, mode = 0o020 } }";
-    let top = TOP_2;
-    let cgroup = cgroup_of(rt.alloc(), Parts { top, keys, ..BASE })?;
     let dir = Entry {
         uid: 0,
         gid: 4294967295,
@@ -90,8 +95,11 @@ fn a_group_is_kept(rt: HostRuntime) -> Result<(), Fail> {
         gid: 5,
         mode: 0o020,
     };
-    assert_eq!(rt; cgroup.dir, dir);
-    assert_eq!(rt; cgroup.procs, procs);
+    for top in [TOP_2, TOP_4] {
+        let cgroup = cgroup_of(rt.alloc(), Parts { top, keys, ..BASE })?;
+        assert_eq!(rt; cgroup.dir, dir);
+        assert_eq!(rt; cgroup.procs, procs);
+    }
     Ok(())
 }
 

@@ -135,6 +135,76 @@ fn what_cgroups_enable(rt: HostRuntime) -> Result<(), Fail> {
     Ok(())
 }
 
+/// In format 4.
+#[test]
+fn what_else_cgroups_enable(rt: HostRuntime) -> Result<(), Fail> {
+    let top = "format = 4\ncontrollers = [\"io\", \"cpu\", \"dmem\"]";
+    for (line, texts) in [
+        (READ, ["['cpu']", "['cpu', 'cpu']", "[]"].as_slice()),
+        (BAD_CONTROLLER, &["['IO']", "['cpu', 'perf_event']", "['']"]),
+        (
+            TOP_DOWN,
+            &["['io']", "['cpu', 'dmem']", "['rdma']", "['memory']"],
+        ),
+    ] {
+        for enabled in texts {
+            let keys = format!(in rt.alloc(); "enabled = {enabled}")?;
+            let keys = keys.as_str();
+            expect(&rt, rt.alloc(), Parts { top, keys, ..BASE }, line)?;
+        }
+    }
+    Ok(())
+}
+
+/// A root that has and enables all nine controllers, one that enables them by turns, and what is in it.
+const NINE: &str = "format = 4
+controllers = ['dmem', 'misc', 'rdma', 'pids', 'hugetlb', 'memory', 'io', 'cpu', 'cpuset', 'io']
+[[cgroup]]
+path = '/'
+enabled = ['misc', 'cpuset', 'io', 'hugetlb', 'rdma', 'cpu', 'memory', 'dmem', 'pids', 'misc']
+[[cgroup]]
+path = '/in'
+enabled = ['dmem', 'hugetlb', 'cpuset']
+[[cgroup]]
+path = '/a'
+files.'memory.max'.value = 5
+files.'cpu.weight'.value = 7
+files.'pids.max'.value = 9
+";
+
+#[test]
+fn all_nine_controllers(rt: HostRuntime) -> Result<(), Fail> {
+    for (rest, line) in [
+        ("", READ),
+        ("[[cgroup]]\npath = '/in/io'\nenabled = ['dmem']", READ),
+        ("[[cgroup]]\npath = '/io.max'", READ),
+        (
+            "[[cgroup]]\npath = '/in/io'\nenabled = ['io']",
+            "fault: tree top-down cgroup 4",
+        ),
+        (
+            "[[cgroup]]\npath = '/in/io'\nfiles.'memory.max'.value = 5",
+            "fault: tree no-such-file cgroup 4",
+        ),
+        (
+            "[[cgroup]]\npath = '/in/io'\nfiles.'io.max'.uid = 5",
+            "fault: tree shape cgroup 4",
+        ),
+        (
+            "[[cgroup]]\npath = '/memory.max'",
+            "fault: tree bad-path cgroup 4",
+        ),
+        (
+            "[[process]]\npid = 1\nuid = 0\nat = '/in'",
+            "fault: tree internal-process process 1",
+        ),
+    ] {
+        let text = format!(in rt.alloc(); "{NINE}{rest}\n")?;
+        expect_line(&rt, rt.alloc(), text.as_bytes(), TO_A, line)?;
+    }
+    Ok(())
+}
+
 const NO_CONTROLLER: &str = "fault: tree bad-controller top";
 
 #[test]

@@ -1,6 +1,6 @@
 //! Each clause, at the start where it can be broken there, and at a later step where it can be broken there.
-use crate::tests::runs::trees::{SAME, replay_with, verdict_after};
 use crate::tests::ops::control;
+use crate::tests::runs::trees::{SAME, replay_with, verdict_after};
 use crate::tests::trees::fixtures::{Owners, add, path, root_alone};
 use cg_cgroup::files::{Controller, ControllerSet};
 use cg_cgroup::process::Pid;

@@ -1,14 +1,17 @@
 //! Operation lines, read and written.
 use crate::tests::ops::{chmod, control, exit, fork, mkdir, moved, rmdir, set};
-use cg_cgroup::files::{Controller, EntryName, Limit, LimitFile};
-use cg_lines::lines::{LONGEST_LINE, LineFault, op_text, read_op};
+use cg_cgroup::files::{Controller, EntryName, Limit, LimitFile, Vocabulary};
+use cg_lines::lines::{LONGEST_LINE, LineFault, has_short_line, op_text, read_op, read_op_in};
 use cg_model::operation::Op;
 use std::alloc::{AllocError, Global};
 use std::test::Fail;
 
+/// Of formats 1 and 2, and of format 4.
+const VOCABULARIES: [Vocabulary; 2] = [Vocabulary::Format2, Vocabulary::Format4];
+
 /// Whether a line is an operation's, and that operation is written as the line and a newline.
-fn is_line(alloc: Global, line: &str) -> Result<bool, LineFault> {
-    match read_op(alloc, line.as_bytes()) {
+fn is_line(alloc: Global, vocabulary: Vocabulary, line: &str) -> Result<bool, LineFault> {
+    match read_op_in(alloc, vocabulary, line.as_bytes()) {
         Ok(op) => {
             let text = op_text(alloc, &op)?;
             Ok(text.as_slice().strip_suffix(b"\n") == Some(line.as_bytes()))
@@ -19,9 +22,14 @@ fn is_line(alloc: Global, line: &str) -> Result<bool, LineFault> {
 }
 
 /// Whether an operation is written as a line and a newline, and the line is read as the operation.
-fn is_written(alloc: Global, op: &Op, line: &str) -> Result<bool, LineFault> {
+fn is_written(
+    alloc: Global,
+    vocabulary: Vocabulary,
+    op: &Op,
+    line: &str,
+) -> Result<bool, LineFault> {
     let text = op_text(alloc, op)?;
-    let read = read_op(alloc, line.as_bytes())?;
+    let read = read_op_in(alloc, vocabulary, line.as_bytes())?;
     Ok(text.as_slice().strip_suffix(b"\n") == Some(line.as_bytes()) && read == *op)
 }
 
@@ -35,7 +43,7 @@ fn long_control(alloc: Global, count: usize, word: &str) -> Result<String, Alloc
 }
 
 /// Lines of no operation, for their words, their numbers and their spaces.
-const OF_NONE: [&str; 39] = [
+const OF_NONE: [&str; 42] = [
     "",
     "move",
     "move 10",
@@ -43,7 +51,10 @@ const OF_NONE: [&str; 39] = [
     "freeze /c0",
     "control",
     "control /c0 memory",
-    "control /c0 +io",
+    "control /c0 +perf_event",
+    "control /c0 +IO",
+    "control /c0 +io -io.max",
+    "control /c0 +",
     "mkdir /c0/cgroup.procs",
     "mkdir /é",
     "rmdir c0",
@@ -95,15 +106,34 @@ const OF_OPERATIONS: [&str; 15] = [
     "chmod /c0 memory.max 640",
 ];
 
+/// Lines of operations where all controllers are named, and else of none.
+const OF_FORMAT_4: [&str; 5] = [
+    "control /c0 +io",
+    "control / -cpuset",
+    "control /c0 +cpu +dmem",
+    "control /c0 -dmem +misc -rdma +pids -hugetlb +memory -io +cpu -cpuset",
+    "control /c0/io -hugetlb +hugetlb -hugetlb",
+];
+
 #[test]
 fn lines_of_operations_and_of_none(rt: HostRuntime) -> Result<(), Fail> {
-    for (lines, of_an_operation) in [(OF_NONE.as_slice(), false), (&OF_OPERATIONS, true)] {
+    for (lines, of_an_operation) in [
+        (OF_NONE.as_slice(), [false, false]),
+        (&OF_OPERATIONS, [true, true]),
+        (&OF_FORMAT_4, [false, true]),
+    ] {
         for line in lines {
-            assert_eq!(rt; is_line(rt.alloc(), line)?, of_an_operation, "{line}");
+            for (vocabulary, is_one) in VOCABULARIES.iter().zip(of_an_operation) {
+                assert_eq!(rt; is_line(rt.alloc(), *vocabulary, line)?, is_one, "{line}");
+            }
+            let op = read_op(rt.alloc(), line.as_bytes());
+            assert_eq!(rt; op.is_ok(), of_an_operation[0], "{line}");
         }
     }
-    let bytes = read_op(rt.alloc(), b"mkdir /\xff");
-    assert_eq!(rt; bytes.err(), Some(LineFault::BadWord));
+    for vocabulary in VOCABULARIES {
+        let bytes = read_op_in(rt.alloc(), vocabulary, b"mkdir /\xff");
+        assert_eq!(rt; bytes.err(), Some(LineFault::BadWord));
+    }
     Ok(())
 }
 
@@ -132,7 +162,34 @@ fn operations_are_written_and_read(rt: HostRuntime) -> Result<(), Fail> {
         (chmod(a, "/a", weight, 0o640), "chmod /a cpu.weight 640"),
     ] {
         let op = op.ok_or("an operation")?;
-        assert!(rt; is_written(a, &op, line)?, "{line}");
+        for vocabulary in VOCABULARIES {
+            assert!(rt; is_written(a, vocabulary, &op, line)?, "{line}");
+            assert!(rt; has_short_line(vocabulary, &op), "{line}");
+        }
+    }
+    Ok(())
+}
+
+#[test]
+fn all_nine_controllers_are_written_and_read(rt: HostRuntime) -> Result<(), Fail> {
+    let a = rt.alloc();
+    for controller in Controller::ALL {
+        for (on, sign) in [(true, '+'), (false, '-')] {
+            let op = control(a, "/a", &[(on, controller), (!on, Controller::Memory)]);
+            let op = op.ok_or("an operation")?;
+            let other = if on { '-' } else { '+' };
+            let name = controller.name();
+            let line = format!(in a; "control /a {sign}{name} {other}memory")?;
+            assert!(rt;
+                is_written(a, Vocabulary::Format4, &op, line.as_str())?,
+                "{line}"
+            );
+            assert_eq!(rt;
+                has_short_line(Vocabulary::Format2, &op),
+                controller.is_in_format_2()
+            );
+            assert!(rt; has_short_line(Vocabulary::Format4, &op));
+        }
     }
     Ok(())
 }
@@ -142,12 +199,54 @@ fn the_longest_line(rt: HostRuntime) -> Result<(), Fail> {
     let mut line = long_control(rt.alloc(), 1635, " +cpu")?;
     line.push_str(" +memory")?;
     assert_eq!(rt; line.len(), LONGEST_LINE);
-    assert!(rt; is_line(rt.alloc(), line.as_str())?);
-    let line = long_control(rt.alloc(), 1364, " +pids")?;
-    assert_eq!(rt; line.len(), LONGEST_LINE + 1);
-    assert_eq!(rt;
-        read_op(rt.alloc(), line.as_bytes()).err(),
-        Some(LineFault::TooLong)
-    );
+    let longer = long_control(rt.alloc(), 1364, " +pids")?;
+    assert_eq!(rt; longer.len(), LONGEST_LINE + 1);
+    for vocabulary in VOCABULARIES {
+        assert!(rt; is_line(rt.alloc(), vocabulary, line.as_str())?);
+        assert_eq!(rt;
+            read_op_in(rt.alloc(), vocabulary, longer.as_bytes()).err(),
+            Some(LineFault::TooLong)
+        );
+    }
+    Ok(())
+}
+
+/// `count` changes of a controller at the longest path.
+fn changes_at_longest(alloc: Global, count: usize, controller: Controller) -> Result<Op, Fail> {
+    let mut path = String::new(alloc);
+    for _ in 0..15 {
+        path.push('/')?;
+        for _ in 0..255 {
+            path.push('d')?;
+        }
+    }
+    path.push('/')?;
+    for _ in 0..254 {
+        path.push('e')?;
+    }
+    let mut words = Vec::new(alloc);
+    for _ in 0..count {
+        words.push((true, controller))?;
+    }
+    Ok(control(alloc, path.as_str(), words.as_slice()).ok_or("an operation")?)
+}
+
+/// Where an operation has as many changes as fit behind the longest path its line is read again, and with one more it may not be.
+#[test]
+fn the_most_changes(rt: HostRuntime) -> Result<(), Fail> {
+    let a = rt.alloc();
+    for (vocabulary, most, longest) in [
+        (Vocabulary::Format2, 511, Controller::Memory),
+        (Vocabulary::Format4, 454, Controller::Hugetlb),
+    ] {
+        let op = changes_at_longest(a, most, longest)?;
+        assert!(rt; has_short_line(vocabulary, &op));
+        let text = op_text(a, &op)?;
+        let line = text.as_slice().strip_suffix(b"\n").ok_or("a newline")?;
+        assert!(rt; read_op_in(a, vocabulary, line)? == op);
+        let op = changes_at_longest(a, most + 1, longest)?;
+        assert!(rt; !has_short_line(vocabulary, &op));
+        assert!(rt; op_text(a, &op)?.len() > LONGEST_LINE + 1);
+    }
     Ok(())
 }

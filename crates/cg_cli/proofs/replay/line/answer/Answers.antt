@@ -18,29 +18,33 @@ use Rattle.streams.specs.Written.{AppendsPart}
 use Rattle.cg_cli.proofs.ReplayLines.{operation_read_ok, operation_read_bad, operation_read_long, outcome_is}
 use Rattle.cg_lines.proofs.OutcomeLaws.{outcome_shown}
 use Rattle.cg_cli.proofs.replay.line.answer.Goals as goal
+use Rattle.cg_cgroup.specs.declared.files.Vocabulary.{Vocabulary}
 
 told_apart : ◌≡◌ {A = Result Op LineFault} (Err BadWord) (Err TooLong) → ⊥
 told_apart same = cc
 
 -- a line that gives no operation
-faulty : (done : ℕ) (line : List ℕ) (course : Course) (user : Identity) (known : Option (List ℕ)) (fault : LineFault) → done < 65536
+faulty : (vocabulary : Vocabulary) (done : ℕ) (line : List ℕ) (course : Course) (user : Identity) (known : Option (List ℕ))
+    (fault : LineFault) → done < 65536
     → (◌≡◌ {A = Result Op LineFault} (Err fault) (Err TooLong)) ↔ (8192 < length line)
-    → (◌≡◌ {A = Result Op LineFault} (Err fault) (Err BadWord) → (op : Op) → IsInRange op → line ≢ spelling op)
+    → (◌≡◌ {A = Result Op LineFault} (Err fault) (Err BadWord) → (op : Op) → IsInRange vocabulary op → line ≢ spelling op)
     → (◌≡◌ {A = Result Op LineFault} (Err fault) (Err Cut) → ⊥)
-    → Answered (operation_read done line) course course user known known (Err (lifted_line (done + 1) fault))
-faulty done line course user known TooLong few long bad whole = (operation_read_long done line few (long.0 refl), Keeps-refl known)
-faulty done line course user known BadWord few long bad whole =
+    → Answered (operation_read vocabulary done line) course course user known known (Err (lifted_line (done + 1) fault))
+faulty vocabulary done line course user known TooLong few long bad whole =
+    (operation_read_long vocabulary done line few (long.0 refl), Keeps-refl known)
+faulty vocabulary done line course user known BadWord few long bad whole =
     let never : 8192 < length line → ⊥ = λ more. told_apart (long.1 more) in
     let short : length line ≤ 8192 = omega (arith, never) in
-    (operation_read_bad done line few short (bad refl), Keeps-refl known)
-faulty done line course user known Cut few long bad whole = absurd (whole refl)
-faulty done line course user known NoMemory few long bad whole = Keeps-refl known
+    (operation_read_bad vocabulary done line few short (bad refl), Keeps-refl known)
+faulty vocabulary done line course user known Cut few long bad whole = absurd (whole refl)
+faulty vocabulary done line course user known NoMemory few long bad whole = Keeps-refl known
 
 pub returns-in-Err : goal.returns-in-Err
 returns-in-Err g c =
     let told = c.in-Err.ensures in
     rw c.of_line.ensures
-    (faulty c.args.done c.args.line.now (g.C.OnCourse.course c.args.course.now) c.args.user.now (g.W.Write.contents c.args.out.now)
+    (faulty c.args.vocabulary c.args.done c.args.line.now (g.C.OnCourse.course c.args.course.now) c.args.user.now
+    (g.W.Write.contents c.args.out.now)
     c.in-Err.fault
     c.requires.few told.too_long told.bad_word told.not_cut)
 
@@ -64,7 +68,7 @@ returns-in_err-write_whole g c =
     let p = err_from_is_err_and c.from_residual-in_err-write_whole.result c.from_residual-in_err-write_whole.ensures.1 in
     rw (p.1, p.2) (
       op,
-      operation_read_ok c.args.done c.args.line.now op c.requires.few told.1 told.0 told.2,
+      operation_read_ok c.args.vocabulary c.args.done c.args.line.now op c.requires.few told.1 told.0 told.2,
       subst (AppendsPart (g.W.Write.contents c.args.out.now) (g.W.Write.contents c.write_whole.new.out)) line
           c.in_err-write_whole.ensures.err,
     )
@@ -81,7 +85,7 @@ returns g c =
     outcome_line st user op outcome c.in_ok-text.text.items c.as_slice.result.now (outcome_is st user op outcome made.outcome)
     c.in_ok-text.ensures c.as_slice.ensures.value in (
       op,
-      operation_read_ok c.args.done c.args.line.now op c.requires.few told.1 told.0 told.2,
+      operation_read_ok c.args.vocabulary c.args.done c.args.line.now op c.requires.few told.1 told.0 told.2,
       made.ok,
       subst (Appends (g.W.Write.contents c.args.out.now) (g.W.Write.contents c.write_whole.new.out)) line c.in_ok-write_whole.ensures.ok,
     )

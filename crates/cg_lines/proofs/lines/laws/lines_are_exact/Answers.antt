@@ -4,4 +4,6 @@ use Rattle.cg_lines.proofs.LineLaws.{line_takes, line_again}
 use Rattle.cg_lines.proofs.lines.laws.lines_are_exact.Goals as goal
 
 pub returns : goal.returns
-returns c = λ line op. (line_takes line op, λ held. ap operation_at held.1 ∙ line_again op held.0)
+returns c =
+    λ vocabulary line op.
+    (line_takes vocabulary line op, λ held. ap (operation_at vocabulary) held.1 ∙ line_again vocabulary op held.0)

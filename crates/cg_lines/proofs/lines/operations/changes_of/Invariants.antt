@@ -10,7 +10,8 @@ use Rattle.cg_lines.proofs.lines.operations.changes_of.Given as goal
 abbrev pub invariant-loop-word : goal.invariant-loop-word
 invariant-loop-word l =
     shadow (Utf8 l.rest)
-    × (with_front l.changes (changes_at (slice_split is_space l.rest)) ≡ changes_at (slice_split is_space l.words))
+    × (with_front l.changes (changes_at l.vocabulary (slice_split is_space l.rest))
+    ≡ changes_at l.vocabulary (slice_split is_space l.words))
 
 abbrev pub decreases-loop-word : goal.decreases-loop-word
 decreases-loop-word l = length l.rest

@@ -9,6 +9,6 @@ returns-in_err-strip_prefix-in-None c =
     let plus = λ (rest : List ℕ). sym (ap (λ (sign : List ℕ). sign ++ rest) (encode_ascii 43 (lit< tt))) in
     let minus = λ (rest : List ℕ). sym (ap (λ (sign : List ℕ). sign ++ rest) (encode_ascii 45 (lit< tt))) in
     c.from_residual.ensures
-    ∙ sym (change_none c.args.word.now
+    ∙ sym (change_none c.args.vocabulary c.args.word.now
     (λ rest e. c.in-None.ensures.cases rest (e ∙ plus rest))
     (λ rest e. c.in_err-strip_prefix-in-None.ensures.cases rest (e ∙ minus rest)))

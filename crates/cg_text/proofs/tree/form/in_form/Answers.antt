@@ -13,8 +13,9 @@ is_counted c =
       top = sym c.is_document.ensures ∙ c.if-not-is_document.false;
       said = sym c.format_at.ensures ∙ found;
       few =
-          has_few_rows document c.elements_at-cgroups.result.now c.elements_at-processes.result.now c.elements_at-cgroups.ensures
-          (omega arith) c.elements_at-processes.ensures (omega arith);
+          has_few_rows c.in_ok-format.format document c.elements_at-cgroups.result.now c.elements_at-processes.result.now
+          c.elements_at-cgroups.ensures
+          (omega (arith, c.most_rows-most.ensures.rows)) c.elements_at-processes.ensures (omega (arith, c.most_rows-most.ensures.rows));
     }
 
 pub returns-in_err-cgroups_in_form : goal.returns-in_err-cgroups_in_form

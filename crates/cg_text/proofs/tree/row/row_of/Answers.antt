@@ -1,7 +1,7 @@
 -- A row without a path, without controllers, or with a fault of its entries or values; else it is read.
 use Rattle.std.proofs.Common.{◌≡◌, Some, codes, is_some, refl, ap, sym, ◌∙◌}
 use Rattle.toml.specs.View.{table_view}
-use Rattle.cg_format.specs.Said.{path_said, controllers_said}
+use Rattle.cg_format.specs.Said.{path_said, known_said}
 use Rattle.cg_text.specs.declared.tree.row.Entries.{Entries}
 use Rattle.cg_format.specs.declared.fault.Place.TheVariants.{Cgroup as AtCgroup}
 use Rattle.cg_format.specs.declared.fault.TreeFault.TheVariants.{BadController}
@@ -9,10 +9,10 @@ use Rattle.cg_text.proofs.RowLaws.{ok_of, err_of, ok_or_is, passed_on, no_path, 
 use Rattle.cg_text.proofs.tree.row.row_of.Goals as goal
 use Rattle.cg_text.proofs.tree.row.row_of.Goals.{In_ok-enabled}
 
-enabled_is : (c : In_ok-enabled) → controllers_said (codes "enabled") (table_view c.args.table.now) ≡ Some c.in_ok-enabled.enabled
+enabled_is : (c : In_ok-enabled) → known_said c.args.format (codes "enabled") (table_view c.args.table.now) ≡ Some c.in_ok-enabled.enabled
 enabled_is c =
     let fault = BadController (AtCgroup c.args.number) in
-    sym c.controllers_at.ensures ∙ ok_of _ fault _ (c.in_ok-enabled.ensures.value ∙ ok_or_is c.controllers_at.result fault)
+    sym c.known_at.ensures ∙ ok_of _ fault _ (c.in_ok-enabled.ensures.value ∙ ok_or_is c.known_at.result fault)
 
 pub returns-in_err-path : goal.returns-in_err-path
 returns-in_err-path c =
@@ -22,13 +22,13 @@ returns-in_err-path c =
 pub returns-in_err-enabled : goal.returns-in_err-enabled
 returns-in_err-enabled c =
     let fault = BadController (AtCgroup c.args.number) in
-    let found = c.controllers_at.result in
+    let found = c.known_at.result in
     let refused = err_of found fault _ (c.in_err-enabled.ensures.value ∙ ok_or_is found fault) in
     let row = table_view c.args.table.now in
     passed_on _ _ _ c.in_err-enabled.field-0.0 c.from_residual-in_err-enabled.ensures
     (λ _.
-    no_enabled (path_said (codes "path") row) (controllers_said (codes "enabled") row) _ _ _ _
-    (ap is_some c.in_ok-path.ensures.1) (sym c.controllers_at.ensures ∙ refused.0)
+    no_enabled (path_said (codes "path") row) (known_said c.args.format (codes "enabled") row) _ _ _ _
+    (ap is_some c.in_ok-path.ensures.1) (sym c.known_at.ensures ∙ refused.0)
     ∙ ap (λ fault. Some fault) refused.1)
 
 pub returns-in_err-cgroup : goal.returns-in_err-cgroup

@@ -4,11 +4,11 @@ use Rattle.std.specs.List.{cons_option}
 use Rattle.toml.specs.Data.{as_str}
 use Rattle.toml.specs.View.{view}
 use Rattle.toml.specs.declared.value.Value.{Value}
-use Rattle.cg_cgroup.specs.Files.{named_in_format_2, with_controller}
+use Rattle.cg_cgroup.specs.Files.{controller_named, with_controller}
 use Rattle.cg_cgroup.specs.declared.files.Controller.{Controller}
 use Rattle.cg_cgroup.specs.declared.controllers.ControllerSet.{ControllerSet}
 use Rattle.cg_format.specs.Said.{controllers_from}
-use Rattle.cg_text.proofs.tree.said.controllers_at.Goals.{in-Some+in_ok-from_format_2, in_default}
+use Rattle.cg_text.proofs.tree.said.controllers_at.Goals.{in-Some+in_ok-from_name, in_default}
 use Rattle.cg_text.proofs.tree.said.controllers_at.Goals as goal
 
 module _ (elements : List Value) (i : ℕ) (item : Value) (within : i < length elements) (is : item ≡ get_or elements i item)
@@ -28,7 +28,7 @@ module _ (elements : List Value) (i : ℕ) (item : Value) (within : i < length e
   skipped : new ≡ set → as_str (view item) ≡ None → controllers_from new left ≡ said
   skipped same so = ap (λ set. controllers_from set left) same ∙ (ap (controllers_from set) (sym (texts None so)) ∙ had)
 
-  taken : (controller : Controller) (text : List ℕ) → new ≡ with_controller set controller true → named_in_format_2 text ≡ Some controller
+  taken : (controller : Controller) (text : List ℕ) → new ≡ with_controller set controller true → controller_named text ≡ Some controller
       → as_str (view item) ≡ Some text → controllers_from new left ≡ said
   taken controller text more named so =
       ap (λ set. controllers_from set left) more
@@ -41,10 +41,10 @@ loop-element-preserved c =
     let at = c.loop-element.element-index in
     let is_text = sym c.as_str.ensures in
     elim c.match-as_str.branch [
-      | in-Some+in_ok-from_format_2 w ↦
+      | in-Some+in_ok-from_name w ↦
           taken elements at c.element-item.result c.loop-element-test.true c.element-item.is c.loop-element.controllers _
           c.loop-element.invariant c.match-as_str.controllers _ w.in-Some.text.now (w.controllers-is ∙ w.with-controllers.ensures)
-          (sym w.in_ok-from_format_2.ensures.found) (is_text ∙ ap option_copied w.in-Some.is)
+          (sym w.in_ok-from_name.ensures.found) (is_text ∙ ap option_copied w.in-Some.is)
       | in_default w ↦
           skipped elements at c.element-item.result c.loop-element-test.true c.element-item.is c.loop-element.controllers _
           c.loop-element.invariant c.match-as_str.controllers w.controllers-is (is_text ∙ ap option_copied w.in_default.is)

@@ -32,7 +32,13 @@ returns-in_err-answer-clause-fed g c =
     fed_fault (standing_of g.C.OnCourse.course self) c.args.piece.now c.line_end-end.result
     c.as_slice.result.now (grind (arith, common_steps)) c.requires.waiting.one_line c.line_end-end.ensures.before
     (omega arith) c.line_end-end.ensures.newline now (g.W.Write.contents c.args.out.now) (g.W.Write.contents c.answer.new.out)
-    (coming (record { course = now; user = self.user; line = c.extend_from_slice.new.self.items; done = self.done }))
+    (coming (record {
+      vocabulary = self.vocabulary;
+      course = now;
+      user = self.user;
+      line = c.extend_from_slice.new.self.items;
+      done = self.done;
+    }))
     c.in_err-answer.field-0.0 c.in_err-answer.ensures c.from_residual-in_err-answer.result c.from_residual-in_err-answer.ensures.1
 
 pub returns-clause-fed : goal.returns-clause-fed

@@ -1,0 +1,4 @@
+//! The reading of a tree's text.
+#![tactic(auto)]
+
+pub mod read;

@@ -1,0 +1,346 @@
+"""Rows of format 4: small trees with what has to be answered, made by hand from docs/FORMATS.md and docs/MODEL.md.
+
+A change of a tree is a list of pairs of a text that stands in it once and of what stands in its place. An answer is its lines, and its
+status behind them; of a fault it is the line.
+"""
+H = '''format = 4
+controllers = ["cpuset", "cpu", "io", "memory", "pids"]
+
+[[cgroup]]
+path = "/"
+enabled = ["cpuset", "cpu", "io", "memory"]
+
+[[cgroup]]
+path = "/s"
+dir = { uid = 1000 }
+[cgroup.files]
+"cgroup.procs" = { uid = 1000 }
+"cgroup.subtree_control" = { uid = 1000 }
+"cpu.weight" = { value = 50 }
+
+[[cgroup]]
+path = "/s/a"
+dir = { uid = 1000 }
+[cgroup.files]
+"cgroup.procs" = { uid = 1000 }
+"cgroup.subtree_control" = { uid = 1000 }
+
+[[cgroup]]
+path = "/t"
+
+[[process]]
+pid = 10
+uid = 1000
+at = "/s/a"
+'''
+P = '''format = 4
+controllers = ["memory", "io"]
+
+[[cgroup]]
+path = "/"
+enabled = ["io", "memory"]
+
+[[cgroup]]
+path = "/p"
+enabled = ["io"]
+[cgroup.files]
+"cgroup.procs" = { uid = 1000 }
+
+[[cgroup]]
+path = "/p/s"
+
+[[process]]
+pid = 20
+uid = 1000
+at = "/p/s"
+'''
+# no controller at all
+TWO = 'format = 2\ncontrollers = []\ncgroup = [{ path = "/" }, { path = "/s" }]\n'
+WEIGHT = '"cpu.weight" = { value = 50 }'
+NAMED, ENABLED = 'controllers = ["cpuset", "cpu", "io", "memory", "pids"]', 'enabled = ["cpuset", "cpu", "io", "memory"]'
+
+
+def behind(line, *more):
+    """A change that adds lines below one."""
+    return line, "\n".join([line, *more])
+
+
+def controlled(*controllers):
+    """Changes of H: the root has some controllers and enables none, and its cgroup.subtree_control is the user's."""
+    return [(NAMED, f"controllers = {[*controllers]}"), (ENABLED, 'files = { "cgroup.subtree_control" = { uid = 1000 } }'), (WEIGHT, "")]
+
+
+OWN_CONTROL = behind(ENABLED, 'files = { "cgroup.subtree_control" = { uid = 1000 } }')
+SHUT_CONTROL = behind(ENABLED, 'files = { "cgroup.subtree_control" = { uid = 1000, mode = 0o444 } }')
+GROUPS_CONTROL = behind(ENABLED, 'files = { "cgroup.subtree_control" = { gid = 50, mode = 0o664 } }')
+CHECK, AS_ONE = "check --uid 1000 --subtree /s", "replay --uid 1000 --gid 7 --subtree /s --ops OPS"
+TOLD_OF_P = """\
+pair 1000 /p/s
+fails common-ancestor /p cgroup.procs 1000:0 644 owner
+holds common-ancestor / cgroup.procs 0:0 644
+holds limit-file /p/s cgroup.max.descendants 0:0 644
+holds limit-file /p/s cgroup.max.depth 0:0 644
+holds parent-control /p cgroup.subtree_control 0:0 644
+holds parent-dir /p dir 0:0 755
+holds stays /p/s spared
+holds control /p cpu off
+holds control /p io on
+holds control /p memory off
+holds control /p pids off
+holds files /p/s spared
+fails shut /p takes spared
+holds shut /p/s spared spared
+holds already-over /p/s cgroup.max.descendants 0 max
+holds already-over /p/s cgroup.max.depth 0 max
+unsettled common-ancestor /p
+""".splitlines()
+# of H with a change what CHECK answers
+TEXTS = [
+    ([], "contained"),
+    *(([("format = 4", f"format = {number}")], "fault: tree format") for number in (0, 3, 5, 6, -4, 44, 2 ** 32 + 4)),
+    *(([("format = 4", f"format = {number}")], "fault: tree shape top") for number in ("4.0", '"4"', "[4]", "true")),
+    *(([("format = 4", f"format = {number}")], "contained") for number in ("0x4", "+4", "0b100")),
+    *(([("format = 4", f"format = {number}")], "fault: tree bad-controller top") for number in (1, 2)),
+    *(([("format = 4", f"format = {number}"), (NAMED, 'controllers = ["cpu", "memory"]')], "fault: tree bad-controller cgroup 1")
+      for number in (1, 2)),
+    *(([("format = 4", f"format = {number}"), (NAMED, 'controllers = ["cpu"]'), (ENABLED, 'enabled = ["cpu"]')], "contained")
+      for number in (1, 2, 4)),
+    *(([("format = 4", "format = 2"), (NAMED, f'controllers = ["{name}"]')], "fault: tree bad-controller top")
+      for name in ("cpuset", "io", "hugetlb", "rdma", "misc", "dmem")),
+    *(([(NAMED, f'controllers = ["{name}"]'), (ENABLED, f'enabled = ["{name}"]'), (WEIGHT, "")], "contained")
+      for name in ("cpuset", "cpu", "io", "memory", "hugetlb", "pids", "rdma", "misc", "dmem")),
+    *(([(NAMED, f'controllers = ["cpu", "{name}"]')], "fault: tree bad-controller top")
+      for name in ("perf_event", "net_cls", "IO", "io ", "", "cpu.weight", "freezer")),
+    *(([(ENABLED, f'enabled = ["cpu", "{name}"]')], "fault: tree bad-controller cgroup 1") for name in ("perf_event", "net_cls", "Dmem")),
+    ([(NAMED, 'controllers = ["memory", "io", "cpu", "cpuset", "io"]'), (ENABLED, 'enabled = ["memory", "cpu", "memory"]')], "contained"),
+    ([(ENABLED, 'enabled = ["cpuset", "cpu", "io", "rdma"]')], "fault: tree top-down cgroup 1"),
+    ([behind('path = "/t"', 'enabled = ["cpuset", "pids"]')], "fault: tree top-down cgroup 4"),
+    ([behind('path = "/t"', 'enabled = ["cpuset", "io"]')], "contained"),
+    *(([(WEIGHT, f'"{name}" = {{}}')], "fault: tree shape cgroup 2")
+      for name in ("cpu.max", "io.max", "io.weight", "cpuset.cpus", "cgroup.freeze", "memory.swap.max", "hugetlb.2MB.max", "cpu.stat", "io")),
+    ([(WEIGHT, '"pids.max" = {}')], "fault: tree no-such-file cgroup 2"),
+    ([(WEIGHT, '"cpu.weight" = { value = "max" }')], "fault: tree bad-value cgroup 2"),
+    ([(WEIGHT, '"cpu.weight" = { value = ["50"] }')], "fault: tree shape cgroup 2"),
+    ([(ENABLED, 'enabled = ["cpuset", "io", "memory"]')], "fault: tree no-such-file cgroup 2"),
+    ([(WEIGHT, '"cpu.weight" = { gid = 5, mode = 0o664 }')], "contained"),
+    ([(WEIGHT, '"cpu.weight" = { gid = 4294967296 }')], "fault: tree bad-entry cgroup 2"),
+    ([("format = 4", "format = 1"), (NAMED, 'controllers = ["cpu"]'), (ENABLED, 'enabled = ["cpu"]'), (WEIGHT, '"cpu.weight" = { gid = 0 }')],
+     "fault: tree shape cgroup 2"),
+    ([behind('path = "/s/a"', 'enabled = ["io"]'), behind('path = "/s"', 'enabled = ["io"]')], "fault: tree internal-process process 1"),
+    ([('at = "/s/a"', 'at = "/s"'), behind('path = "/s"', 'enabled = ["cpuset"]')], "fault: tree internal-process process 1"),
+    ([('at = "/s/a"', 'at = "/"')], "contained"),
+    ([('path = "/t"', 'path = "/io.max"')], "contained"),
+    ([('path = "/t"', 'path = "/cpuset"')], "contained"),
+    ([('path = "/t"', 'path = "/cpu.weight"')], "fault: tree bad-path cgroup 4"),
+]
+# a tree with a change, words, and what is answered
+ANSWERS = [
+    (H, [OWN_CONTROL], CHECK, ["escapes", "control / -cpuset"], 1),
+    (H, [SHUT_CONTROL], CHECK, ["escapes", "chmod / cgroup.subtree_control 644", "control / -cpuset"], 1),
+    (H, [GROUPS_CONTROL], "check --uid 1000 --gid 5 --gid 50 --subtree /s", ["escapes", "control / -cpuset"], 1),
+    (H, [GROUPS_CONTROL], CHECK, ["contained"], 0),
+    # what is enabled below isn't disabled
+    (H, [OWN_CONTROL, behind('path = "/s"', 'enabled = ["cpuset"]')], CHECK, ["escapes", "control / -cpu"], 1),
+    (H, [OWN_CONTROL, behind('path = "/s"', 'enabled = ["cpuset", "cpu"]')], CHECK, ["escapes", "control / -io"], 1),
+    (H, [OWN_CONTROL, behind('path = "/t"', 'enabled = ["io", "cpuset", "cpu"]')], CHECK, ["escapes", "control / -memory"], 1),
+    (H, [OWN_CONTROL, behind('path = "/t"', 'enabled = ["io", "cpuset", "cpu", "memory"]')], CHECK, ["escapes", "control / +pids"], 1),
+    *((H, controlled(name), CHECK, ["escapes", f"control / +{name}"], 1)
+      for name in ("cpuset", "cpu", "io", "memory", "hugetlb", "pids", "rdma", "misc", "dmem")),
+    (H, controlled(), CHECK, ["unsettled parent-control /"], 2),
+    (H, controlled("io", "cpu"), CHECK, ["escapes", "control / +cpu"], 1),
+    (H, controlled("dmem", "pids", "hugetlb"), CHECK, ["escapes", "control / +hugetlb"], 1),
+    (H, controlled("dmem", "misc", "rdma", "pids"), CHECK, ["escapes", "control / +pids"], 1),
+    (H, [OWN_CONTROL], "audit --uid 1001 --uid 1000 --subtree /s", ["pair 1000 /s", "escapes", "control / -cpuset"], 1),
+    (H, [OWN_CONTROL], "advise --uid 1000 --subtree /s",
+     ["fails parent-control / cgroup.subtree_control 1000:0 644 owner", "chown / cgroup.subtree_control 0:0"], 1),
+    (P, [], "check --uid 1000 --subtree /p/s", ["unsettled common-ancestor /p"], 2),
+    (P, [], "may --uid 1000 --pid 20 --to /p", ["refused internal-process /p"], 1),
+    # memory alone is counted on
+    (P, [('enabled = ["io"]', 'enabled = ["memory"]')], "settle --uid 1000 --subtree /p/s", ["contained"], 0),
+    (P, [('enabled = ["io"]', 'enabled = ["io", "memory"]')], "settle --uid 1000 --subtree /p/s", ["contained"], 0),
+    (P, [], "settle --uid 1000 --subtree /p/s", ["unsettled common-ancestor /p"], 2),
+    (P, [], "explain --uid 1000 --subtree /p/s", TOLD_OF_P, 2),
+]
+# of H operations, one after another, each with its outcome, by AS_ONE; at the end the subtree is kept
+OUTCOMES = [
+    ("control /s +pids", "refused not-available pids"),
+    ("control /s +rdma +hugetlb", "refused not-available hugetlb"),
+    ("control /s +dmem +cpuset", "refused not-available dmem"),
+    ("control /s -dmem", "ok"),
+    ("control /x +io", "refused no-such-cgroup /x"),
+    ("control / +cpuset", "refused no-access / cgroup.subtree_control"),
+    ("control /s +memory +io", "ok"),
+    ("set /s/a memory.max 1", "ok"),
+    ("set /s/a cpu.weight 1", "refused no-such-file /s/a cpu.weight"),
+    ("control /s/a +io", "refused internal-process /s/a"),
+    ("control /s/a +cpuset", "refused not-available cpuset"),
+    ("mkdir /s/b", "ok"),
+    ("control /s/b +io", "ok"),
+    ("control /s -memory -io", "refused child-uses io"),
+    ("control /s -io +io", "ok"),
+    ("move 10 /s/b", "refused internal-process /s/b"),
+    ("move 10 /s", "refused internal-process /s"),
+    ("control /s/b -io", "ok"),
+    ("move 10 /s/b", "ok"),
+    ("control /s -io -memory +cpuset", "ok"),
+    ("set /s/a memory.max 1", "refused no-such-file /s/a memory.max"),
+    ("control /s -cpuset", "ok"),
+    ("move 10 /s", "ok"),
+    ("control /s +io", "refused internal-process /s"),
+    ("control /s -io", "ok"),
+]
+# of H with a change operations, and what is printed by AS_ONE
+VERDICTS = [
+    ([OWN_CONTROL], ["control / -cpuset +cpuset", "control / -pids", "control / -cpuset"], ["ok", "ok", "ok", "broken 3 limits"]),
+    ([OWN_CONTROL], ["control / -io", "control / +io"], ["ok", "ok", "broken 1 limits"]),
+    ([OWN_CONTROL], ["control / +dmem", "control / +io"], ["refused not-available dmem", "ok", "kept"]),
+    (controlled("rdma"), ["control / +rdma"], ["ok", "broken 1 limits"]),
+    (controlled("rdma", "misc"), ["control / -misc", "control / +misc +rdma -misc -rdma", "control / +misc"], ["ok", "ok", "ok", "broken 3 limits"]),
+    ([], ["control /s +io", "control /s -io", "control /s +cpuset"], ["ok", "ok", "ok", "kept"]),
+]
+# how a text begins, and whether it is read where it goes on past 16777216 bytes
+BEGINNINGS = [
+    (b"format = 4\n", True),
+    (b"format = 4\ncontrollers = []\n", True),
+    (b"controllers = []\nformat = 4\n", True),
+    (b'controllers = ["dmem"]\nformat = 4\n', True),
+    (b'controllers = ["cpu", "io"]\nformat = 4\n', True),
+    (b'controllers = ["io", "cpu"]\nformat = 4\n', False),
+    (b'controllers = ["cpu", "cpu"]\nformat = 4\n', False),
+    (b'controllers = ["cpuset", "cpu", "io", "memory", "hugetlb", "pids", "rdma", "misc", "dmem"]\nformat = 4\n', True),
+    (b'controllers = ["cpu", "perf_event"]\nformat = 4\n', False),
+    (b'controllers = ["cpu", ""]\nformat = 4\n', False),
+    (b'controllers = ["cpu","io"]\nformat = 4\n', False),
+    (b'controllers = ["cpu",  "io"]\nformat = 4\n', False),
+    (b'controllers = ["cpu" , "io"]\nformat = 4\n', False),
+    (b'controllers = ["cpu", "io",]\nformat = 4\n', False),
+    (b'controllers = ["cpu", "io", ]\nformat = 4\n', False),
+    (b'controllers = [ "cpu" ]\nformat = 4\n', False),
+    (b'controllers = ["cpu",\n"io"]\nformat = 4\n', False),
+    (b"controllers = ['cpu']\nformat = 4\n", False),
+    (b"controllers = [ ]\nformat = 4\n", False),
+    (b"controllers=[]\nformat = 4\n", False),
+    (b'"controllers" = []\nformat = 4\n', False),
+    (b"controllers = [] # none\nformat = 4\n", False),
+    (b"controllers = []\r\nformat = 4\n", False),
+    (b"controllers = []\nformat = 4\r\n", False),
+    (b"controllers = []\n\nformat = 4\n", False),
+    (b"controllers = []\n# a host\nformat = 4\n", False),
+    (b"controllers = []\nprocess = []\nformat = 4\n", False),
+    (b"controllers = []\nformat = 2\n", False),
+    (b"\xef\xbb\xbfformat = 4\n", False),
+    (b"\nformat = 4\n", False),
+    (b" format = 4\n", False),
+    (b"# a host\nformat = 4\n", False),
+    (b"format=4\n", False),
+    (b"format = 0x4\n", False),
+    (b"format = +4\n", False),
+    (b"format = 4 # large\n", False),
+    (b"format = 4 \n", False),
+    (b"format = 4\r\n", False),
+    (b"format = 44\n", False),
+    (b"format = 1\n", False),
+    (b"format = 2\n", False),
+    (b"process = []\nformat = 4\n", False),
+]
+# of a tree of a format, which is H or has / and /s alone, lines that are each a bad word
+BAD_WORDS = [
+    (4, "control /s +perf_event"),
+    (4, "control /s +net_cls"),
+    (4, "control /s +IO"),
+    (4, "control /s +io,cpu"),
+    (4, "control /s +io +"),
+    (4, "control /s io"),
+    (4, "control /s +io "),
+    (4, "control /s +cpuset.cpus"),
+    (4, "set /s io.max max"),
+    (4, "set /s cpu.max max"),
+    (4, "set /s cgroup.freeze 1"),
+    (4, "chmod /s io.max 644"),
+    (4, "chmod /s cpuset.cpus 644"),
+    *((2, f"control /s {sign}{name}") for name in ("cpuset", "io", "hugetlb", "rdma", "misc", "dmem") for sign in "+-"),
+    (2, "control /s +cpu -io"),
+]
+# of a tree of a format lines that are each an operation's, be its controller the root's or not
+GOOD_WORDS = [
+    *((4, f"control / +{name}") for name in ("cpuset", "cpu", "io", "memory", "hugetlb", "pids", "rdma", "misc", "dmem")),
+    *((2, f"control / -{name}") for name in ("cpu", "memory", "pids")),
+]
+# a text, and what upgrade writes of it
+UPGRADED = '''format = 4
+controllers = ["dmem", "memory", "cpuset", "io", "io"]
+
+[[cgroup]]
+path = "/s"
+dir = { gid = 5 }
+
+[[cgroup]]
+path = "/"
+enabled = ["dmem", "io", "cpuset", "io"]
+'''
+WRITTEN = '''controllers = ["cpuset", "io", "memory", "dmem"]
+format = 4
+process = []
+
+[[cgroup]]
+enabled = ["cpuset", "io", "dmem"]
+path = "/"
+
+[cgroup.dir]
+gid = 0
+mode = 493
+uid = 0
+
+[cgroup.files."cgroup.max.depth"]
+gid = 0
+mode = 420
+uid = 0
+value = "max"
+
+[cgroup.files."cgroup.max.descendants"]
+gid = 0
+mode = 420
+uid = 0
+value = "max"
+
+[cgroup.files."cgroup.procs"]
+gid = 0
+mode = 420
+uid = 0
+
+[cgroup.files."cgroup.subtree_control"]
+gid = 0
+mode = 420
+uid = 0
+
+[[cgroup]]
+enabled = []
+path = "/s"
+
+[cgroup.dir]
+gid = 5
+mode = 493
+uid = 0
+
+[cgroup.files."cgroup.max.depth"]
+gid = 0
+mode = 420
+uid = 0
+value = "max"
+
+[cgroup.files."cgroup.max.descendants"]
+gid = 0
+mode = 420
+uid = 0
+value = "max"
+
+[cgroup.files."cgroup.procs"]
+gid = 0
+mode = 420
+uid = 0
+
+[cgroup.files."cgroup.subtree_control"]
+gid = 0
+mode = 420
+uid = 0
+'''
