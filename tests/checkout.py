@@ -99,4 +99,4 @@ class Checkout:
 
     def call(self, *words, program=None, cwd=None, **environment):
         return subprocess.run([program or f"{self.top}/zirofen", *words], input="given\n", text=True,
-                              capture_output=True, timeout=300, cwd=cwd or self.room, env={**self.environment, **environment})
+                              capture_output=True, timeout=7200, cwd=cwd or self.room, env={**self.environment, **environment})

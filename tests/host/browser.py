@@ -12,7 +12,7 @@ PROGRAM = shutil.which("chromium") or shutil.which("chromium-browser") or ""
 WORDS = ("--headless", "--no-sandbox", "--disable-gpu", "--disable-dev-shm-usage", "--no-first-run", "--disable-extensions",
          "--disable-background-networking", "--disable-component-update", "--hide-scrollbars", "--remote-debugging-pipe")
 
-SECONDS = 60
+SECONDS = 7200
 
 
 class Browser:
@@ -47,7 +47,7 @@ class Browser:
             self.call("Browser.close")
         os.close(self.out)
         try:
-            self.browser.wait(SECONDS)
+            self.browser.wait(60)
         except subprocess.TimeoutExpired:
             self.browser.kill()
             self.browser.wait()

@@ -25,7 +25,7 @@ for text in json.load(sys.stdin):
         read.append([suite.name, [suite.tests, suite.failures, suite.errors, suite.skipped], told])
 json.dump(read, sys.stdout)
 """
-SECONDS = 20
+SECONDS = 7200
 
 
 def read_by(code, value):

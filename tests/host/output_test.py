@@ -285,7 +285,7 @@ class HelperTest(HostTest):
 
     def check(self, *words):
         environment = {**os.environ, "TMPDIR": self.temporary}
-        ended = subprocess.run(self.words(*words), capture_output=True, text=True, env=environment, timeout=60)
+        ended = subprocess.run(self.words(*words), capture_output=True, text=True, env=environment, timeout=7200)
         self.assertEqual(os.listdir(self.temporary), [])
         return ended
 
@@ -353,7 +353,7 @@ class HelperTest(HostTest):
         os.symlink("itself", f"{self.host.folder}/itself")
         self.assertEqual(self.check("--baseline", f"{self.host.folder}/to-that").returncode, 0)
         with open(kept, "rb") as given:
-            ended = subprocess.run(self.words("--baseline", "/dev/stdin"), stdin=given, capture_output=True, text=True, timeout=60)
+            ended = subprocess.run(self.words("--baseline", "/dev/stdin"), stdin=given, capture_output=True, text=True, timeout=7200)
         self.assertEqual((ended.returncode, ended.stderr), (0, ""))
         for odd in ("itself", "temporary", "temporary/"):
             ended = self.check("--baseline", f"{self.host.folder}/{odd}")
@@ -383,7 +383,7 @@ class HelperTest(HostTest):
                 self.wait_for(lambda: os.path.exists(told) and read(told).endswith("\n"))
                 self.assertEqual(len(os.listdir(self.temporary)), 1)
                 started.send_signal(number)
-                said, line = started.communicate(timeout=60)
+                said, line = started.communicate(timeout=7200)
                 self.assertEqual((started.returncode, said, os.listdir(self.temporary)), (-number, "", []))
                 self.assertEqual(line, f"zirofen-host check: ended by {number.name}, and this is no answer\n")
                 self.wait_for(lambda: not any(map(is_running, read(told).split())))
@@ -407,7 +407,7 @@ class HelperTest(HostTest):
         self.assertEqual((ended.stdout, ended.stderr), ("on\n", ""))
 
     def wait_for(self, holds):
-        until = time.monotonic() + 60
+        until = time.monotonic() + 7200
         while not holds():
             self.assertLess(time.monotonic(), until, "waited in vain")
             time.sleep(0.02)

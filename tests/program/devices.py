@@ -22,7 +22,8 @@ PROGRAM = f"{TOP}/crates/zirofen/out/zirofen"
 KINDS = (("alloc", "refused"), ("read", "refused"), ("read", "short"), ("read", "interrupted"), ("write", "refused"),
          ("write", "none"), ("write", "short"), ("write", "interrupted"))
 EACH_TO = 1200
-SECONDS_OF_A_RUN = 60
+# what hangs is ended; a run may wait long for a processor, and all of a machine stand still
+SECONDS_OF_A_RUN = 7200
 FAULT = 3
 # bytes of a report that the program holds back
 BUFFER = 8192

@@ -86,7 +86,7 @@ def at_terminal(words, given, said, folder):
     master, slave = pty.openpty()
     with os.fdopen(master, "wb", buffering=0) as keys, os.fdopen(slave, "rb") as stdin:
         keys.write(given + b"\x04")
-        ended = subprocess.run(words, stdin=stdin, capture_output=True, cwd=folder, timeout=60)
+        ended = subprocess.run(words, stdin=stdin, capture_output=True, cwd=folder, timeout=7200)
     first, _, rest = ended.stderr.partition(b"\n")
     if said and first != b"  " + said.encode():
         rest = b"it isn't told of the terminal first: " + ended.stderr

@@ -10,6 +10,7 @@ use cg_cgroup::process::Pid;
 use cg_model::changes::{Change, Changes};
 use cg_model::hierarchy::Hierarchy;
 use cg_model::operation::Op;
+use cg_model::told::is_told;
 
 /// The operations that are planned, in turn: the removal of the subtree, each controller off or on at its parent, and moves over
 /// its edge.
@@ -39,7 +40,7 @@ fn add_removal<H: Hierarchy>(planner: &Planner<H>, goals: &mut Vec<Op>) -> Resul
     Ok(())
 }
 
-/// Adds each controller off or on at the subtree's parent, where the user reaches its `cgroup.subtree_control`.
+/// Adds each controller that is told of, off or on at the subtree's parent, where the user reaches its `cgroup.subtree_control`.
 fn add_controls<H: Hierarchy>(planner: &Planner<H>, goals: &mut Vec<Op>) -> Result<(), NoMemory>
     requires { is_root planner.now.subtree.now ≡ false }
 {
@@ -55,7 +56,10 @@ fn add_controls<H: Hierarchy>(planner: &Planner<H>, goals: &mut Vec<Op>) -> Resu
     let Some(parent) = planner.tree.get(planner.subtree, len) else {
         return Ok(());
     };
-    for controller in Controller::IN_FORMAT_2 {
+    for controller in Controller::ALL {
+        if !is_told(planner.tree, controller) {
+            continue;
+        }
         let on = !parent.enabled.contains(controller);
         let mut changes = Changes::new(planner.alloc);
         changes.push(Change { on, controller })?;

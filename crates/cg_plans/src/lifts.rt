@@ -181,7 +181,7 @@ fn all_off<H: Hierarchy>(draft: &Draft<H>, path: &Path) -> Result<Vec<Goal>, NoM
         None => ControllerSet::none(),
     };
     let mut goals = Vec::new(alloc);
-    for controller in Controller::IN_FORMAT_2 {
+    for controller in Controller::ALL {
         if enabled.contains(controller) {
             let at = path.try_clone(alloc)?;
             goals.push(Goal::new(control(alloc, at, false, controller)?))?;

@@ -12,7 +12,8 @@ import tomllib
 from second import commands, documents, rules
 from trials import format_4
 
-SECONDS = 60
+# what hangs is ended; a run may wait long for a processor, and all of a machine stand still
+SECONDS = 7200
 
 
 def known_commands(program):
