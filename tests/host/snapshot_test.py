@@ -9,14 +9,19 @@ from dataclasses import replace
 from unittest import mock
 
 from made_up import DELEGATED, KERNEL_THREAD, TOP, MadeUpTest, path
+from zirofen_host import command, files
 from zirofen_host.collect import mount, walk
 from zirofen_host.fault import Fault
-from zirofen_host.profile import TEXT_FORMATS, text_of
+from zirofen_host.profile import LIMIT_FILES, TEXT_FORMATS, USUAL, text_of
 from zirofen_host.collect.mount import Mounts
 from zirofen_host.collect.snapshot import note_lines, tree_text
 from zirofen_host.collect.tree import read_tree, tree_text as text_of_tree
 
 CONTROLLERS = 'controllers = ["cpu", "memory", "pids"]\n'
+PAGES = ("64KB", "128KB", "256KB", "512KB", "1MB", "2MB", "4MB", "8MB", "16MB", "32MB", "64MB", "128MB", "256MB", "512MB", "1GB", "2GB",
+         "16GB")
+# limit files that a text has no key for
+FURTHER = sorted({name.replace(files.SIZE, size) for name in files.NAMES[files.Kind.LIMIT] for size in PAGES} - set(LIMIT_FILES))
 WRITTEN = r"""
 [[cgroup]]
 path = '/'
@@ -125,6 +130,30 @@ class SnapshotTest(MadeUpTest):
         # it comes back
         self.assertEqual(read_tree(tree_text(taken)).format, TEXT_FORMATS[4])
         self.assertEqual(text_of_tree(read_tree(tree_text(taken)), []), text_of_tree(taken.tree, []))
+
+    def written(self, *words):
+        """What the command writes, and what it warns of."""
+        host, out, warned = self.host, [], []
+        with mock.patch("zirofen_host.fault.write", out.append), mock.patch("zirofen_host.fault.warn", warned.append), host.owned():
+            self.assertEqual(command.main(["snapshot", "--plain-folder", "--mount", host.mount, "--proc", host.proc, *words]), 0)
+        return out, warned
+
+    def test_further_limit_files(self):
+        """Sixty in each cgroup, all root's and unset: the text is byte for byte that of the cgroups without them."""
+        host, names = self.host, " ".join(walk.CONTROLLERS)
+        unset = {name: USUAL.get(name, "max") for name in FURTHER}
+        self.assertEqual(len(FURTHER), 60)
+        ways = ((), ("--no-processes",), ("--tree-format", "2"), ("--tree-format", "4"), ("--only", "/a.slice/b"))
+        texts = []
+        for values in ({}, unset):
+            host.cgroup("/", enabled=names, values={**values, "cgroup.controllers": names})
+            host.cgroup("/a.slice", owners=DELEGATED, enabled="cpu io memory", values={**values, "memory.max": 4096})
+            host.cgroup("/a.slice/b", owners={**DELEGATED, "memory.max": 1000}, modes={"memory.max": 0o666}, pids=(7,), values=values)
+            host.cgroup("/c", values=values)
+            host.process(7, uid=1000)
+            self.assertEqual(set(values) & set(host.snapshot().cgroups[path("/a.slice/b")].files), set(values))
+            texts.append([self.written(*words) for words in ways])
+        self.assertEqual(texts[0], texts[1])
 
     def test_formats_of_texts_that_are_read(self):
         for number, taken in ((1, 2), (2, 2), (4, 4)):
