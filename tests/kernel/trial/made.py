@@ -1,5 +1,6 @@
 """Made cases of operations: two in which each mutant is wrong at a step of its own, so that it is found in a run of however few
-cases, and for each controller two of what internal processes bar where it alone is enabled."""
+cases; three in which a process of root comes to another cpuset; and for each controller two of what internal processes bar where it
+alone is enabled."""
 import random
 
 from second import rules
@@ -70,6 +71,14 @@ def trees_of_one(controllers, controller):
     yield tree_of(4, controllers, enabled, [(), OWN, FLAT], [(10, USER[0], OWN)]), ("control", OWN, (("+", controller),))
 
 
+def trees_of_cpusets(controllers):
+    """Three trees with one step each, by which a process of root comes to another cpuset."""
+    paths, on = [(), OWN, FLAT], {(): ["cpuset"], OWN: ["cpuset"]}
+    yield tree_of(4, controllers, {(): ["cpuset"]}, paths, [(10, 0, ())]), ("move", 10, OWN)
+    yield tree_of(4, controllers, on, paths, [(10, 0, FLAT)]), ("control", OWN, (("-", "cpuset"),))
+    yield tree_of(4, controllers, {(): ["cpuset"]}, paths, [(10, 0, FLAT)]), ("control", OWN, (("+", "cpuset"),))
+
+
 def case_of(kind, rng, drawn, controllers, steps):
     tree, text, state = making.settled(rng, drawn, controllers)
     return making.Case(kind, text, [(tree.user, step) for step in steps], [tree.subtree], state)
@@ -80,4 +89,5 @@ def made_cases(controllers):
     rng = random.Random("made")
     return [case_of("operations", rng, made_tree(), controllers, STEPS.values()),
             case_of("operations", rng, made_tree_of_format_4(controllers), controllers, STEPS_OF_FORMAT_4.values()),
+            *(case_of("operations", rng, tree, controllers, [step]) for tree, step in trees_of_cpusets(controllers)),
             *(case_of(ALONE, rng, tree, controllers, [step]) for name in controllers for tree, step in trees_of_one(controllers, name))]
