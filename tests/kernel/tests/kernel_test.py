@@ -95,6 +95,10 @@ class KernelTest(unittest.TestCase):
             barred[case.steps[0][1][0]] |= case.state.cgroups[()].enabled if record.numbers[0] == errno.EBUSY else set()
         self.assertEqual(barred, {kind: classes.DOMAIN & set(CONTROLLERS) for kind in barred})
 
+    def test_recorded_cases_are_of_both_formats(self):
+        for kind in ("operations", "escapes", "contained", "advice"):
+            self.assertEqual({case.state.form for case, _, _ in recorded(kind)}, {2, 4}, kind)
+
     def test_recorded_operations_turn_all_controllers(self):
         let_through, enabled = set(), set()
         for case, _, record in recorded("operations"):
