@@ -52,6 +52,8 @@ static int process_count;
 static int births[2];
 static char *files[MOST_WORDS];
 static int file_count;
+static char *others[MOST_WORDS];
+static int other_count;
 static char *before[MOST_LINES];
 static int before_count;
 static struct user user;
@@ -392,7 +394,16 @@ static void add_file(char *line, int folder, const char *name)
     strcat(strcat(line, ":"), value);
 }
 
-/* c PATH ENABLED DIR PROCS CONTROL FILE=UID:GID:MODE:VALUE .. */
+/* Adds NAME of a file, and of no directory, that stands in a folder. */
+static void add_other(char *line, int folder, const char *name)
+{
+    struct stat found;
+
+    if (fstatat(folder, name, &found, 0) == 0 && S_ISREG(found.st_mode))
+        strcat(strcat(line, " "), name);
+}
+
+/* c PATH ENABLED DIR PROCS CONTROL FILE=UID:GID:MODE:VALUE .. OTHER .. */
 static char *line_of_cgroup(const char *path, int folder)
 {
     char line[LONGEST], enabled[256];
@@ -407,6 +418,8 @@ static char *line_of_cgroup(const char *path, int folder)
     add_entry(line, folder, CONTROL, "");
     for (int at = 0; at < file_count; at++)
         add_file(line, folder, files[at]);
+    for (int at = 0; at < other_count; at++)
+        add_other(line, folder, others[at]);
     return strdup(line);
 }
 
@@ -502,6 +515,17 @@ static void remove_below(const char *path)
         closedir(folder);
 }
 
+/* Takes away all that the root enables. */
+static void disable_all(void)
+{
+    char enabled[256], text[LONGEST] = "";
+
+    read_text(enabled, sizeof enabled, AT_FDCWD, TOP "/" CONTROL);
+    for (char *word = strtok(enabled, " "); word; word = strtok(NULL, " "))
+        strcat(strcat(strcat(text, "-"), word), " ");
+    write_text("/", CONTROL, strcat(text, "\n"));
+}
+
 /* Ends every process, and takes the tree back to its bare root. */
 static void clear(void)
 {
@@ -514,7 +538,7 @@ static void clear(void)
         ;
     process_count = 0;
     remove_below("/");
-    write_text("/", CONTROL, "-cpu -memory -pids\n");
+    disable_all();
     for (int at = 0; at < file_count; at++) {
         char *words[] = {"own", "/", files[at], "0", "0", "644", NULL};
 
@@ -555,7 +579,14 @@ static int carry_out(char **words, int count)
     return 1;
 }
 
-/* case NUMBER | state | files NAME .. | user UID GID .. | an operation | a line of building */
+static int keep_words(char **kept, char **words, int count)
+{
+    for (int at = 1; at < count; at++)
+        kept[at - 1] = strdup(words[at]);
+    return count - 1;
+}
+
+/* case NUMBER | state | files NAME .. | others NAME .. | user UID GID .. | an operation | a line of building */
 static void take(char **words, int count)
 {
     int wrong;
@@ -566,8 +597,9 @@ static void take(char **words, int count)
     } else if (strcmp(words[0], "state") == 0) {
         tell_state();
     } else if (strcmp(words[0], "files") == 0) {
-        for (file_count = 0; file_count < count - 1; file_count++)
-            files[file_count] = strdup(words[file_count + 1]);
+        file_count = keep_words(files, words, count);
+    } else if (strcmp(words[0], "others") == 0) {
+        other_count = keep_words(others, words, count);
     } else if (strcmp(words[0], "user") == 0) {
         name_user(words, count);
     } else if (!carry_out(words, count) && (wrong = do_word(building, words, count)) != 0) {
@@ -594,6 +626,15 @@ static void open_all(void)
         fprintf(out, "! %d pipe\n", errno);
 }
 
+/* controllers NAME .. */
+static void tell_controllers(void)
+{
+    char text[LONGEST];
+
+    read_text(text, sizeof text, AT_FDCWD, TOP "/cgroup.controllers");
+    fprintf(out, "controllers %s\n", text);
+}
+
 int main(void)
 {
     char line[LONGEST], *words[MOST_WORDS + 1];
@@ -601,6 +642,7 @@ int main(void)
 
     umask(022);
     open_all();
+    tell_controllers();
     cases = fopen("/cases", "r");
     while (cases && fgets(line, sizeof line, cases)) {
         int count = 0;

@@ -15,12 +15,15 @@ import unittest.mock
 TOP = os.path.dirname(os.path.dirname(os.path.abspath(__file__)))
 sys.path[:0] = [TOP, os.path.join(TOP, "..", "model")]
 from second import commands, rules, texts
+from second.controllers import ALL_CONTROLLERS
 from trial import advice, asking, classes, comparing, machine, made, making, mutants, script, settled, tally
-from trials import trees
+from trials import format_4, trees
 
 # how many mutants have to be found
-WRONG = 10
-KINDS = ("operations", "escapes", "contained", "advice", "wrong advice")
+WRONG = 14
+KINDS = ("operations", made.ALONE, "escapes", "contained", "advice", "wrong advice")
+# those of the recorded kernel
+CONTROLLERS = tuple(name for name in ALL_CONTROLLERS if name != "dmem")
 
 
 @functools.lru_cache(maxsize=None)
@@ -67,9 +70,51 @@ class KernelTest(unittest.TestCase):
         self.assertGreaterEqual({each.kind for each in found}, {"internal process", "range of values", "name of a file"})
 
     def test_recorded_escapes_break_as_the_program_says(self):
-        there = [comparing.break_of(case, record, case.subtrees[0]) for case, _, record in recorded("escapes")]
-        self.assertEqual(there, [answers[-1] for _, answers, _ in recorded("escapes")])
-        self.assertGreaterEqual({said.split(" ")[2] for said in there}, {"gone", "crossed", "limits"})
+        breaks = set()
+        for case, answers, record in recorded("escapes"):
+            there, found = comparing.break_of(case, record, case.subtrees[0]), comparing.compare(case, answers, record)
+            if there == answers[-1]:
+                breaks.add(there.split(" ")[2])
+            else:
+                self.assertEqual((there, [each.kind for each in found.differences]), ("kept", ["capabilities of the moved"]))
+        self.assertEqual(breaks, {"gone", "crossed", "limits"})
+
+    def test_recorded_escapes_turn_each_other_controller(self):
+        found = set()
+        for case, _, record in recorded("escapes"):
+            kind, *words = case.steps[-1][1]
+            if kind == "control" and words[0] == case.subtrees[0][:-1]:
+                self.assertEqual(comparing.break_of(case, record, case.subtrees[0]), f"broken {len(case.steps)} limits")
+                found |= set(words[1])
+        self.assertGreaterEqual(found, {(sign, name) for sign in "+-" for name in CONTROLLERS if name in format_4.FURTHER})
+
+    def test_recorded_internal_processes_bar_at_domain_controllers(self):
+        barred = {"move": set(), "control": set()}
+        for case, answers, record in recorded(made.ALONE):
+            self.assertEqual(answers[0], "refused internal-process /own")
+            barred[case.steps[0][1][0]] |= case.state.cgroups[()].enabled if record.numbers[0] == errno.EBUSY else set()
+        self.assertEqual(barred, {kind: classes.DOMAIN & set(CONTROLLERS) for kind in barred})
+
+    def test_recorded_cases_are_of_both_formats(self):
+        for kind in ("operations", "escapes", "contained", "advice"):
+            self.assertEqual({case.state.form for case, _, _ in recorded(kind)}, {2, 4}, kind)
+
+    def test_recorded_operations_turn_all_controllers(self):
+        let_through, enabled = set(), set()
+        for case, _, record in recorded("operations"):
+            for (_, step), number in zip(case.steps, record.numbers):
+                let_through |= set(step[2]) if step[0] == "control" and not number else set()
+            enabled |= {name for state in record.states for cgroup in state.cgroups.values() for name in cgroup.enabled}
+        self.assertEqual(enabled, set(CONTROLLERS))
+        self.assertGreaterEqual(let_through, {(sign, name) for sign in "+-" for name in ("cpuset", "io", "hugetlb")})
+
+    def test_files_that_stand_elsewhere_are_found(self):
+        state = script.state_of({f"c / io {' '.join(3 * ['0:0:644'])}"}, CONTROLLERS)
+        row = state.cgroups[()]
+        state = rules.replace(state, cgroups={(): row, ("a",): rules.replace(row, enabled=frozenset())})
+        for words, found in (["x", "io.max"], []), (["x"], ["! at /a stand the files of []"]), (
+                ["io.max", "misc.max"], ["! at /a stand the files of ['io', 'misc']"]):
+            self.assertEqual(script.misplaced({"c /a " + " ".join(words), "p 7 0 /a"}, state), found)
 
     def test_recorded_contained_subtrees_hold(self):
         for case, _, record in recorded("contained"):
@@ -105,20 +150,26 @@ class KernelTest(unittest.TestCase):
         self.assertEqual(told, set(mutants.ADVICE))
 
     def test_wrong_programs_are_found(self):
-        found = [name for name, turn in mutants.MUTANTS.items()
+        found = [name for name, turn in tally.OF_OPERATIONS.items()
                  if any(not each.kind for _, _, compared in self.compared(turn) for each in compared.differences)]
-        self.assertEqual(found, list(mutants.MUTANTS))
+        self.assertEqual(found, list(tally.OF_OPERATIONS))
         self.assertGreaterEqual(len(found), WRONG)
 
-    def test_each_wrong_program_is_wrong_at_its_own_step_of_the_made_case(self):
-        case = made.made_case(random.Random("made"))
+    def test_each_wrong_program_is_wrong_at_its_own_step_of_its_made_case(self):
+        of_programs = ((mutants.MUTANTS, made.STEPS), (mutants.OF_FORMAT_4, made.STEPS_OF_FORMAT_4))
+        for case, (turns, steps) in zip(made.made_cases(CONTROLLERS), of_programs):
+            answers = self.second_answers(case)
+            for name, turn in turns.items():
+                said = mutants.answers_of(turn, case, answers)
+                self.assertEqual([at for at, pair in enumerate(zip(said, answers)) if len(set(pair)) > 1], [list(steps).index(name)], name)
+
+    def second_answers(self, case):
+        """What the second model says of a case's steps."""
         answers, state = [], case.state
         for user, step in case.steps:
             state, refusal = rules.step(state, user, step)
             answers.append(f"refused {refusal}" if refusal else "ok")
-        for name, turn in mutants.MUTANTS.items():
-            said = mutants.answers_of(turn, case, answers)
-            self.assertEqual([at for at, pair in enumerate(zip(said, answers)) if len(set(pair)) > 1], [list(made.STEPS).index(name)], name)
+        return answers
 
     def test_state_that_differs_is_found(self):
         case, answers, record = next(each for each in recorded("operations") if not comparing.compare(*each).differences)
@@ -145,6 +196,43 @@ class KernelTest(unittest.TestCase):
                                    ("a", errno.EACCES, None)]:
             step, said = ("rmdir", (name,)), f"refused no-such-cgroup /{name}"
             self.assertEqual(classes.kind_of(classes.Outcome(None, None, step, said, number, None)), kind)
+
+    def outcome(self, step, said, number, uid=0):
+        """An outcome where the root enables cpuset and io, `/a` has a process, and `/b` none."""
+        row = rules.Cgroup({name: rules.Entry(1000) for name in rules.STANDING}, {}, frozenset())
+        cgroups = {(): rules.replace(row, enabled=frozenset(["cpuset", "io"])), ("a",): row, ("b",): row}
+        state = rules.State(frozenset(CONTROLLERS), cgroups, {7: (uid, ("a",))}, frozenset([7]), 4)
+        return classes.kind_of(classes.Outcome(state, (1000, ()), step, said, number, state))
+
+    def test_moves_of_capabilities_are_explained(self):
+        named, move, cpuset, io = "capabilities of the moved", ("move", 7, ("b",)), (("-", "cpuset"),), (("-", "io"),)
+        for step, number, uid, kind in [(move, errno.EPERM, 0, named), (move, errno.EPERM, 5, None), (move, errno.EACCES, 0, None),
+                                        (("move", 7, ("a",)), errno.EPERM, 0, None), (("control", (), cpuset), errno.EPERM, 0, named),
+                                        (("control", (), cpuset), errno.EPERM, 5, None), (("control", (), io), errno.EPERM, 0, None)]:
+            self.assertEqual(self.outcome(step, "ok", number, uid), kind, step)
+
+    def test_controllers_that_a_kernel_does_not_have_are_explained(self):
+        for changes, said, number, kind in [((("-", "dmem"),), "ok", errno.EINVAL, "unknown controller"),
+                                            ((("+", "dmem"),), "refused not-available dmem", errno.EINVAL, "unknown controller"),
+                                            ((("+", "misc"),), "ok", errno.EINVAL, None), ((("-", "dmem"),), "ok", errno.EBUSY, None)]:
+            self.assertEqual(self.outcome(("control", (), changes), said, number), kind)
+
+    def test_internal_processes_are_explained_by_what_is_enabled(self):
+        for name, kind in (("hugetlb", None), ("dmem", None), ("cpuset", "internal process"), ("pids", "internal process")):
+            step = ("control", ("a",), (("+", name),))
+            self.assertEqual(self.outcome(step, "refused internal-process /a", 0), kind, name)
+
+    def test_controllers_are_those_of_the_nine_in_their_order(self):
+        self.assertEqual(script.controllers_of("controllers misc io cpu perf_event\ncase 0\n"), ("cpu", "io", "misc"))
+        self.assertEqual(script.controllers_of("case 0\n"), ())
+
+    def test_trees_of_format_4_have_what_the_kernel_has(self):
+        forms = set()
+        for number in range(40):
+            _, _, state = making.random_tree(random.Random(number), CONTROLLERS)
+            forms.add(state.form)
+            self.assertEqual(state.controllers, set(CONTROLLERS if state.form == 4 else rules.CONTROLLERS))
+        self.assertEqual(forms, {2, 4})
 
     def test_a_case_is_read_again(self):
         for kind in KINDS:
@@ -175,7 +263,7 @@ class KernelTest(unittest.TestCase):
         with unittest.mock.patch.object(asking, "check", second_check), unittest.mock.patch.object(asking, "advise_pairs", second_advice):
             for number in range(60):
                 rng = random.Random(f"pairs {number}")
-                found += advice.cases_of_pairs(rng, None, *making.random_tree(rng))
+                found += advice.cases_of_pairs(rng, None, *making.random_tree(rng, CONTROLLERS))
         for case in found:
             states = [advice.changed(case.state, case.mends)]
             for user, step in case.steps + case.tries:
@@ -191,9 +279,9 @@ class KernelTest(unittest.TestCase):
         self.assertIsNone(found.differences[0].kind)
 
     def test_made_trees_fail_each_guard(self):
-        made = [advice.settled(tree) for tree in advice.made_trees()]
+        settled_ones = [advice.settled(tree) for tree in advice.made_trees()]
         failed = {(failure[0], rules.class_of(tree.user, state.cgroups[failure[1]].entries[failure[2]]) if failure[2] else "")
-                  for tree, _, state in made for failure in rules.failures(state, tree.user, tree.subtree)}
+                  for tree, _, state in settled_ones for failure in rules.failures(state, tree.user, tree.subtree)}
         ways = {(guard, way) for guard in ("common-ancestor", "limit-file", "parent-control", "parent-dir")
                 for way in ("owner", "group", "others")}
         self.assertEqual(failed, ways | {("already-over", "")})
@@ -201,7 +289,7 @@ class KernelTest(unittest.TestCase):
     def test_a_third_stays_on_their_side(self):
         for number in range(30):
             rng = random.Random(number)
-            tree, _, state = making.settled(rng, trees.tree_of_state(rng))
+            tree, _, state = making.settled(rng, trees.tree_of_state(rng, wide=number % 2), CONTROLLERS)
             top = tree.subtree
             for user, step in settled.beside_a_third(rng, tree, state) if state.live else []:
                 if user == settled.THIRD:

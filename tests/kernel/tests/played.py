@@ -4,21 +4,23 @@ from dataclasses import replace
 
 from second import commands, rules, settled, texts
 from second.rules import text_of
-from trial import advice, comparing
+from second.controllers import ALL_CONTROLLERS
+from trial import advice, comparing, script
 
-BARE = b"""format = 2
-controllers = ["cpu", "memory", "pids"]
+CONTROLLERS = [name for name in ALL_CONTROLLERS if name != "dmem"]
+BARE = f"""format = 4
+controllers = {CONTROLLERS}
 [[cgroup]]
 path = "/"
-"""
+""".encode()
 
 
 def report_of(_program, text, command, *words):
     """What the program would say of a tree."""
     files = {}
-    if "--ops" in words:
-        with open(words[words.index("--ops") + 1], "rb") as ops:
-            files[words[words.index("--ops") + 1]] = ops.read()
+    for name in [name for option, name in zip(words, words[1:]) if option in ("--ops", "--pairs")]:
+        with open(name, "rb") as lines:
+            files[name] = lines.read()
     if "--help" in words:
         return ["help"]
     lines, status, fault = commands.respond([command, *words], text.encode(), files)
@@ -44,8 +46,9 @@ class Kernel:
     def __init__(self):
         self.said, self.told, self.state, self.user = [], set(), None, None
 
-    def run(self, script):
-        for line in script.splitlines():
+    def run(self, lines):
+        self.said = ["controllers " + " ".join(CONTROLLERS)]
+        for line in lines.splitlines():
             kind, _, rest = line.partition(" ")
             TAKERS[kind](self, line, rest)
         return "\n".join(self.said) + "\nend\n"
@@ -55,7 +58,7 @@ class Kernel:
         self.told, self.state = set(), texts.tree_of(BARE)
 
     def build(self, line, _rest):
-        self.state = rules.next_state(self.state, (0, (0,)), commands.operation_of(line.encode()))
+        self.state = rules.next_state(self.state, (0, (0,)), commands.operation_of(line.encode(), 4))
 
     def process(self, _line, rest):
         pid, uid, path = rest.split(" ")
@@ -80,7 +83,7 @@ class Kernel:
         if rest.split(" ")[0] not in rules.BARS:
             self.said += [f"o {errno.EPERM}", "."]
             return
-        self.state, refusal = rules.step(self.state, self.user, commands.operation_of(rest.encode()))
+        self.state, refusal = rules.step(self.state, self.user, commands.operation_of(rest.encode(), 4))
         self.said.append(f"o {min(comparing.NUMBERS[refusal.split(' ')[0]]) if refusal else 0}")
         if refusal and line.startswith("try"):
             self.said.append(".")
@@ -89,17 +92,18 @@ class Kernel:
 
     def tell(self, *_):
         now = {f"p {pid} {uid} {text_of(path)}" for pid, (uid, path) in self.state.live.items()}
-        now |= {line_of(path, row) for path, row in self.state.cgroups.items()}
+        now |= {line_of(path, row, rules.brought(self.state, path)) for path, row in self.state.cgroups.items()}
         self.said += ["-" + line for line in self.told - now] + ["+" + line for line in now - self.told] + ["."]
         self.told = now
 
 
-def line_of(path, row):
+def line_of(path, row, brought):
     spelled = {name: f"{entry.uid}:{entry.gid}:{entry.mode:o}" for name, entry in row.entries.items()}
     words = [spelled[name] for name in rules.STANDING] + [f"{name}={spelled[name]}:{value}" for name, value in row.values.items()]
+    words += [script.OTHERS[name] for name in sorted(brought & script.OTHERS.keys())]
     return " ".join(["c", text_of(path), ",".join(sorted(row.enabled)) or "-", *words])
 
 
 TAKERS = {"case": Kernel.start, "mkdir": Kernel.build, "control": Kernel.build, "set": Kernel.build, "process": Kernel.process,
           "own": Kernel.own, "user": Kernel.name, "mend": Kernel.mend, "do": Kernel.operate, "try": Kernel.operate,
-          "state": Kernel.tell, "files": lambda *_: None}
+          "state": Kernel.tell, "files": lambda *_: None, "others": lambda *_: None}

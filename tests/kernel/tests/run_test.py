@@ -45,8 +45,9 @@ class RunTest(unittest.TestCase):
             self.assertRegex(said.splitlines()[-1], r"^\d+ passed, 0 failed$")
             with open(results) as text:
                 report = text.read()
-            for part in ("## 6.1\n", "## 6.12\n", "- Operations: 3 cases", "- Contained: 2 cases", "- Settled, escapes: 2 lists",
-                         "- Settled, contained: 2 pairs", "- Unexplained: 0."):
+            for part in ("## 6.1\n", "## 6.12\n", "- Operations: 7 cases", "- Contained: 2 cases", "- Settled, escapes: 2 lists",
+                         "- Settled, contained: 2 pairs", "- Controllers: cpuset, cpu, io, memory, hugetlb, pids, rdma, misc.",
+                         "- Of format 4: operations ", "one controller 16", "- Unexplained: 0."):
                 self.assertIn(part, report)
             self.assertTrue(all(name in report.replace("\n  ", " ") for name in tally.WRONG))
 
@@ -75,9 +76,10 @@ class RunTest(unittest.TestCase):
             self.assertIn("didn't come to its end", said)
 
     def test_a_machine_that_says_nothing_is_missing(self):
-        with tempfile.TemporaryDirectory() as room:
-            status, said = self.run_with(room, "--cases", "1", kernel=lambda *_: ("", "panic"))
-            self.assertEqual((status, said), (2, "kernel: the machine says nothing: panic\n"))
+        for said_there, what in (("", "the machine says nothing: panic"), ("controllers \nend\n", "the kernel tells of no controllers")):
+            with tempfile.TemporaryDirectory() as room:
+                status, said = self.run_with(room, "--cases", "1", kernel=lambda *_: (said_there, "panic"))
+                self.assertEqual((status, said), (2, f"kernel: {what}\n"))
 
 
 if __name__ == "__main__":

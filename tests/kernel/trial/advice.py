@@ -7,6 +7,7 @@ from second import commands, rules
 from second.rules import text_of
 from trial import asking, making, mutants
 from trials import spelling, trees
+from trials.format_4 import FURTHER
 
 # so many operations are tried after the changes and the escape
 TRIES = 24
@@ -62,8 +63,8 @@ def cases_of(rng, program, tree, text, state):
     return [making.Case("escapes", text, steps, [top], state), case] if steps else [case]
 
 
-def random_cases(rng, program):
-    made = making.random_tree(rng)
+def random_cases(rng, program, controllers):
+    made = making.random_tree(rng, controllers)
     return cases_of_pairs(rng, program, *made) if rng.random() < 0.5 else cases_of(rng, program, *made)
 
 
@@ -123,13 +124,22 @@ def made_trees():
         yield tree
 
 
-def settled(tree):
-    return making.settled(random.Random("made"), tree)
+def further_trees(controllers):
+    """Of each controller but cpu, memory and pids a tree whose user enables it at the subtree's parent, and one whose user disables it."""
+    for name, enabled in itertools.product([name for name in FURTHER if name in controllers], ([], [True])):
+        tree = bare_tree()
+        tree.form, tree.rows[()]["enabled"], tree.rows[ABOVE]["enabled"] = 4, [name], [name for _ in enabled]
+        tree.entry(ABOVE, rules.CONTROL)["uid"] = USER[0]
+        yield tree
 
 
-def made_cases(program):
-    return [case for number, tree in enumerate(made_trees())
-            for case in cases_of(random.Random(f"made {number}"), program, *settled(tree))]
+def settled(tree, controllers=rules.CONTROLLERS):
+    return making.settled(random.Random("made"), tree, controllers)
+
+
+def made_cases(program, controllers):
+    return [case for number, tree in enumerate([*made_trees(), *further_trees(controllers)])
+            for case in cases_of(random.Random(f"made {number}"), program, *settled(tree, controllers))]
 
 
 def wrong_cases(made):

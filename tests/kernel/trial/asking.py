@@ -56,8 +56,11 @@ def replayed(program, text, user, top, steps):
 
 def check(program, text, user, top):
     """The answer's first line, and the operations of an escape."""
-    first, *rest = asked(program, text, "check", *words_of(user), "--subtree", text_of(top))
-    return first, [commands.operation_of(line.encode()) for line in rest]
+    return answer_of(asked(program, text, "check", *words_of(user), "--subtree", text_of(top)))
+
+
+def answer_of(lines):
+    return lines[0], [commands.operation_of(line.encode(), 4) for line in lines[1:]]
 
 
 def has_settle(program):
@@ -70,8 +73,7 @@ def has_settle(program):
 
 def settle(program, text, user, top):
     """The answer's first line, and the operations of an escape."""
-    first, *rest = asked(program, text, "settle", *words_of(user), "--subtree", text_of(top))
-    return first, [commands.operation_of(line.encode()) for line in rest]
+    return answer_of(asked(program, text, "settle", *words_of(user), "--subtree", text_of(top)))
 
 
 def advise(program, text, user, top):

@@ -10,11 +10,14 @@ import re
 from dataclasses import dataclass
 
 from second import rules
+from second.controllers import ALL_CONTROLLERS
 
 LIST = os.path.join(os.path.dirname(os.path.abspath(__file__)), "../../../docs/MODEL.md")
 PAGE = 4096
 PAGES_FROM = 2 ** 63 - PAGE
 SMALL = 2 ** 21
+# of the nine those that bar internal processes on a kernel
+DOMAIN = frozenset(["io", "memory", "hugetlb", "rdma", "misc", "dmem"])
 GREATEST = {rules.DESCENDANTS: 2147483647, rules.DEPTH: 2147483647, "pids.max": 4194304}
 
 
@@ -36,14 +39,14 @@ class Outcome:
 
 
 def internal_process(outcome):
-    """Refused here for cpu and pids alone."""
+    """Refused here for cpuset, cpu and pids alone."""
     if not outcome.lets_through() or not outcome.said.startswith("refused internal-process"):
         return False
     if outcome.step[0] == "move":
         enabled = outcome.state.cgroups[outcome.step[2]].enabled
     else:
         enabled = rules.enabled_after(outcome.state, outcome.step[1], outcome.step[2])
-    return "memory" not in enabled
+    return not enabled & DOMAIN
 
 
 def value_taken(outcome):
@@ -75,7 +78,28 @@ def name_of_file(outcome):
 
 
 def is_file_name(name):
-    return name.split(".")[0] in ("cgroup", "cpu", "memory", "pids", "io", "irq") and "." in name
+    return name.split(".")[0] in ("cgroup", "irq", *ALL_CONTROLLERS) and "." in name
+
+
+def unknown_controller(outcome):
+    """A change of a controller that the kernel doesn't have, which is refused before anything but access."""
+    if outcome.step[0] != "control" or outcome.number != errno.EINVAL:
+        return False
+    return any(name not in outcome.there.controllers for _, name in outcome.step[2])
+
+
+def capabilities_of_the_moved(outcome):
+    """A process of root, which has all capabilities, comes by a move or a control to where another cgroup's cpuset holds."""
+    if outcome.step[0] not in ("move", "control") or not outcome.refuses(errno.EPERM):
+        return False
+    after = rules.next_state(outcome.state, outcome.user, outcome.step)
+    return any(uid == 0 and cpuset_of(outcome.state, place) != cpuset_of(after, after.live[pid][1])
+               for pid, (uid, place) in outcome.state.live.items())
+
+
+def cpuset_of(state, path):
+    """The nearest cgroup that has a cpuset of its own: the root, or a child of one that enables `cpuset`."""
+    return next(above for above in rules.upwards(path) if not above or "cpuset" in rules.brought(state, above))
 
 
 def folder_in_the_way(outcome):
@@ -107,16 +131,16 @@ RULES = {
     "internal process": internal_process,
     "range of values": value_taken,
     "name of a file": name_of_file,
+    "unknown controller": unknown_controller,
     "directory in the way": folder_in_the_way,
+    "capabilities of the moved": capabilities_of_the_moved,
     "effects of limits": effect_of_limits,
 }
 VALUES = {"range of values": value_kept}
 LEFT_OUT = {
     "weight of the idle": "no case writes cpu.idle before its weights are compared",
-    "unknown controller": "every case's kernel has the three controllers",
     "long writes": "no line of a case is as long",
     "zombies": "the init waits for what has ended",
-    "capabilities of the moved": "no case enables cpuset",
     "setgid directories": "no case has a mode past 0777",
     "no identity": "the cases have 4294967294 in its place",
 }

@@ -1,6 +1,6 @@
 """Holds what the program says of a case against what a kernel made of it: outcome by outcome, and the state after each."""
 import errno
-from dataclasses import dataclass
+from dataclasses import dataclass, replace
 
 from second import commands, rules
 from second.rules import text_of
@@ -106,10 +106,11 @@ def compare_advice(program, case, record):
     if not script.is_whole(case, record):
         return Advised([f"not built or carried out: {record.faults[:3]}, {len(record.states)} states"], "", 0)
     users, top, count = dict.fromkeys(user for user, _ in case.steps + case.tries), case.subtrees[0], len(case.mends)
+    there = replace(record.states[count], form=case.state.form, controllers=case.state.controllers)
     faults = [f"{line}: {errno.errorcode.get(number, number)}" for line, number in zip(case.mends, record.numbers) if number]
     faults += [each.what for each in changes_differences(case, case.mends, record)]
     for user in users:
-        said, _ = asking.check(program, advice.text_of_state(record.states[count]), user, top)
+        said, _ = asking.check(program, advice.text_of_state(there), user, top)
         if said != "contained":
             faults.append(f"after the changes check says {said}")
     verdict = break_of(case, record, top)

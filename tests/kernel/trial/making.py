@@ -4,9 +4,9 @@ import random
 from dataclasses import dataclass, field
 
 from second import rules, texts
-from trial import asking
+from trial import asking, script
 from trial.classes import GREATEST
-from trials import cases, spelling, trees
+from trials import cases, format_4, spelling, trees
 
 NO_IDENTITY = 4294967295
 SOMEBODY = 4294967294
@@ -14,13 +14,15 @@ SEARCH = 0o111
 STEPS = 16
 MOST_ROWS, LONGEST_PATH = 16, 1024
 TRIES = 100
+# how many of all trees are of format 4, and how many of its changes of a controller that the kernel doesn't have are left
+OF_FORMAT_4, UNKNOWN = 0.5, 0.2
 # what a user can try without privileges, and the model leaves out
 OTHERS = ("threads", "rename", "born", "xattr", "chown", "write")
 WRITTEN = ("cgroup.type", "cgroup.freeze", "cgroup.kill", "cgroup.threads", "cgroup.pressure", "memory.oom.group", "memory.reclaim",
            "memory.swap.max", "memory.swap.high", "cpu.max", "cpu.weight.nice", "cpu.idle", "cpu.max.burst", "memory.peak",
            "cgroup.controllers", "cgroup.events", "cgroup.stat", "cpu.pressure", "memory.pressure", "memory.zswap.max",
-           "irq.pressure")
-TEXTS = ("0", "1", "max", "threaded", "domain", "10", "+pids", "100000")
+           "irq.pressure", "io.weight", "cpuset.mems", "cpuset.cpus.partition", *script.OTHERS.values())
+TEXTS = ("0", "1", "max", "threaded", "domain", "10", "+pids", "100000", "root")
 
 
 @dataclass
@@ -66,13 +68,16 @@ def group_user(user):
     return identity(user[0]), tuple(map(identity, user[1])) or (4242,)
 
 
-def settle(rng, tree):
-    """Takes from a random tree what the kernel can't be told: each line a difference of docs/MODEL.md or what it leaves out."""
-    tree.user, tree.controllers = group_user(tree.user), list(rules.CONTROLLERS)
+def settle(rng, tree, controllers):
+    """Takes from a random tree what a kernel with some controllers can't be told: each line a difference of docs/MODEL.md or what it
+    leaves out."""
+    tree.user, tree.controllers = group_user(tree.user), list(controllers if tree.form == 4 else rules.CONTROLLERS)
     rename_rows(tree)
     for process in tree.processes:
         process["uid"] = identity(process["uid"])
     for path, row in tree.rows.items():
+        if "enabled" in row:
+            row["enabled"] = [name for name in row["enabled"] if name in tree.controllers]
         settle_entry(row.setdefault("dir", {}), 0o755, SEARCH)
         for name, entry in row.get("files", {}).items():
             settle_entry(entry, 0o644, 0)
@@ -108,8 +113,10 @@ def rename_rows(tree):
     tree.rows, tree.subtree = rows, spelled.get(tree.subtree, tree.subtree)
 
 
-def settled_step(state, step):
+def settled_step(rng, state, step):
     """A step that a kernel can be told: directories can be searched, and a child has a PID of its own."""
+    if state.form == 4 and step[0] in FURTHER_STEPS:
+        return FURTHER_STEPS[step[0]](rng, state, *step)
     if step[0] == "chmod" and step[2] == rules.DIR:
         return (*step[:3], step[3] | SEARCH)
     if step[0] == "fork":
@@ -119,10 +126,24 @@ def settled_step(state, step):
     return step
 
 
-def settled(rng, tree):
+def further_control(rng, state, kind, path, changes):
+    """Mostly without the controllers that the kernel doesn't have."""
+    return kind, path, changes if rng.random() < UNKNOWN else tuple(each for each in changes if each[1] in state.controllers)
+
+
+def further_mkdir(rng, _state, kind, path):
+    """Of any controller's file in the place of the one whose name the random ones have."""
+    return kind, path[:-1] + (rng.choice(FILE_NAMES),) if path[-1:] == FILE_NAMES[:1] else path
+
+
+FILE_NAMES = ("memory.stat", *script.OTHERS.values())
+FURTHER_STEPS = {"control": further_control, "mkdir": further_mkdir}
+
+
+def settled(rng, tree, controllers):
     """A tree, settled, with its text and its state, which is None where the text is faulty."""
-    settle(rng, tree)
-    text = spelling.document(rng, {**tree.document(rng), "format": 2}).decode().removeprefix("\ufeff")
+    settle(rng, tree, controllers)
+    text = spelling.document(rng, {**tree.document(rng), "format": max(2, tree.form)}).decode().removeprefix("\ufeff")
     return tree, text, cases.state_of(text.encode())
 
 
@@ -131,39 +152,47 @@ def is_small(tree):
     return max(len(tree.rows), len(tree.processes)) <= MOST_ROWS and all(len(row["path"]) <= LONGEST_PATH for row in tree.rows.values())
 
 
-def random_tree(rng):
+def drawn_tree(rng):
+    """A random tree, at times of format 4."""
+    tree = trees.random_tree(rng)
+    if rng.random() < OF_FORMAT_4:
+        format_4.widen(rng, tree)
+    return tree
+
+
+def random_tree(rng, controllers):
     """A small random tree with a subtree, settled, with its text and its state."""
     while True:
-        tree, text, state = settled(rng, trees.random_tree(rng))
+        tree, text, state = settled(rng, drawn_tree(rng), controllers)
         if state and tree.subtree and is_small(tree):
             return tree, text, state
 
 
-def of_operations(rng, _program):
+def of_operations(rng, _program, controllers):
     """A case of random operations of one user."""
-    tree, text, state = random_tree(rng)
+    tree, text, state = random_tree(rng, controllers)
     return [Case("operations", text, [(tree.user, step) for step in steps_of(rng, tree, state)], [tree.subtree], state)]
 
 
 def steps_of(rng, tree, state):
     steps = []
     for _ in range(STEPS):
-        step = settled_step(state, cases.random_operation(rng, tree, state, tree.user))
+        step = settled_step(rng, state, cases.random_operation(rng, tree, state, tree.user))
         state = rules.step(state, tree.user, step)[0]
         steps.append(step)
     return steps
 
 
-def of_escape(rng, program):
+def of_escape(rng, program, controllers):
     """A case whose steps are a printed escape, or none."""
-    tree, text, state = random_tree(rng)
+    tree, text, state = random_tree(rng, controllers)
     _, escape = asking.check(program, text, tree.user, tree.subtree)
     return [Case("escapes", text, [(tree.user, step) for step in escape], [tree.subtree], state)] if escape else []
 
 
-def of_contained(rng, program):
+def of_contained(rng, program, controllers):
     """A case of operations of every kind by users against all of whom its subtrees are contained, or none."""
-    tree, text, state = random_tree(rng)
+    tree, text, state = random_tree(rng, controllers)
     users = list({tree.user, *(group_user(trees.user_of(rng)) for _ in range(rng.choice([0, 0, 1, 2])))})
     tops = asking.contained(program, text, users, [path for path in state.cgroups if path])
     if not tops or not state.live:
@@ -178,7 +207,7 @@ def tries_of(rng, tree, state, users, count, first=0):
     for number in range(first, first + count):
         user = rng.choice(users)
         step = other_step(rng, state, user, number) if rng.random() < 0.3 else settled_step(
-            state, cases.random_operation(rng, tree, state, user))
+            rng, state, cases.random_operation(rng, tree, state, user))
         if step[0] in rules.BARS:
             state = rules.step(state, user, step)[0]
         tries.append((user, step))
@@ -197,10 +226,10 @@ def other_step(rng, state, user, number):
 MAKERS = {"operations": of_operations, "escapes": of_escape, "contained": of_contained}
 
 
-def random_cases(maker, name, count, program):
-    """The first so many cases that a maker gives of a name."""
+def random_cases(maker, name, count, program, controllers):
+    """The first so many cases that a maker gives of a name, for kernels with some controllers."""
     found, number = [], 0
     while len(found) < count:
-        found += maker(random.Random(f"kernel {name} {number}"), program)
+        found += maker(random.Random(f"kernel {name} {number}"), program, controllers)
         number += 1
     return found

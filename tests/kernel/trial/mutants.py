@@ -1,9 +1,10 @@
 """Mutants of the program: each turns one clause of what the program says of a case. Comparing has to find every one of them.
 
-Those of `MUTANTS` say other outcomes of the operations, and are held against what a kernel made of them. The changes that those of
-`ADVICE` advise are carried out on a kernel in place of the program's.
+Those of `MUTANTS`, and of `OF_FORMAT_4` in trees of that format, say other outcomes of the operations, and are held against what a
+kernel made of them. The changes that those of `ADVICE` advise are carried out on a kernel in place of the program's.
 """
 from second import rules
+from trials.format_4 import FURTHER
 
 
 def lets(word):
@@ -53,6 +54,35 @@ MUTANTS = {
     "removes what has children": lets("has-children"),
     "removes what has processes": lets("has-processes"),
     "ends processes of others": lets("not-yours"),
+}
+
+
+def lets_further(word):
+    """A program that has a clause for cpu, memory and pids alone: what is refused by it for another controller is let through."""
+    def turn(_state, _user, _step, said):
+        return "ok" if said.startswith(f"refused {word}") and said.split(" ")[2] in FURTHER else said
+    return turn
+
+
+def internal_process_of_three(state, _user, step, said):
+    """Knows internal processes where cpu, memory or pids is enabled alone."""
+    if not said.startswith("refused internal-process"):
+        return said
+    enabled = state.cgroups[step[2]].enabled if step[0] == "move" else rules.enabled_after(state, *step[1:])
+    return "ok" if enabled <= {*FURTHER} else said
+
+
+def has_three(_state, _user, step, said):
+    """Has the controllers cpu, memory and pids alone."""
+    found = [name for sign, name in step[2] if sign == "+" and name in FURTHER] if step[0] == "control" and said == "ok" else []
+    return f"refused not-available {found[0]}" if found else said
+
+
+OF_FORMAT_4 = {
+    "has cpu, memory and pids alone": has_three,
+    "takes processes where another controller is enabled": internal_process_of_three,
+    "disables another controller that a child uses": lets_further("child-uses"),
+    "enables another controller that isn't available": lets_further("not-available"),
 }
 
 

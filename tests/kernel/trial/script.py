@@ -2,7 +2,12 @@
 from dataclasses import dataclass, field
 
 from second import commands, rules
+from second.controllers import ALL_CONTROLLERS
 from second.rules import text_of
+
+# a file of each controller that has no limit file here, which stands at the children of a cgroup that enables it
+OTHERS = {"cpuset": "cpuset.cpus", "io": "io.max", "hugetlb": "hugetlb.2MB.max", "rdma": "rdma.max", "misc": "misc.max",
+          "dmem": "dmem.max"}
 
 
 @dataclass
@@ -14,7 +19,7 @@ class Record:
 
 
 def head():
-    return "files " + " ".join(rules.LIMIT_FILES)
+    return "files " + " ".join(rules.LIMIT_FILES) + "\nothers " + " ".join(OTHERS.values())
 
 
 def spelled(step):
@@ -61,9 +66,15 @@ def script_of(cases):
     return "\n".join([head()] + [line for number, case in enumerate(cases) for line in lines_of(number, case)]) + "\n"
 
 
+def controllers_of(said):
+    """The controllers that a kernel has, of the nine and in their order."""
+    named = next((line.split(" ")[1:] for line in said.split("\n") if line.startswith("controllers ")), [])
+    return tuple(name for name in ALL_CONTROLLERS if name in named)
+
+
 def records_of(said):
     """The records by number of case, and whether the run came to its end."""
-    found, record, lines, changed = {}, Record(), set(), False
+    found, record, lines, changed, controllers = {}, Record(), set(), False, controllers_of(said)
     for line in said.split("\n"):
         sign, rest = line[:1], line[1:]
         changed = changed or sign in ("+", "-")
@@ -78,12 +89,26 @@ def records_of(said):
         elif sign == "-":
             lines.discard(rest)
         elif line == ".":
-            record.states.append(state_of(lines) if changed or not record.states else record.states[-1])
+            if changed or not record.states:
+                record.states.append(state_of(lines, controllers))
+                record.faults += misplaced(lines, record.states[-1])
+            else:
+                record.states.append(record.states[-1])
             changed = False
     return found, said.endswith("end\n")
 
 
-def state_of(lines):
+def misplaced(lines, state):
+    """The cgroups at which other files stand than what their parents enable brings."""
+    found = []
+    for path, *words in (line.split(" ")[1:] for line in lines if line.startswith("c ")):
+        standing = {name for name, file in OTHERS.items() if file in words}
+        if standing != rules.brought(state, rules.path_of(path)) & OTHERS.keys():
+            found.append(f"! at {path} stand the files of {sorted(standing)}")
+    return found
+
+
+def state_of(lines, controllers):
     """A kernel's state in the model's terms; values that are no numbers stay texts."""
     cgroups, live = {}, {}
     for line in lines:
@@ -92,7 +117,7 @@ def state_of(lines):
             live[int(words[0])] = (int(words[1]), rules.path_of(words[2]))
         else:
             cgroups[rules.path_of(words[0])] = cgroup_of(words[1:])
-    return rules.State(frozenset(rules.CONTROLLERS), cgroups, live, frozenset(live))
+    return rules.State(frozenset(controllers), cgroups, live, frozenset(live), 4)
 
 
 def cgroup_of(words):
@@ -100,10 +125,12 @@ def cgroup_of(words):
     entries = {name: entry_of(word.split(":")) for name, word in zip(rules.STANDING, standing)}
     values = {}
     for word in words[4:]:
-        name, _, rest = word.partition("=")
+        name, is_limit, rest = word.partition("=")
+        if not is_limit:
+            continue
         *entry, value = rest.split(":")
         entries[name], values[name] = entry_of(entry), int(value) if value.isdigit() else value
-    return rules.Cgroup(entries, values, frozenset(enabled.split(",")) & frozenset(rules.CONTROLLERS))
+    return rules.Cgroup(entries, values, frozenset(enabled.split(",")) & frozenset(ALL_CONTROLLERS))
 
 
 def entry_of(words):

@@ -11,19 +11,20 @@ ESCAPES, CONTAINED = "settled escapes", "settled contained"
 TRIES, THIRD = 70, (0, (0,))
 
 
-def unsettled_tree(rng, program):
+def unsettled_tree(rng, program, controllers):
     """A small tree with its text and its state, where check leaves its user and its subtree unsettled; or None."""
-    drawn = trees.tree_of_state(rng) if rng.random() < 0.8 else trees.random_tree(rng)
-    tree, text, state = making.settled(rng, drawn)
+    is_wide = rng.random() < making.OF_FORMAT_4
+    drawn = trees.tree_of_state(rng, wide=is_wide) if rng.random() < 0.8 else making.drawn_tree(rng)
+    tree, text, state = making.settled(rng, drawn, controllers)
     if not state or not tree.subtree or not making.is_small(tree):
         return None
     first, _ = asking.check(program, text, tree.user, tree.subtree)
     return (tree, text, state) if first.startswith("unsettled") else None
 
 
-def of_escape(rng, program):
+def of_escape(rng, program, controllers):
     """A case whose steps are a list that settle prints, or none."""
-    found = unsettled_tree(rng, program)
+    found = unsettled_tree(rng, program, controllers)
     if not found or lasting.second_row_holds(found[2], [found[0].user], found[0].subtree):
         return []
     tree, text, state = found
@@ -31,9 +32,9 @@ def of_escape(rng, program):
     return [making.Case(ESCAPES, text, [(tree.user, step) for step in escape], [tree.subtree], state)] if escape else []
 
 
-def of_contained(rng, program):
+def of_contained(rng, program, controllers):
     """A case of what a user tries beside a third, against a subtree that the second row of guards alone keeps, or none."""
-    found = unsettled_tree(rng, program)
+    found = unsettled_tree(rng, program, controllers)
     if not found or not found[2].live or asking.settle(program, found[1], found[0].user, found[0].subtree)[0] != "contained":
         return []
     tree, text, state = found

@@ -3,21 +3,28 @@ import collections
 import json
 import os
 
-from trial import asking, comparing, script, settled, mutants
+from second.controllers import ALL_CONTROLLERS
+from trial import asking, comparing, made, script, settled, mutants
+from trials.format_4 import FURTHER
 
-WRONG = [*mutants.MUTANTS, *mutants.ADVICE]
+OF_OPERATIONS = {**mutants.MUTANTS, **mutants.OF_FORMAT_4}
+WRONG = [*OF_OPERATIONS, *mutants.ADVICE]
 
 
 class Tally:
     def __init__(self, kernel, program, folder):
         self.kernel, self.program, self.folder = kernel, program, folder
         self.counts, self.kinds, self.breaks = collections.Counter(), collections.Counter(), collections.defaultdict(collections.Counter)
-        self.failures, self.told, self.seconds = 0, {}, 0
-        self.takers = {"operations": self.operations, "escapes": self.escapes, "contained": self.contained, "advice": self.advice,
-                       "wrong advice": self.wrong_advice, settled.ESCAPES: self.escapes, settled.CONTAINED: self.contained}
+        self.failures, self.told, self.seconds, self.controllers = 0, {}, 0, ()
+        # by the kind of a step the controllers at which a kernel bars it for internal processes, where they alone are enabled
+        self.barring = {"move": set(), "control": set()}
+        self.takers = {"operations": self.operations, made.ALONE: self.alone, "escapes": self.escapes, "contained": self.contained,
+                       "advice": self.advice, "wrong advice": self.wrong_advice, settled.ESCAPES: self.escapes,
+                       settled.CONTAINED: self.contained}
 
     def take(self, case, name, record):
         self.counts[f"{case.kind} cases"] += 1
+        self.counts[f"{case.kind} of format 4"] += case.state.form == 4
         self.takers[case.kind](case, name, record)
 
     def fail(self, case, name, what):
@@ -39,17 +46,30 @@ class Tally:
     def compared(self, case, name, answers, record):
         found = comparing.compare(case, answers, record)
         self.counts[f"{case.kind} steps"] += found.steps
+        self.count_further(case.steps[:found.steps], record.numbers)
         self.kinds.update(each.kind for each in found.differences if each.kind)
         unexplained = [each for each in found.differences if not each.kind]
         if unexplained:
             self.fail(case, name, f"step {unexplained[0].step}: {unexplained[0].what}")
         return found
 
+    def count_further(self, deeds, numbers):
+        """Counts the steps that turn another controller than cpu, memory and pids."""
+        for (_, step), number in zip(deeds, numbers):
+            if turns_further(step):
+                self.counts["further"] += 1
+                self.counts["further let through"] += number == 0
+
+    def alone(self, case, name, record):
+        self.compared(case, name, asking.replay(self.program, case), record)
+        if record.numbers and record.numbers[-1]:
+            self.barring[case.steps[-1][1][0]] |= case.state.cgroups[()].enabled
+
     def operations(self, case, name, record):
         answers = asking.replay(self.program, case)
         found = self.compared(case, name, answers, record)
         if all(each.kind for each in found.differences):
-            for wrong, turn in mutants.MUTANTS.items():
+            for wrong, turn in OF_OPERATIONS.items():
                 if wrong not in self.told and comparing.tells_apart(turn, case, answers, record):
                     self.told[wrong] = self.counts["operations cases"]
 
@@ -61,6 +81,7 @@ class Tally:
         there = comparing.break_of(case, record, case.subtrees[0])
         self.breaks[case.kind][" ".join(there.split(" ")[::2])] += 1
         self.counts[f"{case.kind} as said"] += there == answers[-1]
+        self.counts["further escapes"] += turns_further(case.steps[-1][1])
         # a value that the kernel keeps as `max` isn't changed by a write of `max`
         if answers[-1] == "kept" or there != answers[-1] and not found.differences:
             self.fail(case, name, f"the program says {answers[-1]}, and there it is {there}")
@@ -72,6 +93,7 @@ class Tally:
         users = {user for user, _ in case.tries} - {settled.THIRD}
         self.counts[f"{case.kind} steps"] += len(case.tries)
         self.counts[f"{case.kind} steps let through"] += record.numbers.count(0)
+        self.count_further(case.tries, record.numbers)
         self.counts[f"{case.kind} pairs"] += len(case.subtrees) * len(users)
         self.counts[f"{case.kind} steps of a third let through"] += sum(
             user == settled.THIRD and not number for (user, _), number in zip(case.tries, record.numbers))
@@ -100,6 +122,10 @@ class Tally:
             self.told.setdefault(case.turned, self.counts["wrong advice cases"])
 
 
+def turns_further(step):
+    return step[0] == "control" and any(controller in FURTHER for _, controller in step[2])
+
+
 def listed(counter):
     return ", ".join(f"{name} {number}" for name, number in sorted(counter.items())) or "none"
 
@@ -114,6 +140,22 @@ def settled_lines(tally):
         f"break at the step and by the clause that the program says. There: {listed(tally.breaks[escapes])}.",
         f"- Settled, contained: {of[f'{contained} pairs']} pairs, {of[f'{contained} steps']} steps of the user and of a third, of which "
         f"the kernel let {of[f'{contained} steps let through']} through, {of[f'{contained} steps of a third let through']} of the third's."]
+
+
+def further_lines(tally):
+    """What came of trees of format 4."""
+    of = tally.counts
+    kinds = ", ".join(f"{name.removesuffix(' of format 4')} {number}" for name, number in of.items() if name.endswith(" of format 4"))
+    lines = [f"- Of format 4: {kinds or 'none'}. {of['further']} steps turn another controller than cpu, memory and pids, of which the "
+             f"kernel let {of['further let through']} through; {of['further escapes']} lists end with one."]
+    if of[f"{made.ALONE} cases"]:
+        lines.append("- Internal processes bar, where one controller alone is enabled, "
+                     + "; ".join(f"a {kind} at {in_order(named)}" for kind, named in tally.barring.items()) + ".")
+    return lines
+
+
+def in_order(controllers):
+    return ", ".join(name for name in ALL_CONTROLLERS if name in controllers) or "none"
 
 
 def lines_of(tally):
@@ -132,6 +174,7 @@ def lines_of(tally):
     found = [
         f"- Mutants of the program: {len(tally.told)} of {len(WRONG)} found" + (f"; not found: {', '.join(missed)}" if missed else "")
         + ". By the case of its kind: " + ", ".join(f"{name} {number}" for name, number in tally.told.items()) + "."]
-    return [f"## {tally.kernel}", "", *(line for kind, line in kinds.items() if of[f"{kind} cases"]), *settled_lines(tally),
+    return [f"## {tally.kernel}", "", f"- Controllers: {in_order(tally.controllers)}.",
+            *(line for kind, line in kinds.items() if of[f"{kind} cases"]), *settled_lines(tally), *further_lines(tally),
             f"- Differences by kind: {listed(tally.kinds)}.", f"- Unexplained: {tally.failures}.",
             *(found if of["operations cases"] else []), f"- Time: {tally.seconds:.0f} s.", ""]
