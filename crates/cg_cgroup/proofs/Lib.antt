@@ -11,6 +11,7 @@ pub mod PathLaws
 mod Places
 pub mod Mapped
 pub mod CgroupLaws
+pub mod ToldLaws
 pub mod AllFiles
 pub mod NameLaws
 pub mod ControllerLaws

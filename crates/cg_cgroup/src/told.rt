@@ -1,0 +1,104 @@
+//! What is told of the limit files beyond `LimitFile` of one cgroup.
+ghost use Rattle.std.specs.Prelude.{◌≡◌, length, map, IfOk, Some, None, option_copied};
+ghost use Rattle.cg_cgroup.specs.OtherKinds.{all_others};
+
+use crate::controllers::ControllerSet;
+use crate::memory::NoMemory;
+use crate::other_file::{OTHER_COUNT, OtherFile};
+use crate::user::{Entry, Mode};
+use std::alloc::Global;
+use std::marker::Model;
+
+/// A value of such a file: its lines, with a newline between two.
+#[derive(Debug, Drop)]
+pub struct FileText {
+    pub text: String,
+}
+
+impl Model for FileText {
+    ghost use Rattle.std.specs.Prelude.{List, ℕ};
+    ghost use Rattle.std.specs.String.{string_bytes};
+
+    ghost Value = { List ℕ };
+
+    ghost view = { λ text. string_bytes text.text };
+}
+
+impl PartialEq for FileText {
+    ghost use Rattle.cg_cgroup.specs.Paths.{same_name};
+    ghost use Rattle.std.specs.Cmp.{partial_equiv_from_equiv};
+    ghost use Rattle.std.proofs.lemmas.Cmp.{nat_list_eq_equiv};
+
+    ghost eq = { same_name };
+
+    ghost laws = { partial_equiv_from_equiv nat_list_eq_equiv };
+
+    fn eq(&self, other: &FileText) -> bool {
+        self.text == other.text
+    }
+}
+
+impl Eq for FileText {
+    ghost use Rattle.std.proofs.lemmas.Cmp.{nat_list_eq_equiv};
+
+    ghost laws = { nat_list_eq_equiv };
+}
+
+impl FileText {
+    /// An equal text. Fails where memory is wanted.
+    pub fn try_clone(&self, alloc: Global) -> Result<FileText, NoMemory>
+        ensures { IfOk result (λ copy. copy ≡ self.now) }
+    {
+        Ok(FileText {
+            text: String::from_str(alloc, &self.text)?,
+        })
+    }
+}
+
+/// What is told of a file: its owner and mode, and its value; `None` where it stays as it is.
+#[derive(Debug, Drop, PartialEq, Eq)]
+pub struct ToldFile {
+    pub entry: Entry,
+    pub value: Option<FileText>,
+}
+
+/// What is told of a cgroup's files, each at its number; `None` for one of which nothing is.
+#[derive(Debug, Drop, PartialEq, Eq)]
+pub struct ToldFiles {
+    pub entries: [Option<ToldFile>; OTHER_COUNT],
+    pub ghost whole: { length entries ≡ length all_others },
+}
+
+impl ToldFiles {
+    ghost use Rattle.cg_cgroup.specs.Told.{nothing_told, told_in, telling, told_under};
+
+    /// Nothing.
+    pub fn none() -> ToldFiles
+        ensures { result ≡ nothing_told }
+    {
+        ToldFiles {
+            entries: none_told(),
+        }
+    }
+
+    /// What is told of a file.
+    pub fn get(&self, file: OtherFile) -> Option<&ToldFile>
+        ensures { option_copied result ≡ told_in self.now file }
+    {
+        self.entries[file.number()].as_ref()
+    }
+
+    /// Tells of a file.
+    pub fn set(&mut self, file: OtherFile, told: ToldFile)
+        ensures { self.new ≡ telling file (Some told) self.old }
+    {
+        self.entries[file.number()] = Some(told);
+    }
+}
+
+/// Nothing of each file.
+fn none_told() -> [Option<ToldFile>; OTHER_COUNT]
+    ensures { result ≡ map (λ file. None) all_others }
+{
+    OtherFile::ALL.map(|_| None)
+}
