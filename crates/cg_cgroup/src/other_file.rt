@@ -61,6 +61,8 @@ struct OtherKind {
     name: &'static str,
     /// The controller that brings it; `None` for the one of the core.
     controller: Option<Controller>,
+    /// A value that holds nothing, or little.
+    loose: &'static str,
 }
 
 impl OtherFile {
@@ -115,80 +117,54 @@ impl OtherFile {
     fn kind(self) -> OtherKind
         ensures name { result.name.now ≡ (other_kind self).name }
         ensures controller { result.controller ≡ (other_kind self).controller }
+        ensures loose { result.loose.now ≡ (other_kind self).loose }
     {
-        let (name, controller) = match self {
-            OtherFile::Freeze => ("cgroup.freeze", None),
-            OtherFile::CpuIdle => ("cpu.idle", Some(Controller::Cpu)),
-            OtherFile::CpuMax => ("cpu.max", Some(Controller::Cpu)),
-            OtherFile::CpuMaxBurst => ("cpu.max.burst", Some(Controller::Cpu)),
-            OtherFile::CpuUclampMax => ("cpu.uclamp.max", Some(Controller::Cpu)),
-            OtherFile::CpuUclampMin => ("cpu.uclamp.min", Some(Controller::Cpu)),
-            OtherFile::CpuWeightNice => ("cpu.weight.nice", Some(Controller::Cpu)),
-            OtherFile::CpusetCpus => ("cpuset.cpus", Some(Controller::Cpuset)),
-            OtherFile::CpusetCpusExclusive => ("cpuset.cpus.exclusive", Some(Controller::Cpuset)),
-            OtherFile::CpusetCpusPartition => ("cpuset.cpus.partition", Some(Controller::Cpuset)),
-            OtherFile::CpusetMems => ("cpuset.mems", Some(Controller::Cpuset)),
-            OtherFile::DmemLow => ("dmem.low", Some(Controller::Dmem)),
-            OtherFile::DmemMax => ("dmem.max", Some(Controller::Dmem)),
-            OtherFile::DmemMin => ("dmem.min", Some(Controller::Dmem)),
-            OtherFile::HugetlbOf16GbMax => ("hugetlb.16GB.max", Some(Controller::Hugetlb)),
-            OtherFile::HugetlbOf16GbReservedMax => (
-                "hugetlb.16GB.rsvd.max",
-                Some(Controller::Hugetlb),
-            ),
-            OtherFile::HugetlbOf16MbMax => ("hugetlb.16MB.max", Some(Controller::Hugetlb)),
-            OtherFile::HugetlbOf16MbReservedMax => (
-                "hugetlb.16MB.rsvd.max",
-                Some(Controller::Hugetlb),
-            ),
-            OtherFile::HugetlbOf1GbMax => ("hugetlb.1GB.max", Some(Controller::Hugetlb)),
-            OtherFile::HugetlbOf1GbReservedMax => (
-                "hugetlb.1GB.rsvd.max",
-                Some(Controller::Hugetlb),
-            ),
-            OtherFile::HugetlbOf1MbMax => ("hugetlb.1MB.max", Some(Controller::Hugetlb)),
-            OtherFile::HugetlbOf1MbReservedMax => (
-                "hugetlb.1MB.rsvd.max",
-                Some(Controller::Hugetlb),
-            ),
-            OtherFile::HugetlbOf2GbMax => ("hugetlb.2GB.max", Some(Controller::Hugetlb)),
-            OtherFile::HugetlbOf2GbReservedMax => (
-                "hugetlb.2GB.rsvd.max",
-                Some(Controller::Hugetlb),
-            ),
-            OtherFile::HugetlbOf2MbMax => ("hugetlb.2MB.max", Some(Controller::Hugetlb)),
-            OtherFile::HugetlbOf2MbReservedMax => (
-                "hugetlb.2MB.rsvd.max",
-                Some(Controller::Hugetlb),
-            ),
-            OtherFile::HugetlbOf32MbMax => ("hugetlb.32MB.max", Some(Controller::Hugetlb)),
-            OtherFile::HugetlbOf32MbReservedMax => (
-                "hugetlb.32MB.rsvd.max",
-                Some(Controller::Hugetlb),
-            ),
-            OtherFile::HugetlbOf512MbMax => ("hugetlb.512MB.max", Some(Controller::Hugetlb)),
-            OtherFile::HugetlbOf512MbReservedMax => (
-                "hugetlb.512MB.rsvd.max",
-                Some(Controller::Hugetlb),
-            ),
-            OtherFile::HugetlbOf64KbMax => ("hugetlb.64KB.max", Some(Controller::Hugetlb)),
-            OtherFile::HugetlbOf64KbReservedMax => (
-                "hugetlb.64KB.rsvd.max",
-                Some(Controller::Hugetlb),
-            ),
-            OtherFile::IoBfqWeight => ("io.bfq.weight", Some(Controller::Io)),
-            OtherFile::IoLatency => ("io.latency", Some(Controller::Io)),
-            OtherFile::IoMax => ("io.max", Some(Controller::Io)),
-            OtherFile::IoPrioClass => ("io.prio.class", Some(Controller::Io)),
-            OtherFile::IoWeight => ("io.weight", Some(Controller::Io)),
-            OtherFile::MemorySwapHigh => ("memory.swap.high", Some(Controller::Memory)),
-            OtherFile::MemorySwapMax => ("memory.swap.max", Some(Controller::Memory)),
-            OtherFile::MemoryZswapMax => ("memory.zswap.max", Some(Controller::Memory)),
-            OtherFile::MemoryZswapWriteback => ("memory.zswap.writeback", Some(Controller::Memory)),
-            OtherFile::MiscMax => ("misc.max", Some(Controller::Misc)),
-            OtherFile::RdmaMax => ("rdma.max", Some(Controller::Rdma)),
+        let (name, controller, loose) = match self {
+            OtherFile::Freeze => ("cgroup.freeze", None, "0"),
+            OtherFile::CpuIdle => ("cpu.idle", Some(Controller::Cpu), "0"),
+            OtherFile::CpuMax => ("cpu.max", Some(Controller::Cpu), "max 100000"),
+            OtherFile::CpuMaxBurst => ("cpu.max.burst", Some(Controller::Cpu), "0"),
+            OtherFile::CpuUclampMax => ("cpu.uclamp.max", Some(Controller::Cpu), "max"),
+            OtherFile::CpuUclampMin => ("cpu.uclamp.min", Some(Controller::Cpu), "max"),
+            OtherFile::CpuWeightNice => ("cpu.weight.nice", Some(Controller::Cpu), "-20"),
+            OtherFile::CpusetCpus => ("cpuset.cpus", Some(Controller::Cpuset), "max"),
+            OtherFile::CpusetCpusExclusive => ("cpuset.cpus.exclusive", Some(Controller::Cpuset), "max"),
+            OtherFile::CpusetCpusPartition => ("cpuset.cpus.partition", Some(Controller::Cpuset), "member"),
+            OtherFile::CpusetMems => ("cpuset.mems", Some(Controller::Cpuset), "max"),
+            OtherFile::DmemLow => ("dmem.low", Some(Controller::Dmem), "max"),
+            OtherFile::DmemMax => ("dmem.max", Some(Controller::Dmem), "max"),
+            OtherFile::DmemMin => ("dmem.min", Some(Controller::Dmem), "max"),
+            OtherFile::HugetlbOf16GbMax => ("hugetlb.16GB.max", Some(Controller::Hugetlb), "max"),
+            OtherFile::HugetlbOf16GbReservedMax => ("hugetlb.16GB.rsvd.max", Some(Controller::Hugetlb), "max"),
+            OtherFile::HugetlbOf16MbMax => ("hugetlb.16MB.max", Some(Controller::Hugetlb), "max"),
+            OtherFile::HugetlbOf16MbReservedMax => ("hugetlb.16MB.rsvd.max", Some(Controller::Hugetlb), "max"),
+            OtherFile::HugetlbOf1GbMax => ("hugetlb.1GB.max", Some(Controller::Hugetlb), "max"),
+            OtherFile::HugetlbOf1GbReservedMax => ("hugetlb.1GB.rsvd.max", Some(Controller::Hugetlb), "max"),
+            OtherFile::HugetlbOf1MbMax => ("hugetlb.1MB.max", Some(Controller::Hugetlb), "max"),
+            OtherFile::HugetlbOf1MbReservedMax => ("hugetlb.1MB.rsvd.max", Some(Controller::Hugetlb), "max"),
+            OtherFile::HugetlbOf2GbMax => ("hugetlb.2GB.max", Some(Controller::Hugetlb), "max"),
+            OtherFile::HugetlbOf2GbReservedMax => ("hugetlb.2GB.rsvd.max", Some(Controller::Hugetlb), "max"),
+            OtherFile::HugetlbOf2MbMax => ("hugetlb.2MB.max", Some(Controller::Hugetlb), "max"),
+            OtherFile::HugetlbOf2MbReservedMax => ("hugetlb.2MB.rsvd.max", Some(Controller::Hugetlb), "max"),
+            OtherFile::HugetlbOf32MbMax => ("hugetlb.32MB.max", Some(Controller::Hugetlb), "max"),
+            OtherFile::HugetlbOf32MbReservedMax => ("hugetlb.32MB.rsvd.max", Some(Controller::Hugetlb), "max"),
+            OtherFile::HugetlbOf512MbMax => ("hugetlb.512MB.max", Some(Controller::Hugetlb), "max"),
+            OtherFile::HugetlbOf512MbReservedMax => ("hugetlb.512MB.rsvd.max", Some(Controller::Hugetlb), "max"),
+            OtherFile::HugetlbOf64KbMax => ("hugetlb.64KB.max", Some(Controller::Hugetlb), "max"),
+            OtherFile::HugetlbOf64KbReservedMax => ("hugetlb.64KB.rsvd.max", Some(Controller::Hugetlb), "max"),
+            OtherFile::IoBfqWeight => ("io.bfq.weight", Some(Controller::Io), "1000"),
+            OtherFile::IoLatency => ("io.latency", Some(Controller::Io), "max"),
+            OtherFile::IoMax => ("io.max", Some(Controller::Io), "max"),
+            OtherFile::IoPrioClass => ("io.prio.class", Some(Controller::Io), "no-change"),
+            OtherFile::IoWeight => ("io.weight", Some(Controller::Io), "default 10000"),
+            OtherFile::MemorySwapHigh => ("memory.swap.high", Some(Controller::Memory), "max"),
+            OtherFile::MemorySwapMax => ("memory.swap.max", Some(Controller::Memory), "max"),
+            OtherFile::MemoryZswapMax => ("memory.zswap.max", Some(Controller::Memory), "max"),
+            OtherFile::MemoryZswapWriteback => ("memory.zswap.writeback", Some(Controller::Memory), "1"),
+            OtherFile::MiscMax => ("misc.max", Some(Controller::Misc), "max"),
+            OtherFile::RdmaMax => ("rdma.max", Some(Controller::Rdma), "max"),
         };
-        OtherKind { name, controller }
+        OtherKind { name, controller, loose }
     }
 
     /// The number, among them all.
@@ -210,10 +186,7 @@ impl OtherFile {
     pub fn from_name(text: &str) -> Option<OtherFile>
         ensures { result ≡ other_named text.now }
     {
-        OtherFile::ALL
-            .iter()
-            .copied()
-            .find(|file| text == file.name())
+        OtherFile::ALL.iter().copied().find(|file| text == file.name())
     }
 
     /// The controller that brings it; `None` for the one of the core.
@@ -221,5 +194,12 @@ impl OtherFile {
         ensures { result ≡ brought_by self }
     {
         self.kind().controller
+    }
+
+    /// A value that holds nothing, or little.
+    pub fn loose(self) -> &'static str
+        ensures { result.now ≡ (other_kind self).loose }
+    {
+        self.kind().loose
     }
 }
