@@ -13,6 +13,7 @@ pub mod Mapped
 pub mod CgroupLaws
 pub mod ToldLaws
 pub mod AllFiles
+pub mod AllOthers
 pub mod NameLaws
 pub mod ControllerLaws
 pub mod UserLaws

@@ -1,5 +1,5 @@
 -- A replay: a run and its verdict, as they stand after the steps so far.
-use Rattle.std.specs.Prelude.{ℕ, suc, List}
+use Rattle.std.specs.Prelude.{Option, ℕ, suc, List}
 use Rattle.cg_cgroup.specs.Paths.{Names}
 use Rattle.cg_cgroup.specs.Identity.{Identity}
 use Rattle.cg_cgroup.specs.declared.cgroup.Cgroup.{Cgroup}

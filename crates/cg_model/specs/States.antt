@@ -118,20 +118,22 @@ without_row st path = record st { rows = map.remove st.rows path; told = map.rem
 abbrev pub with_value : State → Names → LimitFile → Limit → State
 with_value st path file value = change_at path (with_value_in file value) st
 
--- a limit file beyond `LimitFile` changed, where it stands
-abbrev pub telling_at : State → Names → OtherFile → ToldFile → State
-telling_at st path file told =
-    record st { told = map.insert st.told path (telling file (Some told) (unwrap_or (map.get st.told path) nothing_told)) }
-
-abbrev pub with_told : State → Names → OtherFile → (ToldFile → ToldFile) → State
-with_told st path file f = elim (file_told st path file) [ None ↦ st | Some told ↦ telling_at st path file (f told) ]
+-- what is told once it is changed of a limit file beyond `LimitFile`, where that stands
+abbrev pub telling_at : State → Names → OtherFile → (ToldFile → ToldFile) → map.FinMap path_cmp ToldFiles
+telling_at st path file f = elim (file_told st path file) [
+  | None ↦ st.told
+  | Some told ↦ map.insert st.told path (telling file (Some (f told)) (unwrap_or (map.get st.told path) nothing_told))
+]
 
 abbrev pub with_text : State → Names → OtherFile → FileText → State
-with_text st path file value = with_told st path file (with_value_told value)
+with_text st path file value = record st { told = telling_at st path file (with_value_told value) }
+
+abbrev pub told_with_mode : State → Names → EntryName → ℕ → map.FinMap path_cmp ToldFiles
+told_with_mode st path (Other file) mode = telling_at st path file (with_mode_told mode)
+told_with_mode st path name mode = st.told
 
 abbrev pub with_mode : State → Names → EntryName → ℕ → State
-with_mode st path (Other file) mode = with_told st path file (with_mode_told mode)
-with_mode st path name mode = change_at path (with_mode_in name mode) st
+with_mode st path name mode = record (change_at path (with_mode_in name mode) st) { told = told_with_mode st path name mode }
 
 abbrev pub enabling_these : ControllerSet → Cgroup → Cgroup
 enabling_these enabled row = record row { enabled = enabled }
