@@ -128,30 +128,74 @@ impl OtherFile {
             OtherFile::CpuUclampMin => ("cpu.uclamp.min", Some(Controller::Cpu), "max"),
             OtherFile::CpuWeightNice => ("cpu.weight.nice", Some(Controller::Cpu), "-20"),
             OtherFile::CpusetCpus => ("cpuset.cpus", Some(Controller::Cpuset), "max"),
-            OtherFile::CpusetCpusExclusive => ("cpuset.cpus.exclusive", Some(Controller::Cpuset), "max"),
-            OtherFile::CpusetCpusPartition => ("cpuset.cpus.partition", Some(Controller::Cpuset), "member"),
+            OtherFile::CpusetCpusExclusive => (
+                "cpuset.cpus.exclusive",
+                Some(Controller::Cpuset),
+                "max",
+            ),
+            OtherFile::CpusetCpusPartition => (
+                "cpuset.cpus.partition",
+                Some(Controller::Cpuset),
+                "member",
+            ),
             OtherFile::CpusetMems => ("cpuset.mems", Some(Controller::Cpuset), "max"),
             OtherFile::DmemLow => ("dmem.low", Some(Controller::Dmem), "max"),
             OtherFile::DmemMax => ("dmem.max", Some(Controller::Dmem), "max"),
             OtherFile::DmemMin => ("dmem.min", Some(Controller::Dmem), "max"),
             OtherFile::HugetlbOf16GbMax => ("hugetlb.16GB.max", Some(Controller::Hugetlb), "max"),
-            OtherFile::HugetlbOf16GbReservedMax => ("hugetlb.16GB.rsvd.max", Some(Controller::Hugetlb), "max"),
+            OtherFile::HugetlbOf16GbReservedMax => (
+                "hugetlb.16GB.rsvd.max",
+                Some(Controller::Hugetlb),
+                "max",
+            ),
             OtherFile::HugetlbOf16MbMax => ("hugetlb.16MB.max", Some(Controller::Hugetlb), "max"),
-            OtherFile::HugetlbOf16MbReservedMax => ("hugetlb.16MB.rsvd.max", Some(Controller::Hugetlb), "max"),
+            OtherFile::HugetlbOf16MbReservedMax => (
+                "hugetlb.16MB.rsvd.max",
+                Some(Controller::Hugetlb),
+                "max",
+            ),
             OtherFile::HugetlbOf1GbMax => ("hugetlb.1GB.max", Some(Controller::Hugetlb), "max"),
-            OtherFile::HugetlbOf1GbReservedMax => ("hugetlb.1GB.rsvd.max", Some(Controller::Hugetlb), "max"),
+            OtherFile::HugetlbOf1GbReservedMax => (
+                "hugetlb.1GB.rsvd.max",
+                Some(Controller::Hugetlb),
+                "max",
+            ),
             OtherFile::HugetlbOf1MbMax => ("hugetlb.1MB.max", Some(Controller::Hugetlb), "max"),
-            OtherFile::HugetlbOf1MbReservedMax => ("hugetlb.1MB.rsvd.max", Some(Controller::Hugetlb), "max"),
+            OtherFile::HugetlbOf1MbReservedMax => (
+                "hugetlb.1MB.rsvd.max",
+                Some(Controller::Hugetlb),
+                "max",
+            ),
             OtherFile::HugetlbOf2GbMax => ("hugetlb.2GB.max", Some(Controller::Hugetlb), "max"),
-            OtherFile::HugetlbOf2GbReservedMax => ("hugetlb.2GB.rsvd.max", Some(Controller::Hugetlb), "max"),
+            OtherFile::HugetlbOf2GbReservedMax => (
+                "hugetlb.2GB.rsvd.max",
+                Some(Controller::Hugetlb),
+                "max",
+            ),
             OtherFile::HugetlbOf2MbMax => ("hugetlb.2MB.max", Some(Controller::Hugetlb), "max"),
-            OtherFile::HugetlbOf2MbReservedMax => ("hugetlb.2MB.rsvd.max", Some(Controller::Hugetlb), "max"),
+            OtherFile::HugetlbOf2MbReservedMax => (
+                "hugetlb.2MB.rsvd.max",
+                Some(Controller::Hugetlb),
+                "max",
+            ),
             OtherFile::HugetlbOf32MbMax => ("hugetlb.32MB.max", Some(Controller::Hugetlb), "max"),
-            OtherFile::HugetlbOf32MbReservedMax => ("hugetlb.32MB.rsvd.max", Some(Controller::Hugetlb), "max"),
+            OtherFile::HugetlbOf32MbReservedMax => (
+                "hugetlb.32MB.rsvd.max",
+                Some(Controller::Hugetlb),
+                "max",
+            ),
             OtherFile::HugetlbOf512MbMax => ("hugetlb.512MB.max", Some(Controller::Hugetlb), "max"),
-            OtherFile::HugetlbOf512MbReservedMax => ("hugetlb.512MB.rsvd.max", Some(Controller::Hugetlb), "max"),
+            OtherFile::HugetlbOf512MbReservedMax => (
+                "hugetlb.512MB.rsvd.max",
+                Some(Controller::Hugetlb),
+                "max",
+            ),
             OtherFile::HugetlbOf64KbMax => ("hugetlb.64KB.max", Some(Controller::Hugetlb), "max"),
-            OtherFile::HugetlbOf64KbReservedMax => ("hugetlb.64KB.rsvd.max", Some(Controller::Hugetlb), "max"),
+            OtherFile::HugetlbOf64KbReservedMax => (
+                "hugetlb.64KB.rsvd.max",
+                Some(Controller::Hugetlb),
+                "max",
+            ),
             OtherFile::IoBfqWeight => ("io.bfq.weight", Some(Controller::Io), "1000"),
             OtherFile::IoLatency => ("io.latency", Some(Controller::Io), "max"),
             OtherFile::IoMax => ("io.max", Some(Controller::Io), "max"),
@@ -160,11 +204,19 @@ impl OtherFile {
             OtherFile::MemorySwapHigh => ("memory.swap.high", Some(Controller::Memory), "max"),
             OtherFile::MemorySwapMax => ("memory.swap.max", Some(Controller::Memory), "max"),
             OtherFile::MemoryZswapMax => ("memory.zswap.max", Some(Controller::Memory), "max"),
-            OtherFile::MemoryZswapWriteback => ("memory.zswap.writeback", Some(Controller::Memory), "1"),
+            OtherFile::MemoryZswapWriteback => (
+                "memory.zswap.writeback",
+                Some(Controller::Memory),
+                "1",
+            ),
             OtherFile::MiscMax => ("misc.max", Some(Controller::Misc), "max"),
             OtherFile::RdmaMax => ("rdma.max", Some(Controller::Rdma), "max"),
         };
-        OtherKind { name, controller, loose }
+        OtherKind {
+            name,
+            controller,
+            loose,
+        }
     }
 
     /// The number, among them all.
@@ -186,7 +238,10 @@ impl OtherFile {
     pub fn from_name(text: &str) -> Option<OtherFile>
         ensures { result ≡ other_named text.now }
     {
-        OtherFile::ALL.iter().copied().find(|file| text == file.name())
+        OtherFile::ALL
+            .iter()
+            .copied()
+            .find(|file| text == file.name())
     }
 
     /// The controller that brings it; `None` for the one of the core.

@@ -196,9 +196,10 @@ module _ (st : State) (path : Names) (enabled : ControllerSet) (user : Identity)
       told = λ q files is.
           let old = mapped_from (λ files. cond (is_child path q) (told_under enabled files) files) (finite.get st.told q) files
           (sym (get-told-with_enabled st path enabled user q) ∙ is) in
-          let formed = whole.told q old.0 old.1 in
-          (has_row-with_enabled q ∙ formed.0,
-            subst (IsFormedTold (enabled_above (with_enabled st path enabled user) q)) old.2 (stays_told q old.0 formed.1));
+          let formed = whole.told q old.0 old.1 in (
+            has_row-with_enabled q ∙ formed.0,
+            subst (IsFormedTold (enabled_above (with_enabled st path enabled user) q)) old.2 (stays_told q old.0 formed.1),
+          );
       places = stays_held;
       used = whole.used;
     }

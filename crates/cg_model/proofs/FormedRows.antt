@@ -142,7 +142,6 @@ modes-cgroup_made_by user enabled Procs entry is = made_mode user 420 (omega ari
 modes-cgroup_made_by user enabled SubtreeControl entry is = made_mode user 420 (omega arith) entry is
 modes-cgroup_made_by user enabled (File file) entry is =
     modes_file (file_of (cgroup_made_by user enabled) file) (of_made HasMode user enabled file (omega arith)) entry is
-
 modes-cgroup_made_by user enabled (Other file) entry is =
     elim (brought_by file) as
     (λ by. elim by [ None ↦ Some (entry_made_by user 420) | Some controller ↦ other_in (cgroup_made_by user enabled) controller ]

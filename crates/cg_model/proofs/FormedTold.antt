@@ -79,9 +79,10 @@ module _ (st : State) (whole : IsWellFormed st) (path : Names) where
             → cond b (Some (f told)) (told_in (unwrap_or (finite.get st.told path) nothing_told) other) ≡ Some known
             → (brings (enabled_above st path) (brought_by other) ≡ true) × (known.entry.mode ≤ 511)) [
               | true ↦ λ same at.
-                  let held = stands file told is in
-                  (ap (λ file. brings (enabled_above st path) (brought_by file)) (sym (same_other-true file other same)) ∙ held.brought,
-                    subst (λ (told : ToldFile). told.entry.mode ≤ 511) (same_some (f told) known at) (keeps told held.mode))
+                  let held = stands file told is in (
+                    ap (λ file. brings (enabled_above st path) (brought_by file)) (sym (same_other-true file other same)) ∙ held.brought,
+                    subst (λ (told : ToldFile). told.entry.mode ≤ 511) (same_some (f told) known at) (keeps told held.mode),
+                  )
               | false ↦ λ _ at.
                   let held = told_stands other known (sym (told_in-base (finite.get st.told path) other) ∙ at) in (held.brought, held.mode)
             ] refl (sym (told_in-telling (f told) (unwrap_or (finite.get st.told path) nothing_told) file other) ∙ at)
@@ -91,9 +92,9 @@ module _ (st : State) (whole : IsWellFormed st) (path : Names) where
     telling_told q files is =
         elim (file_told st path file) as (λ r. file_told st path file ≡ r
         → finite.get (elim r [
-            | None ↦ st.told
-            | Some told ↦ finite.insert st.told path (telling file (Some (f told)) (unwrap_or (finite.get st.told path) nothing_told))
-          ]) q ≡ Some files
+          | None ↦ st.told
+          | Some told ↦ finite.insert st.told path (telling file (Some (f told)) (unwrap_or (finite.get st.told path) nothing_told))
+        ]) q ≡ Some files
         → (has_row st q ≡ true) × IsFormedTold (enabled_above st q) files) [
           | None ↦ λ _ is. whole.told q files is
           | Some told ↦ λ known is.
@@ -101,15 +102,16 @@ module _ (st : State) (whole : IsWellFormed st) (path : Names) where
               → cond b (Some (telling file (Some (f told)) (unwrap_or (finite.get st.told path) nothing_told))) (finite.get st.told q) ≡ Some files
               → (has_row st q ≡ true) × IsFormedTold (enabled_above st q) files) [
                 | true ↦ λ same is.
-                    subst (λ q. (has_row st q ≡ true) × IsFormedTold (enabled_above st q) files) (same_path-is path q same)
-                    ((stands file told known).there,
-                      subst (IsFormedTold (enabled_above st path)) (same_some _ files is) (formed-files told known))
+                    subst (λ q. (has_row st q ≡ true) × IsFormedTold (enabled_above st q) files) (same_path-is path q same) (
+                      (stands file told known).there,
+                      subst (IsFormedTold (enabled_above st path)) (same_some _ files is) (formed-files told known),
+                    )
                 | false ↦ λ _ is. whole.told q files is
               ] refl
               (sym (finite.get-insert path_cmp_total st.told path
               (telling file (Some (f told)) (unwrap_or (finite.get st.told path) nothing_told)) q
               ∙ ap (λ b. cond b (Some (telling file (Some (f told)) (unwrap_or (finite.get st.told path) nothing_told))) (finite.get st.told q))
-                (path_tie path q)) ∙ is)
+              (path_tie path q)) ∙ is)
         ] refl is
 
     pub formed-telling : IsWellFormed (record st { told = telling_at st path file f })

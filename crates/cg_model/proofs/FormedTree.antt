@@ -172,9 +172,10 @@ module _ (st : State) (path : Names) (not_root : is_root path ≡ false) (no_chi
     told = λ q files is.
         let left = left_told q files is in
         let old = whole.told q files left.1 in
-        let row = some_value (row_at st q) old.0 in
-        (ap is_some (row_at-without_row-other path st q left.0) ∙ old.0,
-          subst (λ set. IsFormedTold set files) (sym (above_left no_controllers q row.0 row.1)) old.1);
+        let row = some_value (row_at st q) old.0 in (
+          ap is_some (row_at-without_row-other path st q left.0) ∙ old.0,
+          subst (λ set. IsFormedTold set files) (sym (above_left no_controllers q row.0 row.1)) old.1,
+        );
     places = λ pid process is.
         let held = may_hold-row st process.place (whole.places pid process is) in
         let other =

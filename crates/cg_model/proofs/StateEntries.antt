@@ -150,7 +150,7 @@ module _ (st : State) (p : Names) (mode : ℕ) (q : Names) where
   beyond-with_mode : (name : EntryName) (file : OtherFile)
       → entry_at (with_mode st p name mode) q (Other file)
       ≡ cond (same_path p q && same_entry name (Other file)) (option_map (with_mode_of mode) (entry_at st q (Other file)))
-        (entry_at st q (Other file))
+      (entry_at st q (Other file))
   beyond-with_mode (Other changed) file =
       ap (option_map (λ told. told.entry))
       (file_told-telling st p changed (with_mode_told mode) q file (with_mode st p (Other changed) mode) refl

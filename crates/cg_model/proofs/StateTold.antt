@@ -58,14 +58,14 @@ module _ (st : State) (p : Names) (file : OtherFile) (f : ToldFile → ToldFile)
               | false ↦ λ e'. refl
               | true ↦ λ e'.
                   let here : file_told st q other ≡ None =
-                  sym (ap (λ x. file_told st x other) (same_path-is p q e) ) ∙ sym (ap (λ x. file_told st p x) (same_other-true file other e')) ∙ none in
+                  sym (ap (λ x. file_told st x other) (same_path-is p q e)) ∙ sym (ap (λ x. file_told st p x) (same_other-true file other e')) ∙ none in
                   untold_alone (told_at st q other) (untold_at st q other) here ∙ sym (ap (option_map f) here)
             ] refl
       ] refl
 
   changed_one : (told : ToldFile) → file_told st p file ≡ Some told
       → option_and_then (λ files. told_in files other)
-          (finite.get (finite.insert st.told p (telling file (Some (f told)) (unwrap_or (finite.get st.told p) nothing_told))) q)
+      (finite.get (finite.insert st.told p (telling file (Some (f told)) (unwrap_or (finite.get st.told p) nothing_told))) q)
       ≡ cond (same_path p q && same_other file other) (option_map f (file_told st q other)) (told_at st q other)
   changed_one told is =
       ap (option_and_then (λ files. told_in files other))
@@ -73,13 +73,13 @@ module _ (st : State) (p : Names) (file : OtherFile) (f : ToldFile → ToldFile)
       ∙ ap (λ b. cond b (Some (telling file (Some (f told)) (unwrap_or (finite.get st.told p) nothing_told))) (finite.get st.told q)) (path_tie p q))
       ∙ elim (same_path p q) as (λ b. same_path p q ≡ b
       → option_and_then (λ files. told_in files other)
-          (cond b (Some (telling file (Some (f told)) (unwrap_or (finite.get st.told p) nothing_told))) (finite.get st.told q))
+      (cond b (Some (telling file (Some (f told)) (unwrap_or (finite.get st.told p) nothing_told))) (finite.get st.told q))
       ≡ cond (b && same_other file other) (option_map f (file_told st q other)) (told_at st q other)) [
         | false ↦ λ e. refl
         | true ↦ λ e.
             told_in-telling (f told) (unwrap_or (finite.get st.told p) nothing_told) file other
             ∙ ap (cond (same_other file other) (Some (f told)))
-              (told_in-base (finite.get st.told p) other ∙ ap (λ x. told_at st x other) (same_path-is p q e))
+            (told_in-base (finite.get st.told p) other ∙ ap (λ x. told_at st x other) (same_path-is p q e))
             ∙ elim (same_other file other) as (λ b. same_other file other ≡ b
             → cond b (Some (f told)) (told_at st q other) ≡ cond b (option_map f (file_told st q other)) (told_at st q other)) [
               | false ↦ λ e'. refl
@@ -94,9 +94,9 @@ module _ (st : State) (p : Names) (file : OtherFile) (f : ToldFile → ToldFile)
       ap (λ told. option_and_then (λ files. told_in files other) (finite.get told q)) is
       ∙ elim (file_told st p file) as (λ r. file_told st p file ≡ r
       → option_and_then (λ files. told_in files other) (finite.get (elim r [
-          | None ↦ st.told
-          | Some told ↦ finite.insert st.told p (telling file (Some (f told)) (unwrap_or (finite.get st.told p) nothing_told))
-        ]) q)
+        | None ↦ st.told
+        | Some told ↦ finite.insert st.told p (telling file (Some (f told)) (unwrap_or (finite.get st.told p) nothing_told))
+      ]) q)
       ≡ cond (same_path p q && same_other file other) (option_map f (file_told st q other)) (told_at st q other)) [
         | None ↦ changed_none
         | Some told ↦ changed_one told
@@ -153,10 +153,10 @@ told_at-with_enabled st p enabled user q file =
     each : (r : Option ToldFiles)
         → option_and_then (λ files. told_in files file) (option_map (λ files. cond (is_child p q) (told_under enabled files) files) r)
         ≡ cond (is_child p q) (cond (brings enabled (brought_by file)) (option_and_then (λ files. told_in files file) r) None)
-          (option_and_then (λ files. told_in files file) r)
+        (option_and_then (λ files. told_in files file) r)
     each None = none_told (is_child p q) (brings enabled (brought_by file))
     each (Some files) = elim (is_child p q) as (λ b. told_in (cond b (told_under enabled files) files) file
-      ≡ cond b (cond (brings enabled (brought_by file)) (told_in files file) None) (told_in files file)) [
-      | true ↦ told_in-under enabled files file
-      | false ↦ refl
-    ]
+        ≡ cond b (cond (brings enabled (brought_by file)) (told_in files file) None) (told_in files file)) [
+          | true ↦ told_in-under enabled files file
+          | false ↦ refl
+        ]

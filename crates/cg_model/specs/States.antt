@@ -118,11 +118,18 @@ without_row st path = record st { rows = map.remove st.rows path; told = map.rem
 abbrev pub with_value : State → Names → LimitFile → Limit → State
 with_value st path file value = change_at path (with_value_in file value) st
 
--- what is told once it is changed of a limit file beyond `LimitFile`, where that stands
+-- what is told once this is of a limit file beyond `LimitFile`
+abbrev pub told_as : State → Names → OtherFile → ToldFile → map.FinMap path_cmp ToldFiles
+told_as st path file told = map.insert st.told path (telling file (Some told) (unwrap_or (map.get st.told path) nothing_told))
+
+abbrev pub telling_of : State → Names → OtherFile → ToldFile → State
+telling_of st path file told = record st { told = told_as st path file told }
+
+-- what is told once it is changed of one, where that stands
 abbrev pub telling_at : State → Names → OtherFile → (ToldFile → ToldFile) → map.FinMap path_cmp ToldFiles
 telling_at st path file f = elim (file_told st path file) [
   | None ↦ st.told
-  | Some told ↦ map.insert st.told path (telling file (Some (f told)) (unwrap_or (map.get st.told path) nothing_told))
+  | Some told ↦ told_as st path file (f told)
 ]
 
 abbrev pub with_text : State → Names → OtherFile → FileText → State
