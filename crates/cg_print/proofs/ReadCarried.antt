@@ -145,6 +145,7 @@ read_carried text st is =
       cgroups = omega (arith, most, is.says.form.few_cgroups, tables_at_most (elements_at (codes "cgroup") is.document), cgroups);
       processes = omega (arith, most, is.says.form.few_processes, tables_at_most (elements_at (codes "process") is.document), processes);
       controllers = known_controllers text st is;
+      told = is.says.told;
       others = others_read st is.document is.says;
       used = is.says.used;
     }
