@@ -15,9 +15,10 @@ use Rattle.cg_model.specs.Limits.{is_within_limit, fits_descendants, fits_depth}
 use Rattle.cg_model.specs.declared.guard.Failed.{Failed}
 use Rattle.cg_model.specs.declared.guard.Guard.TheVariants.{AlreadyOver}
 use Rattle.cg_model.specs.declared.guard.GuardedEntry.{GuardedEntry}
+use Rattle.cg_guards.specs.Asked.{asked_entries}
 use Rattle.cg_guards.proofs.TableWalk.{of_guarded, walk_turn, drop_all}
 
-module _ (st : State) (user : Identity) (subtree : Names) where
+module _ (st : State) (user : Identity) (subtree : Names) (passes : Bool) where
   abbrev pub failing : GuardedEntry → List Failed
   failing at = unless (not (reaches user at.entry)) (record { guard = at.guard; len = at.len })
 
@@ -32,23 +33,23 @@ module _ (st : State) (user : Identity) (subtree : Names) where
 
   -- what fails from a place on
   abbrev pub failures_from : ℕ → List Failed
-  failures_from place = flat_map (entry_failures st user subtree) (drop place (guarded_entries subtree))
+  failures_from place = flat_map (entry_failures st user subtree) (drop place (asked_entries passes subtree))
 
   module _ (place : ℕ) (here : Option GuardedEntry)
-      (is : here ≡ option_and_then (standing st subtree) (slice_get (guarded_entries subtree) place)) where
+      (is : here ≡ option_and_then (standing st subtree) (slice_get (asked_entries passes subtree) place)) where
     pub failures_turn : failures_from place ≡ present here failing ++ failures_from (place + 1)
     failures_turn =
-        ap (λ each. flat_map each (drop place (guarded_entries subtree))) (λ i guarded. of_standing guarded i)
-        ∙ walk_turn st subtree failing (guarded_entries subtree) place here is
-        ∙ ap (λ each. present here failing ++ flat_map each (drop (place + 1) (guarded_entries subtree)))
+        ap (λ each. flat_map each (drop place (asked_entries passes subtree))) (λ i guarded. of_standing guarded i)
+        ∙ walk_turn st subtree failing (asked_entries passes subtree) place here is
+        ∙ ap (λ each. present here failing ++ flat_map each (drop (place + 1) (asked_entries passes subtree)))
         (λ i guarded. sym (of_standing guarded) i)
 
-  pub none_fails : (place : ℕ) → None ≡ option_and_then (standing st subtree) (slice_get (guarded_entries subtree) place)
+  pub none_fails : (place : ℕ) → None ≡ option_and_then (standing st subtree) (slice_get (asked_entries passes subtree) place)
       → first (failures_from (place + 1)) ≡ first (failures_from place)
   none_fails place is = ap first (sym (failures_turn place None is))
 
   module _ (place : ℕ) (at : GuardedEntry)
-      (is : Some at ≡ option_and_then (standing st subtree) (slice_get (guarded_entries subtree) place)) where
+      (is : Some at ≡ option_and_then (standing st subtree) (slice_get (asked_entries passes subtree) place)) where
     pub here_fails : reaches user at.entry ≡ true → Some (record { guard = at.guard; len = at.len }) ≡ first (failures_from place)
     here_fails reached =
         sym (ap first (failures_turn place (Some at) is)
@@ -59,9 +60,9 @@ module _ (st : State) (user : Identity) (subtree : Names) where
         sym (ap first (failures_turn place (Some at) is)
         ∙ ap (λ b. first (unless (not b) (record { guard = at.guard; len = at.len }) ++ failures_from (place + 1))) spared)
 
-  pub none_left : (place : ℕ) → length (guarded_entries subtree) ≤ place → None ≡ first (failures_from place)
+  pub none_left : (place : ℕ) → length (asked_entries passes subtree) ≤ place → None ≡ first (failures_from place)
   none_left place all =
-      sym (ap (λ rest. first (flat_map (entry_failures st user subtree) rest)) (drop_all (guarded_entries subtree) place all))
+      sym (ap (λ rest. first (flat_map (entry_failures st user subtree) rest)) (drop_all (asked_entries passes subtree) place all))
 
 -- the limits are asked where no entry fails
 module _ {A : Type 0} where

@@ -28,12 +28,12 @@ use Rattle.cg_model.specs.declared.guard.GuardedEntry.{GuardedEntry}
 -- ---- places of joined lists
 
 module _ {A : Type 0} where
-  get_front : (xs ys : List A) (k : ℕ) → k < length xs → slice_get (xs ++ ys) k ≡ slice_get xs k
+  pub get_front : (xs ys : List A) (k : ℕ) → k < length xs → slice_get (xs ++ ys) k ≡ slice_get xs k
   get_front [] ys k h = absurd (omega arith)
   get_front (x ∷ xs) ys zero h = refl
   get_front (x ∷ xs) ys (suc k) h = get_front xs ys k (omega arith)
 
-  get_back : (xs ys : List A) (k : ℕ) → length xs ≤ k → slice_get (xs ++ ys) k ≡ slice_get ys (k - length xs)
+  pub get_back : (xs ys : List A) (k : ℕ) → length xs ≤ k → slice_get (xs ++ ys) k ≡ slice_get ys (k - length xs)
   get_back [] ys k h = let e : k - 0 ≡ k = omega arith in rw e refl
   get_back (x ∷ xs) ys zero h = absurd (omega arith)
   get_back (x ∷ xs) ys (suc k) h = let e : suc k - suc (length xs) ≡ k - length xs = omega arith in rw e (get_back xs ys k (omega arith))
@@ -44,7 +44,7 @@ pub length-ancestors : (len : ℕ) → length (ancestors len) ≡ len
 length-ancestors zero = refl
 length-ancestors (suc len) = ap suc (length-ancestors len)
 
-get-ancestors : (len k : ℕ) → k < len → slice_get (ancestors len) k ≡ Some (ancestor (len - 1 - k))
+pub get-ancestors : (len k : ℕ) → k < len → slice_get (ancestors len) k ≡ Some (ancestor (len - 1 - k))
 get-ancestors zero k h = absurd (omega arith)
 get-ancestors (suc len) zero h = let e : suc len - 1 - 0 ≡ len = omega arith in rw e refl
 get-ancestors (suc len) (suc k) h = let e : suc len - 1 - suc k ≡ len - 1 - k = omega arith in rw e (get-ancestors len k (omega arith))
