@@ -79,7 +79,8 @@ module _ (format : Format) (row : Members) (says : SaysCgroup format row) (above
   file_is MaxDepth = refl
   file_is file = refl
 
-  owned : (name : EntryName) (entry : Entry) → is_beyond name ≡ false → entry_in cgroup_of name ≡ Some entry → entry_said format row name ≡ Some entry
+  owned : (name : EntryName) (entry : Entry) → is_beyond name ≡ false → entry_in cgroup_of name ≡ Some entry
+      → entry_said format row name ≡ Some entry
   owned Dir entry within is = says.owned Dir refl ∙ is
   owned Procs entry within is = says.owned Procs refl ∙ is
   owned SubtreeControl entry within is = says.owned SubtreeControl refl ∙ is

@@ -46,7 +46,8 @@ pub all_so : {A : Type 0} (p : A → Bool) → ((x : A) → p x ≡ true) → (x
 all_so p each xs = list_all-from_AllPass p xs (λ k d inside. each (get_or xs k d))
 
 -- what all entries pass that texts name
-pub each_within : (p : EntryName → Bool) → ((name : EntryName) → is_beyond name ≡ false → p name ≡ true) → list_all p format_2_entries ≡ true
+pub each_within : (p : EntryName → Bool) → ((name : EntryName) → is_beyond name ≡ false → p name ≡ true)
+    → list_all p format_2_entries ≡ true
 each_within p each =
     and_from (p Dir) _ (each Dir refl) (and_from (p Procs) _ (each Procs refl) (and_from (p SubtreeControl) _ (each SubtreeControl refl)
     (list_all-map p File all_files ∙ all_so (λ file. p (File file)) (λ file. each (File file) refl) all_files)))
