@@ -77,7 +77,8 @@ module _ (st : State) (users : List Identity) (user : Identity) (named : Contain
       let names = no_parts _ _ access.0 in
       let row = some_value (row_at st at) (no_absent (row_at st at) _ names.0) in
       let stands =
-      no_absent (file_of row.0 file) _ (no_present (row_at st at) (λ r. absent (file_of r file) (NoSuchFile (File file))) names.1 row.0 row.1) in
+      no_absent (file_of row.0 file) _
+      (no_present (row_at st at) (λ r. absent (file_of r file) (NoSuchFile (File file))) names.1 row.0 row.1) in
       let held = some_value (file_of row.0 file) stands in
       let is : file_at st at file ≡ Some held.0 = ap (option_and_then (λ r. file_of r file)) row.1 ∙ held.1 in
       let can =
