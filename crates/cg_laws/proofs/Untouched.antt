@@ -99,40 +99,50 @@ module _ (st : State) (at : Names) (enabled : ControllerSet) (user : Identity) (
         | false ↦ λ other. file_at-with_enabled-other st at enabled user subtree other file
       ] refl
 
-  -- one beyond `LimitFile` that a controller brings to a child, where it has neither gone nor come
-  brought-with_enabled : (file : OtherFile) (controller : Controller) → brought_by file ≡ Some controller → is_child at subtree ≡ true
-      → is_some (other_at st subtree controller) ≡ enables enabled controller
-      → file_told (with_enabled st at enabled user) subtree file ≡ file_told st subtree file
-  brought-with_enabled file controller by child on =
-      let untold = λ (s : State). ap (λ by. option_and_then (λ row. elim by [
-        | None ↦ Some row.freeze
-        | Some controller ↦ other_in row controller
-      ]) (row_at s subtree)) by in
-      file_told-same st (with_enabled st at enabled user) subtree file
-      (told_at-with_enabled st at enabled user subtree file
-      ∙ (λ i. cond (child i) (cond (brings enabled (by i)) (told_at st subtree file) None) (told_at st subtree file))
-      ∙ told-same (enables enabled controller) (told_at st subtree file) (λ told. sym on
-      ∙ ap (λ by. elim by [ None ↦ has_row st subtree | Some controller ↦ is_some (other_at st subtree controller) ]) (sym by)
-      ∙ standing file told))
-      (untold (with_enabled st at enabled user) ∙ other_at-with_enabled-same st at enabled user subtree controller (λ _. on)
-      ∙ sym (untold st))
+  -- what is told of one beyond `LimitFile`, where those of the controller that brings it have neither gone nor come
+  module _ (file : OtherFile) (stand : (controller : Controller) → brought_by file ≡ Some controller → is_child at subtree ≡ true
+      → is_some (other_at st subtree controller) ≡ enables enabled controller) where
+    pub told-with_enabled : told_at (with_enabled st at enabled user) subtree file ≡ told_at st subtree file
+    told-with_enabled =
+        told_at-with_enabled st at enabled user subtree file
+        ∙ elim (is_child at subtree) as (λ b. is_child at subtree ≡ b
+        → cond b (cond (brings enabled (brought_by file)) (told_at st subtree file) None) (told_at st subtree file)
+        ≡ told_at st subtree file) [
+          | false ↦ λ _. refl
+          | true ↦ λ child. told-same (brings enabled (brought_by file)) (told_at st subtree file)
+              (λ told. brought child (standing file told))
+        ] refl
+      where
+        brought : is_child at subtree ≡ true → file_stands st subtree file ≡ true → brings enabled (brought_by file) ≡ true
+        brought child = elim (brought_by file) as (λ by. brought_by file ≡ by
+            → elim by [ None ↦ has_row st subtree | Some controller ↦ is_some (other_at st subtree controller) ] ≡ true
+            → brings enabled by ≡ true)
+            [ None ↦ λ _ _. refl | Some controller ↦ λ by stands. sym (stand controller by child) ∙ stands ] refl
 
-  beyond-with_enabled : (file : OtherFile) → limits (with_enabled st at enabled user) subtree ≡ limits st subtree
-      → entry_at (with_enabled st at enabled user) subtree (Other file) ≡ entry_at st subtree (Other file)
-  beyond-with_enabled file same =
-      let kept = entry_at-with_enabled-beyond st at enabled user subtree file in
-      elim (is_child at subtree) as (λ b. is_child at subtree ≡ b
-      → entry_at (with_enabled st at enabled user) subtree (Other file) ≡ entry_at st subtree (Other file)) [
-        | false ↦ λ other. kept (ap (λ b. b && is_some (brought_by file)) other)
-        | true ↦ λ child.
-            elim (brought_by file) as (λ by. brought_by file ≡ by
-            → entry_at (with_enabled st at enabled user) subtree (Other file) ≡ entry_at st subtree (Other file)) [
-              | None ↦ λ by. kept (λ i. child i && is_some (by i))
-              | Some controller ↦ λ by. ap (option_map (λ told. told.entry)) (brought-with_enabled file controller by child
-                  (sym (ap (λ (these : Limits). these.others controller) same)
-                  ∙ stands-child st at enabled user subtree controller child there))
-            ] refl
-      ] refl
+    brought-with_enabled : (controller : Controller) → brought_by file ≡ Some controller → is_child at subtree ≡ true
+        → file_told (with_enabled st at enabled user) subtree file ≡ file_told st subtree file
+    brought-with_enabled controller by child =
+        let untold = λ (s : State). ap (λ by. option_and_then (λ row. elim by [
+          | None ↦ Some row.freeze
+          | Some controller ↦ other_in row controller
+        ]) (row_at s subtree)) by in
+        file_told-same st (with_enabled st at enabled user) subtree file told-with_enabled
+        (untold (with_enabled st at enabled user)
+        ∙ other_at-with_enabled-same st at enabled user subtree controller (λ _. stand controller by child) ∙ sym (untold st))
+
+    pub beyond-with_enabled : entry_at (with_enabled st at enabled user) subtree (Other file) ≡ entry_at st subtree (Other file)
+    beyond-with_enabled =
+        let kept = entry_at-with_enabled-beyond st at enabled user subtree file in
+        elim (is_child at subtree) as (λ b. is_child at subtree ≡ b
+        → entry_at (with_enabled st at enabled user) subtree (Other file) ≡ entry_at st subtree (Other file)) [
+          | false ↦ λ other. kept (ap (λ b. b && is_some (brought_by file)) other)
+          | true ↦ λ child.
+              elim (brought_by file) as (λ by. brought_by file ≡ by
+              → entry_at (with_enabled st at enabled user) subtree (Other file) ≡ entry_at st subtree (Other file)) [
+                | None ↦ λ by. kept (λ i. child i && is_some (by i))
+                | Some controller ↦ λ by. ap (option_map (λ told. told.entry)) (brought-with_enabled controller by child)
+              ] refl
+        ] refl
 
   untouched-with_enabled : limits (with_enabled st at enabled user) subtree ≡ limits st subtree
       → AreUntouched st (with_enabled st at enabled user) subtree
@@ -145,7 +155,8 @@ module _ (st : State) (at : Names) (enabled : ControllerSet) (user : Identity) (
       ∙ ap (option_map (λ f. f.entry)) (file-with_enabled file (ap (λ (these : Limits). these.values file) same))
       ∙ sym (entry_at-file st subtree file)))
       (λ file. subst (λ path. entry_at (with_enabled st at enabled user) path (Other file) ≡ entry_at st path (Other file))
-      (sym (take_all (length subtree) subtree (omega arith))) (beyond-with_enabled file same))
+      (sym (take_all (length subtree) subtree (omega arith))) (beyond-with_enabled file (λ controller _ child.
+      sym (ap (λ (these : Limits). these.others controller) same) ∙ stands-child st at enabled user subtree controller child there)))
       (entry_at-with_enabled-subtree_control st at enabled user (take (length subtree - 1) subtree))
       (entry_at-with_enabled-dir st at enabled user (take (length subtree - 1) subtree))
 

@@ -2,15 +2,18 @@
 ghost use Rattle.std.specs.Prelude.{◌≡◌, ◌≤◌, not, length, take};
 ghost use Rattle.std.specs.List.{list_any, list_all};
 ghost use Rattle.cg_cgroup.specs.Users.{reaches};
-ghost use Rattle.cg_cgroup.specs.Files.{all_files, enables};
-ghost use Rattle.cg_cgroup.specs.declared.files.EntryName.TheVariants.{File};
+ghost use Rattle.cg_cgroup.specs.Files.{all_files, all_others, enables};
+ghost use Rattle.cg_cgroup.specs.declared.files.EntryName.TheVariants.{File, Other};
 ghost use Rattle.cg_model.specs.WellFormed.{enabled_at};
 ghost use Rattle.cg_second.specs.Lasting.{is_reached};
 ghost use Rattle.cg_second.specs.Anchors.{is_anchored};
+ghost use Rattle.cg_second.specs.Judged.{spares_files};
 
 use cg_cgroup::files::{Controller, EntryName, LimitFile};
+use cg_cgroup::other_file::OtherFile;
 use cg_cgroup::path::Path;
 use cg_cgroup::user::{Entry, User};
+use cg_model::files::entry_at;
 use cg_model::hierarchy::Hierarchy;
 
 /// Whether one of some users reaches an entry of the cgroup of the first `len` names of a path.
@@ -24,10 +27,7 @@ pub fn is_reached<H: Hierarchy>(
     requires { len ≤ length path.now }
     ensures { result ≡ is_reached (H.state tree.now) users.now (take len path.now) name }
 {
-    let Some(cgroup) = tree.get(path, len) else {
-        return false;
-    };
-    match cgroup.entry(name) {
+    match entry_at(tree, path, len, name) {
         None => false,
         Some(entry) => any_reaches(users, &entry),
     }
@@ -51,17 +51,31 @@ pub fn is_anchored<H: Hierarchy>(tree: &H, users: &[User], path: &Path) -> bool
 
 /// Whether none of them reaches a limit file of a cgroup.
 pub fn spares_files<H: Hierarchy>(tree: &H, users: &[User], path: &Path) -> bool
+    ensures { result ≡ spares_files (H.state tree.now) users.now path.now }
+{
+    spares_listed(tree, users, path) && spares_beyond(tree, users, path)
+}
+
+fn spares_listed<H: Hierarchy>(tree: &H, users: &[User], path: &Path) -> bool
     ensures { result ≡ list_all (λ file. not (is_reached (H.state tree.now) users.now path.now (File file))) all_files }
 {
     LimitFile::ALL
         .iter()
-        .all(|file| spares(tree, users, path, *file))
+        .all(|file| spares(tree, users, path, EntryName::File(*file)))
 }
 
-fn spares<H: Hierarchy>(tree: &H, users: &[User], path: &Path, file: LimitFile) -> bool
-    ensures { result ≡ not (is_reached (H.state tree.now) users.now path.now (File file)) }
+fn spares_beyond<H: Hierarchy>(tree: &H, users: &[User], path: &Path) -> bool
+    ensures { result ≡ list_all (λ file. not (is_reached (H.state tree.now) users.now path.now (Other file))) all_others }
 {
-    !is_reached(tree, users, path, path.depth(), EntryName::File(file))
+    OtherFile::ALL
+        .iter()
+        .all(|file| spares(tree, users, path, EntryName::Other(*file)))
+}
+
+fn spares<H: Hierarchy>(tree: &H, users: &[User], path: &Path, name: EntryName) -> bool
+    ensures { result ≡ not (is_reached (H.state tree.now) users.now path.now name) }
+{
+    !is_reached(tree, users, path, path.depth(), name)
 }
 
 /// Whether the cgroup of the first `len` names of a path enables a controller.
