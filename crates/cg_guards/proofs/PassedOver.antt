@@ -159,8 +159,8 @@ module _ (st : State) (user : Identity) (subtree : Names) (p : Passed st subtree
     root_at [] h = absurd (false≢true (sym h))
     root_at (name ∷ path) h =
         let e : length (name ∷ path) - 1 - (length (name ∷ path) - 1) ≡ 0 = omega arith in
-        get_front (ancestors (length (name ∷ path))) (map (limit_file (length (name ∷ path))) (map File all_files)) (length (name ∷ path) - 1)
-        (omega (arith, length-ancestors (length (name ∷ path))))
+        get_front (ancestors (length (name ∷ path))) (map (limit_file (length (name ∷ path))) (map File all_files))
+        (length (name ∷ path) - 1) (omega (arith, length-ancestors (length (name ∷ path))))
         ∙ get-ancestors (length (name ∷ path)) (length (name ∷ path) - 1) (omega arith)
         ∙ ap (λ n. Some (ancestor n)) e
 

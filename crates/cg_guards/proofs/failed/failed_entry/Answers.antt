@@ -10,18 +10,21 @@ loop-turn-init g c =
 
 pub loop-turn-preserved-in_default : goal.loop-turn-preserved-in_default
 loop-turn-preserved-in_default g c =
-    none_fails (g.H.Hierarchy.state c.args.tree.now) c.args.user.now c.args.subtree.now c.passes_others-passes.result c.loop-turn.turn c.in_default.ensures
+    none_fails (g.H.Hierarchy.state c.args.tree.now) c.args.user.now c.args.subtree.now
+    c.passes_others-passes.result c.loop-turn.turn c.in_default.ensures
     ∙ c.loop-turn.invariant
 
 pub loop-turn-preserved : goal.loop-turn-preserved
 loop-turn-preserved g c =
-    here_holds (g.H.Hierarchy.state c.args.tree.now) c.args.user.now c.args.subtree.now c.passes_others-passes.result c.loop-turn.turn c.in-Some.at
+    here_holds (g.H.Hierarchy.state c.args.tree.now) c.args.user.now c.args.subtree.now
+    c.passes_others-passes.result c.loop-turn.turn c.in-Some.at
     c.in-Some.ensures (sym c.reaches.ensures ∙ c.if-reaches.false)
     ∙ c.loop-turn.invariant
 
 pub returns-then-reaches : goal.returns-then-reaches
 returns-then-reaches g c =
-    here_fails (g.H.Hierarchy.state c.args.tree.now) c.args.user.now c.args.subtree.now c.passes_others-passes.result c.loop-turn.turn c.in-Some.at
+    here_fails (g.H.Hierarchy.state c.args.tree.now) c.args.user.now c.args.subtree.now
+    c.passes_others-passes.result c.loop-turn.turn c.in-Some.at
     c.in-Some.ensures (sym c.reaches.ensures ∙ c.if-reaches.true)
     ∙ c.loop-turn.invariant
 

@@ -18,7 +18,8 @@ loop-turn-init g c = record {
 pub loop-turn-preserved-in_default : goal.loop-turn-preserved-in_default
 loop-turn-preserved-in_default g c = record {
   off =
-      absent_turn (g.H.Hierarchy.state c.args.tree.now) c.args.subtree.now c.passes_others-passes.result c.loop-turn.turn c.loop-turn.left.now
+      absent_turn (g.H.Hierarchy.state c.args.tree.now) c.args.subtree.now
+      c.passes_others-passes.result c.loop-turn.turn c.loop-turn.left.now
       c.in_default.ensures
       ∙ c.loop-turn.invariant.off;
   covered = c.loop-turn.invariant.covered;
@@ -28,7 +29,8 @@ loop-turn-preserved-in_default g c = record {
 pub loop-turn-preserved-then-is_asked : goal.loop-turn-preserved-then-is_asked
 loop-turn-preserved-then-is_asked g c = record {
   off =
-      entry_turn (g.H.Hierarchy.state c.args.tree.now) c.args.subtree.now c.passes_others-passes.result c.loop-turn.turn c.in-Some.at c.in-Some.ensures
+      entry_turn (g.H.Hierarchy.state c.args.tree.now) c.args.subtree.now
+      c.passes_others-passes.result c.loop-turn.turn c.in-Some.at c.in-Some.ensures
       c.loop-turn.left.now c.loop-turn.left.now
       spared
       ∙ c.loop-turn.invariant.off;
@@ -50,7 +52,8 @@ loop-turn-preserved-then-is_asked g c = record {
 pub loop-turn-preserved : goal.loop-turn-preserved
 loop-turn-preserved g c = record {
   off =
-      entry_turn (g.H.Hierarchy.state c.args.tree.now) c.args.subtree.now c.passes_others-passes.result c.loop-turn.turn c.in-Some.at c.in-Some.ensures
+      entry_turn (g.H.Hierarchy.state c.args.tree.now) c.args.subtree.now
+      c.passes_others-passes.result c.loop-turn.turn c.in-Some.at c.in-Some.ensures
       c.loop-turn.left.now c.off_entry-left.result.now c.off_entry-left.ensures
       ∙ c.loop-turn.invariant.off;
   covered =
