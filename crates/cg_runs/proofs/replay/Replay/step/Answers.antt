@@ -9,9 +9,9 @@ use Rattle.cg_runs.proofs.replay.Replay.step.Goals.{then-may_break, else-may_bre
 
 pub invariant_of-self-then-may_break : goal.invariant_of-self-then-may_break
 invariant_of-self-then-may_break g c =
-    let run = progress c.self.inside.subtree c.self.inside.original (g.H.Hierarchy.state c.self.inside.tree)
+    let run = progress c.self.inside.subtree c.self.inside.original c.self.inside.told (g.H.Hierarchy.state c.self.inside.tree)
     c.self.inside.steps c.self.inside.verdict in
-    let by = ap (λ moves. first (broken_by (limits_in run.original) moves (g.H.Hierarchy.state c.apply.new.tree) run.subtree c.args.op.now))
+    let by = ap (λ moves. first (broken_by (limits_in run.original run.told) moves (g.H.Hierarchy.state c.apply.new.tree) run.subtree c.args.op.now))
     c.moves_over-moves.ensures in
     let promised = c.in_ok-outcome.ensures in
     let is = applied run.state c.args.user.now c.args.op.now (g.H.Hierarchy.state c.apply.new.tree) c.in_ok-outcome.outcome
@@ -22,7 +22,7 @@ invariant_of-self-then-may_break g c =
 
 pub invariant_of-self-else-may_break : goal.invariant_of-self-else-may_break
 invariant_of-self-else-may_break g c =
-    let run = progress c.self.inside.subtree c.self.inside.original (g.H.Hierarchy.state c.self.inside.tree)
+    let run = progress c.self.inside.subtree c.self.inside.original c.self.inside.told (g.H.Hierarchy.state c.self.inside.tree)
     c.self.inside.steps c.self.inside.verdict in
     let promised = c.in_ok-outcome.ensures in
     let is = applied run.state c.args.user.now c.args.op.now (g.H.Hierarchy.state c.apply.new.tree) c.in_ok-outcome.outcome
@@ -37,9 +37,9 @@ returns-clause-ok g c =
     applied (g.H.Hierarchy.state c.self.inside.tree) c.args.user.now c.args.op.now (g.H.Hierarchy.state c.apply.new.tree)
     c.in_ok-outcome.outcome
     promised.done promised.refused promised.unchanged in
-    let run = progress c.self.inside.subtree c.self.inside.original (g.H.Hierarchy.state c.self.inside.tree)
+    let run = progress c.self.inside.subtree c.self.inside.original c.self.inside.told (g.H.Hierarchy.state c.self.inside.tree)
     c.self.inside.steps c.self.inside.verdict in
-    let by = ap (λ moves. first (broken_by (limits_in run.original) moves (g.H.Hierarchy.state c.apply.new.tree) run.subtree c.args.op.now))
+    let by = ap (λ moves. first (broken_by (limits_in run.original run.told) moves (g.H.Hierarchy.state c.apply.new.tree) run.subtree c.args.op.now))
     c.moves_over-moves.ensures in
     let old = ap (λ r. stepped r c.args.user.now c.args.op.now) c.self.view_is in
     elim c.if-may_break.branch [
