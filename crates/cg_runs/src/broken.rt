@@ -83,7 +83,7 @@ pub fn broken_by<H: Hierarchy>(
     moves: bool,
 ) -> Option<Clause>
     ensures { result ≡ first
-        (broken_by (limits_in original.now (option_copied told)) moves (H.state tree.now) subtree.now op.now) }
+        (broken_by (limits_in original.now (option_copied told.entry)) moves (H.state tree.now) subtree.now op.now) }
 {
     match op {
         Op::Move { pid, .. } if moves => Some(Clause::Crossed(*pid)),
@@ -113,7 +113,7 @@ fn changed<H: Hierarchy>(
     told: Option<&ToldFiles>,
 ) -> Option<Clause>
     ensures { result ≡ first
-        (unless (same_limits (limits_in original.now (option_copied told)) (limits (H.state tree.now) subtree.now)) Clause.Limits) }
+        (unless (same_limits (limits_in original.now (option_copied told.entry)) (limits (H.state tree.now) subtree.now)) Clause.Limits) }
 {
     let len = subtree.depth();
     match tree.get(subtree, len) {

@@ -30,8 +30,8 @@ pub fn told_of<H: Hierarchy>(
 /// Whether the same values are told of two cgroups' files.
 pub fn same_texts(told: Option<&ToldFiles>, other: Option<&ToldFiles>) -> bool
     ensures { result ≡ list_all (λ file. same_text
-        (texts_in (option_copied told) file)
-        (texts_in (option_copied other) file)) all_others }
+        (texts_in (option_copied told.entry) file)
+        (texts_in (option_copied other.entry) file)) all_others }
 {
     if told.is_none() && other.is_none() {
         return true;
@@ -41,14 +41,14 @@ pub fn same_texts(told: Option<&ToldFiles>, other: Option<&ToldFiles>) -> bool
 
 /// The value that is told of a file, if one is.
 fn text_of<'a>(told: Option<&'a ToldFiles>, file: OtherFile) -> Option<&'a FileText>
-    ensures { option_copied result ≡ texts_in (option_copied told) file }
+    ensures { option_copied result ≡ texts_in (option_copied told.entry) file }
 {
     told?.get(file)?.value.as_ref()
 }
 
 /// Whether two values are the same, where they are told.
 fn is_same(text: Option<&FileText>, other: Option<&FileText>) -> bool
-    ensures { result ≡ same_text (option_copied text) (option_copied other) }
+    ensures { result ≡ same_text (option_copied text.entry) (option_copied other.entry) }
 {
     match (text, other) {
         (Some(text), Some(other)) => text == other,
