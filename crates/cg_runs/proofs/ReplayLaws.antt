@@ -111,7 +111,8 @@ module _ (run : Progress) (user : Identity) (op : Op) (at : IsReplay run) (few :
     bound = omega (arith, few);
     sound = sound-after run.state user op at.sound;
     intact = λ kept. intact-whole (limits_in run.original run.told) run.state (after run.state user op) run.subtree
-        (broken-whole (limits_in run.original run.told) run.state (after run.state user op) run.subtree (still_kept run.verdict _ _ kept).1);
+        (broken-whole (limits_in run.original run.told) run.state (after run.state user op) run.subtree
+        (still_kept run.verdict _ _ kept).1);
   }
 
 -- what a call of `apply` promises of a step
@@ -157,7 +158,8 @@ may-parts (Broken earlier clause) outcome h = absurd (true≢false (sym h))
 module _ (run : Progress) (user : Identity) (op : Op) where
   -- a replay that has come to this state with this verdict
   abbrev pub come_to : State → Verdict → Progress
-  come_to st now = record { subtree = run.subtree; original = run.original; told = run.told; state = st; steps = run.steps + 1; verdict = now }
+  come_to st now =
+      record { subtree = run.subtree; original = run.original; told = run.told; state = st; steps = run.steps + 1; verdict = now }
 
   abbrev broke : List Clause
   broke = broken_since (limits_in run.original run.told) run.state (after run.state user op) run.subtree
@@ -166,7 +168,8 @@ module _ (run : Progress) (user : Identity) (op : Op) where
       → come_to new now ≡ stepped run user op
   come_to-stepped new now is_state is_verdict =
       let more : run.steps + 1 ≡ suc run.steps = add-one run.steps in
-      λ i. record { subtree = run.subtree; original = run.original; told = run.told; state = is_state i; steps = more i; verdict = is_verdict i }
+      λ i.
+      record { subtree = run.subtree; original = run.original; told = run.told; state = is_state i; steps = more i; verdict = is_verdict i }
 
   module _ (at : IsReplay run) (new : State) (outcome : Outcome) (is : IsApplied run.state user op new outcome) where
     pub step-still : may_break run.verdict outcome ≡ false → come_to new run.verdict ≡ stepped run user op
@@ -243,7 +246,8 @@ run-stepped run start deeds user op is =
       state = ap (λ st. after st user op) is.state ∙ sym (after_all-last start deeds user op);
       steps = omega (arith, is.steps, length-append deeds ((user, op) ∷ []));
       verdict =
-          (λ i. or_broken (is.verdict i) (broken_since (sym (limits-row start run.subtree run.original run.told is.original is.told) i) (is.state i)
+          (λ i. or_broken (is.verdict i)
+          (broken_since (sym (limits-row start run.subtree run.original run.told is.original is.told) i) (is.state i)
           (after (is.state i) user op) run.subtree) (suc (is.steps i)))
           ∙ broken-earlier first_broken (broken start last (after last user op) run.subtree) 0 (suc (length deeds))
           (verdict_from start 0 start deeds run.subtree)

@@ -199,7 +199,8 @@ module _ (had : LimitMap) (st : State) (user : Identity) (subtree : Names) (soun
       ≡ first (broken_since had st (after st user (SetOther at file value)) subtree)) [
         | true ↦
             λ _. sym
-            (by-limits (SetOther at file value) free (stays (SetOther at file value) refl) (no-crossing (SetOther at file value) (λ _. refl)))
+            (by-limits (SetOther at file value) free (stays (SetOther at file value) refl)
+            (no-crossing (SetOther at file value) (λ _. refl)))
         | false ↦
             λ other. sym (by-nothing (SetOther at file value) free (stays (SetOther at file value) refl)
             (no-crossing (SetOther at file value) (λ _. refl)) (λ _. refl) (λ asked. ap (λ b. b && same_other file asked) other))

@@ -36,7 +36,8 @@ broken_by had moves new subtree (Move pid to) = unless (not moves) (Crossed pid)
 broken_by had moves new subtree (Control at changes) = unless (not (is_child at subtree) || same_limits had (limits new subtree)) Limits
 broken_by had moves new subtree (Rmdir path) = unless (not (same_path path subtree)) Gone
 broken_by had moves new subtree (Set at file value) = unless (not (same_path at subtree) || same_limits had (limits new subtree)) Limits
-broken_by had moves new subtree (SetOther at file value) = unless (not (same_path at subtree) || same_limits had (limits new subtree)) Limits
+broken_by had moves new subtree (SetOther at file value) =
+    unless (not (same_path at subtree) || same_limits had (limits new subtree)) Limits
 broken_by had moves new subtree op = []
 
 -- a subtree that is there with these limits, and within them
