@@ -59,7 +59,8 @@ module _ (st : State) (at : Names) (file : OtherFile) where
           rows = row_kept (row_at st at) refl i;
           told = (told_stands told.0 told.1 (with_mode_told mode)
               ∙ (ap (λ entry. told_as st at file (record { entry = with_mode_of mode entry; value = told.0.value })) told.2
-              ∙ ap (λ value. told_as st at file (record { entry = with_mode_of mode entry; value = value })) (sym (text_stands told.0 told.1)))) i;
+              ∙ ap (λ value. told_as st at file (record { entry = with_mode_of mode entry; value = value }))
+              (sym (text_stands told.0 told.1)))) i;
         }
 
     pub text_formed : (value : FileText) → IsWellFormed st

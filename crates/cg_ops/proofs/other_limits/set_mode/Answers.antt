@@ -21,7 +21,8 @@ returns-clause-ok g c =
     let st = g.H.Hierarchy.state c.args.tree.now in
     let at = c.args.at.now in
     let entry = c.in-Some.entry in
-    let after = λ (mode : ℕ) (value : Option FileText). telling_of st at c.args.file (record { entry = with_mode_of mode entry; value = value }) in
+    let after = λ (mode : ℕ) (value : Option FileText).
+    telling_of st at c.args.file (record { entry = with_mode_of mode entry; value = value }) in
     subst (λ after. OnOk c.tell.result (g.H.Hierarchy.state c.tell.new.self ≡ after))
     (ap (after c.get.result) c.in_ok-value.ensures
     ∙ (ap (λ mode. after mode (text_at st at c.args.file)) c.get.ensures.value
