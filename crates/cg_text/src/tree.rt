@@ -68,12 +68,7 @@ fn tree_of(alloc: Global, mut document: Table) -> Result<Rows, TreeFault>
     let cgroups = PathTable::from_sorted(walked(alloc, rows, controllers)?);
     let processes = processes_of(alloc, &cgroups, elements_at(&document, "process"))?;
     // no text tells of further limit files
-    Ok(Rows::from_tables(
-        cgroups,
-        processes,
-        PathTable::new(alloc),
-        controllers,
-    ))
+    Ok(Rows::from_tables(cgroups, processes, PathTable::new(alloc), controllers))
 }
 
 /// What a text says, or the text's first fault. `NoMemory` where an allocation was refused.
