@@ -1,6 +1,7 @@
 //! What is told of the limit files beyond `LimitFile` of one cgroup.
-ghost use Rattle.std.specs.Prelude.{◌≡◌, length, map, IfOk, Some, None, option_copied};
-ghost use Rattle.cg_cgroup.specs.OtherKinds.{all_others};
+ghost use Rattle.std.specs.Prelude.{◌≡◌, cond, length, map, IfOk, Some, None, option_copied};
+ghost use Rattle.cg_cgroup.specs.OtherKinds.{all_others, brought_by};
+ghost use Rattle.cg_cgroup.specs.Files.{brings};
 
 use crate::controllers::ControllerSet;
 use crate::memory::NoMemory;
@@ -62,6 +63,22 @@ pub struct ToldFile {
     pub value: Option<FileText>,
 }
 
+impl ToldFile {
+    /// An equal one. Fails where memory is wanted.
+    pub fn try_clone(&self, alloc: Global) -> Result<ToldFile, NoMemory>
+        ensures { IfOk result (λ copy. copy ≡ self.now) }
+    {
+        let value = match &self.value {
+            Some(value) => Some(value.try_clone(alloc)?),
+            None => None,
+        };
+        Ok(ToldFile {
+            entry: self.entry,
+            value,
+        })
+    }
+}
+
 /// What is told of a cgroup's files, each at its number; `None` for one of which nothing is.
 #[derive(Debug, Drop, PartialEq, Eq)]
 pub struct ToldFiles {
@@ -94,6 +111,26 @@ impl ToldFiles {
     {
         self.entries[file.number()] = Some(told);
     }
+
+    /// Keeps what is told of those files that these controllers bring, or the core.
+    pub fn keep(&mut self, enabled: ControllerSet)
+        ensures { self.new ≡ told_under enabled self.old }
+    {
+        for at in 0..OTHER_COUNT {
+            keep_one(&mut self.entries[at], OtherFile::ALL[at], enabled);
+        }
+    }
+
+    /// An equal one. Fails where memory is wanted.
+    pub fn try_clone(&self, alloc: Global) -> Result<ToldFiles, NoMemory>
+        ensures { IfOk result (λ copy. copy ≡ self.now) }
+    {
+        let mut entries = none_told();
+        for at in 0..OTHER_COUNT {
+            entries[at] = copy_of(&self.entries[at], alloc)?;
+        }
+        Ok(ToldFiles { entries })
+    }
 }
 
 /// Nothing of each file.
@@ -101,4 +138,33 @@ fn none_told() -> [Option<ToldFile>; OTHER_COUNT]
     ensures { result ≡ map (λ file. None) all_others }
 {
     OtherFile::ALL.map(|_| None)
+}
+
+/// Whether a file stands at a child of a cgroup that enables these.
+fn is_brought(file: OtherFile, enabled: ControllerSet) -> bool
+    ensures { result ≡ brings enabled (brought_by file) }
+{
+    match file.controller() {
+        Some(controller) => enabled.contains(controller),
+        None => true,
+    }
+}
+
+/// An equal one, where something is told.
+fn copy_of(told: &Option<ToldFile>, alloc: Global) -> Result<Option<ToldFile>, NoMemory>
+    ensures { IfOk result (λ copy. copy ≡ told.now) }
+{
+    match told {
+        Some(told) => Ok(Some(told.try_clone(alloc)?)),
+        None => Ok(None),
+    }
+}
+
+/// Keeps what is told of a file where it stands at a child of a cgroup that enables these.
+fn keep_one(told: &mut Option<ToldFile>, file: OtherFile, enabled: ControllerSet)
+    ensures { told.new ≡ cond (brings enabled (brought_by file)) told.old None }
+{
+    if !is_brought(file, enabled) {
+        *told = None;
+    }
 }
