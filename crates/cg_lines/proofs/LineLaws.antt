@@ -23,7 +23,7 @@ use Rattle.cg_model.specs.declared.changes.Change.{Change}
 use Rattle.cg_model.specs.declared.operation.Op.{Op}
 use Rattle.cg_model.specs.declared.operation.Op.TheVariants.{Move, Control, Mkdir, Rmdir, Set, SetOther, Fork, Exit, Chmod}
 use Rattle.cg_lines.specs.OperationLines.{is_entry_of, change_word, are_known, limit_word, mode_word, words, spelling, IsInRange, IsLimitInRange}
-use Rattle.cg_lines.specs.LineReading.{is_space, cut, two_words, three_words, pid_at, limit_at, mode_at, value_at, other_known_as, changes_at, move_at, control_from, control_at, mkdir_at, rmdir_at, set_from, setting_at, set_at, fork_at, exit_at, chmod_at, operation_named, operation_at, ReadsAs}
+use Rattle.cg_lines.specs.LineReading.{is_space, cut, two_words, three_words, pid_at, limit_at, mode_at, text_value_at, other_known_as, changes_at, move_at, control_from, control_at, mkdir_at, rmdir_at, set_from, setting_at, set_at, fork_at, exit_at, chmod_at, operation_named, operation_at, ReadsAs}
 use Rattle.cg_cgroup.specs.Options.{◌>>=◌}
 use Rattle.cg_lines.specs.declared.lines.fault.LineFault.{LineFault}
 use Rattle.cg_lines.specs.declared.lines.fault.LineFault.TheVariants.{BadWord}
@@ -224,8 +224,8 @@ set_from_takes vocabulary at name text (Some file) op path is h =
     from_text vocabulary (codes "set") (set_text at name text) (set_text at (file_name file) (limit_word value.0)) (Set at file value.0) op
     (ap (λ n. set_text at n text) (file_names.named name file is) ∙ ap (set_text at (file_name file)) p.1) value.2 ((path, p.0), refl)
 set_from_takes vocabulary at name text None op path is h =
-    let file = bind_some (other_known_as vocabulary name) (λ file. value_at text >>= λ value. Some (SetOther at file value)) op h in
-    let value = bind_some (value_at text) (λ value. Some (SetOther at file.0 value)) op file.2 in
+    let file = bind_some (other_known_as vocabulary name) (λ file. text_value_at text >>= λ value. Some (SetOther at file value)) op h in
+    let value = bind_some (text_value_at text) (λ value. Some (SetOther at file.0 value)) op file.2 in
     let p = other_takes vocabulary name file.0 file.1 in
     let q = value_takes text value.0 value.1 in
     from_text vocabulary (codes "set") (set_text at name text) (set_text at (other_name file.0) value.0) (SetOther at file.0 value.0) op
@@ -366,7 +366,8 @@ text_set : (vocabulary : Vocabulary) (at : Names) (file : OtherFile) (value : Fi
 unfolding setting_at
 text_set vocabulary at file value h =
     ap (set_from vocabulary at (other_name file) value) (other_is_beyond file)
-    ∙ ap (λ (o : Option OtherFile). o >>= λ file. value_at value >>= λ text. Some (SetOther at file text)) (other_again vocabulary file h.1)
+    ∙ ap (λ (o : Option OtherFile). o >>= λ file. text_value_at value >>= λ text. Some (SetOther at file text))
+    (other_again vocabulary file h.1)
     ∙ ap (λ (o : Option FileText). o >>= λ text. Some (SetOther at file text)) (value_again value h.2)
 
 -- a name, a space and what the operation of that name reads

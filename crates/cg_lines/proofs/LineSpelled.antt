@@ -34,7 +34,7 @@ use Rattle.cg_cgroup.proofs.NameLaws.{again_known, name_known, known_known, entr
 use Rattle.cg_model.proofs.Lists.{find-passes}
 use Rattle.cg_model.specs.declared.changes.Change.{Change}
 use Rattle.cg_lines.specs.OperationLines.{is_graphic, is_line_value, is_entry_of, change_word, are_known, limit_word, mode_word, IsLimitInRange}
-use Rattle.cg_lines.specs.LineReading.{number_at, pid_at, limit_at, value_at, other_known_as, octal_at, mode_at, sign_at, change_at, changes_at}
+use Rattle.cg_lines.specs.LineReading.{number_at, pid_at, limit_at, text_value_at, other_known_as, octal_at, mode_at, sign_at, change_at, changes_at}
 use Rattle.cg_cgroup.specs.Options.{◌>>=◌}
 use Rattle.cg_lines.proofs.LineWords.{is_word, are_words}
 use Rattle.cg_lines.proofs.LineNumbers.{number_takes, number_again, decimal_byte}
@@ -190,14 +190,14 @@ limit_again (At value) h =
 
 -- ---- values of limit files beyond `LimitFile`
 
-pub value_takes : (text : List ℕ) (value : FileText) → value_at text ≡ Some value → (is_line_value value ≡ true) × (text ≡ value)
-unfolding value_at
+pub value_takes : (text : List ℕ) (value : FileText) → text_value_at text ≡ Some value → (is_line_value value ≡ true) × (text ≡ value)
+unfolding text_value_at
 value_takes text value h =
     let p = cond_some (is_line_value text) text value h in
     (subst (λ (v : List ℕ). is_line_value v ≡ true) p.1 p.0, p.1)
 
-pub value_again : (value : FileText) → is_line_value value ≡ true → value_at value ≡ Some value
-unfolding value_at
+pub value_again : (value : FileText) → is_line_value value ≡ true → text_value_at value ≡ Some value
+unfolding text_value_at
 value_again value h = ap (λ (b : Bool). cond b (Some value) None) h
 
 -- ---- names of entries

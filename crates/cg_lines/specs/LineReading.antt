@@ -51,8 +51,8 @@ pid_at word = number_at word >>= pid_of
 unfoldable pub limit_at : List ℕ → Option Limit
 limit_at word = cond (same_name word (codes "max")) (Some Max) (option_map At (number_at word))
 
-unfoldable pub value_at : List ℕ → Option FileText
-value_at text = cond (is_line_value text) (Some text) None
+unfoldable pub text_value_at : List ℕ → Option FileText
+text_value_at text = cond (is_line_value text) (Some text) None
 
 -- a limit file beyond `LimitFile` that lines of the vocabulary name
 abbrev pub other_known_as : Vocabulary → List ℕ → Option OtherFile
@@ -133,7 +133,7 @@ abbrev pub set_from : Vocabulary → Names → List ℕ → List ℕ → Option 
 set_from vocabulary at name text (Some file) = limit_at text >>= λ value. Some (Set at file value)
 set_from vocabulary at name text None = do
   file ← other_known_as vocabulary name
-  value ← value_at text
+  value ← text_value_at text
   Some (SetOther at file value)
 
 unfoldable pub setting_at : Vocabulary → Names → List ℕ → List ℕ → Option Op

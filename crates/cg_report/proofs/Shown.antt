@@ -48,7 +48,8 @@ guarded_within : (subtree : Names) → AllByRecursion (Within (length subtree)) 
 guarded_within subtree =
     all-append (Within (length subtree)) (ancestors (length subtree) ++ limit_files (length subtree)) _
     (all-append (Within (length subtree)) (ancestors (length subtree)) (limit_files (length subtree))
-    (ancestors_within (length subtree) (length subtree) (omega arith)) (files_within (length subtree) (map File all_files ++ map Other all_others)))
+    (ancestors_within (length subtree) (length subtree) (omega arith))
+    (files_within (length subtree) (map File all_files ++ map Other all_others)))
     (omega arith, (omega arith, tt))
 
 entry_fails_within : (st : State) (user : Identity) (subtree : Names) (guarded : Guarded) → Within (length subtree) guarded

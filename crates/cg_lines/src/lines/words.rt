@@ -4,7 +4,7 @@ ghost use Rattle.std.specs.List.{list_all};
 ghost use Rattle.std.specs.Option.{option_map};
 ghost use Rattle.cg_cgroup.specs.Files.{entry_known_as};
 ghost use Rattle.cg_lines.specs.OperationLines.{is_graphic, is_value_word, is_line_value};
-ghost use Rattle.cg_lines.specs.LineReading.{ReadsAs, cut, number_at, pid_at, limit_at, value_at, other_known_as, octal_at, mode_at, change_at};
+ghost use Rattle.cg_lines.specs.LineReading.{ReadsAs, cut, number_at, pid_at, limit_at, text_value_at, other_known_as, octal_at, mode_at, change_at};
 
 use crate::lines::fault::LineFault;
 use cg_cgroup::files::{EntryName, Limit, Vocabulary};
@@ -85,9 +85,9 @@ pub fn is_line_value(text: &str) -> bool
 }
 
 /// The value that a text is.
-#[tactic(auto, unfolding(crate::specs::LineReading::value_at))]
+#[tactic(auto, unfolding(crate::specs::LineReading::text_value_at))]
 pub fn value_of(alloc: Global, text: &str) -> Result<FileText, LineFault>
-    ensures { ReadsAs result (value_at text.now) }
+    ensures { ReadsAs result (text_value_at text.now) }
 {
     if !is_line_value(text) {
         return Err(LineFault::BadWord);
