@@ -21,9 +21,9 @@ use Rattle.cg_cgroup.specs.declared.files.EntryName.TheVariants.{Other}
 use Rattle.cg_cgroup.specs.declared.other_file.OtherFile.{OtherFile}
 use Rattle.cg_cgroup.proofs.Options.{mapped_from}
 use Rattle.cg_model.proofs.FormedTold.{stands}
-use Rattle.cg_model.proofs.StateEntries.{entry_at-row, text_at-with_mode}
-use Rattle.cg_advice.proofs.OwnerLaws.{text_at-with_owner}
-use Rattle.cg_model.specs.States.{text_at, file_told, State, row_at, entry_at, value_at, paths_of, count_below, depth_below}
+use Rattle.cg_model.proofs.StateEntries.{entry_at-row, told_text-with_mode}
+use Rattle.cg_advice.proofs.OwnerLaws.{told_text-with_owner}
+use Rattle.cg_model.specs.States.{told_text, file_told, State, row_at, entry_at, value_at, paths_of, count_below, depth_below}
 use Rattle.cg_model.specs.WellFormed.{IsWellFormed, enabled_at}
 use Rattle.cg_model.proofs.StateCounts.{paths_of-with_mode, paths_of-with_value, count_below-same_paths, depth_below-same_paths}
 use Rattle.cg_model.proofs.StateEntries.{enabled_at-with_mode, enabled_at-with_value}
@@ -71,17 +71,17 @@ enabled_at-made [] st path = refl
 enabled_at-made (change ∷ changes) st path =
     enabled_at-made changes (made_one change.0 change.1 st) path ∙ enabled_at-made_one change.0 change.1 st path
 
-text_at-made_one : (subtree : Names) (mend : Mend) (st : State) (path : Names) (file : OtherFile)
-    → text_at (made_one subtree mend st) path file ≡ text_at st path file
-text_at-made_one subtree (Chown len name uid gid) st path file = text_at-with_owner st (take len subtree) name uid gid path file
-text_at-made_one subtree (Chmod len name mode) st path file = text_at-with_mode st (take len subtree) name mode path file
-text_at-made_one subtree (Set len limit value) st path file = refl
+told_text-made_one : (subtree : Names) (mend : Mend) (st : State) (path : Names) (file : OtherFile)
+    → told_text (made_one subtree mend st) path file ≡ told_text st path file
+told_text-made_one subtree (Chown len name uid gid) st path file = told_text-with_owner st (take len subtree) name uid gid path file
+told_text-made_one subtree (Chmod len name mode) st path file = told_text-with_mode st (take len subtree) name mode path file
+told_text-made_one subtree (Set len limit value) st path file = refl
 
-text_at-made : (changes : List Change) (st : State) (path : Names) (file : OtherFile)
-    → text_at (made changes st) path file ≡ text_at st path file
-text_at-made [] st path file = refl
-text_at-made (change ∷ changes) st path file =
-    text_at-made changes (made_one change.0 change.1 st) path file ∙ text_at-made_one change.0 change.1 st path file
+told_text-made : (changes : List Change) (st : State) (path : Names) (file : OtherFile)
+    → told_text (made changes st) path file ≡ told_text st path file
+told_text-made [] st path file = refl
+told_text-made (change ∷ changes) st path file =
+    told_text-made changes (made_one change.0 change.1 st) path file ∙ told_text-made_one change.0 change.1 st path file
 
 -- the processes, the used PIDs and the root's controllers
 record SameRest (st new : State) : Type 0 where
@@ -106,7 +106,7 @@ is_advised st pairs =
     let rest = rest-made (mends st pairs) st in record {
       entries = entry_at-advised st pairs;
       values = value_at-advised st pairs;
-      texts = text_at-made (mends st pairs) st;
+      texts = told_text-made (mends st pairs) st;
       enabled = enabled_at-made (mends st pairs) st;
       paths = paths_of-made (mends st pairs) st;
       live = rest.live;

@@ -22,7 +22,7 @@ use Rattle.cg_cgroup.specs.declared.cgroup.Cgroup.{Cgroup}
 use Rattle.cg_cgroup.proofs.Options.{mapped_from, is_some-mapped}
 use Rattle.cg_cgroup.proofs.CgroupLaws.{untold_same, file_of-with_file, other_in-with_file, rest-with_file}
 use Rattle.cg_cgroup.proofs.PathOrder.{path_cmp_total}
-use Rattle.cg_model.specs.States.{State, row_at, change_at, told_at, untold_at, file_told, text_at, entry_at, value_at, paths_of}
+use Rattle.cg_model.specs.States.{State, row_at, change_at, told_at, untold_at, file_told, told_text, entry_at, value_at, paths_of}
 use Rattle.cg_model.specs.WellFormed.{IsFormedRow, IsWellFormed, enabled_at}
 use Rattle.cg_model.proofs.MapLaws.{keys-change_value}
 use Rattle.cg_model.proofs.StateLaws.{row_at-change_at}
@@ -174,14 +174,14 @@ owner_text true uid gid None None = refl
 owner_text true uid gid None (Some entry) = refl
 owner_text true uid gid (Some told) untold = refl
 
-pub text_at-with_owner : (st : State) (p : Names) (name : EntryName) (uid gid : ℕ) (q : Names) (file : OtherFile)
-    → text_at (with_owner st p name uid gid) q file ≡ text_at st q file
-text_at-with_owner st p (Other changed) uid gid q file =
+pub told_text-with_owner : (st : State) (p : Names) (name : EntryName) (uid gid : ℕ) (q : Names) (file : OtherFile)
+    → told_text (with_owner st p name uid gid) q file ≡ told_text st q file
+told_text-with_owner st p (Other changed) uid gid q file =
     ap (option_and_then (λ told. told.value))
     (told_at-telling st p changed (told_owned_by uid gid) q file (with_owner st p (Other changed) uid gid) refl)
     ∙ owner_text (same_path p q && same_other changed file) uid gid (told_at st q file) (untold_at st q file)
-text_at-with_owner st p Dir uid gid q file = refl
-text_at-with_owner st p name uid gid q file = refl
+told_text-with_owner st p Dir uid gid q file = refl
+told_text-with_owner st p name uid gid q file = refl
 
 module _ (st : State) (p : Names) (name : EntryName) (uid gid : ℕ) (q : Names) where
   listed-with_owner : (other : EntryName) → is_beyond other ≡ false

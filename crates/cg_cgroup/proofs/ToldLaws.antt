@@ -7,7 +7,7 @@ use Rattle.std.proofs.lemmas.List.FromFn.{get_or-range_with_len}
 use mathlib.Core.HLevel.{is_prop→PathP}
 use native.Mathlib.Nat.{ℕ_set}
 use Rattle.cg_cgroup.specs.OtherKinds.{all_others, other_kind, brought_by}
-use Rattle.cg_cgroup.specs.Files.{same_other, brings}
+use Rattle.cg_cgroup.specs.Files.{same_other, stands_by}
 use Rattle.cg_cgroup.specs.Told.{told_in, told_by, telling, told_under}
 use Rattle.cg_cgroup.specs.declared.controllers.ControllerSet.{ControllerSet}
 use Rattle.cg_cgroup.specs.declared.other_file.OtherFile.{OtherFile}
@@ -49,9 +49,9 @@ told_in-telling told files file other =
     ] refl
 
 pub told_in-under : (enabled : ControllerSet) (files : ToldFiles) (file : OtherFile)
-    → told_in (told_under enabled files) file ≡ cond (brings enabled (brought_by file)) (told_in files file) None
+    → told_in (told_under enabled files) file ≡ cond (stands_by enabled (brought_by file)) (told_in files file) None
 told_in-under enabled files file =
-    told_in-by (λ file. cond (brings enabled (brought_by file)) (told_in files file) None) file
+    told_in-by (λ file. cond (stands_by enabled (brought_by file)) (told_in files file) None) file
 
 -- ---- each file in turn
 
@@ -65,7 +65,7 @@ number_at i d within =
     ∙ ap (λ numbers. get_or numbers i 0) in_order ∙ get_or-range_with_len 0 (length all_others) i 0 within ∙ omega arith
 
 abbrev pub kept_of : ControllerSet → ToldFiles → OtherFile → Option ToldFile
-kept_of enabled files file = cond (brings enabled (brought_by file)) (told_in files file) None
+kept_of enabled files file = cond (stands_by enabled (brought_by file)) (told_in files file) None
 
 -- what is told of the first files is kept where it is brought, and of the others as it was
 pub record AreKept (enabled : ControllerSet) (files : ToldFiles) (i : ℕ) (entries : List (Option ToldFile)) : Type 0 where
@@ -78,7 +78,7 @@ module _ (enabled : ControllerSet) (files : ToldFiles) where
   kept_none = record { long = files.whole; front = refl; rest = λ k from. refl }
 
   pub kept_more : (i : ℕ) (entries : List (Option ToldFile)) (d : OtherFile) (e new : Option ToldFile) → AreKept enabled files i entries
-      → i < length all_others → new ≡ cond (brings enabled (brought_by (get_or all_others i d))) (get_or entries i e) None
+      → i < length all_others → new ≡ cond (stands_by enabled (brought_by (get_or all_others i d))) (get_or entries i e) None
       → AreKept enabled files (i + 1) (set entries i new)
   kept_more i entries d e new so_far within is = record {
     long = length-set entries i new ∙ so_far.long;
@@ -92,7 +92,7 @@ module _ (enabled : ControllerSet) (files : ToldFiles) where
       there = omega (arith, within, so_far.long)
 
       one : new ≡ kept_of enabled files (get_or all_others i d)
-      one = is ∙ ap (λ told. cond (brings enabled (brought_by (get_or all_others i d))) told None)
+      one = is ∙ ap (λ told. cond (stands_by enabled (brought_by (get_or all_others i d))) told None)
           (get_or_default entries i e None there ∙ so_far.rest i (omega arith)
           ∙ ap (λ n. get_or files.entries n None) (sym (number_at i d within)))
 

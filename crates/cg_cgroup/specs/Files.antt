@@ -118,12 +118,12 @@ abbrev pub entry_named : List ℕ → Option EntryName
 entry_named text = find (λ name. same_name text (entry_text name)) all_entries
 
 -- an entry that texts and operation lines of a vocabulary name, and the one that a name means there
-abbrev pub entries_of : Vocabulary → List EntryName
-entries_of Format2 = format_2_entries
-entries_of Format4 = all_entries
+abbrev pub known_entries : Vocabulary → List EntryName
+known_entries Format2 = format_2_entries
+known_entries Format4 = all_entries
 
 abbrev pub entry_known_as : Vocabulary → List ℕ → Option EntryName
-entry_known_as vocabulary text = find (λ name. same_name text (entry_text name)) (entries_of vocabulary)
+entry_known_as vocabulary text = find (λ name. same_name text (entry_text name)) (known_entries vocabulary)
 
 -- The controller that brings a file. The two of the core stand at every cgroup. Enabling and Disabling; Core Interface Files.
 abbrev pub controller_of : LimitFile → Option Controller
@@ -137,9 +137,9 @@ accepts file Max = (kind_of file).takes_max
 accepts file (At value) = nat_le (kind_of file).least value && nat_le value (kind_of file).greatest
 
 -- Whether what a controller brings, or the core, stands at a child of a cgroup that enables these.
-abbrev pub brings : ControllerSet → Option Controller → Bool
-brings enabled by = elim by [ None ↦ true | Some controller ↦ enables enabled controller ]
+abbrev pub stands_by : ControllerSet → Option Controller → Bool
+stands_by enabled by = elim by [ None ↦ true | Some controller ↦ enables enabled controller ]
 
 -- Whether a file stands at a child of a cgroup that enables these, or at the root where there is no such cgroup.
 abbrev pub stands_under : ControllerSet → LimitFile → Bool
-stands_under enabled file = brings enabled (controller_of file)
+stands_under enabled file = stands_by enabled (controller_of file)

@@ -3,7 +3,7 @@ use Rattle.std.specs.Prelude.{ℕ, get_or, slice_set, map, cond, Option, Some, N
 use Rattle.std.proofs.Common.{refl, ◌∙◌}
 use Rattle.std.proofs.lemmas.List.{length-set}
 use Rattle.cg_cgroup.specs.OtherKinds.{all_others, other_kind, brought_by}
-use Rattle.cg_cgroup.specs.Files.{brings}
+use Rattle.cg_cgroup.specs.Files.{stands_by}
 use Rattle.cg_cgroup.specs.Cgroups.{with_mode_of}
 use Rattle.cg_cgroup.specs.declared.controllers.ControllerSet.{ControllerSet}
 use Rattle.cg_cgroup.specs.declared.user.Entry.{Entry}
@@ -29,7 +29,7 @@ telling file told files = record {
 
 -- what is left of it below a cgroup that enables these
 abbrev pub told_under : ControllerSet → ToldFiles → ToldFiles
-told_under enabled files = told_by (λ file. cond (brings enabled (brought_by file)) (told_in files file) None)
+told_under enabled files = told_by (λ file. cond (stands_by enabled (brought_by file)) (told_in files file) None)
 
 -- a file of which nothing was told
 abbrev pub file_untold : Entry → ToldFile

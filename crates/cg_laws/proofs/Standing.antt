@@ -3,7 +3,7 @@ use Rattle.std.proofs.Common.{◌≡◌, ℕ, List, ◌&&◌, Bool, true, false,
 use Rattle.std.specs.FinMap as finite
 use Rattle.cg_cgroup.specs.Paths.{Names, same_path, is_child}
 use Rattle.cg_cgroup.specs.Identity.{Identity}
-use Rattle.cg_cgroup.specs.Files.{brings, brought_by, same_other, enables}
+use Rattle.cg_cgroup.specs.Files.{stands_by, brought_by, same_other, enables}
 use Rattle.cg_cgroup.specs.Cgroups.{other_in}
 use Rattle.cg_cgroup.specs.Told.{told_in, file_untold, with_mode_told, with_value_told}
 use Rattle.cg_cgroup.specs.declared.controllers.ControllerSet.{ControllerSet}
@@ -65,7 +65,7 @@ standing-formed st whole path file told =
     let formed = whole.told path files.0 files.1 in
     let known = some_value (told_in files.0 file) files.2 in
     let row = some_value (row_at st path) formed.0 in
-    elim (brought_by file) as (λ by. brings (enabled_above st path) by ≡ true
+    elim (brought_by file) as (λ by. stands_by (enabled_above st path) by ≡ true
     → elim by [ None ↦ has_row st path | Some controller ↦ is_some (other_at st path controller) ] ≡ true) [
       | None ↦ λ _. formed.0
       | Some controller ↦ λ enabled. ap (λ r. is_some (option_and_then (λ row. other_in row controller) r)) row.1
@@ -182,19 +182,19 @@ control-standing st user at changes standing q file told =
     let enabled = enabled_after (enabled_at st at) changes in
     after-by st user op (λ s. is_some (told_at s q file) ≡ true → file_stands s q file ≡ true) (λ free told.
     elim (is_child at q) as (λ b. is_child at q ≡ b
-    → is_some (cond b (cond (brings enabled (brought_by file)) (told_at st q file) None) (told_at st q file)) ≡ true
+    → is_some (cond b (cond (stands_by enabled (brought_by file)) (told_at st q file) None) (told_at st q file)) ≡ true
     → file_stands (next st user op) q file ≡ true) [
-      | true ↦ λ child told. at-child enabled child (brings enabled (brought_by file)) refl told
+      | true ↦ λ child told. at-child enabled child (stands_by enabled (brought_by file)) refl told
       | false ↦ λ apart told. ap (λ s. file_stands s q file) (sym (after-allowed st user op free))
           ∙ stands-kept st user op q file standing refl apart (told-there st q file told)
     ] refl (sym (ap is_some (told_at-with_enabled st at enabled user q file)) ∙ told)) (standing q file) told
   where
-    at-child : (enabled : ControllerSet) → is_child at q ≡ true → (brought : Bool) → brings enabled (brought_by file) ≡ brought
+    at-child : (enabled : ControllerSet) → is_child at q ≡ true → (brought : Bool) → stands_by enabled (brought_by file) ≡ brought
         → is_some (cond brought (told_at st q file) None) ≡ true → file_stands (with_enabled st at enabled user) q file ≡ true
     at-child enabled child false is told = absurd (true≢false (sym told))
     at-child enabled child true is told =
         let there = stands-there st q file (standing q file told) in
-        elim (brought_by file) as (λ by. brings enabled by ≡ true
+        elim (brought_by file) as (λ by. stands_by enabled by ≡ true
         → elim by [
           | None ↦ has_row (with_enabled st at enabled user) q
           | Some controller ↦ is_some (other_at (with_enabled st at enabled user) q controller)

@@ -5,7 +5,7 @@ use Rattle.std.proofs.lemmas.Bool.{false_from_ne_true, or_parts}
 use Rattle.std.proofs.lemmas.List.Elements.{All-from_recursion, All-weaker}
 use Rattle.cg_cgroup.specs.Paths.{Names, same_path, is_child}
 use Rattle.cg_cgroup.specs.Identity.{Identity}
-use Rattle.cg_cgroup.specs.Files.{stands_under, brings, brought_by, enables}
+use Rattle.cg_cgroup.specs.Files.{stands_under, stands_by, brought_by, enables}
 use Rattle.cg_cgroup.specs.Cgroups.{file_of, other_in, refitted, file_made_by}
 use Rattle.cg_cgroup.specs.declared.controllers.ControllerSet.{ControllerSet}
 use Rattle.cg_cgroup.specs.declared.files.Controller.{Controller}
@@ -106,17 +106,17 @@ module _ (st : State) (at : Names) (enabled : ControllerSet) (user : Identity) (
     told-with_enabled =
         told_at-with_enabled st at enabled user subtree file
         ∙ elim (is_child at subtree) as (λ b. is_child at subtree ≡ b
-        → cond b (cond (brings enabled (brought_by file)) (told_at st subtree file) None) (told_at st subtree file)
+        → cond b (cond (stands_by enabled (brought_by file)) (told_at st subtree file) None) (told_at st subtree file)
         ≡ told_at st subtree file) [
           | false ↦ λ _. refl
-          | true ↦ λ child. told-same (brings enabled (brought_by file)) (told_at st subtree file)
+          | true ↦ λ child. told-same (stands_by enabled (brought_by file)) (told_at st subtree file)
               (λ told. brought child (standing file told))
         ] refl
       where
-        brought : is_child at subtree ≡ true → file_stands st subtree file ≡ true → brings enabled (brought_by file) ≡ true
+        brought : is_child at subtree ≡ true → file_stands st subtree file ≡ true → stands_by enabled (brought_by file) ≡ true
         brought child = elim (brought_by file) as (λ by. brought_by file ≡ by
             → elim by [ None ↦ has_row st subtree | Some controller ↦ is_some (other_at st subtree controller) ] ≡ true
-            → brings enabled by ≡ true)
+            → stands_by enabled by ≡ true)
             [ None ↦ λ _ _. refl | Some controller ↦ λ by stands. sym (stand controller by child) ∙ stands ] refl
 
     brought-with_enabled : (controller : Controller) → brought_by file ≡ Some controller → is_child at subtree ≡ true

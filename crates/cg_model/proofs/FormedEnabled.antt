@@ -3,7 +3,7 @@ use Rattle.std.proofs.Common.{◌≡◌, ℕ, Bool, true, false, cond, not, ◌|
 use Rattle.std.proofs.lemmas.Bool.{false_from_ne_true}
 use Rattle.cg_cgroup.specs.Paths.{Names, same_path, is_root, parent, is_child}
 use Rattle.cg_cgroup.specs.Identity.{Identity}
-use Rattle.cg_cgroup.specs.Files.{no_controllers, brings, brought_by, enables_nothing, is_within}
+use Rattle.cg_cgroup.specs.Files.{no_controllers, stands_by, brought_by, enables_nothing, is_within}
 use Rattle.cg_cgroup.specs.Cgroups.{with_files_of}
 use Rattle.cg_model.specs.States.{State, row_at, process_at, has_live, enabling_these, enabling, with_enabled}
 use Rattle.cg_model.specs.WellFormed.{has_row, enabled_at, enabled_above, available_at, may_hold, MayEnable, IsFormedRow, IsFormedTold, IsWellFormed}
@@ -168,11 +168,11 @@ module _ (st : State) (path : Names) (enabled : ControllerSet) (user : Identity)
       modes = λ file told is. formed.modes file told (brought file told (sym (told_in-under enabled files file) ∙ is)).1;
     }
       where
-        brought : (file : OtherFile) (told : ToldFile) → cond (brings enabled (brought_by file)) (told_in files file) None ≡ Some told
-            → (brings enabled (brought_by file) ≡ true) × (told_in files file ≡ Some told)
+        brought : (file : OtherFile) (told : ToldFile) → cond (stands_by enabled (brought_by file)) (told_in files file) None ≡ Some told
+            → (stands_by enabled (brought_by file) ≡ true) × (told_in files file ≡ Some told)
         brought file told is =
-            elim (brings enabled (brought_by file)) as (λ b. brings enabled (brought_by file) ≡ b → cond b (told_in files file) None ≡ Some told
-            → (brings enabled (brought_by file) ≡ true) × (told_in files file ≡ Some told)) [
+            elim (stands_by enabled (brought_by file)) as (λ b. stands_by enabled (brought_by file) ≡ b → cond b (told_in files file) None ≡ Some told
+            → (stands_by enabled (brought_by file) ≡ true) × (told_in files file ≡ Some told)) [
               | true ↦ λ e is. (e, is)
               | false ↦ λ e none. absurd (true≢false (sym (ap is_some none)))
             ] refl is

@@ -2,7 +2,7 @@
 use Rattle.std.proofs.Common.{◌≡◌, ◌≤◌, true, false, cond, refl, sym, ap, ◌∙◌, subst, true≢false, Option, Some, None, is_some, option_map, option_and_then, unwrap_or}
 use Rattle.std.specs.FinMap as finite
 use Rattle.cg_cgroup.specs.Paths.{Names, same_path}
-use Rattle.cg_cgroup.specs.Files.{brings, brought_by, same_other}
+use Rattle.cg_cgroup.specs.Files.{stands_by, brought_by, same_other}
 use Rattle.cg_cgroup.specs.Cgroups.{other_in, untold_in}
 use Rattle.cg_cgroup.specs.Told.{told_in, telling, nothing_told, file_untold}
 use Rattle.cg_model.specs.States.{State, row_at, told_at, untold_at, file_told, telling_at}
@@ -27,7 +27,7 @@ chained_from g (Some x) y is = (x, refl, is)
 -- What holds of a file that stands, whether it is told of or not.
 pub record Stands (st : State) (path : Names) (file : OtherFile) (told : ToldFile) : Type 0 where
   pub there : has_row st path ≡ true
-  pub brought : brings (enabled_above st path) (brought_by file) ≡ true
+  pub brought : stands_by (enabled_above st path) (brought_by file) ≡ true
   pub mode : told.entry.mode ≤ 511
 
 module _ (st : State) (whole : IsWellFormed st) (path : Names) where
@@ -45,7 +45,7 @@ module _ (st : State) (whole : IsWellFormed st) (path : Names) where
         there = ap is_some row.1;
         brought = elim (brought_by file) as (λ by. brought_by file ≡ by
             → elim by [ None ↦ Some row.0.freeze | Some controller ↦ other_in row.0 controller ] ≡ Some entry
-            → brings (enabled_above st path) by ≡ true) [
+            → stands_by (enabled_above st path) by ≡ true) [
               | None ↦ λ _ _. refl
               | Some controller ↦ λ _ is. sym (formed.others controller) ∙ ap is_some is
             ] refl row.2;
@@ -73,14 +73,14 @@ module _ (st : State) (whole : IsWellFormed st) (path : Names) where
       where
         each : (other : OtherFile) (known : ToldFile)
             → told_in (telling file (Some (f told)) (unwrap_or (finite.get st.told path) nothing_told)) other ≡ Some known
-            → (brings (enabled_above st path) (brought_by other) ≡ true) × (known.entry.mode ≤ 511)
+            → (stands_by (enabled_above st path) (brought_by other) ≡ true) × (known.entry.mode ≤ 511)
         each other known at =
             elim (same_other file other) as (λ b. same_other file other ≡ b
             → cond b (Some (f told)) (told_in (unwrap_or (finite.get st.told path) nothing_told) other) ≡ Some known
-            → (brings (enabled_above st path) (brought_by other) ≡ true) × (known.entry.mode ≤ 511)) [
+            → (stands_by (enabled_above st path) (brought_by other) ≡ true) × (known.entry.mode ≤ 511)) [
               | true ↦ λ same at.
                   let held = stands file told is in (
-                    ap (λ file. brings (enabled_above st path) (brought_by file)) (sym (same_other-true file other same)) ∙ held.brought,
+                    ap (λ file. stands_by (enabled_above st path) (brought_by file)) (sym (same_other-true file other same)) ∙ held.brought,
                     subst (λ (told : ToldFile). told.entry.mode ≤ 511) (same_some (f told) known at) (keeps told held.mode),
                   )
               | false ↦ λ _ at.

@@ -2,9 +2,9 @@
 use Rattle.std.proofs.Common.{◌≡◌, ℕ, Bool, true, false, cond, ◌&&◌, refl, sym, ap, ◌∙◌, true≢false, Option, Some, None, is_some, option_map, option_and_then}
 use Rattle.cg_cgroup.specs.Paths.{Names, same_path, is_child}
 use Rattle.cg_cgroup.specs.Identity.{Identity}
-use Rattle.cg_cgroup.specs.Files.{brings, brought_by, is_beyond, same_other, enables, stands_under, same_file, same_entry, no_controllers}
+use Rattle.cg_cgroup.specs.Files.{stands_by, brought_by, is_beyond, same_other, enables, stands_under, same_file, same_entry, no_controllers}
 use Rattle.cg_cgroup.specs.Cgroups.{file_of, other_in, untold_in, with_files_of, entry_in, value_in, with_value_in, with_mode_of, with_mode_in, refitted}
-use Rattle.cg_model.specs.States.{State, row_at, file_at, other_at, told_at, untold_at, file_told, text_at, told_with_mode, entry_at, value_at, enabling_these, enabling, with_row, without_row, with_value, with_text, with_mode, with_enabled}
+use Rattle.cg_model.specs.States.{State, row_at, file_at, other_at, told_at, untold_at, file_told, told_text, told_with_mode, entry_at, value_at, enabling_these, enabling, with_row, without_row, with_value, with_text, with_mode, with_enabled}
 use Rattle.cg_model.specs.WellFormed.{enabled_at}
 use Rattle.cg_cgroup.specs.declared.files.Limit.{Limit}
 use Rattle.cg_cgroup.specs.declared.controllers.ControllerSet.{ControllerSet}
@@ -348,10 +348,10 @@ module _ (st : State) (p : Names) (enabled : ControllerSet) (user : Identity) (q
   told_at-with_enabled-kept file h =
       told_at-with_enabled st p enabled user q file
       ∙ elim (is_child p q) as (λ b. (b && is_some (brought_by file)) ≡ false
-      → cond b (cond (brings enabled (brought_by file)) (told_at st q file) None) (told_at st q file) ≡ told_at st q file) [
+      → cond b (cond (stands_by enabled (brought_by file)) (told_at st q file) None) (told_at st q file) ≡ told_at st q file) [
         | true ↦ λ free.
             elim (brought_by file) as
-            (λ by. is_some by ≡ false → cond (brings enabled by) (told_at st q file) None ≡ told_at st q file)
+            (λ by. is_some by ≡ false → cond (stands_by enabled by) (told_at st q file) None ≡ told_at st q file)
             [ None ↦ λ _. refl | Some controller ↦ λ free. absurd (true≢false free) ] free
         | false ↦ λ _. refl
       ] h
@@ -362,9 +362,9 @@ module _ (st : State) (p : Names) (enabled : ControllerSet) (user : Identity) (q
       entry_at-told st (with_enabled st p enabled user) q file
       (file_told-same st (with_enabled st p enabled user) q file (told_at-with_enabled-kept file h) (untold_at-with_enabled file h))
 
-  pub text_at-with_enabled : (file : OtherFile) → (is_child p q && is_some (brought_by file)) ≡ false
-      → text_at (with_enabled st p enabled user) q file ≡ text_at st q file
-  text_at-with_enabled file h = ap (option_and_then (λ told. told.value)) (told_at-with_enabled-kept file h)
+  pub told_text-with_enabled : (file : OtherFile) → (is_child p q && is_some (brought_by file)) ≡ false
+      → told_text (with_enabled st p enabled user) q file ≡ told_text st q file
+  told_text-with_enabled file h = ap (option_and_then (λ told. told.value)) (told_at-with_enabled-kept file h)
 
   -- the files of a child: one that stays is kept as it is, and a new one is the user's
   pub file_at-with_enabled-child : is_child p q ≡ true → (file : LimitFile)
@@ -396,9 +396,9 @@ module _ (st : State) (p : Names) (changed : OtherFile) (value : FileText) (q : 
   entry_at-with_text Dir = refl
   entry_at-with_text name = refl
 
-  pub text_at-with_text : (file : OtherFile) → (same_path p q && same_other changed file) ≡ false
-      → text_at (with_text st p changed value) q file ≡ text_at st q file
-  text_at-with_text file apart =
+  pub told_text-with_text : (file : OtherFile) → (same_path p q && same_other changed file) ≡ false
+      → told_text (with_text st p changed value) q file ≡ told_text st q file
+  told_text-with_text file apart =
       ap (option_and_then (λ told. told.value))
       (told_at-telling st p changed (with_value_told value) q file (with_text st p changed value) refl
       ∙ ap (λ b. cond b (option_map (with_value_told value) (file_told st q file)) (told_at st q file)) apart)
@@ -412,21 +412,21 @@ mode_text true mode None None = refl
 mode_text true mode None (Some entry) = refl
 mode_text true mode (Some told) untold = refl
 
-pub text_at-with_mode : (st : State) (p : Names) (name : EntryName) (mode : ℕ) (q : Names) (file : OtherFile)
-    → text_at (with_mode st p name mode) q file ≡ text_at st q file
-text_at-with_mode st p (Other changed) mode q file =
+pub told_text-with_mode : (st : State) (p : Names) (name : EntryName) (mode : ℕ) (q : Names) (file : OtherFile)
+    → told_text (with_mode st p name mode) q file ≡ told_text st q file
+told_text-with_mode st p (Other changed) mode q file =
     ap (option_and_then (λ told. told.value))
     (told_at-telling st p changed (with_mode_told mode) q file (with_mode st p (Other changed) mode) refl)
     ∙ mode_text (same_path p q && same_other changed file) mode (told_at st q file) (untold_at st q file)
-text_at-with_mode st p Dir mode q file = refl
-text_at-with_mode st p name mode q file = refl
+told_text-with_mode st p Dir mode q file = refl
+told_text-with_mode st p name mode q file = refl
 
 text_gone : (b : Bool) (told : Option ToldFile)
     → option_and_then (λ told. told.value) (cond b None told) ≡ cond b None (option_and_then (λ told. told.value) told)
 text_gone true told = refl
 text_gone false told = refl
 
-pub text_at-without_row : (st : State) (p q : Names) (file : OtherFile)
-    → text_at (without_row st p) q file ≡ cond (same_path p q) None (text_at st q file)
-text_at-without_row st p q file =
+pub told_text-without_row : (st : State) (p q : Names) (file : OtherFile)
+    → told_text (without_row st p) q file ≡ cond (same_path p q) None (told_text st q file)
+told_text-without_row st p q file =
     ap (option_and_then (λ told. told.value)) (told_at-without_row st p q file) ∙ text_gone (same_path p q) (told_at st q file)

@@ -3,7 +3,7 @@ use Rattle.std.proofs.Common.{◌≡◌, Bool, true, false, cond, ◌&&◌, refl
 use Rattle.std.specs.FinMap as finite
 use Rattle.cg_cgroup.specs.Paths.{Names, same_path, is_child}
 use Rattle.cg_cgroup.specs.Identity.{Identity}
-use Rattle.cg_cgroup.specs.Files.{same_other, brings, brought_by}
+use Rattle.cg_cgroup.specs.Files.{same_other, stands_by, brought_by}
 use Rattle.cg_cgroup.specs.Told.{told_in, telling, nothing_told, told_under, file_untold}
 use Rattle.cg_model.specs.States.{State, told_at, untold_at, file_told, telling_at, without_row, with_enabled}
 use Rattle.cg_cgroup.specs.declared.controllers.ControllerSet.{ControllerSet}
@@ -145,18 +145,18 @@ none_told false c = refl
 
 pub told_at-with_enabled : (st : State) (p : Names) (enabled : ControllerSet) (user : Identity) (q : Names) (file : OtherFile)
     → told_at (with_enabled st p enabled user) q file
-    ≡ cond (is_child p q) (cond (brings enabled (brought_by file)) (told_at st q file) None) (told_at st q file)
+    ≡ cond (is_child p q) (cond (stands_by enabled (brought_by file)) (told_at st q file) None) (told_at st q file)
 told_at-with_enabled st p enabled user q file =
     ap (option_and_then (λ files. told_in files file)) (get-told-with_enabled st p enabled user q)
     ∙ each (finite.get st.told q)
   where
     each : (r : Option ToldFiles)
         → option_and_then (λ files. told_in files file) (option_map (λ files. cond (is_child p q) (told_under enabled files) files) r)
-        ≡ cond (is_child p q) (cond (brings enabled (brought_by file)) (option_and_then (λ files. told_in files file) r) None)
+        ≡ cond (is_child p q) (cond (stands_by enabled (brought_by file)) (option_and_then (λ files. told_in files file) r) None)
         (option_and_then (λ files. told_in files file) r)
-    each None = none_told (is_child p q) (brings enabled (brought_by file))
+    each None = none_told (is_child p q) (stands_by enabled (brought_by file))
     each (Some files) = elim (is_child p q) as (λ b. told_in (cond b (told_under enabled files) files) file
-        ≡ cond b (cond (brings enabled (brought_by file)) (told_in files file) None) (told_in files file)) [
+        ≡ cond b (cond (stands_by enabled (brought_by file)) (told_in files file) None) (told_in files file)) [
           | true ↦ told_in-under enabled files file
           | false ↦ refl
         ]

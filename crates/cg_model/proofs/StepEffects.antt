@@ -4,7 +4,7 @@ use Rattle.cg_cgroup.specs.Paths.{Names, same_path, is_child, parent}
 use Rattle.cg_cgroup.specs.Identity.{Identity}
 use Rattle.cg_cgroup.specs.Files.{controller_of, stands_under, same_file, same_entry}
 use Rattle.cg_cgroup.specs.Cgroups.{file_of, cgroup_made_by}
-use Rattle.cg_model.specs.States.{State, row_at, process_at, is_used, file_at, other_at, entry_at, value_at, text_at, with_enabled, with_process}
+use Rattle.cg_model.specs.States.{State, row_at, process_at, is_used, file_at, other_at, entry_at, value_at, told_text, with_enabled, with_process}
 use Rattle.cg_model.specs.WellFormed.{has_row, enabled_at}
 use Rattle.cg_cgroup.specs.declared.controllers.ControllerSet.{ControllerSet}
 use Rattle.cg_cgroup.specs.declared.files.Controller.{Controller}
@@ -16,7 +16,7 @@ use Rattle.cg_cgroup.specs.declared.other_file.OtherFile.{OtherFile}
 use Rattle.cg_cgroup.specs.declared.cgroup.Cgroup.{Cgroup}
 use Rattle.cg_cgroup.specs.declared.process.Process.{Process}
 use Rattle.cg_model.proofs.StateLaws.{row_at-with_row, row_at-without_row, row_at-with_value, row_at-with_mode, process_at-with_place-other, process_at-with_process-other, process_at-without_process-other, is_used-with_process}
-use Rattle.cg_model.proofs.StateEntries.{entry_at-with_value, value_at-with_value, enabled_at-with_value, entry_at-with_mode, value_at-with_mode, enabled_at-with_mode, entry_at-with_enabled-beyond, entry_at-with_text, text_at-with_enabled, text_at-with_text, text_at-with_mode, text_at-without_row, entry_at-with_row, value_at-with_row, enabled_at-with_row, entry_at-without_row, value_at-without_row, enabled_at-without_row, entry_at-file, value_at-file, entry_at-with_enabled-dir, entry_at-with_enabled-procs, entry_at-with_enabled-subtree_control, file_at-with_enabled-other, file_at-with_enabled-same, other_at-with_value, other_at-with_mode, other_at-with_row, other_at-without_row, other_at-with_enabled-other}
+use Rattle.cg_model.proofs.StateEntries.{entry_at-with_value, value_at-with_value, enabled_at-with_value, entry_at-with_mode, value_at-with_mode, enabled_at-with_mode, entry_at-with_enabled-beyond, entry_at-with_text, told_text-with_enabled, told_text-with_text, told_text-with_mode, told_text-without_row, entry_at-with_row, value_at-with_row, enabled_at-with_row, entry_at-without_row, value_at-without_row, enabled_at-without_row, entry_at-file, value_at-file, entry_at-with_enabled-dir, entry_at-with_enabled-procs, entry_at-with_enabled-subtree_control, file_at-with_enabled-other, file_at-with_enabled-same, other_at-with_value, other_at-with_mode, other_at-with_row, other_at-without_row, other_at-with_enabled-other}
 use Rattle.cg_model.proofs.FormedEnabled.{has_row-with_enabled, enabled_at-with_enabled-other}
 use Rattle.cg_model.specs.Changes.{enabled_after}
 use Rattle.cg_model.specs.Next.{next}
@@ -140,19 +140,19 @@ other_at-next st user (Chmod at entry mode) q controller h = other_at-with_mode 
 
 -- ---- what is told of the values of limit files beyond `LimitFile`
 
-text_at-next : (st : State) (user : Identity) (op : Op) (q : Names) (file : OtherFile) → alters_text op q file ≡ false
-    → text_at (next st user op) q file ≡ text_at st q file
-text_at-next st user (Move pid to) q file h = refl
-text_at-next st user (Control at changes) q file h =
-    text_at-with_enabled st at (enabled_after (enabled_at st at) changes) user q file h
-text_at-next st user (Mkdir path) q file h = refl
-text_at-next st user (Rmdir path) q file h = text_at-without_row st path q file ∙ not_taken (same_path path q) _ _ h
-text_at-next st user (Set at written value) q file h = refl
-text_at-next st user (SetOther at written value) q file h = text_at-with_text st at written value q file h
-text_at-next st user (Fork parent child) q file h =
-    fork-by (λ s. text_at s q file ≡ text_at st q file) st child (process_at st parent) refl (λ process. refl)
-text_at-next st user (Exit pid) q file h = refl
-text_at-next st user (Chmod at entry mode) q file h = text_at-with_mode st at entry mode q file
+told_text-next : (st : State) (user : Identity) (op : Op) (q : Names) (file : OtherFile) → alters_text op q file ≡ false
+    → told_text (next st user op) q file ≡ told_text st q file
+told_text-next st user (Move pid to) q file h = refl
+told_text-next st user (Control at changes) q file h =
+    told_text-with_enabled st at (enabled_after (enabled_at st at) changes) user q file h
+told_text-next st user (Mkdir path) q file h = refl
+told_text-next st user (Rmdir path) q file h = told_text-without_row st path q file ∙ not_taken (same_path path q) _ _ h
+told_text-next st user (Set at written value) q file h = refl
+told_text-next st user (SetOther at written value) q file h = told_text-with_text st at written value q file h
+told_text-next st user (Fork parent child) q file h =
+    fork-by (λ s. told_text s q file ≡ told_text st q file) st child (process_at st parent) refl (λ process. refl)
+told_text-next st user (Exit pid) q file h = refl
+told_text-next st user (Chmod at entry mode) q file h = told_text-with_mode st at entry mode q file
 
 and_true : (b : Bool) → (b && true) ≡ false → b ≡ false
 and_true true h = h
@@ -254,8 +254,8 @@ module _ (st : State) (user : Identity) (op : Op) where
   other_at-after q controller h =
       after-by st user op (λ s. other_at s q controller ≡ other_at st q controller) (λ _. other_at-next st user op q controller h) refl
 
-  pub text_at-after : (q : Names) (file : OtherFile) → alters_text op q file ≡ false → text_at (after st user op) q file ≡ text_at st q file
-  text_at-after q file h = after-by st user op (λ s. text_at s q file ≡ text_at st q file) (λ _. text_at-next st user op q file h) refl
+  pub told_text-after : (q : Names) (file : OtherFile) → alters_text op q file ≡ false → told_text (after st user op) q file ≡ told_text st q file
+  told_text-after q file h = after-by st user op (λ s. told_text s q file ≡ told_text st q file) (λ _. told_text-next st user op q file h) refl
 
   pub limits-after : (q : Names) → ((file : LimitFile) → alters_value op q file ≡ false)
       → ((file : OtherFile) → alters_text op q file ≡ false) → limits (after st user op) q ≡ limits st q
@@ -264,7 +264,7 @@ module _ (st : State) (user : Identity) (op : Op) where
       λ i. record {
         values = λ file. value_at-after q file (h file) i;
         others = λ controller. is_some (other_at-after q controller others i);
-        told = λ file. text_at-after q file (texts file) i;
+        told = λ file. told_text-after q file (texts file) i;
       }
 
   pub enabled_at-after : (q : Names) → alters_enabled op q ≡ false → enabled_at (after st user op) q ≡ enabled_at st q

@@ -14,7 +14,7 @@ use Rattle.cg_cgroup.specs.declared.files.Limit.TheVariants.{Max, At}
 use Rattle.cg_cgroup.specs.declared.files.LimitFile.{LimitFile}
 use Rattle.cg_cgroup.specs.declared.files.Controller.{Controller}
 use Rattle.cg_cgroup.specs.declared.cgroup.Cgroup.{Cgroup}
-use Rattle.cg_model.specs.States.{State, row_at, value_at, other_at, text_at, count_below, depth_below}
+use Rattle.cg_model.specs.States.{State, row_at, value_at, other_at, told_text, count_below, depth_below}
 
 -- Own: whether so many are fewer than a limit allows.
 abbrev pub is_under : ℕ → Limit → Bool
@@ -30,7 +30,7 @@ pub record Limits : Type 0 where
 
 -- Core Interface Files; CPU, Memory and PID; Enabling and Disabling: the limits set on a cgroup.
 abbrev pub limits : State → Names → Limits
-limits st path = record { values = value_at st path; others = λ controller. is_some (other_at st path controller); told = text_at st path }
+limits st path = record { values = value_at st path; others = λ controller. is_some (other_at st path controller); told = told_text st path }
 
 -- those of a cgroup that is there, of whose files so much is told
 abbrev pub texts_in : Option ToldFiles → OtherFile → Option FileText

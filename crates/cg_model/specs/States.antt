@@ -66,8 +66,8 @@ untold_at st path file = option_and_then (λ row. untold_in row file) (row_at st
 abbrev pub file_told : State → Names → OtherFile → Option ToldFile
 file_told st path file = elim (told_at st path file) [ None ↦ option_map file_untold (untold_at st path file) | Some told ↦ Some told ]
 
-abbrev pub text_at : State → Names → OtherFile → Option FileText
-text_at st path file = option_and_then (λ told. told.value) (told_at st path file)
+abbrev pub told_text : State → Names → OtherFile → Option FileText
+told_text st path file = option_and_then (λ told. told.value) (told_at st path file)
 
 abbrev pub entry_at : State → Names → EntryName → Option Entry
 entry_at st path (Other file) = option_map (λ told. told.entry) (file_told st path file)

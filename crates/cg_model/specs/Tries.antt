@@ -11,7 +11,7 @@ use Rattle.cg_cgroup.specs.declared.files.Limit.TheVariants.{Max, At}
 use Rattle.cg_cgroup.specs.declared.files.LimitFile.{LimitFile}
 use Rattle.cg_cgroup.specs.declared.files.LimitFile.TheVariants.{CpuWeight}
 use Rattle.cg_cgroup.specs.declared.files.Controller.{Controller}
-use Rattle.cg_model.specs.States.{State, place_at, paths_of, pids_of, value_at, told_at}
+use Rattle.cg_model.specs.States.{State, place_at, paths_of, pids_of, value_at, file_told}
 use Rattle.cg_model.specs.WellFormed.{has_row}
 use Rattle.cg_model.specs.Limits.{same_text}
 use Rattle.cg_cgroup.specs.declared.other_file.OtherFile.{OtherFile}
@@ -38,7 +38,7 @@ other_text file had =
 abbrev pub set_tries : State → Names → List (List Op)
 set_tries st subtree =
     flat_map (λ file. present (value_at st subtree file) (λ value. (Set subtree file (other_value file value) ∷ []) ∷ [])) all_files
-    ++ flat_map (λ file. present (told_at st subtree file) (λ told. (SetOther subtree file (other_text file told.value) ∷ []) ∷ [])) all_others
+    ++ flat_map (λ file. present (file_told st subtree file) (λ told. (SetOther subtree file (other_text file told.value) ∷ []) ∷ [])) all_others
 
 abbrev pub change_of : Bool → Controller → Change
 change_of on controller = record { on = on; controller = controller }

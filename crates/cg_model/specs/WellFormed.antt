@@ -6,7 +6,7 @@ use Rattle.cg_cgroup.specs.Told.{told_in}
 use Rattle.cg_cgroup.specs.declared.other_file.OtherFile.{OtherFile}
 use Rattle.cg_cgroup.specs.declared.told.ToldFile.{ToldFile}
 use Rattle.cg_cgroup.specs.declared.told.ToldFiles.{ToldFiles}
-use Rattle.cg_cgroup.specs.Files.{brings, brought_by, enables, no_controllers, stands_under, accepts, enables_nothing, is_within}
+use Rattle.cg_cgroup.specs.Files.{stands_by, brought_by, enables, no_controllers, stands_under, accepts, enables_nothing, is_within}
 use Rattle.cg_cgroup.specs.Cgroups.{file_of, other_in, entry_in}
 use Rattle.cg_model.specs.States.{State, row_at, process_at, is_used, has_live, child_enables}
 use Rattle.cg_cgroup.specs.declared.user.Entry.{Entry}
@@ -56,7 +56,7 @@ pub record IsFormedRow (above : ControllerSet) (row : Cgroup) : Type 0 where
 
 -- What is told of the files of a cgroup under one that enables these: they stand, and modes are permission bits. Own.
 pub record IsFormedTold (above : ControllerSet) (files : ToldFiles) : Type 0 where
-  pub stand : (file : OtherFile) (told : ToldFile) → told_in files file ≡ Some told → brings above (brought_by file) ≡ true
+  pub stand : (file : OtherFile) (told : ToldFile) → told_in files file ≡ Some told → stands_by above (brought_by file) ≡ true
   pub modes : (file : OtherFile) (told : ToldFile) → told_in files file ≡ Some told → told.entry.mode ≤ 511
 
 pub record IsWellFormed (st : State) : Type 0 where

@@ -12,14 +12,14 @@ use Rattle.cg_cgroup.specs.declared.told.FileText.{FileText}
 use Rattle.cg_cgroup.specs.declared.told.ToldFile.{ToldFile}
 use Rattle.cg_cgroup.proofs.Options.{mapped_from, same_some}
 use Rattle.cg_cgroup.proofs.PathOrder.{path_cmp_total, path_cmp-IsAntisymmetric}
-use Rattle.cg_model.specs.States.{State, row_at, told_at, untold_at, file_told, text_at, entry_at, telling_of, telling_at, told_as, with_text, with_mode}
+use Rattle.cg_model.specs.States.{State, row_at, told_at, untold_at, file_told, told_text, entry_at, telling_of, telling_at, told_as, with_text, with_mode}
 use Rattle.cg_model.specs.WellFormed.{IsWellFormed}
 use Rattle.cg_model.proofs.MapFolds.{insert_again}
 use Rattle.cg_model.proofs.FormedLaws.{formed-with_text, formed-with_mode}
 
 module _ (st : State) (at : Names) (file : OtherFile) where
   -- the value of a file that stands is what is told
-  text_stands : (told : ToldFile) → file_told st at file ≡ Some told → text_at st at file ≡ told.value
+  text_stands : (told : ToldFile) → file_told st at file ≡ Some told → told_text st at file ≡ told.value
   text_stands told is =
       elim (told_at st at file) as (λ known.
       elim known [ None ↦ option_map file_untold (untold_at st at file) | Some told ↦ Some told ] ≡ Some told
@@ -52,7 +52,7 @@ module _ (st : State) (at : Names) (file : OtherFile) where
         }
 
     pub mode_told : (mode : ℕ) → with_mode st at (Other file) mode
-        ≡ telling_of st at file (record { entry = with_mode_of mode entry; value = text_at st at file })
+        ≡ telling_of st at file (record { entry = with_mode_of mode entry; value = told_text st at file })
     mode_told mode =
         let told = mapped_from (λ (told : ToldFile). told.entry) (file_told st at file) entry (sym stands) in
         λ i. record st {
@@ -68,5 +68,5 @@ module _ (st : State) (at : Names) (file : OtherFile) where
     text_formed value whole = subst IsWellFormed (text_told value) (formed-with_text st at file value whole)
 
     pub mode_formed : (mode : ℕ) → mode ≤ 511 → IsWellFormed st
-        → IsWellFormed (telling_of st at file (record { entry = with_mode_of mode entry; value = text_at st at file }))
+        → IsWellFormed (telling_of st at file (record { entry = with_mode_of mode entry; value = told_text st at file }))
     mode_formed mode small whole = subst IsWellFormed (mode_told mode) (formed-with_mode st at (Other file) mode small whole)

@@ -1,7 +1,7 @@
 //! Setting a limit file beyond `LimitFile`, or its mode: what is told of it.
 ghost use Rattle.std.specs.Prelude.{◌≡◌, [], OnOk, OnErr, IfOk};
 ghost use Rattle.cg_cgroup.specs.declared.files.EntryName.TheVariants.{Other};
-ghost use Rattle.cg_model.specs.States.{entry_at, text_at, with_text, with_mode};
+ghost use Rattle.cg_model.specs.States.{entry_at, told_text, with_text, with_mode};
 ghost use Rattle.cg_model.specs.WellFormed.{IsWellFormed};
 ghost use Rattle.cg_model.specs.Clauses.{first};
 ghost use Rattle.cg_model.specs.Bars.{set_other_bars, chmod_bars};
@@ -101,7 +101,7 @@ fn kept_value<H: Hierarchy>(
     at: &Path,
     file: OtherFile,
 ) -> Result<Option<FileText>, NoMemory>
-    ensures { IfOk result (λ value. value ≡ text_at (H.state tree.now) at.now file) }
+    ensures { IfOk result (λ value. value ≡ told_text (H.state tree.now) at.now file) }
 {
     let Some(told) = told_at(tree, at, at.depth(), file) else {
         return Ok(None);

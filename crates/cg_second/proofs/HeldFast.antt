@@ -17,7 +17,7 @@ use Rattle.cg_cgroup.proofs.Options.{is_some-mapped}
 use Rattle.cg_cgroup.proofs.PathLaws.{common-inside_first, common_comm}
 use Rattle.cg_cgroup.proofs.PathOrder.{same_path-is}
 use Rattle.cg_cgroup.proofs.PathParents.{inside-is, parent-is_child}
-use Rattle.cg_model.specs.States.{State, place_at, file_at, other_at, entry_at, value_at, text_at, with_enabled}
+use Rattle.cg_model.specs.States.{State, place_at, file_at, other_at, entry_at, value_at, told_text, with_enabled}
 use Rattle.cg_model.specs.WellFormed.{has_row, enabled_at}
 use Rattle.cg_model.specs.Changes.{enabled_after}
 use Rattle.cg_model.specs.Bars.{bars, move_bars, mkdir_bars}
@@ -31,7 +31,7 @@ use Rattle.cg_model.proofs.Allowed.{allowed_mkdir, there_control}
 use Rattle.cg_model.proofs.FormedEnabled.{enabled_at-with_enabled-same}
 use Rattle.cg_model.proofs.FormedParts.{enabled_at-row}
 use Rattle.cg_model.proofs.StateEntries.{entry_at-file, value_at-file, file_at-with_enabled-other, file_at-with_enabled-same, other_at-with_enabled-other, other_at-with_enabled-same}
-use Rattle.cg_model.proofs.StepEffects.{has_row-after, value_at-after, other_at-after, text_at-after}
+use Rattle.cg_model.proofs.StepEffects.{has_row-after, value_at-after, other_at-after, told_text-after}
 use Rattle.cg_model.proofs.StepFormed.{after-allowed}
 use Rattle.cg_laws.specs.Sound.{IsSound}
 use Rattle.cg_laws.proofs.Counts.{fits-after}
@@ -122,9 +122,9 @@ module _ (st : State) (users : List Identity) (user : Identity) (named : Contain
         → is_some (other_at st subtree controller) ≡ enables (enabled at changes free) controller
     stand-still controller by child = firm.others controller ∙ ap (λ set. enables set controller) (enabled-still at changes free child)
 
-    text-kept : text_at (after st user (Control at changes)) subtree file ≡ text_at st subtree file
+    text-kept : told_text (after st user (Control at changes)) subtree file ≡ told_text st subtree file
     text-kept =
-        ap (λ s. text_at s subtree file) (moved at changes free)
+        ap (λ s. told_text s subtree file) (moved at changes free)
         ∙ ap (option_and_then (λ told. told.value))
         (told-with_enabled st at (enabled at changes free) user subtree firm.is.0 (sound.told subtree) file stand-still)
 
@@ -138,19 +138,19 @@ module _ (st : State) (users : List Identity) (user : Identity) (named : Contain
   keeps-beyond op free file = tt
 
   text-same : (op : Op) → bars st user op ≡ [] → (file : OtherFile)
-      → text_at (after st user op) subtree file ≡ text_at st subtree file
+      → told_text (after st user op) subtree file ≡ told_text st subtree file
   text-same (Control at changes) free file = text-kept at changes free file
   text-same (SetOther at written value) free file =
-      text_at-after st user (SetOther at written value) subtree file
+      told_text-after st user (SetOther at written value) subtree file
       (false_from_ne_true (same_path at subtree && same_other written file) (λ both.
       let parts = and_parts (same_path at subtree) (same_other written file) both in
       true≢false (sym (set_other-reaches st users user named at written free)
       ∙ (λ i. is_reached st users (same_path-is at subtree parts.0 i) (Other (same_other-true written file parts.1 i)))
       ∙ fast.beyond file)))
   text-same (Rmdir removed) free file =
-      text_at-after st user (Rmdir removed) subtree file
+      told_text-after st user (Rmdir removed) subtree file
       (row-stays st users user named lasting fast.lasts sound (Rmdir removed) free subtree fast.stays)
-  text-same op free file = text_at-after st user op subtree file refl
+  text-same op free file = told_text-after st user op subtree file refl
 
   keeps : (op : Op) → bars st user op ≡ [] → (file : LimitFile) → KeepsFile st user op subtree (File file)
   keeps (Control at changes) free file =

@@ -2,7 +2,7 @@ use Rattle.std.proofs.Common.{ℕ, Option, ◌≡◌, sym, ap, ◌∙◌, subst}
 use Rattle.std.specs.Prelude.{OnOk}
 use Rattle.cg_cgroup.specs.Cgroups.{with_mode_of}
 use Rattle.cg_cgroup.specs.declared.told.FileText.{FileText}
-use Rattle.cg_model.specs.States.{telling_of, text_at}
+use Rattle.cg_model.specs.States.{telling_of, told_text}
 use Rattle.cg_model.specs.WellFormed.{IsWellFormed}
 use Rattle.cg_ops.proofs.Tellings.{mode_told, mode_formed}
 use Rattle.cg_ops.proofs.other_limits.set_mode.Goals as goal
@@ -25,6 +25,6 @@ returns-clause-ok g c =
     telling_of st at c.args.file (record { entry = with_mode_of mode entry; value = value }) in
     subst (λ after. OnOk c.tell.result (g.H.Hierarchy.state c.tell.new.self ≡ after))
     (ap (after c.get.result) c.in_ok-value.ensures
-    ∙ (ap (λ mode. after mode (text_at st at c.args.file)) c.get.ensures.value
+    ∙ (ap (λ mode. after mode (told_text st at c.args.file)) c.get.ensures.value
     ∙ sym (mode_told st at c.args.file entry c.in-Some.ensures.entry c.args.mode)))
     c.tell.ensures.ok
