@@ -1,16 +1,20 @@
 //! Tries of one write: the limits of a subtree, what its parent enables, its removal.
 ghost use Rattle.std.specs.Prelude.{◌≡◌, false, IfOk, cond, ◌∷◌, [], Some, None};
+ghost use Rattle.std.specs.FinMap as map;
 ghost use Rattle.cg_cgroup.specs.Paths.{is_root, parent};
 ghost use Rattle.cg_cgroup.specs.Files.{enables};
 ghost use Rattle.cg_model.specs.States.{row_at};
 ghost use Rattle.cg_model.specs.WellFormed.{enabled_at};
-ghost use Rattle.cg_model.specs.Tries.{other_value};
-ghost use Rattle.cg_tries.specs.Finding.{if_allowed, set_of, first_set, control_of, told_control_of, first_control, first_write};
+ghost use Rattle.cg_model.specs.Limits.{same_text};
+ghost use Rattle.cg_model.specs.Tries.{other_value, other_text};
+ghost use Rattle.cg_tries.specs.Finding.{if_allowed, set_of, first_listed_set, other_set_of, first_other_set, first_set, control_of, told_control_of, first_control, first_write};
 
 use crate::asker::Asker;
 use cg_cgroup::cgroup::Cgroup;
 use cg_cgroup::files::{Controller, Limit, LimitFile};
 use cg_cgroup::memory::NoMemory;
+use cg_cgroup::other_file::OtherFile;
+use cg_cgroup::told::{FileText, ToldFile, ToldFiles};
 use cg_model::changes::{Change, Changes};
 use cg_model::hierarchy::Hierarchy;
 use cg_model::operation::Op;
@@ -57,6 +61,78 @@ fn set_of<H: Hierarchy>(
     if_allowed(asker, Op::Set { at, file, value })
 }
 
+/// The first file of `LimitFile` of the subtree that the user may set to another value.
+fn first_listed_set<H: Hierarchy>(
+    asker: &Asker<H>,
+    cgroup: &Cgroup,
+) -> Result<Option<Operations>, NoMemory>
+    requires { row_at (H.state asker.now.tree.now) asker.now.subtree.now ≡ Some cgroup.now }
+    ensures { IfOk result (λ found. found ≡ first_listed_set (H.state asker.now.tree.now) asker.now.user.now asker.now.subtree.now) }
+{
+    for file in LimitFile::ALL {
+        if let Some(found) = set_of(asker, cgroup, file)? {
+            return Ok(Some(found));
+        }
+    }
+    Ok(None)
+}
+
+/// Whether this is told as a file's value.
+fn has_text(told: &ToldFile, text: &str) -> bool
+    ensures { result ≡ same_text (Some text.now) told.now.value }
+{
+    match &told.value {
+        Some(value) => text == value.text,
+        None => false,
+    }
+}
+
+/// Another text than the file's, one that loosens it where there is one.
+fn other_text(file: OtherFile, told: &ToldFile) -> &'static str
+    ensures { result.now ≡ other_text file told.now.value }
+{
+    if !has_text(told, file.loose()) {
+        return file.loose();
+    }
+    if !has_text(told, "max") {
+        return "max";
+    }
+    "0"
+}
+
+/// A limit file of the subtree beyond `LimitFile` of which something is told to another text, where the user may set it.
+fn other_set_of<H: Hierarchy>(
+    asker: &Asker<H>,
+    files: &ToldFiles,
+    file: OtherFile,
+) -> Result<Option<Operations>, NoMemory>
+    requires { map.get (H.state asker.now.tree.now).told asker.now.subtree.now ≡ Some files.now }
+    ensures { IfOk result (λ found. found ≡ other_set_of (H.state asker.now.tree.now) asker.now.user.now asker.now.subtree.now file) }
+{
+    let Some(told) = files.get(file) else {
+        return Ok(None);
+    };
+    let at = asker.subtree.try_clone(asker.alloc)?;
+    let text = String::from_str(asker.alloc, other_text(file, told))?;
+    let value = FileText { text };
+    if_allowed(asker, Op::SetOther { at, file, value })
+}
+
+/// The first of those that the user may set to another text.
+fn first_other_set<H: Hierarchy>(asker: &Asker<H>) -> Result<Option<Operations>, NoMemory>
+    ensures { IfOk result (λ found. found ≡ first_other_set (H.state asker.now.tree.now) asker.now.user.now asker.now.subtree.now) }
+{
+    let Some(files) = asker.tree.told(asker.subtree, asker.subtree.depth()) else {
+        return Ok(None);
+    };
+    for file in OtherFile::ALL {
+        if let Some(found) = other_set_of(asker, files, file)? {
+            return Ok(Some(found));
+        }
+    }
+    Ok(None)
+}
+
 /// The first limit of the subtree that the user may set to another value.
 fn first_set<H: Hierarchy>(
     asker: &Asker<H>,
@@ -65,12 +141,10 @@ fn first_set<H: Hierarchy>(
     requires { row_at (H.state asker.now.tree.now) asker.now.subtree.now ≡ Some cgroup.now }
     ensures { IfOk result (λ found. found ≡ first_set (H.state asker.now.tree.now) asker.now.user.now asker.now.subtree.now) }
 {
-    for file in LimitFile::ALL {
-        if let Some(found) = set_of(asker, cgroup, file)? {
-            return Ok(Some(found));
-        }
+    match first_listed_set(asker, cgroup)? {
+        Some(set) => Ok(Some(set)),
+        None => first_other_set(asker),
     }
-    Ok(None)
 }
 
 /// Whether the subtree's parent enables a controller.
