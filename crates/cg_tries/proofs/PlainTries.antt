@@ -15,7 +15,7 @@ use Rattle.cg_cgroup.proofs.PathLaws.{common-take_first, common-inside_first, co
 use Rattle.cg_cgroup.specs.declared.files.Limit.{Limit}
 use Rattle.cg_cgroup.specs.declared.files.LimitFile.{LimitFile}
 use Rattle.cg_cgroup.specs.declared.files.Controller.{Controller}
-use Rattle.cg_model.specs.States.{State, row_at, place_at, paths_of, pids_of, value_at, told_at}
+use Rattle.cg_model.specs.States.{State, row_at, place_at, paths_of, pids_of, value_at, file_told}
 use Rattle.cg_model.specs.WellFormed.{IsWellFormed, enabled_at}
 use Rattle.cg_model.specs.Clauses.{present}
 use Rattle.cg_model.specs.Bars.{passes}
@@ -63,7 +63,7 @@ module _ (st : State) (user : Identity) (subtree : Names) (whole : IsUnbroken st
       (λ file. present (value_at st subtree file) (λ value. (Set subtree file (other_value file value) ∷ []) ∷ [])) all_files
       ∙ first_given-same _ (set_of st user subtree) all_files (λ file. one_set file (value_at st subtree file) refl)
 
-  one_other : (file : OtherFile) (found : Option ToldFile) → told_at st subtree file ≡ found
+  one_other : (file : OtherFile) (found : Option ToldFile) → file_told st subtree file ≡ found
       → find (breaks st user subtree) (present found (λ told. (SetOther subtree file (other_text file told.value) ∷ []) ∷ []))
       ≡ option_and_then (λ told. if_allowed st user (SetOther subtree file (other_text file told.value))) found
   one_other file None is = refl
@@ -71,18 +71,18 @@ module _ (st : State) (user : Identity) (subtree : Names) (whole : IsUnbroken st
       ap (λ b. cond b (Some (SetOther subtree file (other_text file told.value) ∷ [])) None) (other_set_try st user subtree file told whole is)
 
   first_other-is : find (breaks st user subtree)
-      (flat_map (λ file. present (told_at st subtree file) (λ told. (SetOther subtree file (other_text file told.value) ∷ []) ∷ [])) all_others)
+      (flat_map (λ file. present (file_told st subtree file) (λ told. (SetOther subtree file (other_text file told.value) ∷ []) ∷ [])) all_others)
       ≡ first_other_set st user subtree
   first_other-is =
       find-flat_map (breaks st user subtree)
-      (λ file. present (told_at st subtree file) (λ told. (SetOther subtree file (other_text file told.value) ∷ []) ∷ [])) all_others
-      ∙ first_given-same _ (other_set_of st user subtree) all_others (λ file. one_other file (told_at st subtree file) refl)
+      (λ file. present (file_told st subtree file) (λ told. (SetOther subtree file (other_text file told.value) ∷ []) ∷ [])) all_others
+      ∙ first_given-same _ (other_set_of st user subtree) all_others (λ file. one_other file (file_told st subtree file) refl)
 
   first_set-is : find (breaks st user subtree) (set_tries st subtree) ≡ first_set st user subtree
   first_set-is =
       find-append (breaks st user subtree)
       (flat_map (λ file. present (value_at st subtree file) (λ value. (Set subtree file (other_value file value) ∷ []) ∷ [])) all_files)
-      (flat_map (λ file. present (told_at st subtree file) (λ told. (SetOther subtree file (other_text file told.value) ∷ []) ∷ [])) all_others)
+      (flat_map (λ file. present (file_told st subtree file) (λ told. (SetOther subtree file (other_text file told.value) ∷ []) ∷ [])) all_others)
       ∙ (λ i. option_or (first_listed-is i) (first_other-is i))
 
   module _ (formed : IsWellFormed st) (there : IsSubtree st subtree) where

@@ -17,11 +17,12 @@ use Rattle.cg_cgroup.specs.Told.{file_untold, with_value_told}
 use Rattle.cg_cgroup.specs.declared.other_file.OtherFile.{OtherFile}
 use Rattle.cg_cgroup.specs.declared.told.FileText.{FileText}
 use Rattle.cg_cgroup.specs.declared.told.ToldFile.{ToldFile}
+use Rattle.cg_cgroup.specs.declared.user.Entry.{Entry}
 use Rattle.cg_model.proofs.StateTold.{told_at-telling}
 use Rattle.cg_cgroup.proofs.Options.{mapped_from, same_some}
 use Rattle.cg_cgroup.proofs.PathOrder.{same_path_refl}
 use Rattle.cg_cgroup.proofs.CgroupLaws.{same_file-refl, same_other-refl}
-use Rattle.cg_model.specs.States.{State, row_at, process_at, place_at, with_value, with_place, placed_at, without_row, value_at, other_at, told_at, untold_at, file_told, text_at, with_text}
+use Rattle.cg_model.specs.States.{State, row_at, process_at, place_at, with_value, with_place, placed_at, without_row, value_at, other_at, told_at, untold_at, file_told, told_text, with_text}
 use Rattle.cg_model.specs.WellFormed.{has_row}
 use Rattle.cg_model.proofs.StateLaws.{row_at-without_row, process_at-with_place-same}
 use Rattle.cg_model.proofs.StateEntries.{value_at-with_value}
@@ -120,7 +121,7 @@ others_stay start st new subtree none controller =
     ap (λ (these : LimitMap). these.others controller) (same_limits-is (limits start subtree) (limits new subtree) same)
 
 texts_stay : (start st new : State) (subtree : Names) → broken start st new subtree ≡ [] → (file : OtherFile)
-    → text_at start subtree file ≡ text_at new subtree file
+    → told_text start subtree file ≡ told_text new subtree file
 texts_stay start st new subtree none file =
     let same =
     no_unless (same_limits (limits start subtree) (limits new subtree)) Limits (no_parts _ _ (no_parts _ _ (no_parts _ _ none).0).0).1
@@ -171,28 +172,33 @@ text_differs file (Some text) is =
           ] refl is
     ] refl is
 
-text_set : (st : State) (subtree : Names) (file : OtherFile) (told : ToldFile) (value : FileText) → told_at st subtree file ≡ Some told
-    → text_at (with_text st subtree file value) subtree file ≡ Some value
+text_set : (st : State) (subtree : Names) (file : OtherFile) (told : ToldFile) (value : FileText) → file_told st subtree file ≡ Some told
+    → told_text (with_text st subtree file value) subtree file ≡ Some value
 text_set st subtree file told value is =
     ap (option_and_then (λ (told : ToldFile). told.value))
     (told_at-telling st subtree file (with_value_told value) subtree file (with_text st subtree file value) refl
     ∙ ap (λ b. cond b (option_map (with_value_told value) (file_told st subtree file)) (told_at st subtree file))
       (and_from _ _ (same_path_refl subtree) (same_other-refl file))
-    ∙ ap (λ known. option_map (with_value_told value) (elim known [
-      | None ↦ option_map file_untold (untold_at st subtree file)
-      | Some told ↦ Some told
-    ])) is)
+    ∙ ap (option_map (with_value_told value)) is)
+
+-- the value that is told of one that stands
+text_known : (told : Option ToldFile) (untold : Option Entry)
+    → option_and_then (λ (told : ToldFile). told.value) (elim told [ None ↦ option_map file_untold untold | Some told ↦ Some told ])
+    ≡ option_and_then (λ (told : ToldFile). told.value) told
+text_known None None = refl
+text_known None (Some entry) = refl
+text_known (Some told) untold = refl
 
 pub other_set_try : (st : State) (user : Identity) (subtree : Names) (file : OtherFile) (told : ToldFile) → IsUnbroken st subtree
-    → told_at st subtree file ≡ Some told
+    → file_told st subtree file ≡ Some told
     → breaks st user subtree (SetOther subtree file (other_text file told.value) ∷ [])
     ≡ allowed st user (SetOther subtree file (other_text file told.value))
 other_set_try st user subtree file told whole is =
     where_allowed st user subtree (SetOther subtree file (other_text file told.value)) whole (λ free none.
     let same = texts_stay st st (with_text st subtree file (other_text file told.value)) subtree none file in
     text_differs file told.value
-    (sym (ap (option_and_then (λ (told : ToldFile). told.value)) is) ∙ same
-    ∙ text_set st subtree file told (other_text file told.value) is))
+    (sym (ap (option_and_then (λ (told : ToldFile). told.value)) is) ∙ text_known (told_at st subtree file) (untold_at st subtree file)
+    ∙ same ∙ text_set st subtree file told (other_text file told.value) is))
 
 -- ---- move
 

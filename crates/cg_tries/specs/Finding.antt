@@ -11,7 +11,7 @@ use Rattle.cg_cgroup.specs.declared.files.Limit.TheVariants.{Max, At}
 use Rattle.cg_cgroup.specs.declared.files.LimitFile.{LimitFile}
 use Rattle.cg_cgroup.specs.declared.files.Controller.{Controller}
 use Rattle.cg_cgroup.specs.declared.other_file.OtherFile.{OtherFile}
-use Rattle.cg_model.specs.States.{State, row_at, place_at, paths_of, pids_of, count_below, value_at, told_at}
+use Rattle.cg_model.specs.States.{State, row_at, place_at, paths_of, pids_of, count_below, value_at, file_told}
 use Rattle.cg_model.specs.WellFormed.{enabled_at}
 use Rattle.cg_model.specs.Clauses.{first}
 use Rattle.cg_model.specs.Bars.{bars, passes}
@@ -41,10 +41,10 @@ set_of st user subtree file = option_and_then (λ value. if_allowed st user (Set
 abbrev pub first_listed_set : State → Identity → Names → Option (List Op)
 first_listed_set st user subtree = first_given (set_of st user subtree) all_files
 
--- of a limit file beyond `LimitFile` of which something is told
+-- of a limit file beyond `LimitFile`
 abbrev pub other_set_of : State → Identity → Names → OtherFile → Option (List Op)
 other_set_of st user subtree file =
-    option_and_then (λ told. if_allowed st user (SetOther subtree file (other_text file told.value))) (told_at st subtree file)
+    option_and_then (λ told. if_allowed st user (SetOther subtree file (other_text file told.value))) (file_told st subtree file)
 
 abbrev pub first_other_set : State → Identity → Names → Option (List Op)
 first_other_set st user subtree = first_given (other_set_of st user subtree) all_others

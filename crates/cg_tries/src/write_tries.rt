@@ -100,20 +100,21 @@ fn other_text(file: OtherFile, told: &ToldFile) -> &'static str
     "0"
 }
 
-/// A limit file of the subtree beyond `LimitFile` of which something is told to another text, where the user may set it.
+/// A limit file of the subtree beyond `LimitFile` to another text, where it stands and the user may set it.
 fn other_set_of<H: Hierarchy>(
     asker: &Asker<H>,
-    files: &ToldFiles,
     file: OtherFile,
 ) -> Result<Option<Operations>, NoMemory>
-    requires { map.get (H.state asker.now.tree.now).told asker.now.subtree.now ≡ Some files.now }
     ensures { IfOk result (λ found. found ≡ other_set_of (H.state asker.now.tree.now) asker.now.user.now asker.now.subtree.now file) }
 {
-    let Some(told) = files.get(file) else {
-        return Ok(None);
+    let len = asker.subtree.depth();
+    let text = match told_at(asker.tree, asker.subtree, len, file) {
+        Some(told) => other_text(file, told.value.as_ref()),
+        None if untold_at(asker.tree, asker.subtree, len, file).is_some() => other_text(file, None),
+        None => return Ok(None),
     };
     let at = asker.subtree.try_clone(asker.alloc)?;
-    let text = String::from_str(asker.alloc, other_text(file, told))?;
+    let text = String::from_str(asker.alloc, text)?;
     let value = FileText { text };
     if_allowed(asker, Op::SetOther { at, file, value })
 }
