@@ -22,6 +22,7 @@ case "$1" in
 esac
 """
 SCRIPT = '''import os, re, types
+LIMIT = 120
 rtlib = types.SimpleNamespace(VERDICT=re.compile(r"^logic=proved\\n\\Z", re.M))
 STORE = "/none/kept"
 
@@ -128,6 +129,7 @@ class GateTest(ToolchainTest):
                 ("class Kept", "class Stored", "its script has no `Kept` that takes 1 arguments"),
                 ("if STORE ==", "if '/none/kept' ==", "isn't kept in the folder that its script has as STORE"),
                 ("proved\\n\\Z", "proved", "verdicts are held to other words than the pattern VERDICT"),
+                ("LIMIT =", "SECONDS =", "its gate doesn't end programs after so many seconds as its script has as LIMIT"),
                 ("VERDICT=", "PATTERN=", "verdicts are held to other words than the pattern VERDICT"),
                 ("def ci(self, flags, tests)", "def ci(self, flags)", "its script has no `Crate.ci` that takes 3 arguments"),
                 ("class Crate", "class Package", "its script has no `Crate.prove`"),
