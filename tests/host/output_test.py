@@ -18,6 +18,8 @@ from zirofen_host import ending, output
 from zirofen_host.fault import Fault
 
 ALICE = 1000
+# what hangs is ended; a run may wait long for a processor
+SECONDS = 7200
 SECRET = "root's own\n"
 # asks of a pair, and doesn't come back from it
 WAITING = """#!/bin/sh
@@ -285,7 +287,7 @@ class HelperTest(HostTest):
 
     def check(self, *words):
         environment = {**os.environ, "TMPDIR": self.temporary}
-        ended = subprocess.run(self.words(*words), capture_output=True, text=True, env=environment, timeout=7200)
+        ended = subprocess.run(self.words(*words), capture_output=True, text=True, env=environment, timeout=SECONDS)
         self.assertEqual(os.listdir(self.temporary), [])
         return ended
 
@@ -353,7 +355,7 @@ class HelperTest(HostTest):
         os.symlink("itself", f"{self.host.folder}/itself")
         self.assertEqual(self.check("--baseline", f"{self.host.folder}/to-that").returncode, 0)
         with open(kept, "rb") as given:
-            ended = subprocess.run(self.words("--baseline", "/dev/stdin"), stdin=given, capture_output=True, text=True, timeout=7200)
+            ended = subprocess.run(self.words("--baseline", "/dev/stdin"), stdin=given, capture_output=True, text=True, timeout=SECONDS)
         self.assertEqual((ended.returncode, ended.stderr), (0, ""))
         for odd in ("itself", "temporary", "temporary/"):
             ended = self.check("--baseline", f"{self.host.folder}/{odd}")
@@ -383,7 +385,7 @@ class HelperTest(HostTest):
                 self.wait_for(lambda: os.path.exists(told) and read(told).endswith("\n"))
                 self.assertEqual(len(os.listdir(self.temporary)), 1)
                 started.send_signal(number)
-                said, line = started.communicate(timeout=7200)
+                said, line = started.communicate(timeout=SECONDS)
                 self.assertEqual((started.returncode, said, os.listdir(self.temporary)), (-number, "", []))
                 self.assertEqual(line, f"zirofen-host check: ended by {number.name}, and this is no answer\n")
                 self.wait_for(lambda: not any(map(is_running, read(told).split())))
@@ -407,7 +409,7 @@ class HelperTest(HostTest):
         self.assertEqual((ended.stdout, ended.stderr), ("on\n", ""))
 
     def wait_for(self, holds):
-        until = time.monotonic() + 7200
+        until = time.monotonic() + SECONDS
         while not holds():
             self.assertLess(time.monotonic(), until, "waited in vain")
             time.sleep(0.02)

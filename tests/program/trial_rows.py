@@ -25,8 +25,10 @@ REPLAYS = (
     (PREFIX, "/c0", "move 14 /c0", "ok", "broken 1 crossed 14"),
     (NESTED, "/p/s", "mkdir /p/probe0|move 20 /p/probe0", "ok|ok", "broken 2 crossed 20"),
     (DELEGATION, "/c0", "set /c0/c00 cgroup.max.depth 0|chmod /c0 dir 755|control /c0 +memory|exit 11|rmdir /c0/c00", "ok|ok|ok|ok|ok", "kept"),
-    (OTHERS, OTHERS_SUBTREE, f"control {OTHERS_SUBTREE} +io -cpuset|control {OTHERS_SUBTREE}/job1 +io|control {OTHERS_SUBTREE} +dmem",
-     f"ok|refused internal-process {OTHERS_SUBTREE}/job1|refused not-available dmem", "kept"),
+    (OTHERS, OTHERS_SUBTREE,
+     f"control {OTHERS_SUBTREE} +io -cpuset|control {OTHERS_SUBTREE}/job1 +io|control {OTHERS_SUBTREE} +dmem"
+     f"|set {OTHERS_SUBTREE}/job1 io.max 8:0 rbps=1|chmod {OTHERS_SUBTREE}/job1 io.max 600|set {OTHERS_SUBTREE} io.max max",
+     f"ok|refused internal-process {OTHERS_SUBTREE}/job1|refused not-available dmem|ok|ok|refused no-access {OTHERS_SUBTREE} io.max", "kept"),
 )
 CHECKS = (
     (DELEGATION, "/c0", "contained", 0), (LIMIT_WRITABLE, "/c0", "escapes|set /c0 memory.max max", 1), (ANCESTOR_WRITABLE, "/c0", "escapes|move 10 /c0", 1),
@@ -39,8 +41,8 @@ FAULTS = (("0", DELEGATION, "/c0", "uid"), ("1000", DELEGATION, "/", "subtree ro
 # how many of the checks, and of the replays, are made over bytes too: most of what these cost is the reading of a tree
 CHECKS_OF_BYTES, REPLAYS_OF_BYTES = 6, 6
 CUT = (DELEGATION, "/c0", "exit 11|mkdir /c0/a|-", "ok", "fault: line 2 cut")
-# operations that take memory where they are carried out
-GROWING = ("move", "mkdir", "fork")
+# operations that take memory where they are carried out; those at the subtree of format 4 are on limit files whose values are texts
+GROWING = ("move", "mkdir", "fork", f"set {OTHERS_SUBTREE}", f"chmod {OTHERS_SUBTREE}")
 
 
 def lines(text):
@@ -78,6 +80,9 @@ def tree_trials(kind):
             word = {"e": "Escapes", "u": "Unsettled"}[report[0]]
             yield "check", tree, [kind, "check", "1000", subtree], f"Ok({word}("
     yield "check_all", SECOND_USER, [kind, "check_all", "1000", "1001", "/c0", "/c1"], "Ok(Pair { user: 1, subtree: 0, answer: Escapes("
+    job = f"{OTHERS_SUBTREE}/job1"
+    told = [f"control {OTHERS_SUBTREE} +io", f"set {job} io.max 8:0 rbps=1", f"chmod {job} io.weight 600"]
+    yield "Replay::start", OTHERS, [kind, "start", "1000", job, *told], "Kept"
 
 
 def free_tree_trials(kind):
@@ -85,9 +90,9 @@ def free_tree_trials(kind):
     yield "readings", NESTED, [kind, "readings", "/p", "20"], "Some((1, 1)) Some((true, false, false)) None"
     yield "refusal", DELEGATION, [kind, "refusal", "1000", "move 10 /c0/c00"], "Some(NoAccess { len: 0, entry: Procs })"
     yield "refusal", DELEGATION, [kind, "refusal", "1000", "move 11 /c0/c01"], "None"
-    yield "Replay::start", DELEGATION, [kind, "start", "/c0"], "Kept"
-    yield "Replay::start", OVER_LIMIT, [kind, "start", "/c0"], "Broken { after: 0, clause: Descendants }"
-    yield "Replay::start", DELEGATION, [kind, "start", "/zz"], "NoSuchSubtree"
+    yield "Replay::start", DELEGATION, [kind, "start", "1000", "/c0"], "Kept"
+    yield "Replay::start", OVER_LIMIT, [kind, "start", "1000", "/c0"], "Broken { after: 0, clause: Descendants }"
+    yield "Replay::start", DELEGATION, [kind, "start", "1000", "/zz"], "NoSuchSubtree"
     yield "failed_guard", DELEGATION, [kind, "failed_guard", "1000", "/c0"], "None"
     yield "failed_guard", ANCESTOR_WRITABLE, [kind, "failed_guard", "1000", "/c0"], "Some(Failed { guard: CommonAncestor, len: 0 })"
     yield "check", DELEGATION, [kind, "check", "1000", "/c0"], "Ok(Contained)"

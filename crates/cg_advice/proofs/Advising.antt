@@ -17,7 +17,13 @@ use Rattle.cg_cgroup.specs.declared.files.LimitFile.TheVariants.{MaxDescendants,
 use Rattle.cg_cgroup.specs.declared.files.EntryName.{EntryName}
 use Rattle.cg_cgroup.proofs.PathOrder.{same_path_refl}
 use Rattle.cg_cgroup.proofs.CgroupLaws.{same_entry-refl}
-use Rattle.cg_model.specs.States.{State, row_at, entry_at, value_at, paths_of, count_below, depth_below}
+use Rattle.cg_cgroup.specs.declared.files.EntryName.TheVariants.{Other}
+use Rattle.cg_cgroup.specs.declared.other_file.OtherFile.{OtherFile}
+use Rattle.cg_cgroup.proofs.Options.{mapped_from}
+use Rattle.cg_model.proofs.FormedTold.{stands}
+use Rattle.cg_model.proofs.StateEntries.{entry_at-row, told_text-with_mode}
+use Rattle.cg_advice.proofs.OwnerLaws.{told_text-with_owner}
+use Rattle.cg_model.specs.States.{told_text, file_told, State, row_at, entry_at, value_at, paths_of, count_below, depth_below}
 use Rattle.cg_model.specs.WellFormed.{IsWellFormed, enabled_at}
 use Rattle.cg_model.proofs.StateCounts.{paths_of-with_mode, paths_of-with_value, count_below-same_paths, depth_below-same_paths}
 use Rattle.cg_model.proofs.StateEntries.{enabled_at-with_mode, enabled_at-with_value}
@@ -65,6 +71,18 @@ enabled_at-made [] st path = refl
 enabled_at-made (change ∷ changes) st path =
     enabled_at-made changes (made_one change.0 change.1 st) path ∙ enabled_at-made_one change.0 change.1 st path
 
+told_text-made_one : (subtree : Names) (mend : Mend) (st : State) (path : Names) (file : OtherFile)
+    → told_text (made_one subtree mend st) path file ≡ told_text st path file
+told_text-made_one subtree (Chown len name uid gid) st path file = told_text-with_owner st (take len subtree) name uid gid path file
+told_text-made_one subtree (Chmod len name mode) st path file = told_text-with_mode st (take len subtree) name mode path file
+told_text-made_one subtree (Set len limit value) st path file = refl
+
+told_text-made : (changes : List Change) (st : State) (path : Names) (file : OtherFile)
+    → told_text (made changes st) path file ≡ told_text st path file
+told_text-made [] st path file = refl
+told_text-made (change ∷ changes) st path file =
+    told_text-made changes (made_one change.0 change.1 st) path file ∙ told_text-made_one change.0 change.1 st path file
+
 -- the processes, the used PIDs and the root's controllers
 record SameRest (st new : State) : Type 0 where
   live : new.live ≡ st.live
@@ -88,6 +106,7 @@ is_advised st pairs =
     let rest = rest-made (mends st pairs) st in record {
       entries = entry_at-advised st pairs;
       values = value_at-advised st pairs;
+      texts = told_text-made (mends st pairs) st;
       enabled = enabled_at-made (mends st pairs) st;
       paths = paths_of-made (mends st pairs) st;
       live = rest.live;
@@ -379,13 +398,20 @@ is_taken : (value : ℕ) → value ≤ 9223372036854775807 → (nat_le 0 value &
 is_taken value few = and_from _ _ (le-leb 0 value (omega arith)) (le-leb value 9223372036854775807 few)
 
 module _ (st : State) (formed : IsWellFormed st) where
-  entry_mode : (path : Names) (name : EntryName) (entry : Entry) → entry_at st path name ≡ Some entry → entry.mode ≤ 511
-  entry_mode path name entry is =
+  row_mode : (path : Names) (name : EntryName) (entry : Entry) → option_and_then (λ row. entry_in row name) (row_at st path) ≡ Some entry
+      → entry.mode ≤ 511
+  row_mode path name entry is =
       elim (row_at st path) as
       (λ found. row_at st path ≡ found → option_and_then (λ row. entry_in row name) found ≡ Some entry → entry.mode ≤ 511) [
         | None ↦ λ _ none. let never : ⊥ = cc in absurd never
         | Some row ↦ λ here some. (formed.rows path row here).modes name entry some
       ] refl is
+
+  entry_mode : (path : Names) (name : EntryName) (entry : Entry) → entry_at st path name ≡ Some entry → entry.mode ≤ 511
+  entry_mode path (Other file) entry is =
+      let told = mapped_from (λ told. told.entry) (file_told st path file) entry is in
+      subst (λ (entry : Entry). entry.mode ≤ 511) told.2 (stands st formed path file told.0 told.1).mode
+  entry_mode path name entry is = row_mode path name entry (sym (entry_at-row st path name refl) ∙ is)
 
   entrant_modes : (pairs : List Pair) → AllByRecursion HasMode (entrants st pairs)
   entrant_modes pairs =

@@ -8,7 +8,7 @@ use Rattle.std.proofs.lemmas.Bool.{and_parts, and_from, not-true}
 use Rattle.std.specs.Vec.{with_items}
 use Rattle.std.proofs.lemmas.List.{map-append, length-map, with_items_is}
 use Rattle.std.proofs.lemmas.List.Concat.{flat_map-append}
-use Rattle.std.proofs.lemmas.List.Elements.{filter-append, All-weaker, All-set, All-get_or}
+use Rattle.std.proofs.lemmas.List.Elements.{filter-append, All-push, All-weaker, All-set, All-get_or}
 use Rattle.std.specs.Cmp.Lexicographic.{bytes_decides}
 use Rattle.cg_cgroup.specs.Paths.{Names, same_path, same_name}
 use Rattle.cg_cgroup.specs.Identity.{Identity}
@@ -26,7 +26,7 @@ use Rattle.cg_model.specs.declared.mend.Class.TheVariants.{Owner, Group, Others}
 use Rattle.cg_model.specs.Mends.{Pair as Named, Entrant as Entering, if_reached, reached_of, entrant, entrants_of, entrants, same_place}
 use Rattle.cg_guards.proofs.TableWalk.{walk_turn, drop_all}
 use Rattle.cg_model.proofs.OnceLaws.{once_more}
-use Rattle.cg_advice.specs.Ways.{Key, is_keyed, ways_at, ways_among, ways_with, tells, lines_by, gathered_lines}
+use Rattle.cg_advice.specs.Ways.{Key, is_keyed, ways_at, no_ways, ways_among, ways_with, tells, lines_by, gathered_lines}
 use Rattle.cg_advice.specs.AdviceLines.{over_lines, pairs_lines}
 use Rattle.cg_advice.specs.declared.ways.Ways.{Ways}
 use Rattle.cg_advice.specs.declared.pair.Stand.{Stand}
@@ -509,6 +509,29 @@ pub named_pushed : (tables new : List Table) (table : Table) (paths : List Names
 named_pushed tables new table paths pushed named =
     subst (λ l. AreTabled l (paths ++ table_path table ∷ [])) (sym (ap (map table_path) pushed ∙ map-append table_path tables (table ∷ [])))
     (named_first (map table_path tables) paths (table_path table) named)
+
+-- one more table, where nobody was met yet
+none_known : (all : List Entering) (stand : Stand) → stand.ways ≡ no_ways → IsKnown all stand
+none_known all stand none =
+    subst (λ some. AreAmong some (ways_at (key_at stand.subtree.now stand.at) all)) (sym none) (record {
+      owner = λ is. cc;
+      group = λ is. cc;
+      others = λ is. cc;
+      inside = λ is. cc;
+      outside = λ is. cc;
+    })
+
+pub formed_pushed : (st : State) (tables new : List Table) (table : Table) → new ≡ tables ++ table ∷ []
+    → IsSubtree st (table_path table) → map spot_of table.stands.items ≡ spots st (table_path table)
+    → All (λ stand. stand.ways ≡ no_ways) table.stands.items
+    → (all : List Entering) → All (IsTable st all) tables → All (IsTable st all) new
+formed_pushed st tables new table pushed subtree stood ways all formed =
+    subst (All (IsTable st all)) (sym pushed)
+    (All-push (IsTable st all) tables table formed (record {
+      subtree = subtree;
+      spots = stood;
+      known = All-weaker (λ (stand : Stand). stand.ways ≡ no_ways) (IsKnown all) (none_known all) table.stands.items ways;
+    }))
 
 -- ---- a table's entries written back
 

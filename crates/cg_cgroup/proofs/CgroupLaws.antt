@@ -8,9 +8,9 @@ use native.Mathlib.Nat.{ℕ_set}
 use Rattle.std.specs.Option.{option_map}
 use Rattle.std.proofs.lemmas.Option.{same_Some}
 use Rattle.cg_cgroup.specs.Identity.{Identity}
-use Rattle.cg_cgroup.specs.Files.{all_files, all_controllers, controller_kind, brought_files, kind_of, place_of, accepts, default_value, enables, stands_under, same_file, same_entry}
+use Rattle.cg_cgroup.specs.Files.{all_files, all_others, other_kind, same_other, brought_by, is_beyond, all_controllers, controller_kind, brought_files, kind_of, place_of, accepts, default_value, enables, stands_under, same_file, same_entry}
 use Rattle.cg_cgroup.specs.Users.{entry_made_by}
-use Rattle.cg_cgroup.specs.Cgroups.{held_at, with_held, file_of, other_in, entry_in, value_in, with_file, with_value_of, with_value_in, with_mode_of, with_file_mode_of, with_mode_in, file_made_by, refitted, refitted_other, others_under, with_files_of, cgroup_made_by}
+use Rattle.cg_cgroup.specs.Cgroups.{held_at, with_held, file_of, other_in, entry_in, value_in, untold_in, with_file, with_value_of, with_value_in, with_mode_of, with_file_mode_of, with_mode_in, file_made_by, refitted, refitted_other, others_under, with_files_of, cgroup_made_by}
 use Rattle.cg_cgroup.specs.declared.user.Entry.{Entry}
 use Rattle.cg_cgroup.specs.declared.files.Limit.{Limit}
 use Rattle.cg_cgroup.specs.declared.files.Controller.{Controller}
@@ -19,7 +19,9 @@ use Rattle.cg_cgroup.specs.declared.controllers.ControllerSet.{ControllerSet}
 use Rattle.cg_cgroup.specs.declared.files.LimitFile.{LimitFile}
 use Rattle.cg_cgroup.specs.declared.files.LimitFile.TheVariants.{MaxDescendants, MaxDepth, CpuWeight}
 use Rattle.cg_cgroup.specs.declared.files.EntryName.{EntryName}
-use Rattle.cg_cgroup.specs.declared.files.EntryName.TheVariants.{Dir, Procs, SubtreeControl, File}
+use Rattle.cg_cgroup.specs.declared.files.EntryName.TheVariants.{Dir, Procs, SubtreeControl, File, Other}
+use Rattle.cg_cgroup.specs.declared.other_file.OtherFile.{OtherFile}
+use Rattle.cg_cgroup.specs.declared.other_file.OtherFile.TheVariants.{CpuMax}
 use Rattle.cg_cgroup.specs.declared.cgroup.LimitEntry.{LimitEntry}
 use Rattle.cg_cgroup.specs.declared.brought.BroughtFiles.{BroughtFiles}
 use Rattle.cg_cgroup.specs.declared.others.OtherFiles.{OtherFiles}
@@ -41,17 +43,32 @@ pub same_file-true : (file other : LimitFile) → same_file file other ≡ true 
 same_file-true file other h =
     sym (numbered file) ∙ ap (λ n. get_or all_files n CpuWeight) (eqb-true (kind_of file).number (kind_of other).number h) ∙ numbered other
 
+pub same_other-refl : (file : OtherFile) → same_other file file ≡ true
+same_other-refl CpuMax = refl
+same_other-refl file = refl
+
+numbered_other : (file : OtherFile) → get_or all_others (other_kind file).number CpuMax ≡ file
+numbered_other CpuMax = refl
+numbered_other file = refl
+
+pub same_other-true : (file other : OtherFile) → same_other file other ≡ true → file ≡ other
+same_other-true file other h =
+    sym (numbered_other file) ∙ ap (λ n. get_or all_others n CpuMax) (eqb-true (other_kind file).number (other_kind other).number h)
+    ∙ numbered_other other
+
 pub same_entry-refl : (name : EntryName) → same_entry name name ≡ true
 same_entry-refl Dir = refl
 same_entry-refl Procs = refl
 same_entry-refl SubtreeControl = refl
 same_entry-refl (File file) = same_file-refl file
+same_entry-refl (Other file) = same_other-refl file
 
 pub same_entry-true : (name other : EntryName) → same_entry name other ≡ true → name ≡ other
 same_entry-true Dir Dir h = refl
 same_entry-true Procs Procs h = refl
 same_entry-true SubtreeControl SubtreeControl h = refl
 same_entry-true (File file) (File other) h = ap File (same_file-true file other h)
+same_entry-true (Other file) (Other other) h = ap Other (same_other-true file other h)
 same_entry-true name other h = cc
 
 -- ---- the files that controllers bring
@@ -173,6 +190,16 @@ pub other_in-with_file : (file : LimitFile) (f : LimitEntry → LimitEntry) (row
 other_in-with_file MaxDescendants f row controller = refl
 other_in-with_file file f row controller = refl
 
+-- what is not told of a row's other files comes from these and from `cgroup.freeze`
+pub untold_same : (old new : Cgroup) → new.freeze ≡ old.freeze
+    → ((controller : Controller) → other_in new controller ≡ other_in old controller)
+    → (file : OtherFile) → untold_in new file ≡ untold_in old file
+untold_same old new freeze others file =
+    elim (brought_by file) as
+    (λ by. elim by [ None ↦ Some new.freeze | Some controller ↦ other_in new controller ]
+    ≡ elim by [ None ↦ Some old.freeze | Some controller ↦ other_in old controller ])
+    [ None ↦ ap Some freeze | Some controller ↦ others controller ]
+
 entry_part : (b : Bool) (f : LimitEntry → LimitEntry) (o : Option LimitEntry) → ((x : LimitEntry) → (f x).entry ≡ x.entry)
     → option_map (λ x. x.entry) (cond b (option_map f o) o) ≡ option_map (λ x. x.entry) o
 entry_part false f o h = refl
@@ -199,6 +226,9 @@ entry_in-with_value_in file value row SubtreeControl = ap Some (rest-with_file f
 entry_in-with_value_in file value row (File other) =
     ap (option_map (λ x. x.entry)) (file_of-with_value_in file value row other)
     ∙ entry_part (same_file file other) (with_value_of value) (file_of row other) (λ x. refl)
+entry_in-with_value_in file value row (Other other) =
+    untold_same row (with_value_in file value row) (rest-with_file file (with_value_of value) row).freeze
+    (other_in-with_value_in file value row) other
 
 value_part : (b : Bool) (value : Limit) (o : Option LimitEntry) → option_map (λ x. x.value) (cond b (option_map (with_value_of value) o) o)
     ≡ cond b (option_map (λ x. value) o) (option_map (λ x. x.value) o)
@@ -234,6 +264,7 @@ file_of-with_mode_in (File file) mode row other = file_of-with_file file (with_f
 file_of-with_mode_in Dir mode row MaxDescendants = refl
 file_of-with_mode_in Procs mode row MaxDescendants = refl
 file_of-with_mode_in SubtreeControl mode row MaxDescendants = refl
+file_of-with_mode_in (Other beyond) mode row file = refl
 file_of-with_mode_in name mode row file = refl
 
 pub enabled-with_mode_in : (name : EntryName) (mode : ℕ) (row : Cgroup) → (with_mode_in name mode row).enabled ≡ row.enabled
@@ -251,19 +282,31 @@ value_in-with_mode_in name mode row file =
     ap (option_map (λ x. x.value)) (file_of-with_mode_in name mode row file)
     ∙ value_kept (same_entry name (File file)) mode (file_of row file)
 
-pub entry_in-with_mode_in : (name : EntryName) (mode : ℕ) (row : Cgroup) (other : EntryName)
+pub untold_in-with_mode_in : (name : EntryName) (mode : ℕ) (row : Cgroup) (other : OtherFile)
+    → untold_in (with_mode_in name mode row) other ≡ untold_in row other
+untold_in-with_mode_in (File file) mode row other =
+    untold_same row (with_mode_in (File file) mode row) (rest-with_file file (with_file_mode_of mode) row).freeze
+    (other_in-with_mode_in (File file) mode row) other
+untold_in-with_mode_in Dir mode row other = untold_same row (with_mode_in Dir mode row) refl (λ controller. refl) other
+untold_in-with_mode_in Procs mode row other = untold_same row (with_mode_in Procs mode row) refl (λ controller. refl) other
+untold_in-with_mode_in SubtreeControl mode row other =
+    untold_same row (with_mode_in SubtreeControl mode row) refl (λ controller. refl) other
+untold_in-with_mode_in (Other file) mode row other = refl
+
+pub entry_in-with_mode_in : (name : EntryName) (mode : ℕ) (row : Cgroup) (other : EntryName) → is_beyond other ≡ false
     → entry_in (with_mode_in name mode row) other
     ≡ cond (same_entry name other) (option_map (with_mode_of mode) (entry_in row other)) (entry_in row other)
-entry_in-with_mode_in name mode row (File file) =
+entry_in-with_mode_in name mode row (Other file) h = cc
+entry_in-with_mode_in name mode row (File file) h =
     ap (option_map (λ x. x.entry)) (file_of-with_mode_in name mode row file)
     ∙ mode_part (same_entry name (File file)) mode (file_of row file)
-entry_in-with_mode_in (File file) mode row Dir = ap Some (rest-with_file file (with_file_mode_of mode) row).dir
-entry_in-with_mode_in (File file) mode row Procs = ap Some (rest-with_file file (with_file_mode_of mode) row).procs
-entry_in-with_mode_in (File file) mode row SubtreeControl = ap Some (rest-with_file file (with_file_mode_of mode) row).subtree_control
-entry_in-with_mode_in Dir mode row Dir = refl
-entry_in-with_mode_in Procs mode row Dir = refl
-entry_in-with_mode_in SubtreeControl mode row Dir = refl
-entry_in-with_mode_in name mode row other = refl
+entry_in-with_mode_in (File file) mode row Dir h = ap Some (rest-with_file file (with_file_mode_of mode) row).dir
+entry_in-with_mode_in (File file) mode row Procs h = ap Some (rest-with_file file (with_file_mode_of mode) row).procs
+entry_in-with_mode_in (File file) mode row SubtreeControl h = ap Some (rest-with_file file (with_file_mode_of mode) row).subtree_control
+entry_in-with_mode_in Dir mode row Dir h = refl
+entry_in-with_mode_in Procs mode row Dir h = refl
+entry_in-with_mode_in SubtreeControl mode row Dir h = refl
+entry_in-with_mode_in name mode row other h = refl
 
 -- ---- files made and removed
 

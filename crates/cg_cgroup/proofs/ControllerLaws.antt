@@ -9,7 +9,7 @@ use mathlib.Core.Bool.{beq}
 use mathlib.Core.HLevel.{is_prop→PathP}
 use native.Mathlib.Nat.{ℕ_set}
 use Rattle.cg_cgroup.proofs.Places.{numbers, held_all}
-use Rattle.cg_cgroup.specs.Files.{all_controllers, format_2_controllers, controller_kind, same_controller, is_in_format_2, enables, set_by, with_controller, no_controllers, enables_nothing, is_within, is_known, is_of, vocabulary_of}
+use Rattle.cg_cgroup.specs.Files.{all_controllers, format_2_controllers, controller_kind, same_controller, is_in_format_2, enables, set_by, with_controller, enables_nothing, is_within, is_known, is_of, vocabulary_of}
 use Rattle.cg_cgroup.specs.declared.files.Vocabulary.{Vocabulary}
 use Rattle.cg_cgroup.specs.declared.files.Vocabulary.TheVariants.{Format2, Format4}
 use Rattle.cg_cgroup.specs.declared.files.Controller.{Controller}
@@ -189,10 +189,6 @@ pub known-each : (vocabulary : Vocabulary) (set : ControllerSet)
 known-each vocabulary set h =
     all_controllers_pass (λ controller. not (enables set controller) || is_known vocabulary controller)
     (λ controller. off_or_on _ _ (h controller))
-
-pub known-none : (vocabulary : Vocabulary) → is_of vocabulary no_controllers ≡ true
-known-none Format2 = refl
-known-none Format4 = refl
 
 -- ---- the vocabulary of a set
 

@@ -1,12 +1,14 @@
 -- The names of controllers, limit files and entries: no two are equal, and what is found by a name has that name.
-use Rattle.std.proofs.Common.{◌≡◌, ◌≢◌, ℕ, Bool, true, false, ◌||◌, cond, List, [], ◌∷◌, refl, sym, ap, ◌∙◌}
+use Rattle.std.proofs.Common.{map, ◌≡◌, ◌≢◌, ℕ, Bool, true, false, ◌||◌, cond, List, [], ◌∷◌, refl, sym, ap, ◌∙◌}
 use Rattle.std.specs.Prelude.{Option, Some, None, IfSome, IfNone}
+use Rattle.std.specs.Option.{option_map, option_or}
 use Rattle.std.specs.List.{find, list_any}
 use Rattle.std.specs.Cmp.Lexicographic.{bytes_decides}
 use Rattle.std.proofs.lemmas.Option.{none-some, same_Some}
 use Rattle.std.proofs.Math.Bool.{or-true}
 use Rattle.cg_cgroup.specs.Paths.{same_name}
-use Rattle.cg_cgroup.specs.Files.{AreNames, all_controllers, format_2_controllers, all_files, all_entries, controller_name, controller_named, same_controller, is_in_format_2, named_in_format_2, is_known, known_as, file_name, file_named, entry_text, entry_named}
+use Rattle.cg_cgroup.specs.Files.{AreNames, all_controllers, format_2_controllers, all_files, all_entries, controller_name, controller_named, same_controller, is_in_format_2, named_in_format_2, is_known, known_as, file_name, file_named, entry_text, entry_named, entry_known_as, format_2_entries, all_others}
+use Rattle.cg_cgroup.specs.OtherKinds.{other_named}
 use Rattle.cg_cgroup.specs.declared.files.Controller.{Controller}
 use Rattle.cg_cgroup.specs.declared.files.Controller.TheVariants.{Cpu}
 use Rattle.cg_cgroup.specs.declared.files.Vocabulary.{Vocabulary}
@@ -14,7 +16,9 @@ use Rattle.cg_cgroup.specs.declared.files.Vocabulary.TheVariants.{Format2, Forma
 use Rattle.cg_cgroup.specs.declared.files.LimitFile.{LimitFile}
 use Rattle.cg_cgroup.specs.declared.files.LimitFile.TheVariants.{MaxDescendants}
 use Rattle.cg_cgroup.specs.declared.files.EntryName.{EntryName}
-use Rattle.cg_cgroup.specs.declared.files.EntryName.TheVariants.{Dir, Procs, SubtreeControl, File}
+use Rattle.cg_cgroup.specs.declared.files.EntryName.TheVariants.{Dir, Procs, SubtreeControl, File, Other}
+use Rattle.cg_cgroup.specs.declared.other_file.OtherFile.TheVariants.{CpuMax}
+use Rattle.std.proofs.lemmas.List.Folds.{find-append}
 use Rattle.cg_cgroup.proofs.ControllerLaws.{same_controller-refl, each_in_format_2}
 
 find_passes : {A : Type 0} (test : A → Bool) (xs : List A) (x : A) → find test xs ≡ Some x → test x ≡ true
@@ -48,6 +52,8 @@ found_entry Procs = refl
 found_entry SubtreeControl = refl
 found_entry (File MaxDescendants) = refl
 found_entry (File file) = refl
+found_entry (Other CpuMax) = refl
+found_entry (Other file) = refl
 
 pub controller_names : AreNames controller_name controller_named
 controller_names = are_names controller_name all_controllers found_controller
@@ -122,3 +128,33 @@ pub file_missed : (text : List ℕ) (found : Option LimitFile) → found ≡ fil
     → IfNone found ((file : LimitFile) → text ≢ file_name file)
 file_missed text None is = unnamed file_names text (sym is)
 file_missed text (Some file) is = tt
+
+-- ---- entries of a vocabulary
+
+find-map : {A B : Type 0} (test : B → Bool) (f : A → B) (xs : List A) → find test (map f xs) ≡ option_map f (find (λ x. test (f x)) xs)
+find-map test f [] = refl
+find-map test f (x ∷ xs) =
+    elim (test (f x)) as
+    (λ b. cond b (Some (f x)) (find test (map f xs)) ≡ option_map f (cond b (Some x) (find (λ x. test (f x)) xs))) [
+      | true ↦ refl
+      | false ↦ find-map test f xs
+    ]
+
+-- an entry of a name is one that formats 1 and 2 name, or else a limit file beyond `LimitFile`
+pub entry_parts : (text : List ℕ) (first later : Option EntryName) → first ≡ entry_known_as Format2 text
+    → later ≡ option_map Other (other_named text) → option_or first later ≡ entry_named text
+entry_parts text first later first_is later_is =
+    ap (λ it. option_or it later) first_is
+    ∙ ap (option_or (entry_known_as Format2 text)) later_is
+    ∙ ap (option_or (entry_known_as Format2 text)) (sym (find-map (λ name. same_name text (entry_text name)) Other all_others))
+    ∙ sym (find-append (λ name. same_name text (entry_text name)) format_2_entries (map Other all_others))
+
+-- what is found of a text as an entry has its name, and where nothing is found no entry has
+pub entry_found : (text : List ℕ) (found : Option EntryName) → found ≡ entry_named text → IfSome found (λ name. text ≡ entry_text name)
+entry_found text None is = tt
+entry_found text (Some name) is = entry_names.named text name (sym is)
+
+pub entry_missed : (text : List ℕ) (found : Option EntryName) → found ≡ entry_named text
+    → IfNone found ((name : EntryName) → text ≢ entry_text name)
+entry_missed text None is = unnamed entry_names text (sym is)
+entry_missed text (Some name) is = tt

@@ -5,7 +5,7 @@ pub use Rattle.cg_cgroup.specs.Users.{entry_made_by}
 use Rattle.cg_cgroup.specs.Identity.{Identity}
 use Rattle.std.proofs.Common.{◌∙◌, refl}
 use Rattle.std.proofs.lemmas.List.{length-set}
-use Rattle.cg_cgroup.specs.Files.{all_controllers, controller_kind, brought_files, place_of, default_value, enables, stands_under, no_controllers}
+use Rattle.cg_cgroup.specs.Files.{brought_by, all_controllers, controller_kind, brought_files, place_of, default_value, enables, stands_under, no_controllers}
 use Rattle.cg_cgroup.specs.declared.user.Entry.{Entry}
 use Rattle.cg_cgroup.specs.declared.files.Limit.{Limit}
 use Rattle.cg_cgroup.specs.declared.files.Controller.{Controller}
@@ -13,7 +13,8 @@ use Rattle.cg_cgroup.specs.declared.controllers.ControllerSet.{ControllerSet}
 use Rattle.cg_cgroup.specs.declared.files.LimitFile.{LimitFile}
 use Rattle.cg_cgroup.specs.declared.files.LimitFile.TheVariants.{MaxDescendants, MaxDepth}
 use Rattle.cg_cgroup.specs.declared.files.EntryName.{EntryName}
-use Rattle.cg_cgroup.specs.declared.files.EntryName.TheVariants.{Dir, Procs, SubtreeControl, File}
+use Rattle.cg_cgroup.specs.declared.files.EntryName.TheVariants.{Dir, Procs, SubtreeControl, File, Other}
+use Rattle.cg_cgroup.specs.declared.other_file.OtherFile.{OtherFile}
 use Rattle.cg_cgroup.specs.declared.cgroup.LimitEntry.{LimitEntry}
 use Rattle.cg_cgroup.specs.declared.brought.BroughtFiles.{BroughtFiles}
 use Rattle.cg_cgroup.specs.declared.others.OtherFiles.{OtherFiles}
@@ -49,12 +50,17 @@ others_under enabled entry = others_by (λ controller. cond (enables enabled con
 abbrev pub root_file : Entry
 root_file = record { uid = 0; gid = 0; mode = 420 }
 
--- the entry of a directory or file, where it is there
+-- the entry of a limit file beyond `LimitFile` of which nothing is told, where it is there
+abbrev pub untold_in : Cgroup → OtherFile → Option Entry
+untold_in row file = elim (brought_by file) [ None ↦ Some row.freeze | Some controller ↦ other_in row controller ]
+
+-- the entry of a directory or file, where it is there and nothing else is told of it
 abbrev pub entry_in : Cgroup → EntryName → Option Entry
 entry_in row Dir = Some row.dir
 entry_in row Procs = Some row.procs
 entry_in row SubtreeControl = Some row.subtree_control
 entry_in row (File file) = option_map (λ f. f.entry) (file_of row file)
+entry_in row (Other file) = untold_in row file
 
 -- the value of a limit file, where it stands
 abbrev pub value_in : Cgroup → LimitFile → Option Limit
@@ -86,6 +92,7 @@ with_mode_in Dir mode row = record row { dir = with_mode_of mode row.dir }
 with_mode_in Procs mode row = record row { procs = with_mode_of mode row.procs }
 with_mode_in SubtreeControl mode row = record row { subtree_control = with_mode_of mode row.subtree_control }
 with_mode_in (File file) mode row = with_file file (with_file_mode_of mode) row
+with_mode_in (Other file) mode row = row
 
 -- Own: a limit file that a user makes is theirs, with mode 0o644.
 abbrev pub file_made_by : Identity → LimitFile → LimitEntry

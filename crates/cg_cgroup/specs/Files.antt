@@ -1,10 +1,11 @@
 -- Controllers and limit files: how they are found by their names, where they stand, and the values that they take.
-use Rattle.std.specs.Prelude.{◌≡◌, ℕ, Bool, true, false, ◌&&◌, ◌||◌, not, nat_eq, nat_le, cond, get_or, map, List, ◌∷◌, Option, Some, None, codes}
+use Rattle.std.specs.Prelude.{◌≡◌, ℕ, Bool, true, false, ◌&&◌, ◌||◌, not, nat_eq, nat_le, cond, get_or, map, List, ◌∷◌, ◌++◌, Option, Some, None, codes}
 use Rattle.std.specs.List.{find, list_all, list_any}
 use Rattle.std.proofs.Common.{refl}
 use Rattle.cg_cgroup.specs.Paths.{same_name}
 use Rattle.cg_cgroup.specs.Texts as texts
 pub use Rattle.cg_cgroup.specs.Kinds.{all_controllers, format_2_controllers, controller_kind, controller_name, all_files, file_name, kind_of, brought_files, place_of}
+pub use Rattle.cg_cgroup.specs.OtherKinds.{all_others, other_kind, other_name, brought_by}
 use Rattle.cg_cgroup.specs.declared.files.Limit.{Limit}
 use Rattle.cg_cgroup.specs.declared.files.Limit.TheVariants.{Max, At}
 use Rattle.cg_cgroup.specs.declared.files.Controller.{Controller}
@@ -13,7 +14,8 @@ use Rattle.cg_cgroup.specs.declared.files.Vocabulary.{Vocabulary}
 use Rattle.cg_cgroup.specs.declared.files.Vocabulary.TheVariants.{Format2, Format4}
 use Rattle.cg_cgroup.specs.declared.files.LimitFile.{LimitFile}
 use Rattle.cg_cgroup.specs.declared.files.EntryName.{EntryName}
-use Rattle.cg_cgroup.specs.declared.files.EntryName.TheVariants.{Dir, Procs, SubtreeControl, File}
+use Rattle.cg_cgroup.specs.declared.files.EntryName.TheVariants.{Dir, Procs, SubtreeControl, File, Other}
+use Rattle.cg_cgroup.specs.declared.other_file.OtherFile.{OtherFile}
 
 -- Names by which things are found: each thing by its own, what is found has the name that was sought, and no two names are equal.
 pub record AreNames {A : Type 0} (name : A → List ℕ) (look_up : List ℕ → Option A) : Type 0 where
@@ -77,29 +79,51 @@ vocabulary_of set = cond (is_of Format2 set) Format2 Format4
 abbrev pub same_file : LimitFile → LimitFile → Bool
 same_file file other = nat_eq (kind_of file).number (kind_of other).number
 
+abbrev pub same_other : OtherFile → OtherFile → Bool
+same_other file other = nat_eq (other_kind file).number (other_kind other).number
+
 abbrev pub same_entry : EntryName → EntryName → Bool
 same_entry Dir Dir = true
 same_entry Procs Procs = true
 same_entry SubtreeControl SubtreeControl = true
 same_entry (File file) (File other) = same_file file other
+same_entry (Other file) (Other other) = same_other file other
 same_entry name other = false
+
+-- a limit file beyond `LimitFile`
+abbrev pub is_beyond : EntryName → Bool
+is_beyond (Other file) = true
+is_beyond name = false
 
 -- the limit file of a name
 abbrev pub file_named : List ℕ → Option LimitFile
 file_named text = find (λ file. same_name text (file_name file)) all_files
 
+-- those that texts and operation lines of formats 1 and 2 name
+abbrev pub format_2_entries : List EntryName
+format_2_entries = Dir ∷ Procs ∷ SubtreeControl ∷ map File all_files
+
 abbrev pub all_entries : List EntryName
-all_entries = Dir ∷ Procs ∷ SubtreeControl ∷ map File all_files
+all_entries = format_2_entries ++ map Other all_others
 
 abbrev pub entry_text : EntryName → List ℕ
 entry_text Dir = codes "dir"
 entry_text Procs = texts.cgroup_procs
 entry_text SubtreeControl = texts.cgroup_subtree_control
 entry_text (File file) = file_name file
+entry_text (Other file) = other_name file
 
 -- the entry of a name
 abbrev pub entry_named : List ℕ → Option EntryName
 entry_named text = find (λ name. same_name text (entry_text name)) all_entries
+
+-- an entry that texts and operation lines of a vocabulary name, and the one that a name means there
+abbrev pub known_entries : Vocabulary → List EntryName
+known_entries Format2 = format_2_entries
+known_entries Format4 = all_entries
+
+abbrev pub entry_known_as : Vocabulary → List ℕ → Option EntryName
+entry_known_as vocabulary text = find (λ name. same_name text (entry_text name)) (known_entries vocabulary)
 
 -- The controller that brings a file. The two of the core stand at every cgroup. Enabling and Disabling; Core Interface Files.
 abbrev pub controller_of : LimitFile → Option Controller
@@ -112,6 +136,10 @@ abbrev pub accepts : LimitFile → Limit → Bool
 accepts file Max = (kind_of file).takes_max
 accepts file (At value) = nat_le (kind_of file).least value && nat_le value (kind_of file).greatest
 
+-- Whether what a controller brings, or the core, stands at a child of a cgroup that enables these.
+abbrev pub stands_by : ControllerSet → Option Controller → Bool
+stands_by enabled by = elim by [ None ↦ true | Some controller ↦ enables enabled controller ]
+
 -- Whether a file stands at a child of a cgroup that enables these, or at the root where there is no such cgroup.
 abbrev pub stands_under : ControllerSet → LimitFile → Bool
-stands_under enabled file = elim (controller_of file) [ None ↦ true | Some controller ↦ enables enabled controller ]
+stands_under enabled file = stands_by enabled (controller_of file)

@@ -5,6 +5,8 @@ pub mod PathText
 pub mod Numbers
 pub mod Identity
 pub mod Users
+pub mod OtherKinds
 pub mod Files
 pub mod Cgroups
+pub mod Told
 pub mod Options

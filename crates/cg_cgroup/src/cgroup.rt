@@ -1,11 +1,12 @@
 //! One cgroup: its entries, its limits and what it enables for its children.
 ghost use Rattle.std.specs.Prelude.{◌≡◌, map};
 ghost use Rattle.cg_cgroup.specs.Files.{all_controllers, brought_files};
-ghost use Rattle.cg_cgroup.specs.Cgroups.{file_of, entry_in, value_in, with_value_in, with_value_of, with_mode_in, with_file_mode_of, file_made_by, refitted, refitted_other, other_in, with_files_of, cgroup_made_by};
+ghost use Rattle.cg_cgroup.specs.Cgroups.{file_of, untold_in, entry_in, value_in, with_value_in, with_value_of, with_mode_in, with_file_mode_of, file_made_by, refitted, refitted_other, other_in, with_files_of, cgroup_made_by};
 
 use crate::brought::BroughtFiles;
 use crate::controllers::CONTROLLER_COUNT;
 use crate::files::{BROUGHT_COUNT, Controller, ControllerSet, EntryName, Limit, LimitFile};
+use crate::other_file::OtherFile;
 use crate::others::OtherFiles;
 use crate::user::{Entry, Mode, User};
 
@@ -98,7 +99,17 @@ impl Cgroup {
         self.others.get(controller)
     }
 
-    /// The owner, group and mode of an entry, where it is there.
+    /// The owner, group and mode of a limit file beyond `LimitFile` of which nothing is told, where it stands.
+    pub fn untold(&self, file: OtherFile) -> Option<Entry>
+        ensures { result ≡ untold_in self.now file }
+    {
+        match file.controller() {
+            None => Some(self.freeze),
+            Some(controller) => self.other(controller),
+        }
+    }
+
+    /// The owner, group and mode of an entry, where it is there and nothing else is told of it.
     pub fn entry(&self, name: EntryName) -> Option<Entry>
         ensures { result ≡ entry_in self.now name }
     {
@@ -107,6 +118,7 @@ impl Cgroup {
             EntryName::Procs => Some(self.procs),
             EntryName::SubtreeControl => Some(self.subtree_control),
             EntryName::File(file) => self.file(file).map(|held| held.entry),
+            EntryName::Other(file) => self.untold(file),
         }
     }
 
@@ -128,7 +140,7 @@ impl Cgroup {
         }
     }
 
-    /// Sets the mode of an entry, where it is there.
+    /// Sets the mode of an entry, where it is there and none of `OtherFile`.
     pub fn set_mode(&mut self, name: EntryName, mode: Mode)
         ensures { self.new ≡ with_mode_in name mode self.old }
     {
@@ -137,6 +149,7 @@ impl Cgroup {
             EntryName::Procs => self.procs.mode = mode.get(),
             EntryName::SubtreeControl => self.subtree_control.mode = mode.get(),
             EntryName::File(file) => self.set_file_mode(file, mode),
+            EntryName::Other(_) => {}
         }
     }
 

@@ -2,10 +2,14 @@
 ghost use Rattle.std.specs.Prelude.{ℕ, ◌≡◌, ◌≢◌, ◌<◌, ◌≤◌, true, false, length, IfSome, IfNone};
 ghost use Rattle.std.specs.List.{find};
 ghost use Rattle.cg_cgroup.specs.Paths.{same_name};
-ghost use Rattle.cg_cgroup.specs.Files.{kind_of, brought_files, place_of, controller_of, default_value, accepts, stands_under, all_controllers, format_2_controllers, controller_kind, all_files, AreNames, controller_name, controller_named, is_in_format_2, named_in_format_2, is_known, known_as, is_of, vocabulary_of, file_name, file_named, entry_text, entry_named};
+ghost use Rattle.std.specs.Option.{option_map};
+ghost use Rattle.cg_cgroup.specs.OtherKinds.{other_named};
+ghost use Rattle.cg_cgroup.specs.declared.files.EntryName.TheVariants.{Other};
+ghost use Rattle.cg_cgroup.specs.Files.{kind_of, brought_files, place_of, controller_of, default_value, accepts, stands_under, all_controllers, format_2_controllers, controller_kind, all_files, AreNames, controller_name, controller_named, is_in_format_2, named_in_format_2, is_known, known_as, is_of, vocabulary_of, file_name, file_named, entry_text, entry_named, entry_known_as};
 
 use crate::controllers::CONTROLLER_COUNT;
 pub use crate::controllers::ControllerSet;
+use crate::other_file::OtherFile;
 
 /// The value of a limit file: `max`, or a number.
 #[derive(Clone, Copy, Debug, PartialEq, Eq)]
@@ -361,6 +365,7 @@ pub enum EntryName {
     Procs,
     SubtreeControl,
     File(LimitFile),
+    Other(OtherFile),
 }
 
 impl EntryName {
@@ -373,6 +378,7 @@ impl EntryName {
             EntryName::Procs => "cgroup.procs",
             EntryName::SubtreeControl => "cgroup.subtree_control",
             EntryName::File(file) => file.name(),
+            EntryName::Other(file) => file.name(),
         }
     }
 
@@ -381,6 +387,23 @@ impl EntryName {
         ensures found { result ≡ entry_named text.now }
         ensures named { IfSome result (λ name. text.now ≡ entry_text name) }
         ensures unnamed { IfNone result ((name : EntryName) → text.now ≢ entry_text name) }
+    {
+        match EntryName::in_format_2(text) {
+            Some(entry) => Some(entry),
+            None => EntryName::beyond(text),
+        }
+    }
+
+    /// The limit file beyond `LimitFile` of a name, where it is one.
+    fn beyond(text: &str) -> Option<EntryName>
+        ensures { result ≡ option_map Other (other_named text.now) }
+    {
+        OtherFile::from_name(text).map(EntryName::Other)
+    }
+
+    /// The entry of a name that texts of formats 1 and 2 have, where it is one.
+    pub fn in_format_2(text: &str) -> Option<EntryName>
+        ensures found { result ≡ entry_known_as Vocabulary.Format2 text.now }
     {
         match text {
             "dir" => Some(EntryName::Dir),

@@ -168,7 +168,7 @@ pub guarded-are-contained : (st : State) (users : List Identity) (subtrees : Lis
 guarded-are-contained st users subtrees formed subs hold some =
     are-contained st users subtrees (ap first (faults_none st subtrees subs)) formed (ap first (users_none st 0 users subtrees hold)) some
 
--- where the check of the first pair has a fault, the pair takes memory
+-- the check of the first pair answers for all, and where it has a fault, the pair takes memory
 module _ (st : State) (users : List Identity) (subtrees : List Names) (at : ℕ × ℕ) (user : Identity) (subtree : Names)
     (none : first (flat_map (subtree_faults st) subtrees) ≡ None) (found : IsFirstUnguarded st users subtrees (Some at))
     (one : user ≡ get_or users at.0 user) (other : subtree ≡ get_or subtrees at.1 subtree) where
@@ -179,6 +179,15 @@ module _ (st : State) (users : List Identity) (subtrees : List Names) (at : ℕ 
   faultless =
       checked-answer st user subtree
       (sym (ap (λ path. first (subtree_faults st path)) other ∙ none-element (subtree_faults st) subtrees at.1 subtree found.1 none))
+
+  pub pair-gives : (result : Answer) → Gives takes_memory (checked st user subtree) (Ok result)
+      → Gives all_take_memory (all_checked st users subtrees) (Ok (all.Pair at.0 at.1 result))
+  pair-gives result gives =
+      let known : Ok (answer st user subtree) ≡ Ok result = sym faultless ∙ gives in
+      let same : answer st user subtree ≡ result = cc in
+      ap (λ fault. unless_fault fault (all_answers st users subtrees)) none
+      ∙ ap (λ pair. Ok (unwrap_or pair all.Contained)) (found.2 user subtree)
+      ∙ (λ i. Ok (all.Pair at.0 at.1 (answer st (sym one i) (sym other i)))) ∙ ap (λ a. Ok (all.Pair at.0 at.1 a)) same
 
   of_fault : (fault : CheckFault) → Gives takes_memory (checked st user subtree) (Err fault)
       → Gives all_take_memory (all_checked st users subtrees) (Err fault)

@@ -21,6 +21,7 @@ use Rattle.cg_model.specs.Clauses.{present}
 use Rattle.cg_model.specs.declared.operation.Op.TheVariants.{Chmod}
 use Rattle.cg_model.specs.Guards.{Guarded, guarded_entries, guarded_entry, found, standing, IsSubtree}
 use Rattle.cg_model.specs.declared.guard.GuardedEntry.{GuardedEntry}
+use Rattle.cg_guards.specs.Asked.{asked_entries}
 use Rattle.cg_guards.proofs.TableWalk.{of_guarded, walk_turn, drop_all}
 use Rattle.cg_model.proofs.Edges.{none-crosses-same}
 use Rattle.cg_model.specs.Held.{by_user}
@@ -30,7 +31,8 @@ use Rattle.cg_model.specs.Tries.{opening_of, opening, with_opening, plain_tries}
 use Rattle.cg_model.specs.Escapes.{breaks, first_escape}
 use Rattle.cg_tries.specs.Escapes.{IsUnbroken}
 use Rattle.cg_tries.proofs.Seen.{is_empty, empty_is, breaks-run}
-use Rattle.cg_check.specs.Opened.{is_free, opening_chmod}
+use Rattle.cg_check.specs.Opened.{is_free, opening_chmod, leaves_others}
+use Rattle.cg_check.proofs.Unopened.{opening-asked}
 use Rattle.cg_check.proofs.Openings.{opened_state, unless_free, unbroken-opened, subtree-opened, first_escape-is}
 
 -- ---- the opening
@@ -53,40 +55,44 @@ module _ (st : State) (user : Identity) (subtree : Names) where
       by_entry None = refl
       by_entry (Some entry) = refl
 
-  -- the chmods of the entries from a place on
-  abbrev pub opening_from : ℕ → List Op
-  opening_from place = flat_map (opening_of st user subtree) (drop place (guarded_entries subtree))
+  module _ (passes : Bool) where
+    -- the chmods of the asked entries from a turn on
+    abbrev pub opening_from : ℕ → List Op
+    opening_from turn = flat_map (opening_of st user subtree) (drop turn (asked_entries passes subtree))
 
-  module _ (place : ℕ) (here : Option GuardedEntry)
-      (is : here ≡ option_and_then (standing st subtree) (slice_get (guarded_entries subtree) place)) where
-    opening_turn : opening_from place ≡ present here (opening_chmod user subtree) ++ opening_from (place + 1)
-    opening_turn =
-        ap (λ each. flat_map each (drop place (guarded_entries subtree))) (λ i guarded. of_standing guarded i)
-        ∙ walk_turn st subtree (opening_chmod user subtree) (guarded_entries subtree) place here is
-        ∙ ap (λ each. present here (opening_chmod user subtree) ++ flat_map each (drop (place + 1) (guarded_entries subtree)))
-        (λ i guarded. sym (of_standing guarded) i)
+    module _ (turn : ℕ) (here : Option GuardedEntry)
+        (is : here ≡ option_and_then (standing st subtree) (slice_get (asked_entries passes subtree) turn)) where
+      opening_turn : opening_from turn ≡ present here (opening_chmod user subtree) ++ opening_from (turn + 1)
+      opening_turn =
+          ap (λ each. flat_map each (drop turn (asked_entries passes subtree))) (λ i guarded. of_standing guarded i)
+          ∙ walk_turn st subtree (opening_chmod user subtree) (asked_entries passes subtree) turn here is
+          ∙ ap (λ each. present here (opening_chmod user subtree) ++ flat_map each (drop (turn + 1) (asked_entries passes subtree)))
+          (λ i guarded. sym (of_standing guarded) i)
 
-  pub opening_begins : (chmods : List Op) → chmods ≡ [] → chmods ++ opening_from 0 ≡ opening st user subtree
-  opening_begins chmods none = ap (λ ops. ops ++ opening st user subtree) none
+    pub opening_begins : (chmods : List Op) → chmods ≡ [] → passes ≡ leaves_others st user subtree
+        → chmods ++ opening_from 0 ≡ opening st user subtree
+    opening_begins chmods none is = ap (λ ops. ops ++ opening_from 0) none ∙ opening-asked st user subtree passes is
 
-  pub opening_passes : (place : ℕ) (chmods : List Op)
-      → None ≡ option_and_then (standing st subtree) (slice_get (guarded_entries subtree) place)
-      → chmods ++ opening_from (place + 1) ≡ chmods ++ opening_from place
-  opening_passes place chmods is = ap (λ rest. chmods ++ rest) (sym (opening_turn place None is))
+    module _ (turn place : ℕ) (here : slice_get (guarded_entries subtree) place ≡ slice_get (asked_entries passes subtree) turn) where
+      pub opening_passes : (chmods : List Op) → None ≡ option_and_then (standing st subtree) (slice_get (guarded_entries subtree) place)
+          → chmods ++ opening_from (turn + 1) ≡ chmods ++ opening_from turn
+      opening_passes chmods is =
+          ap (λ rest. chmods ++ rest) (sym (opening_turn turn None (is ∙ ap (option_and_then (standing st subtree)) here)))
 
-  pub opening_grows : (place : ℕ) (at : GuardedEntry) (chmods more : List Op)
-      → Some at ≡ option_and_then (standing st subtree) (slice_get (guarded_entries subtree) place)
-      → more ≡ chmods ++ opening_chmod user subtree at → more ++ opening_from (place + 1) ≡ chmods ++ opening_from place
-  opening_grows place at chmods more is added =
-      ap (λ ops. ops ++ opening_from (place + 1)) added ∙ append_assoc chmods (opening_chmod user subtree at) (opening_from (place + 1))
-      ∙ ap (λ rest. chmods ++ rest) (sym (opening_turn place (Some at) is))
+      pub opening_grows : (at : GuardedEntry) (chmods more : List Op)
+          → Some at ≡ option_and_then (standing st subtree) (slice_get (guarded_entries subtree) place)
+          → more ≡ chmods ++ opening_chmod user subtree at → more ++ opening_from (turn + 1) ≡ chmods ++ opening_from turn
+      opening_grows at chmods more is added =
+          ap (λ ops. ops ++ opening_from (turn + 1)) added ∙ append_assoc chmods (opening_chmod user subtree at) (opening_from (turn + 1))
+          ∙ ap (λ rest. chmods ++ rest) (sym (opening_turn turn (Some at) (is ∙ ap (option_and_then (standing st subtree)) here)))
 
-  pub opening_ends : (place : ℕ) (chmods : List Op) → length (guarded_entries subtree) ≤ place
-      → chmods ++ opening_from place ≡ opening st user subtree → chmods ≡ opening st user subtree
-  opening_ends place chmods all whole =
-      sym
-      (ap (λ rest. chmods ++ flat_map (opening_of st user subtree) rest) (drop_all (guarded_entries subtree) place all) ∙ append-nil chmods)
-      ∙ whole
+    pub opening_ends : (turn : ℕ) (chmods : List Op) → length (asked_entries passes subtree) ≤ turn
+        → chmods ++ opening_from turn ≡ opening st user subtree → chmods ≡ opening st user subtree
+    opening_ends turn chmods all whole =
+        sym
+        (ap (λ rest. chmods ++ flat_map (opening_of st user subtree) rest) (drop_all (asked_entries passes subtree) turn all)
+        ∙ append-nil chmods)
+        ∙ whole
 
 pub opened-is : (st copy new : State) (user : Identity) (subtree : Names) (chmods carried : List Op)
     → new ≡ after_all copy (by_user user carried) → copy ≡ st → carried ≡ chmods → chmods ≡ opening st user subtree

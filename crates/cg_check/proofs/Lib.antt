@@ -1,8 +1,9 @@
+mod Unopened
 mod Wider
-mod Tried
+pub mod Tried
 mod Monotone
-mod Openings
-mod Escaping
+pub mod Openings
+pub mod Escaping
 pub mod Checking
 pub mod Pairs
 mod FirstUnguarded

@@ -1,12 +1,14 @@
 -- Where a user reaches a limit file of a subtree, some try breaks the subtree: that file set to another value.
-use Rattle.std.proofs.Common.{◌≡◌, ℕ, zero, suc, Bool, true, false, cond, not, ◌&&◌, ◌||◌, List, [], ◌∷◌, ◌++◌, map, find, length, take, nat_eq, refl, sym, ap, ◌∙◌, subst, Option, Some, None, option_map, option_and_then, true≢false}
+use Rattle.std.proofs.Common.{◌≡◌, ℕ, Bool, true, false, cond, not, ◌&&◌, ◌||◌, List, [], ◌∷◌, ◌++◌, find, length, take, nat_eq, refl, sym, ap, ◌∙◌, subst, Option, Some, None, option_map, option_and_then, true≢false}
 use Rattle.std.proofs.lemmas.Option.{none-some}
 use Rattle.std.proofs.Math.Seq.{take-length}
-use Rattle.std.specs.List.{flat_map, AllByRecursion}
+use Rattle.std.proofs.lemmas.List.Elements.{All-from_recursion, recursion_from_All, All-contains, Contains-append_left, Contains-append_right}
+use Rattle.std.proofs.lemmas.Map.Views.{Contains-from_any}
+use Rattle.std.specs.List.{flat_map, list_any, AllByRecursion, Contains}
 use Rattle.cg_cgroup.specs.Paths.{Names}
 use Rattle.cg_cgroup.specs.Identity.{Identity}
 use Rattle.cg_cgroup.specs.Users.{writes, owns, reaches, opened}
-use Rattle.cg_cgroup.specs.Files.{all_files, accepts}
+use Rattle.cg_cgroup.specs.Files.{all_files, all_others, same_other, accepts}
 use Rattle.cg_cgroup.specs.Cgroups.{file_of, entry_in, with_mode_of}
 use Rattle.cg_cgroup.specs.declared.user.Entry.{Entry}
 use Rattle.cg_cgroup.specs.declared.files.Limit.{Limit}
@@ -14,34 +16,41 @@ use Rattle.cg_cgroup.specs.declared.files.Limit.TheVariants.{Max, At}
 use Rattle.cg_cgroup.specs.declared.files.LimitFile.{LimitFile}
 use Rattle.cg_cgroup.specs.declared.files.LimitFile.TheVariants.{CpuWeight}
 use Rattle.cg_cgroup.specs.declared.files.EntryName.{EntryName}
-use Rattle.cg_cgroup.specs.declared.files.EntryName.TheVariants.{Dir, Procs, SubtreeControl, File}
+use Rattle.cg_cgroup.specs.declared.files.EntryName.TheVariants.{Dir, Procs, SubtreeControl, File, Other}
+use Rattle.cg_cgroup.specs.declared.other_file.OtherFile.{OtherFile}
+use Rattle.cg_cgroup.specs.declared.told.FileText.{FileText}
+use Rattle.cg_cgroup.specs.declared.told.ToldFile.{ToldFile}
 use Rattle.cg_cgroup.specs.declared.cgroup.Cgroup.{Cgroup}
 use Rattle.cg_cgroup.specs.declared.cgroup.LimitEntry.{LimitEntry}
 use Rattle.cg_cgroup.proofs.AllFiles.{each_file}
-use Rattle.cg_cgroup.proofs.Options.{mapped_from, same_some}
+use Rattle.cg_cgroup.proofs.AllOthers.{each_other}
+use Rattle.cg_cgroup.proofs.Options.{mapped_from, some_value}
 use Rattle.cg_cgroup.proofs.PathOrder.{same_path_refl}
-use Rattle.cg_cgroup.proofs.CgroupLaws.{same_entry-refl}
-use Rattle.cg_model.specs.States.{State, row_at, file_at, entry_at, value_at}
+use Rattle.cg_cgroup.proofs.CgroupLaws.{same_entry-refl, same_other-true}
+use Rattle.cg_model.specs.States.{State, row_at, file_at, file_told, entry_at, value_at}
+use Rattle.cg_model.specs.WellFormed.{has_row}
 use Rattle.cg_model.proofs.StateEntries.{entry_at-with_mode, entry_at-file, value_at-file}
 use Rattle.cg_model.specs.Clauses.{unless, absent, present}
 use Rattle.cg_model.specs.Bars.{bars, missing_bars}
 use Rattle.cg_model.specs.Steps.{after, after_all}
 use Rattle.cg_model.specs.declared.operation.Op.{Op}
-use Rattle.cg_model.specs.declared.operation.Op.TheVariants.{Set, Chmod}
+use Rattle.cg_model.specs.declared.operation.Op.TheVariants.{Set, SetOther, Chmod}
 use Rattle.cg_model.specs.declared.outcome.Refusal.{Refusal}
 use Rattle.cg_model.specs.declared.outcome.Refusal.TheVariants.{NoSuchCgroup, NoSuchFile, NoAccess, BadValue, NotOwner}
-use Rattle.cg_model.proofs.ClauseLaws.{no_parts, no_unless, no_present}
+use Rattle.cg_model.proofs.ClauseLaws.{no_parts, no_unless, no_present, none_each}
 use Rattle.cg_model.proofs.StepFormed.{after-allowed}
-use Rattle.cg_model.specs.Limits.{fits_descendants, fits_depth}
+use Rattle.cg_model.proofs.BrokenLaws.{broken-whole}
+use Rattle.cg_model.specs.Limits.{limits, fits_descendants, fits_depth}
 use Rattle.cg_model.specs.Guards.{Guarded, ancestor, ancestors, limit_file, limit_files, parent_control, parent_dir, guarded_entries, guarded_entry, entry_failures, over_failures, failures}
 use Rattle.cg_model.specs.declared.guard.Guard.TheVariants.{AlreadyOver, LimitFile as LimitFileGuard}
 use Rattle.cg_model.specs.declared.guard.Failed.{Failed}
-use Rattle.cg_model.specs.Verdicts.{broken}
 use Rattle.cg_model.specs.Held.{by_user}
-use Rattle.cg_model.specs.Tries.{other_value, set_tries, control_tries, plain_tries, opening_of, opening, with_opening, tries}
+use Rattle.cg_model.specs.Tries.{other_value, other_text, set_tries, control_tries, plain_tries, opening_of, opening, with_opening, tries}
 use Rattle.cg_model.specs.Escapes.{breaks, first_escape}
-use Rattle.cg_tries.proofs.Seen.{is_empty, empty_is, keeps, breaks-run}
-use Rattle.cg_tries.proofs.Single.{set_try}
+use Rattle.cg_laws.proofs.GuardedEntries.{limit_files-has, limit_files-has_other, all_guarded}
+use Rattle.cg_tries.specs.Escapes.{IsUnbroken}
+use Rattle.cg_tries.proofs.Seen.{empty_is, breaks-run}
+use Rattle.cg_tries.proofs.Single.{set_try, other_set_try}
 use Rattle.cg_model.proofs.Lists.{all-append, all-flat_map, all-present, all-each}
 use Rattle.cg_model.specs.Answers.{answer_from, answer}
 use Rattle.cg_check.specs.Answers.{MayBeUnsettled}
@@ -50,7 +59,7 @@ use Rattle.cg_check.proofs.Escaping.{escape-over}
 use Rattle.cg_check.proofs.AnswerLaws.{escape-answer}
 use Rattle.cg_check.proofs.Wider.{IsWider, wider-itself, wider-all, IsOpening, writes-bit}
 use Rattle.cg_check.proofs.Monotone.{both_none}
-use Rattle.cg_check.proofs.Openings.{opened_state, opened-bit, opening-of_one, free_allowed, wider-opened, opened-breaks}
+use Rattle.cg_check.proofs.Openings.{opened_state, opened-bit, opening-of_one, free_allowed, wider-opened, opened-breaks, same_tries}
 
 -- ---- lists
 
@@ -67,10 +76,6 @@ all-unflat : {A B : Type 0} (P : B → Type 0) (g : A → List B) (xs : List A) 
 all-unflat P g [] all = tt
 all-unflat P g (x ∷ xs) all = (all-left P (g x) (flat_map g xs) all, all-unflat P g xs (all-right P (g x) (flat_map g xs) all))
 
-all-unmap : {A B : Type 0} (P : B → Type 0) (g : A → B) (xs : List A) → AllByRecursion P (map g xs) → AllByRecursion (λ x. P (g x)) xs
-all-unmap P g [] all = tt
-all-unmap P g (x ∷ xs) all = (all.0, all-unmap P g xs all.1)
-
 none-passes : {A : Type 0} (p : A → Bool) (xs : List A) → find p xs ≡ None → AllByRecursion (λ x. p x ≡ false) xs
 none-passes p [] none = tt
 none-passes p (x ∷ xs) none =
@@ -78,6 +83,19 @@ none-passes p (x ∷ xs) none =
       | true ↦ λ _ some. absurd (none-some x (sym some))
       | false ↦ λ fails rest. (fails, none-passes p xs rest)
     ] refl none
+
+-- what holds of all in a list holds of one in it
+one-listed : {A : Type 0} (P : A → Type 0) (xs : List A) (x : A) → AllByRecursion P xs → Contains xs x → P x
+one-listed P xs x all listed = All-contains P xs x (All-from_recursion P xs all) listed
+
+guarded-has : (subtree : Names) (guarded : Guarded) → Contains (limit_files (length subtree)) guarded
+    → Contains (guarded_entries subtree) guarded
+guarded-has subtree guarded listed =
+    Contains-append_left (ancestors (length subtree) ++ limit_files (length subtree)) (parent_control subtree ∷ parent_dir subtree ∷ [])
+    guarded (Contains-append_right (ancestors (length subtree)) (limit_files (length subtree)) guarded listed)
+
+others-has : (file : OtherFile) → Contains all_others file
+others-has file = Contains-from_any same_other-true file all_others (each_other (λ f. list_any (same_other f) all_others) refl file)
 
 -- ---- what is read in a cgroup's row is there, and so is the row
 
@@ -93,25 +111,32 @@ module _ {A : Type 0} (f : Cgroup → Option A) (x : A) where
 
 -- ---- an entry that the user owns is written once it is opened
 
-missing-none : (row : Cgroup) (name : EntryName) (entry : Entry) → entry_in row name ≡ Some entry → missing_bars row name ≡ []
-missing-none row Dir entry is = refl
-missing-none row Procs entry is = refl
-missing-none row SubtreeControl entry is = refl
-missing-none row (File file) entry is =
+missing-none : (st : State) (at : Names) (row : Cgroup) (name : EntryName) (entry : Entry) → row_at st at ≡ Some row
+    → entry_at st at name ≡ Some entry → missing_bars st at row name ≡ []
+missing-none st at row Dir entry here is = refl
+missing-none st at row Procs entry here is = refl
+missing-none st at row SubtreeControl entry here is = refl
+missing-none st at row (File file) entry here is =
     elim (file_of row file) as
-    (λ found. option_map (λ (f : LimitEntry). f.entry) found ≡ Some entry → absent found (NoSuchFile file) ≡ []) [
+    (λ found. option_map (λ (f : LimitEntry). f.entry) found ≡ Some entry → absent found (NoSuchFile (File file)) ≡ []) [
       | None ↦ λ none. absurd (none-some entry none)
       | Some held ↦ λ _. refl
+    ] (sym (ap (option_and_then (λ row. entry_in row (File file))) here) ∙ is)
+missing-none st at row (Other file) entry here is =
+    elim (file_told st at file) as
+    (λ found. option_map (λ (told : ToldFile). told.entry) found ≡ Some entry → absent found (NoSuchFile (Other file)) ≡ []) [
+      | None ↦ λ none. absurd (none-some entry none)
+      | Some told ↦ λ _. refl
     ] is
 
-module _ (st : State) (user : Identity) (at : Names) (name : EntryName) (entry : Entry) (is : entry_at st at name ≡ Some entry)
-    (owned : owns user entry ≡ true) where
+module _ (st : State) (user : Identity) (at : Names) (name : EntryName) (entry : Entry) (there : has_row st at ≡ true)
+    (is : entry_at st at name ≡ Some entry) (owned : owns user entry ≡ true) where
   chmod-free : (mode : ℕ) → bars st user (Chmod at name mode) ≡ []
   chmod-free mode =
+      let row = some_value (row_at st at) there in
       both_none _ _
-      (both_none _ _ (row-there (λ row. entry_in row name) entry (NoSuchCgroup (length at)) (row_at st at) is)
-      (none-there (λ row. entry_in row name) entry (λ row. missing_bars row name) (λ row here. missing-none row name entry here)
-      (row_at st at) is))
+      (both_none _ _ (ap (λ found. absent found (NoSuchCgroup (length at))) row.1)
+      (ap (λ found. present found (λ row. missing_bars st at row name)) row.1 ∙ missing-none st at row.0 name entry row.1 is))
       (ap (λ found. present found (λ e. unless (owns user e) (NotOwner name))) is ∙ ap (λ b. unless b (NotOwner name)) owned)
 
   chmod-opens : (mode : ℕ) → entry_at (after st user (Chmod at name mode)) at name ≡ Some (with_mode_of mode entry)
@@ -132,13 +157,13 @@ module _ (st : State) (user : Identity) (subtree : Names) where
 
   abbrev Opens : State → Guarded → Type 0
   Opens new guarded =
-      (entry : Entry) → guarded_entry st subtree guarded ≡ Some entry → owns user entry ≡ true → writes user entry ≡ false
+      has_row st (take guarded.len subtree) ≡ true
+      → (entry : Entry) → guarded_entry st subtree guarded ≡ Some entry → owns user entry ≡ true → writes user entry ≡ false
       → IsOpen new guarded
 
-  one-opens : (new : State) → IsWider user st new → (guarded : Guarded) (entry : Entry) → guarded_entry st subtree guarded ≡ Some entry
-      → owns user entry ≡ true → writes user entry ≡ false
-      → IsOpen (after_all new (by_user user (opening_of st user subtree guarded))) guarded
-  one-opens new wider guarded entry is owned shut =
+  one-opens : (new : State) → IsWider user st new → (guarded : Guarded)
+      → Opens (after_all new (by_user user (opening_of st user subtree guarded))) guarded
+  one-opens new wider guarded there entry is owned shut =
       let this : opening_of st user subtree guarded ≡ Chmod (take guarded.len subtree) guarded.name (opened entry.mode) ∷ [] =
       ap (λ found. present found
       (λ e. cond (owns user e && not (writes user e)) (Chmod (take guarded.len subtree) guarded.name (opened e.mode) ∷ []) [])) is
@@ -147,7 +172,8 @@ module _ (st : State) (user : Identity) (subtree : Names) where
       let now = kept.owned ∙ owned in (
         with_mode_of (opened entry.mode) kept.now,
         ap (λ ops. entry_at (after_all new (by_user user ops)) (take guarded.len subtree) guarded.name) this
-            ∙ chmod-opens new user (take guarded.len subtree) guarded.name kept.now kept.is now (opened entry.mode),
+            ∙ chmod-opens new user (take guarded.len subtree) guarded.name kept.now (wider.here (take guarded.len subtree) ∙ there) kept.is
+            now (opened entry.mode),
         writes-bit user kept.now (opened entry.mode) (opened-bit entry.mode) now,
       )
 
@@ -166,30 +192,27 @@ module _ (st : State) (user : Identity) (subtree : Names) where
       let step = after_all new (by_user user first) in
       let joined : after_all step (by_user user rest) ≡ after_all new (by_user user (first ++ rest)) =
       sym (after-append user new first rest) in (
-        (λ entry is owned shut. subst (λ s. IsOpen s guarded) joined
+        (λ there entry is owned shut. subst (λ s. IsOpen s guarded) joined
             (still-open step rest (all-flat_map IsOpening (opening_of st user subtree) entries (λ g. opening-of_one st user subtree g))
-            guarded (one-opens new wider guarded entry is owned shut))),
+            guarded (one-opens new wider guarded there entry is owned shut))),
         subst (λ s. AllByRecursion (Opens s) entries) joined
             (all-opens entries step (wider-all user st new first wider (opening-of_one st user subtree guarded))),
       )
 
   -- a limit file that the user reaches is written in the opened tree
-  file-open : (file : LimitFile) (entry : Entry) → entry_at st subtree (File file) ≡ Some entry → reaches user entry ≡ true
-      → (now : Entry) × (entry_at (opened_state st user subtree) subtree (File file) ≡ Some now) × (writes user now ≡ true)
-  file-open file entry is reached =
+  file-open : (name : EntryName) → Contains (limit_files (length subtree)) (limit_file (length subtree) name) → has_row st subtree ≡ true
+      → (entry : Entry) → entry_at st subtree name ≡ Some entry → reaches user entry ≡ true
+      → (now : Entry) × (entry_at (opened_state st user subtree) subtree name ≡ Some now) × (writes user now ≡ true)
+  file-open name listed there entry is reached =
       elim (writes user entry) as (λ b. writes user entry ≡ b → (b || owns user entry) ≡ true
-      → (now : Entry) × (entry_at (opened_state st user subtree) subtree (File file) ≡ Some now) × (writes user now ≡ true)) [
-        | true ↦ λ can _. let kept = (wider-opened st user subtree).stays subtree (File file) entry is in
-            (kept.now, kept.is, kept.written can)
+      → (now : Entry) × (entry_at (opened_state st user subtree) subtree name ≡ Some now) × (writes user now ≡ true)) [
+        | true ↦ λ can _. let kept = (wider-opened st user subtree).stays subtree name entry is in (kept.now, kept.is, kept.written can)
         | false ↦ λ shut owned.
-            let entries = ancestors (length subtree) ++ limit_files (length subtree) in
-            let opens = each_file (λ f. Opens (opened_state st user subtree) (limit_file (length subtree) f))
-            (all-unmap (Opens (opened_state st user subtree)) (limit_file (length subtree)) all_files (all-right
-            (Opens (opened_state st user subtree)) (ancestors (length subtree)) (limit_files (length subtree))
-            (all-left (Opens (opened_state st user subtree)) entries _ (all-opens (guarded_entries subtree) st (wider-itself user st)))))
-            file in
-            let one = opens entry (ap (λ path. entry_at st path (File file)) (take-length subtree) ∙ is) owned shut in
-            (one.0, sym (ap (λ path. entry_at (opened_state st user subtree) path (File file)) (take-length subtree)) ∙ one.1, one.2)
+            let opens = one-listed (Opens (opened_state st user subtree)) (guarded_entries subtree) (limit_file (length subtree) name)
+            (all-opens (guarded_entries subtree) st (wider-itself user st)) (guarded-has subtree _ listed) in
+            let one = opens (ap (has_row st) (take-length subtree) ∙ there) entry
+            (ap (λ path. entry_at st path name) (take-length subtree) ∙ is) owned shut in
+            (one.0, sym (ap (λ path. entry_at (opened_state st user subtree) path name) (take-length subtree)) ∙ one.1, one.2)
       ] refl reached
 
 -- ---- a limit file that the user writes is set
@@ -210,24 +233,68 @@ module _ (st : State) (user : Identity) (subtree : Names) (file : LimitFile) (he
   set-free =
       both_none _ _ (both_none _ _
       (both_none _ _ (row-there (λ row. file_of row file) held (NoSuchCgroup (length subtree)) (row_at st subtree) is)
-      (none-there (λ row. file_of row file) held (λ row. absent (file_of row file) (NoSuchFile file))
-      (λ row here. ap (λ found. absent found (NoSuchFile file)) here) (row_at st subtree) is))
+      (none-there (λ row. file_of row file) held (λ row. absent (file_of row file) (NoSuchFile (File file)))
+      (λ row here. ap (λ found. absent found (NoSuchFile (File file))) here) (row_at st subtree) is))
       (ap (λ found. present found (λ f. unless (writes user f.entry) (NoAccess (length subtree) (File file)))) is
       ∙ ap (λ b. unless b (NoAccess (length subtree) (File file))) can))
       (ap (λ found. present found (λ f. unless (accepts file (other_value file held.value)) (BadValue file))) is
       ∙ ap (λ b. unless b (BadValue file)) (other-taken file held.value))
 
-  set-breaks : breaks st user subtree (Set subtree file (other_value file held.value) ∷ []) ≡ true
-  set-breaks =
-      elim (is_empty (broken st st st subtree)) as
-      (λ b. is_empty (broken st st st subtree) ≡ b → breaks st user subtree (Set subtree file (other_value file held.value) ∷ []) ≡ true) [
-        | true ↦ λ none.
-            set_try st user subtree file held.value (empty_is _ none) (value_at-file st subtree file ∙ ap (option_map (λ f. f.value)) is)
-            ∙ free_allowed st user (Set subtree file (other_value file held.value)) set-free
-        | false ↦ λ some.
-            breaks-run st user subtree (Set subtree file (other_value file held.value) ∷ [])
-            ∙ ap (λ b. not (b && keeps st st (by_user user (Set subtree file (other_value file held.value) ∷ [])) subtree)) some
-      ] refl
+module _ (st : State) (user : Identity) (subtree : Names) (file : OtherFile) (told : ToldFile) (there : has_row st subtree ≡ true)
+    (is : file_told st subtree file ≡ Some told) (can : writes user told.entry ≡ true) where
+  set_other-free : (value : FileText) → bars st user (SetOther subtree file value) ≡ []
+  set_other-free value =
+      let row = some_value (row_at st subtree) there in
+      both_none _ _
+      (both_none _ _ (ap (λ found. absent found (NoSuchCgroup (length subtree))) row.1)
+      (ap (λ found. present found (λ row. absent (file_told st subtree file) (NoSuchFile (Other file)))) row.1
+      ∙ ap (λ found. absent found (NoSuchFile (Other file))) is))
+      (ap (λ found. present found (λ (told : ToldFile). unless (writes user told.entry) (NoAccess (length subtree) (Other file)))) is
+      ∙ ap (λ b. unless b (NoAccess (length subtree) (Other file))) can)
+
+-- the sets break nothing only where the user writes no limit file
+module _ (st : State) (user : Identity) (subtree : Names) (whole : IsUnbroken st subtree)
+    (fail : AllByRecursion (λ ops. breaks st user subtree ops ≡ false) (set_tries st subtree)) where
+  abbrev Fails : List Op → Type 0
+  Fails ops = breaks st user subtree ops ≡ false
+
+  abbrev listed_set : LimitFile → List (List Op)
+  listed_set file = present (value_at st subtree file) (λ value. (Set subtree file (other_value file value) ∷ []) ∷ [])
+
+  abbrev other_set : OtherFile → List (List Op)
+  other_set file = present (file_told st subtree file) (λ told. (SetOther subtree file (other_text file told.value) ∷ []) ∷ [])
+
+  there : has_row st subtree ≡ true
+  there = (broken-whole (limits st subtree) st st subtree whole).there
+
+  file-unwritten : (file : LimitFile) (entry : Entry) → entry_at st subtree (File file) ≡ Some entry → writes user entry ≡ true → ⊥
+  file-unwritten file entry is can =
+      let sets =
+      all-unflat Fails listed_set all_files (all-left Fails (flat_map listed_set all_files) (flat_map other_set all_others) fail) in
+      let held = mapped_from (λ (f : LimitEntry). f.entry) (file_at st subtree file) entry (sym (entry_at-file st subtree file) ∙ is) in
+      let has : value_at st subtree file ≡ Some held.0.value = value_at-file st subtree file ∙ ap (option_map (λ f. f.value)) held.1 in
+      let this : AllByRecursion Fails ((Set subtree file (other_value file held.0.value) ∷ []) ∷ []) =
+      subst (λ found. AllByRecursion Fails (present found (λ value. (Set subtree file (other_value file value) ∷ []) ∷ []))) has
+      (each_file (λ f. AllByRecursion Fails (listed_set f)) sets file) in
+      true≢false
+      (sym (set_try st user subtree file held.0.value whole has
+      ∙ free_allowed st user (Set subtree file (other_value file held.0.value))
+      (set-free st user subtree file held.0 held.1 (ap (writes user) held.2 ∙ can)))
+      ∙ this.0)
+
+  other-unwritten : (file : OtherFile) (entry : Entry) → entry_at st subtree (Other file) ≡ Some entry → writes user entry ≡ true → ⊥
+  other-unwritten file entry is can =
+      let sets =
+      all-unflat Fails other_set all_others (all-right Fails (flat_map listed_set all_files) (flat_map other_set all_others) fail) in
+      let held = mapped_from (λ (told : ToldFile). told.entry) (file_told st subtree file) entry is in
+      let this : AllByRecursion Fails ((SetOther subtree file (other_text file held.0.value) ∷ []) ∷ []) =
+      subst (λ found. AllByRecursion Fails (present found (λ told. (SetOther subtree file (other_text file told.value) ∷ []) ∷ []))) held.1
+      (one-listed (λ f. AllByRecursion Fails (other_set f)) all_others file sets (others-has file)) in
+      true≢false
+      (sym (other_set_try st user subtree file held.0 whole held.1
+      ∙ free_allowed st user (SetOther subtree file (other_text file held.0.value))
+      (set_other-free st user subtree file held.0 there held.1 (ap (writes user) held.2 ∙ can) (other_text file held.0.value)))
+      ∙ this.0)
 
 -- ---- so some try breaks
 
@@ -235,80 +302,89 @@ with-opening : (P : List Op → Type 0) (before ops : List Op) → AllByRecursio
 with-opening P [] ops all = all.0
 with-opening P (op ∷ before) ops all = all.1.0
 
-module _ (st : State) (user : Identity) (subtree : Names) (file : LimitFile) (entry : Entry)
-    (is : entry_at st subtree (File file) ≡ Some entry) (reached : reaches user entry ≡ true) where
-  opened-set : (value : Limit) → value_at st subtree file ≡ Some value
-      → breaks st user subtree (opening st user subtree ++ Set subtree file (other_value file value) ∷ []) ≡ true
-  opened-set value has =
-      let new = opened_state st user subtree in
-      let now = file-open st user subtree file entry is reached in
-      let held =
-      mapped_from (λ (f : LimitEntry). f.entry) (file_at new subtree file) now.0 (sym (entry_at-file new subtree file) ∙ now.1) in
-      let same : Some held.0.value ≡ Some value =
-      sym (value_at-file new subtree file ∙ ap (option_map (λ f. f.value)) held.1) ∙ (wider-opened st user subtree).values subtree file
-      ∙ has in
-      opened-breaks st user subtree (Set subtree file (other_value file value) ∷ [])
-      ∙ ap (λ v. breaks new user subtree (Set subtree file (other_value file v) ∷ [])) (sym (same_some held.0.value value same))
-      ∙ set-breaks new user subtree file held.0 held.1 (ap (writes user) held.2 ∙ now.2)
+-- where no try breaks, nothing is broken in the opened tree, and no set breaks it
+record IsUnescaped (new : State) (user : Identity) (subtree : Names) : Type 0 where
+  whole : IsUnbroken new subtree
+  sets : AllByRecursion (λ ops. breaks new user subtree ops ≡ false) (set_tries new subtree)
 
-  pub file-escape : first_escape st user subtree ≡ None → ⊥
-  file-escape none =
+kept-start : (b : Bool) → not (b && true) ≡ false → b ≡ true
+kept-start true h = refl
+kept-start false h = absurd (true≢false h)
+
+module _ (st : State) (user : Identity) (subtree : Names) (none : first_escape st user subtree ≡ None) where
+  unescaped : IsUnescaped (opened_state st user subtree) user subtree
+  unescaped =
+      let new = opened_state st user subtree in
       let fails : List Op → Type 0 = λ ops. breaks st user subtree ops ≡ false in
+      let later : List Op → Type 0 = λ ops. breaks new user subtree ops ≡ false in
       let plain =
-      all-each (λ ops. AllByRecursion fails (with_opening (opening st user subtree) ops))
-      (λ ops. fails (opening st user subtree ++ ops)) (with-opening fails (opening st user subtree)) (plain_tries st subtree)
+      all-each (λ ops. AllByRecursion fails (with_opening (opening st user subtree) ops)) later
+      (λ ops all. sym (opened-breaks st user subtree ops) ∙ with-opening fails (opening st user subtree) ops all) (plain_tries st subtree)
       (all-unflat fails (with_opening (opening st user subtree)) (plain_tries st subtree)
       (none-passes (breaks st user subtree) (tries st user subtree) none)) in
-      let after : List Op → Type 0 = λ ops. fails (opening st user subtree ++ ops) in
-      let sets =
-      all-left after (set_tries st subtree) (control_tries st subtree)
-      (all-left after (set_tries st subtree ++ control_tries st subtree) _ plain.1) in
-      let one =
-      each_file (λ f. AllByRecursion after (present (value_at st subtree f) (λ value. (Set subtree f (other_value f value) ∷ []) ∷ [])))
-      (all-unflat after (λ f. present (value_at st subtree f) (λ value. (Set subtree f (other_value f value) ∷ []) ∷ [])) all_files sets)
-      file in
-      let held = mapped_from (λ (f : LimitEntry). f.entry) (file_at st subtree file) entry (sym (entry_at-file st subtree file) ∙ is) in
-      let has : value_at st subtree file ≡ Some held.0.value = value_at-file st subtree file ∙ ap (option_map (λ f. f.value)) held.1 in
-      let this : AllByRecursion after ((Set subtree file (other_value file held.0.value) ∷ []) ∷ []) =
-      subst (λ found. AllByRecursion after (present found (λ value. (Set subtree file (other_value file value) ∷ []) ∷ []))) has one in
-      true≢false (sym (opened-set held.0.value has) ∙ this.0)
+      let here = subst (AllByRecursion later) (sym (same_tries user st new (wider-opened st user subtree) subtree)) plain in
+      record {
+        whole = empty_is _ (kept-start _ (sym (breaks-run new user subtree []) ∙ here.0));
+        sets = all-left later (set_tries new subtree) (control_tries new subtree)
+            (all-left later (set_tries new subtree ++ control_tries new subtree) _ here.1);
+      }
+
+  name-open : (name : EntryName) → Contains (limit_files (length subtree)) (limit_file (length subtree) name)
+      → (entry : Entry) → entry_at st subtree name ≡ Some entry → reaches user entry ≡ true
+      → (now : Entry) × (entry_at (opened_state st user subtree) subtree name ≡ Some now) × (writes user now ≡ true)
+  name-open name listed =
+      let new = opened_state st user subtree in
+      file-open st user subtree name listed
+      (sym ((wider-opened st user subtree).here subtree) ∙ (broken-whole (limits new subtree) new new subtree unescaped.whole).there)
+
+  file-unreached : (file : LimitFile) (entry : Entry) → entry_at st subtree (File file) ≡ Some entry → reaches user entry ≡ true → ⊥
+  file-unreached file entry is reached =
+      let now = name-open (File file) (limit_files-has subtree file) entry is reached in
+      file-unwritten (opened_state st user subtree) user subtree unescaped.whole unescaped.sets file now.0 now.1 now.2
+
+  other-unreached : (file : OtherFile) (entry : Entry) → entry_at st subtree (Other file) ≡ Some entry → reaches user entry ≡ true → ⊥
+  other-unreached file entry is reached =
+      let now = name-open (Other file) (limit_files-has_other subtree file) entry is reached in
+      other-unwritten (opened_state st user subtree) user subtree unescaped.whole unescaped.sets file now.0 now.1 now.2
 
 -- ---- what that says of an answer
-
-each-none : {A B : Type 0} (g : A → List B) (xs : List A) → flat_map g xs ≡ [] → AllByRecursion (λ x. g x ≡ []) xs
-each-none g [] none = tt
-each-none g (x ∷ xs) none = let parts = no_parts (g x) (flat_map g xs) none in (parts.0, each-none g xs parts.1)
 
 all-flat : {A B : Type 0} (P : B → Type 0) (g : A → List B) (xs : List A) → AllByRecursion (λ x. AllByRecursion P (g x)) xs
     → AllByRecursion P (flat_map g xs)
 all-flat P g [] all = tt
 all-flat P g (x ∷ xs) all = all-append P (g x) (flat_map g xs) all.0 (all-flat P g xs all.1)
 
-file-fails : (st : State) (user : Identity) (subtree : Names) (file : LimitFile) (entry : Entry)
-    → entry_at st subtree (File file) ≡ Some entry → reaches user entry ≡ true → failures st user subtree ≡ [] → ⊥
-file-fails st user subtree file entry is reached none =
-    let empty : Guarded → Type 0 = λ guarded. entry_failures st user subtree guarded ≡ [] in
-    let all = each-none (entry_failures st user subtree) (guarded_entries subtree) (no_parts _ _ none).0 in
-    let files =
-    all-right empty (ancestors (length subtree)) (limit_files (length subtree))
-    (all-left empty (ancestors (length subtree) ++ limit_files (length subtree)) _ all) in
-    let one = each_file (λ f. empty (limit_file (length subtree) f)) (all-unmap empty (limit_file (length subtree)) all_files files) file in
-    true≢false
-    (sym (no_unless _ _ (no_present _ _ one entry (ap (λ path. entry_at st path (File file)) (take-length subtree) ∙ is))) ∙ ap not reached)
+module _ (st : State) (user : Identity) (subtree : Names) (name : EntryName)
+    (listed : Contains (limit_files (length subtree)) (limit_file (length subtree) name)) (entry : Entry)
+    (is : entry_at st subtree name ≡ Some entry) (reached : reaches user entry ≡ true) where
+  name-fails : failures st user subtree ≡ [] → ⊥
+  name-fails none =
+      let one =
+      one-listed (λ guarded. entry_failures st user subtree guarded ≡ []) (guarded_entries subtree) (limit_file (length subtree) name)
+      (none_each (entry_failures st user subtree) (guarded_entries subtree) (no_parts _ _ none).0) (guarded-has subtree _ listed) in
+      true≢false
+      (sym (no_unless _ _ (no_present _ _ one entry (ap (λ path. entry_at st path name) (take-length subtree) ∙ is))) ∙ ap not reached)
 
-pub file-escapes : (st : State) (user : Identity) (subtree : Names) (file : LimitFile) (entry : Entry)
-    → entry_at st subtree (File file) ≡ Some entry → reaches user entry ≡ true → (ops : List Op) × (answer st user subtree ≡ Escapes ops)
-file-escapes st user subtree file entry is reached =
-    elim (first_escape st user subtree) as
-    (λ found. first_escape st user subtree ≡ found → (ops : List Op) × (answer st user subtree ≡ Escapes ops)) [
-      | None ↦ λ none. absurd (file-escape st user subtree file entry is reached none)
-      | Some ops ↦
-          λ found. (
-            ops,
-            escape-answer (failures st user subtree) (first_escape st user subtree) ops
-                (file-fails st user subtree file entry is reached) found,
-          )
-    ] refl
+  name-escapes : (first_escape st user subtree ≡ None → ⊥) → (ops : List Op) × (answer st user subtree ≡ Escapes ops)
+  name-escapes some =
+      elim (first_escape st user subtree) as
+      (λ found. first_escape st user subtree ≡ found → (ops : List Op) × (answer st user subtree ≡ Escapes ops)) [
+        | None ↦ λ none. absurd (some none)
+        | Some ops ↦ λ found. (ops, escape-answer (failures st user subtree) (first_escape st user subtree) ops name-fails found)
+      ] refl
+
+module _ (st : State) (user : Identity) (subtree : Names) where
+  pub file-escapes : (file : LimitFile) (entry : Entry) → entry_at st subtree (File file) ≡ Some entry → reaches user entry ≡ true
+      → (ops : List Op) × (answer st user subtree ≡ Escapes ops)
+  file-escapes file entry is reached =
+      name-escapes st user subtree (File file) (limit_files-has subtree file) entry is reached
+      (λ none. file-unreached st user subtree none file entry is reached)
+
+  pub other-escapes : (file : OtherFile) (entry : Entry) → entry_at st subtree (Other file) ≡ Some entry → reaches user entry ≡ true
+      → (ops : List Op) × (answer st user subtree ≡ Escapes ops)
+  other-escapes file entry is reached =
+      name-escapes st user subtree (Other file) (limit_files-has_other subtree file) entry is reached
+      (λ none. other-unreached st user subtree none file entry is reached)
 
 unsettled-by : (all : List Failed) (found : Option (List Op)) (failed : Failed) → answer_from all found ≡ Unsettled failed
     → ((rest : List Failed) × (all ≡ failed ∷ rest)) × (found ≡ None)
@@ -329,24 +405,15 @@ module _ (st : State) (user : Identity) (subtree : Names) (none : first_escape s
       elim (not (reaches user entry)) as (λ b. AllByRecursion MayFail (unless b (record { guard = guarded.guard; len = guarded.len })))
       [ true ↦ tt | false ↦ (fine, tt) ])
 
-  may-ancestors : (len : ℕ) → AllByRecursion MayAll (ancestors len)
-  may-ancestors zero = tt
-  may-ancestors (suc len) = (may (ancestor len) tt, may-ancestors len)
-
-  may-file : (file : LimitFile) → MayAll (limit_file (length subtree) file)
-  may-file file =
-      all-present MayFail (guarded_entry st subtree (limit_file (length subtree) file)) _ (λ entry is.
+  may-name : (name : EntryName) → ((entry : Entry) → entry_at st subtree name ≡ Some entry → reaches user entry ≡ true → ⊥)
+      → MayAll (limit_file (length subtree) name)
+  may-name name unreached =
+      all-present MayFail (guarded_entry st subtree (limit_file (length subtree) name)) _ (λ entry is.
       elim (reaches user entry) as (λ b. reaches user entry ≡ b
-      → AllByRecursion MayFail (unless (not b) (record { guard = LimitFileGuard file; len = length subtree }))) [
-        | true ↦
-            λ reached. absurd (file-escape st user subtree file entry
-            (sym (ap (λ path. entry_at st path (File file)) (take-length subtree)) ∙ is) reached none)
+      → AllByRecursion MayFail (unless (not b) (record { guard = LimitFileGuard name; len = length subtree }))) [
+        | true ↦ λ reached. absurd (unreached entry (sym (ap (λ path. entry_at st path name) (take-length subtree)) ∙ is) reached)
         | false ↦ λ _. tt
       ] refl)
-
-  may-files : (files : List LimitFile) → AllByRecursion MayAll (map (limit_file (length subtree)) files)
-  may-files [] = tt
-  may-files (file ∷ files) = (may-file file, may-files files)
 
   may-over : AllByRecursion MayFail (over_failures st subtree)
   may-over =
@@ -361,9 +428,11 @@ module _ (st : State) (user : Identity) (subtree : Names) (none : first_escape s
   may-all =
       all-append MayFail (flat_map (entry_failures st user subtree) (guarded_entries subtree)) (over_failures st subtree)
       (all-flat MayFail (entry_failures st user subtree) (guarded_entries subtree)
-      (all-append MayAll (ancestors (length subtree) ++ limit_files (length subtree)) (parent_control subtree ∷ parent_dir subtree ∷ [])
-      (all-append MayAll (ancestors (length subtree)) (limit_files (length subtree)) (may-ancestors (length subtree)) (may-files all_files))
-      (may (parent_control subtree) tt, (may (parent_dir subtree) tt, tt))))
+      (recursion_from_All MayAll (guarded_entries subtree)
+      (all_guarded subtree MayAll (λ n. may (ancestor n) tt)
+      (λ file. may-name (File file) (file-unreached st user subtree none file))
+      (λ file. may-name (Other file) (other-unreached st user subtree none file))
+      (may (parent_control subtree) tt) (may (parent_dir subtree) tt))))
       may-over
 
 pub unsettled-guard : (st : State) (user : Identity) (subtree : Names) (failed : Failed) → answer st user subtree ≡ Unsettled failed

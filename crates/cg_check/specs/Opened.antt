@@ -1,10 +1,13 @@
 -- How an answer is found: nobody has to believe it.
 -- How the first escape is found in the opened tree, and the opening. Nothing in it has to be believed.
-use Rattle.std.specs.Prelude.{Bool, false, not, ◌&&◌, cond, List, [], ◌∷◌, take}
+use Rattle.std.specs.Prelude.{Bool, true, false, not, ◌&&◌, cond, List, [], ◌∷◌, take, Option, Some, None, is_none}
+use Rattle.std.specs.List.{list_all}
+use Rattle.std.specs.FinMap as finite
 use Rattle.cg_cgroup.specs.Paths.{Names, parent}
 use Rattle.cg_cgroup.specs.Identity.{Identity}
 use Rattle.cg_cgroup.specs.Users.{owns, writes, opened}
-use Rattle.cg_model.specs.States.{State}
+use Rattle.cg_cgroup.specs.declared.user.Entry.{Entry}
+use Rattle.cg_model.specs.States.{State, row_at}
 use Rattle.cg_model.specs.declared.operation.Op.{Op}
 use Rattle.cg_model.specs.declared.operation.Op.TheVariants.{Chmod, Mkdir}
 use Rattle.cg_model.specs.declared.guard.GuardedEntry.{GuardedEntry}
@@ -18,6 +21,22 @@ is_free st user (op ∷ []) = allowed st user op
 is_free st user (Mkdir path ∷ op ∷ ops) = allowed st user (Mkdir path) && passes_at st user (parent path)
 is_free st user (other ∷ op ∷ ops) = false
 
+-- the user owns the entry and doesn't write it
+abbrev pub is_opened : Identity → Entry → Bool
+is_opened user entry = owns user entry && not (writes user entry)
+
 -- the chmod by which the user comes to write a guarded entry, where they own it and don't write it
 abbrev pub opening_chmod : Identity → Names → GuardedEntry → List Op
-opening_chmod user subtree at = cond (owns user at.entry && not (writes user at.entry)) (Chmod (take at.len subtree) at.name (opened at.entry.mode) ∷ []) []
+opening_chmod user subtree at = cond (is_opened user at.entry) (Chmod (take at.len subtree) at.name (opened at.entry.mode) ∷ []) []
+
+-- no chmod opens the entry, where it is there
+abbrev pub is_left : Identity → Option Entry → Bool
+is_left user None = true
+is_left user (Some entry) = not (is_opened user entry)
+
+-- nothing is told of the subtree's limit files beyond `LimitFile`, and no chmod opens one
+abbrev pub leaves_others : State → Identity → Names → Bool
+leaves_others st user subtree = is_none (finite.get st.told subtree) && elim (row_at st subtree) [
+  | None ↦ false
+  | Some row ↦ is_left user (Some row.freeze) && list_all (is_left user) row.others.entries
+]

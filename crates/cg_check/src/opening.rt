@@ -1,13 +1,15 @@
 //! The chmods by which a user comes to write what they own.
 ghost use Rattle.std.specs.Prelude.{◌≡◌, ◌≤◌, ◌++◌, false, IfOk, OnOk, length};
+ghost use Rattle.std.specs.List.{list_all};
 ghost use Rattle.cg_cgroup.specs.Paths.{is_root};
 ghost use Rattle.cg_model.specs.Tries.{opening};
-ghost use Rattle.cg_check.specs.Opened.{opening_chmod};
+ghost use Rattle.cg_check.specs.Opened.{is_opened, opening_chmod, is_left, leaves_others};
 
 use cg_cgroup::memory::NoMemory;
 use cg_cgroup::path::Path;
-use cg_cgroup::user::{Mode, User};
-use cg_guards::table::{guarded_count, guarded_entry};
+use cg_cgroup::user::{Entry, Mode, User};
+use cg_guards::asked::{asked_count, asked_place};
+use cg_guards::table::guarded_entry;
 use cg_model::guard::GuardedEntry;
 use cg_model::hierarchy::Hierarchy;
 use cg_model::operation::Op;
@@ -24,14 +26,54 @@ pub fn opening<H: Hierarchy>(
     requires { is_root subtree.now ≡ false }
     ensures { IfOk result (λ chmods. chmods ≡ opening (H.state tree.now) user.now subtree.now) }
 {
+    let passes = leaves_others(tree, user, subtree);
     let mut chmods = Operations::new(alloc);
-    for place in 0..guarded_count(subtree) {
+    for turn in 0..asked_count(subtree, passes) {
+        let place = asked_place(subtree, passes, turn);
         let Some(at) = guarded_entry(tree, subtree, place) else {
             continue;
         };
         open_entry(alloc, user, subtree, &at, &mut chmods)?;
     }
     Ok(chmods)
+}
+
+/// Whether nothing is told of the subtree's limit files beyond `LimitFile`, and no chmod opens one. Those that a controller
+/// brings have one owner, and are asked of at once.
+fn leaves_others<H: Hierarchy>(tree: &H, user: &User, subtree: &Path) -> bool
+    ensures { result ≡ leaves_others (H.state tree.now) user.now subtree.now }
+{
+    let len = subtree.depth();
+    if tree.told(subtree, len).is_some() {
+        return false;
+    }
+    let Some(cgroup) = tree.get(subtree, len) else {
+        return false;
+    };
+    is_left(user, Some(cgroup.freeze)) && all_left(user, &cgroup.others.entries)
+}
+
+fn all_left(user: &User, entries: &[Option<Entry>]) -> bool
+    ensures { result ≡ list_all (is_left user.now) entries.now }
+{
+    entries.iter().all(|entry| is_left(user, *entry))
+}
+
+/// Whether no chmod opens an entry, where it is there.
+fn is_left(user: &User, entry: Option<Entry>) -> bool
+    ensures { result ≡ is_left user.now entry }
+{
+    match entry {
+        Some(entry) => !is_opened(user, &entry),
+        None => true,
+    }
+}
+
+/// Whether the user owns an entry and doesn't write it.
+fn is_opened(user: &User, entry: &Entry) -> bool
+    ensures { result ≡ is_opened user.now entry.now }
+{
+    user.owns(entry) && !user.may_write(entry)
 }
 
 /// Adds that of an entry, if the user owns it and doesn't write it.
@@ -46,7 +88,7 @@ fn open_entry(
     requires mode { at.now.entry.mode ≤ 511 }
     ensures { OnOk result (chmods.new ≡ chmods.old ++ opening_chmod user.now subtree.now at.now) }
 {
-    if !user.owns(&at.entry) || user.may_write(&at.entry) {
+    if !is_opened(user, &at.entry) {
         return Ok(());
     }
     let Some(mode) = Mode::new(at.entry.mode | 0o200) else {

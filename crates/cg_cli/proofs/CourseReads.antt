@@ -1,6 +1,7 @@
 -- The course of a replay, by what was read of its tree and its subtree.
 use Rattle.std.proofs.Common.{◌≡◌, ◌≢◌, ℕ, Bool, false, cond, List, [], Option, Some, None, is_some, Result, Ok, Err}
 use Rattle.std.proofs.Common.{refl, ap, ◌∙◌, true≢false}
+use Rattle.std.specs.FinMap as map
 use Rattle.cg_cgroup.specs.Paths.{Names}
 use Rattle.cg_cgroup.specs.declared.cgroup.Cgroup.{Cgroup}
 use Rattle.cg_model.specs.States.{State, row_at}
@@ -45,20 +46,28 @@ module _ (named : List ℕ) (path : Names) (read : Reading) (of_path : path_read
   course_by st root found =
       cond root (Err (Subtree RootSubtree)) (elim found [
         | None ↦ Err (Subtree NoSuchSubtree)
-        | Some row ↦ Ok (Watched (record { subtree = path; original = row; state = st; steps = 0; verdict = verdict st [] path }))
+        | Some row ↦ Ok (Watched (record {
+          subtree = path;
+          original = row;
+          told = map.get st.told path;
+          state = st;
+          steps = 0;
+          verdict = verdict st [] path;
+        }))
       ])
 
   no_row : (found : Option Cgroup) → is_some found ≡ false → found ≡ None
   no_row None none = refl
   no_row (Some row) none = absurd (true≢false none)
 
-  from_fault : (st : State) (fault : CheckFault) → IsFaultOf fault st path → course_from st (Some path) ≡ Err (lifted_check fault)
-  from_fault st RootSubtree root = ap (λ (b : Bool). course_by st b (row_at st path)) root
-  from_fault st NoSuchSubtree none =
+  from_fault : (st : State) (fault : CheckFault) → IsFaultOf fault st path → lifted_check fault ≢ NoMemory
+      → course_from st (Some path) ≡ Err (lifted_check fault)
+  from_fault st RootSubtree root other = ap (λ (b : Bool). course_by st b (row_at st path)) root
+  from_fault st NoSuchSubtree none other =
       ap (λ (b : Bool). course_by st b (row_at st path)) none.0 ∙ ap (course_by st false) (no_row (row_at st path) none.1)
-  from_fault st CheckNoMemory never = absurd never
+  from_fault st CheckNoMemory wants other = absurd (other refl)
 
   pub start_fault : (st : State) (fault : CheckFault) → read ≡ Ok st → IsFaultOf fault st path
-      → course_read (Some named) read ≡ Err (lifted_check fault)
-  start_fault st fault of_text is =
-      ap (λ p. read_by p read) of_path ∙ ap (read_by (Ok path)) of_text ∙ from_fault st fault is
+      → lifted_check fault ≢ NoMemory → course_read (Some named) read ≡ Err (lifted_check fault)
+  start_fault st fault of_text is other =
+      ap (λ p. read_by p read) of_path ∙ ap (read_by (Ok path)) of_text ∙ from_fault st fault is other

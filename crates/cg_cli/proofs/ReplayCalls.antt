@@ -3,6 +3,7 @@ use Rattle.std.proofs.Common.{◌≡◌, ◌≢◌, ℕ, nat_eq, Bool, true, fal
 use Rattle.std.proofs.Common.{ap, sym, ◌∙◌, subst}
 use Rattle.std.specs.Io.KnownBytes.{Appends}
 use Rattle.std.proofs.KnownBytes.{Appends-nil}
+use Rattle.std.specs.FinMap as map
 use Rattle.cg_cgroup.specs.Identity.{Identity}
 use Rattle.cg_cgroup.specs.Users.{user_of}
 use Rattle.cg_cgroup.specs.Paths.{Names, is_root, path_at}
@@ -58,6 +59,7 @@ row_before : (st : State) (subtree : Names) (found : Option Cgroup)
           Ok (Watched (record {
             subtree = subtree;
             original = row;
+            told = map.get st.told subtree;
             state = st;
             steps = 0;
             verdict = Rattle.cg_model.specs.Verdicts.verdict st [] subtree;

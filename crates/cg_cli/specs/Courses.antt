@@ -1,5 +1,6 @@
 -- What operations lead to: a tree, and where a subtree is watched, the verdict on it. Own.
 use Rattle.std.specs.Prelude.{◌≡◌, ℕ, ◌<◌, [], cond, Option, Some, None, Result, Ok, Err}
+use Rattle.std.specs.FinMap as map
 use Rattle.cg_cgroup.specs.Paths.{Names, is_root}
 use Rattle.cg_cgroup.specs.Identity.{Identity}
 use Rattle.cg_model.specs.States.{State, row_at}
@@ -44,7 +45,14 @@ course_from st None = Ok (Unwatched st)
 course_from st (Some subtree) =
     cond (is_root subtree) (Err (Subtree RootSubtree)) (elim (row_at st subtree) [
       | None ↦ Err (Subtree NoSuchSubtree)
-      | Some row ↦ Ok (Watched (record { subtree = subtree; original = row; state = st; steps = 0; verdict = verdict st [] subtree }))
+      | Some row ↦ Ok (Watched (record {
+        subtree = subtree;
+        original = row;
+        told = map.get st.told subtree;
+        state = st;
+        steps = 0;
+        verdict = verdict st [] subtree;
+      }))
     ])
 
 abbrev pub verdict_status : Verdict → ℕ

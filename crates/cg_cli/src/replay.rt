@@ -103,7 +103,7 @@ fn watched(
 {
     let subtree = read_path(alloc, subtree)?;
     let text = read_text(alloc, tree)?;
-    let replay = Replay::start(Indexed::from_rows(alloc, text.rows)?, subtree)?;
+    let replay = Replay::start(alloc, Indexed::from_rows(alloc, text.rows)?, subtree)?;
     Ok((text.vocabulary, replay))
 }
 

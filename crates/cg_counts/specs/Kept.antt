@@ -80,6 +80,6 @@ AreFittedBelow st path = (q : Names) (row : Cgroup) → is_child path q ≡ true
 abbrev pub cgroups_of : map.FinMap path_cmp Held → map.FinMap path_cmp Cgroup
 cgroups_of held = map_values (λ h. h.cgroup) held
 
--- the state of these cgroups, where there is no process
+-- the state of these cgroups, where there is no process, and nothing is told
 abbrev pub tree_of : map.FinMap path_cmp Held → State
-tree_of held = record { rows = cgroups_of held; live = map.empty; used = set.empty; controllers = no_controllers }
+tree_of held = record { rows = cgroups_of held; told = map.empty; live = map.empty; used = set.empty; controllers = no_controllers }

@@ -1,51 +1,74 @@
 -- Each operation of a try has a line, and a try has few.
-use Rattle.std.proofs.Common.{◌≡◌, ℕ, zero, suc, ◌+◌, ◌≤◌, Bool, true, false, cond, not, ◌&&◌, List, [], ◌∷◌, ◌++◌, length, length-append, map, filter, take, Option, Some, None, is_some, option_and_then, refl, ap, ◌∙◌, arith, flat_map, nat_le, nat_eq, Ordering, ◌-◌, ◌||◌, codes, decimal}
-use Rattle.std.proofs.lemmas.Bool.{leb-true, le-leb}
+use Rattle.std.proofs.Common.{◌≡◌, ℕ, zero, suc, ◌+◌, ◌≤◌, Bool, true, false, cond, not, ◌&&◌, List, [], ◌∷◌, ◌++◌, length, length-append, map, filter, take, Option, Some, None, is_some, option_and_then, refl, ap, ◌∙◌, arith, flat_map, nat_le, nat_eq, Ordering, ◌-◌, ◌||◌, codes, decimal, sym, subst, true≢false, unwrap_or, option_map, find}
+use Rattle.std.proofs.lemmas.Bool.{leb-true, le-leb, and_parts, false_from_ne_true}
 use Rattle.std.proofs.Math.Bool.{or-true}
 use Rattle.std.specs.List.{AllByRecursion, list_any}
 use Rattle.std.specs.Ordering.{eq_by_cmp, is_eq}
 use Rattle.std.specs.Cmp.{IsTotalOrder, tied_itself, nat_cmp_total}
 use Rattle.std.specs.FinMap as finite
 use Rattle.std.specs.FinMap.Entries.{is_some-find}
-use Rattle.cg_cgroup.specs.Paths.{Names, IsPath, inside, path_text}
+use Rattle.cg_cgroup.specs.Paths.{Names, IsPath, inside, path_text, same_path}
 use Rattle.cg_cgroup.specs.PathText.{names_text}
 use Rattle.cg_cgroup.specs.Identity.{Identity}
 use Rattle.cg_cgroup.specs.Numbers.{is_pid}
-use Rattle.cg_cgroup.specs.Users.{writes, owns, opened}
-use Rattle.cg_cgroup.specs.Files.{all_files, vocabulary_of}
+use Rattle.cg_cgroup.specs.Users.{writes, owns, reaches, opened}
+use Rattle.cg_cgroup.specs.Files.{all_files, all_others, other_kind, same_entry}
 use Rattle.cg_cgroup.specs.declared.files.Vocabulary.{Vocabulary}
-use Rattle.cg_cgroup.proofs.ControllerLaws.{told-known}
+use Rattle.cg_cgroup.proofs.AllOthers.{each_other}
+use Rattle.cg_cgroup.proofs.CgroupLaws.{same_entry-true}
+use Rattle.cg_cgroup.proofs.ControllerLaws.{told-known, vocabulary-least}
+use Rattle.cg_cgroup.proofs.Options.{mapped_from, same_some}
 use Rattle.cg_cgroup.specs.Cgroups.{entry_in}
 use Rattle.cg_cgroup.specs.declared.files.Limit.{Limit}
 use Rattle.cg_cgroup.specs.declared.files.Limit.TheVariants.{Max, At}
 use Rattle.cg_cgroup.specs.declared.files.LimitFile.{LimitFile}
 use Rattle.cg_cgroup.specs.declared.files.LimitFile.TheVariants.{CpuWeight}
 use Rattle.cg_cgroup.specs.declared.files.EntryName.{EntryName}
+use Rattle.cg_cgroup.specs.declared.files.EntryName.TheVariants.{Other}
+use Rattle.cg_cgroup.specs.declared.other_file.OtherFile.{OtherFile}
+use Rattle.cg_cgroup.specs.declared.told.FileText.{FileText}
 use Rattle.cg_cgroup.specs.declared.cgroup.Cgroup.{Cgroup}
 use Rattle.cg_cgroup.specs.declared.user.Entry.{Entry}
 use Rattle.cg_cgroup.proofs.PathOrder.{path_cmp_total}
 use Rattle.cg_cgroup.proofs.PathNames.{IsPath-push, IsPath-take}
 use Rattle.cg_cgroup.proofs.PathEnds.{path_bytes}
 use Rattle.cg_cgroup.proofs.UserLaws.{opened-le}
-use Rattle.cg_model.specs.States.{State, row_at, place_at, paths_of, pids_of, value_at}
+use Rattle.cg_model.specs.States.{State, row_at, place_at, paths_of, pids_of, value_at, file_told, entry_at}
 use Rattle.cg_model.specs.WellFormed.{IsWellFormed}
-use Rattle.cg_model.specs.Clauses.{present}
+use Rattle.cg_model.specs.Bars.{set_other_bars}
+use Rattle.cg_model.specs.Clauses.{unless, present}
+use Rattle.cg_model.specs.Effects.{alters_entry}
+use Rattle.cg_model.specs.Held.{by_user}
+use Rattle.cg_model.specs.Limits.{same_text, fits_descendants, fits_depth}
+use Rattle.cg_model.specs.Steps.{after, after_all}
+use Rattle.cg_model.specs.declared.outcome.Refusal.TheVariants.{NoAccess}
 use Rattle.cg_model.specs.declared.operation.Op.{Op}
-use Rattle.cg_model.specs.declared.operation.Op.TheVariants.{Move, Mkdir, Rmdir, Set, Chmod}
+use Rattle.cg_model.specs.declared.operation.Op.TheVariants.{Move, Mkdir, Rmdir, Set, SetOther, Chmod}
 use Rattle.cg_model.specs.Guards.{Guarded, ancestors, limit_files, parent_control, parent_dir, guarded_entries, guarded_entry, IsSubtree, failures}
-use Rattle.cg_model.specs.Tries.{other_value, set_tries, control_tries, across, move_tries, probe, free_probe, is_inside, probe_tries_at, probe_tries, plain_tries, opening_of, opening, with_opening, tries}
+use Rattle.cg_model.specs.Tries.{other_value, other_text, set_tries, control_tries, across, move_tries, probe, free_probe, is_inside, probe_tries_at, probe_tries, plain_tries, opening_of, opening}
 use Rattle.cg_model.specs.Escapes.{breaks, first_escape}
+use Rattle.cg_tries.specs.Escapes.{IsUnbroken}
+use Rattle.cg_tries.specs.Finding.{allowed}
 use Rattle.cg_tries.proofs.Controls.{all-control_tries}
+use Rattle.cg_tries.proofs.Single.{nothing_bars}
 use Rattle.cg_tries.proofs.ProbeNames.{is_name-probe, length-probe}
 use Rattle.cg_model.specs.Answers.{answer}
 use Rattle.cg_model.specs.declared.answer.Answer.TheVariants.{Escapes}
-use Rattle.cg_model.proofs.Lists.{all-append, all-flat_map, all-present, all-each, find-all}
+use Rattle.cg_model.proofs.Allowed.{allowed_set_other}
+use Rattle.cg_model.proofs.ClauseLaws.{no_parts, no_unless}
+use Rattle.cg_model.proofs.FormedTold.{stands}
+use Rattle.cg_model.proofs.Lists.{all-append, all-both, all-flat_map, all-present, all-each, find-all, find-passes}
+use Rattle.cg_model.proofs.StepEffects.{entry_at-after}
+use Rattle.cg_check.specs.Opened.{is_free}
 use Rattle.cg_check.proofs.AnswerLaws.{found-escape}
-use Rattle.cg_lines.specs.OperationLines.{IsInRange, IsLimitInRange, HasLine, HaveLines}
+use Rattle.cg_check.proofs.Escaping.{unbroken-fits, escape-over}
+use Rattle.cg_check.proofs.Openings.{opened_state, unless_free, wider-opened, formed-opened, unbroken-opened, subtree-opened, same_tries, first_escape-is}
+use Rattle.cg_check.proofs.Tried.{IsExact, exact-plain_tries}
+use Rattle.cg_lines.specs.OperationLines.{is_line_value, is_entry_of, IsInRange, IsLimitInRange, HasLine, HaveLines}
 use Rattle.cg_lines.specs.LineLengths.{HasFewChanges}
 use Rattle.cg_lines.proofs.LineLengths.{line_length, most_changes-least}
 use Rattle.cg_report.proofs.Shown.{all_flat}
-use Rattle.cg_escapes.specs.EscapeLines.{IsNamed}
+use Rattle.cg_escapes.specs.EscapeLines.{IsNamed, IsWorded}
 
 -- ---- lists
 
@@ -100,11 +123,75 @@ other_held file (At value) = tt
 
 -- ---- paths
 
-module _ (st : State) (user : Identity) (subtree : Names) (formed : IsWellFormed st) (named : IsNamed st) (sub : IsSubtree st subtree) where
-  -- those that formats 1 and 2 or the root have
-  abbrev vocabulary : Vocabulary
-  vocabulary = vocabulary_of st.controllers
+-- ---- modes
 
+row_mode : (st : State) → IsWellFormed st → (at : Names) (name : EntryName) (entry : Entry) (found : Option Cgroup) → row_at st at ≡ found
+    → option_and_then (λ row. entry_in row name) found ≡ Some entry → entry.mode ≤ 511
+row_mode st formed at name entry None is held = cc
+row_mode st formed at name entry (Some row) is held = (formed.rows at row is).modes name entry held
+
+entry_mode : (st : State) → IsWellFormed st → (at : Names) (name : EntryName) (entry : Entry) → entry_at st at name ≡ Some entry
+    → entry.mode ≤ 511
+entry_mode st formed at (Other file) entry is =
+    let told = mapped_from (λ told. told.entry) (file_told st at file) entry is in
+    subst (λ (e : Entry). e.mode ≤ 511) told.2 (stands st formed at file told.0 told.1).mode
+entry_mode st formed at name entry is = row_mode st formed at name entry (row_at st at) refl is
+
+-- ---- further limit files
+
+loose_value : (file : OtherFile) → is_line_value (other_kind file).loose ≡ true
+unfolding is_line_value
+loose_value = each_other (λ file. is_line_value (other_kind file).loose) refl
+
+text_value : (file : OtherFile) (had : Option FileText) → is_line_value (other_text file had) ≡ true
+unfolding is_line_value
+text_value file had =
+    elim (not (same_text (Some (other_kind file).loose) had)) as (λ first. is_line_value
+    (unwrap_or (cond first (Some (other_kind file).loose) (cond (not (same_text (Some (codes "max")) had)) (Some (codes "max")) None))
+    (codes "0"))
+    ≡ true) [
+      | true ↦ loose_value file
+      | false ↦
+          elim (not (same_text (Some (codes "max")) had)) as
+          (λ second. is_line_value (unwrap_or (cond second (Some (codes "max")) None) (codes "0")) ≡ true)
+          [ true ↦ refl | false ↦ refl ]
+    ]
+
+-- a chmod of an entry that lines name
+abbrev NamesEntry : Vocabulary → Op → Type 0
+NamesEntry vocabulary (Chmod at name mode) = is_entry_of vocabulary name ≡ true
+NamesEntry vocabulary op = ⊥
+
+-- none is of another that they don't name
+spared : (vocabulary : Vocabulary) (q : Names) (file : OtherFile) → is_entry_of vocabulary (Other file) ≡ false
+    → (op : Op) → NamesEntry vocabulary op → alters_entry op q (Other file) ≡ false
+spared vocabulary q file unnamed (Chmod at name mode) named =
+    false_from_ne_true (same_path at q && same_entry name (Other file)) (λ altered.
+    let same = same_entry-true name (Other file) (and_parts (same_path at q) (same_entry name (Other file)) altered).1 in
+    true≢false (sym named ∙ ap (is_entry_of vocabulary) same ∙ unnamed))
+spared vocabulary q file unnamed op named = absurd named
+
+spared_by_all : (vocabulary : Vocabulary) (user : Identity) (q : Names) (file : OtherFile) → is_entry_of vocabulary (Other file) ≡ false
+    → (ops : List Op) (st : State) → AllByRecursion (NamesEntry vocabulary) ops
+    → entry_at (after_all st (by_user user ops)) q (Other file) ≡ entry_at st q (Other file)
+spared_by_all vocabulary user q file unnamed [] st all = refl
+spared_by_all vocabulary user q file unnamed (op ∷ ops) st all =
+    spared_by_all vocabulary user q file unnamed ops (after st user op) all.1
+    ∙ entry_at-after st user op q (Other file) (spared vocabulary q file unnamed op all.0)
+
+-- ---- the sets of the eight, and of the further files
+
+abbrev listed_tries : State → Names → List (List Op)
+listed_tries st subtree =
+    flat_map (λ file. present (value_at st subtree file) (λ value. (Set subtree file (other_value file value) ∷ []) ∷ [])) all_files
+
+abbrev other_tries : State → Names → List (List Op)
+other_tries st subtree =
+    flat_map (λ file.
+    present (file_told st subtree file) (λ told. (SetOther subtree file (other_text file told.value) ∷ []) ∷ [])) all_others
+
+module _ (vocabulary : Vocabulary) (st : State) (user : Identity) (subtree : Names) (formed : IsWellFormed st) (named : IsNamed st)
+    (worded : IsWorded vocabulary st user) (sub : IsSubtree st subtree) where
   path : IsPath subtree
   path = named.paths subtree sub.0
 
@@ -116,8 +203,8 @@ module _ (st : State) (user : Identity) (subtree : Names) (formed : IsWellFormed
 
   -- ---- plain tries
 
-  written-sets : AllByRecursion (AreWritten vocabulary) (set_tries st subtree)
-  written-sets =
+  written-listed : AllByRecursion (AreWritten vocabulary) (listed_tries st subtree)
+  written-listed =
       all-flat_map (AreWritten vocabulary) _ all_files (λ file.
       all-present (AreWritten vocabulary) (value_at st subtree file) (λ value. (Set subtree file (other_value file value) ∷ []) ∷ [])
       (λ value is.
@@ -128,7 +215,11 @@ module _ (st : State) (user : Identity) (subtree : Names) (formed : IsWellFormed
       all-control_tries (AreWritten vocabulary) st subtree (λ on controller told. (
         (
           (
-            (IsPath-take subtree (length subtree - 1) path, ap (λ b. b && true) (told-known st.controllers controller told)),
+            (
+              IsPath-take subtree (length subtree - 1) path,
+              ap (λ b. b && true)
+                  (vocabulary-least vocabulary st.controllers worded.controllers controller (told-known st.controllers controller told)),
+            ),
             omega (arith, most_changes-least vocabulary),
           ),
           tt,
@@ -177,38 +268,44 @@ module _ (st : State) (user : Identity) (subtree : Names) (formed : IsWellFormed
       all-append (AreWritten vocabulary) (probe_tries_at st subtree (take len subtree)) (probe_tries st subtree len) (written-probes_at len)
       (written-probes len)
 
-  written-plain : AllByRecursion (AreWritten vocabulary) (plain_tries st subtree)
-  written-plain = (
-    (tt, omega arith),
-    all-append (AreWritten vocabulary) (set_tries st subtree ++ control_tries st subtree)
-        ((Rmdir subtree ∷ []) ∷ (move_tries st subtree ++ probe_tries st subtree (length subtree)))
-        (all-append (AreWritten vocabulary) (set_tries st subtree) (control_tries st subtree) written-sets written-controls) (
-          (((path, tt), tt), omega arith),
-          all-append (AreWritten vocabulary) (move_tries st subtree) (probe_tries st subtree (length subtree)) written-moves
-              (written-probes (length subtree)),
-        ),
-  )
-
   -- ---- the opening
 
-  entry_mode : (at : Names) (name : EntryName) (entry : Entry) (found : Option Cgroup) → row_at st at ≡ found
-      → option_and_then (λ row. entry_in row name) found ≡ Some entry → entry.mode ≤ 511
-  entry_mode at name entry None is held = cc
-  entry_mode at name entry (Some row) is held = (formed.rows at row is).modes name entry held
+  -- the chmod can be written, of an entry that lines name
+  abbrev IsNamedWritten : Op → Type 0
+  IsNamedWritten op = IsWritten vocabulary op × NamesEntry vocabulary op
 
-  written-opening_of : (guarded : Guarded) → AllByRecursion (IsWritten vocabulary) (opening_of st user subtree guarded)
+  written-chmod : (guarded : Guarded) (entry : Entry) → guarded_entry st subtree guarded ≡ Some entry → owns user entry ≡ true
+      → IsNamedWritten (Chmod (take guarded.len subtree) guarded.name (opened entry.mode))
+  written-chmod guarded entry is own =
+      let fits = opened-le entry.mode (entry_mode st formed (take guarded.len subtree) guarded.name entry is) in
+      let reached = ap (λ o. writes user entry || o) own ∙ or-true (writes user entry) in
+      let names = worded.entries (take guarded.len subtree) guarded.name entry is reached in
+      (((IsPath-take subtree guarded.len path, le-leb (opened entry.mode) 511 fits, names), tt), names)
+
+  written-opening_of : (guarded : Guarded) → AllByRecursion IsNamedWritten (opening_of st user subtree guarded)
   written-opening_of guarded =
-      all-present (IsWritten vocabulary) (guarded_entry st subtree guarded) _ (λ entry is.
-      let fits =
-      opened-le entry.mode (entry_mode (take guarded.len subtree) guarded.name entry (row_at st (take guarded.len subtree)) refl is) in
-      elim (owns user entry && not (writes user entry)) as
-      (λ b. AllByRecursion (IsWritten vocabulary) (cond b (Chmod (take guarded.len subtree) guarded.name (opened entry.mode) ∷ []) [])) [
-        | true ↦ (((IsPath-take subtree guarded.len path, le-leb (opened entry.mode) 511 fits), tt), tt)
-        | false ↦ tt
-      ])
+      all-present IsNamedWritten (guarded_entry st subtree guarded) _ (λ entry is.
+      elim (owns user entry) as (λ own. owns user entry ≡ own → AllByRecursion IsNamedWritten
+      (cond (own && not (writes user entry)) (Chmod (take guarded.len subtree) guarded.name (opened entry.mode) ∷ []) [])) [
+        | true ↦ λ own.
+            elim (not (writes user entry)) as
+            (λ b. AllByRecursion IsNamedWritten (cond b (Chmod (take guarded.len subtree) guarded.name (opened entry.mode) ∷ []) []))
+            [ true ↦ (written-chmod guarded entry is own, tt) | false ↦ tt ]
+        | false ↦ λ _. tt
+      ] refl)
+
+  named-opening : AllByRecursion IsNamedWritten (opening st user subtree)
+  named-opening = all-flat_map IsNamedWritten (opening_of st user subtree) (guarded_entries subtree) written-opening_of
 
   written-opening : AllByRecursion (IsWritten vocabulary) (opening st user subtree)
-  written-opening = all-flat_map (IsWritten vocabulary) (opening_of st user subtree) (guarded_entries subtree) written-opening_of
+  written-opening = all-each IsNamedWritten (IsWritten vocabulary) (λ op all. all.0) (opening st user subtree) named-opening
+
+  -- what is read of a further file in the opened tree, was read of it before, unless lines name it
+  spared_by_opening : (file : OtherFile) → is_entry_of vocabulary (Other file) ≡ false
+      → entry_at (opened_state st user subtree) subtree (Other file) ≡ entry_at st subtree (Other file)
+  spared_by_opening file unnamed =
+      spared_by_all vocabulary user subtree file unnamed (opening st user subtree) st
+      (all-each IsNamedWritten (NamesEntry vocabulary) (λ op all. all.1) (opening st user subtree) named-opening)
 
   short-opening_of : (guarded : Guarded) → length (opening_of st user subtree guarded) ≤ 1
   short-opening_of guarded =
@@ -254,27 +351,122 @@ module _ (st : State) (user : Identity) (subtree : Names) (formed : IsWellFormed
       all-each (IsWritten vocabulary) (HasLine vocabulary)
       (λ op written. (written.0, line_length vocabulary op written.0 written.1)) ops all
 
-  lines-opened : (before ops : List Op) → AllByRecursion (IsWritten vocabulary) before → length before ≤ 5000 → AreWritten vocabulary ops
-      → AllByRecursion (HaveLines vocabulary) (with_opening before ops)
-  lines-opened [] ops all short written = ((lines_of ops written.0, omega (arith, written.1)), tt)
-  lines-opened (op ∷ others) ops all short written =
-      let l = length-append (op ∷ others) ops in (
-        (lines_of ops written.0, omega (arith, written.1)),
-        (
-          (
-            lines_of (op ∷ others ++ ops) (all-append (IsWritten vocabulary) (op ∷ others) ops all written.0),
-            omega (arith, written.1, short, l),
-          ),
-          tt,
+  -- ---- those that break
+
+  abbrev opened_tree : State
+  opened_tree = opened_state st user subtree
+
+  -- who sets a further file reaches it
+  set_reached : (file : OtherFile) → set_other_bars opened_tree user subtree file ≡ []
+      → (entry : Entry) × (entry_at opened_tree subtree (Other file) ≡ Some entry) × (reaches user entry ≡ true)
+  set_reached file none =
+      elim (file_told opened_tree subtree file) as (λ found. is_some found ≡ true
+      → present found (λ told. unless (writes user told.entry) (NoAccess (length subtree) (Other file))) ≡ []
+      → (entry : Entry) × (option_map (λ told. told.entry) found ≡ Some entry) × (reaches user entry ≡ true)) [
+        | None ↦ λ there _. absurd (true≢false (sym there))
+        | Some told ↦ λ _ free. (told.entry, refl, ap (λ w. w || owns user told.entry) (no_unless _ _ free))
+      ] (allowed_set_other opened_tree user subtree file none) (no_parts _ _ none).1
+
+  named_if_set : (file : OtherFile) (value : FileText) → allowed opened_tree user (SetOther subtree file value) ≡ true
+      → is_entry_of vocabulary (Other file) ≡ true
+  named_if_set file value free =
+      let found = set_reached file (nothing_bars opened_tree user (SetOther subtree file value) free) in
+      elim (is_entry_of vocabulary (Other file)) as (λ b. is_entry_of vocabulary (Other file) ≡ b → b ≡ true) [
+        | true ↦ λ _. refl
+        | false ↦ λ unnamed.
+            sym unnamed
+            ∙ worded.entries subtree (Other file) found.0 (sym (spared_by_opening file unnamed) ∙ found.1) found.2
+      ] refl
+
+  -- what breaks the opened tree can be written
+  abbrev Writes : List Op → Type 0
+  Writes ops = IsExact opened_tree user subtree ops → breaks opened_tree user subtree ops ≡ true → AreWritten vocabulary ops
+
+  all-written : (xs : List (List Op)) → AllByRecursion (AreWritten vocabulary) xs → AllByRecursion Writes xs
+  all-written = all-each (AreWritten vocabulary) Writes (λ ops written _ _. written)
+
+  writes-others : AllByRecursion Writes (other_tries st subtree)
+  writes-others =
+      all-flat_map Writes _ all_others (λ file.
+      all-present Writes (file_told st subtree file) (λ told. (SetOther subtree file (other_text file told.value) ∷ []) ∷ [])
+      (λ told is. (
+        λ exact broken.
+            let set = SetOther subtree file (other_text file told.value) in
+            let free = (and_parts (allowed opened_tree user set) true (sym exact.exact ∙ broken)).0 in
+            ((((path, named_if_set file (other_text file told.value) free, text_value file told.value), tt), tt), omega arith),
+        tt,
+      )))
+
+  writes-plain : AllByRecursion Writes (plain_tries st subtree)
+  writes-plain = (
+    λ _ _. (tt, omega arith),
+    all-append Writes (set_tries st subtree ++ control_tries st subtree)
+        ((Rmdir subtree ∷ []) ∷ (move_tries st subtree ++ probe_tries st subtree (length subtree)))
+        (all-append Writes (set_tries st subtree) (control_tries st subtree)
+        (all-append Writes (listed_tries st subtree) (other_tries st subtree) (all-written _ written-listed) writes-others)
+        (all-written _ written-controls)) (
+          λ _ _. (((path, tt), tt), omega arith),
+          all-written _ (all-append (AreWritten vocabulary) (move_tries st subtree) (probe_tries st subtree (length subtree)) written-moves
+              (written-probes (length subtree))),
         ),
+  )
+
+  -- ---- the first that breaks
+
+  lines_behind : (free : Bool) (ops : List Op) → AreWritten vocabulary ops
+      → HaveLines vocabulary (unless_free free (opening st user subtree) ops)
+  lines_behind true ops written = (lines_of ops written.0, omega (arith, written.1))
+  lines_behind false ops written =
+      let l = length-append (opening st user subtree) ops in (
+        lines_of (opening st user subtree ++ ops)
+            (all-append (IsWritten vocabulary) (opening st user subtree) ops written-opening written.0),
+        omega (arith, written.1, short-opening, l),
       )
 
-  all-lines : AllByRecursion (HaveLines vocabulary) (tries st user subtree)
-  all-lines =
-      all_flat (HaveLines vocabulary) (AreWritten vocabulary) (with_opening (opening st user subtree))
-      (λ ops. lines-opened (opening st user subtree) ops written-opening short-opening) (plain_tries st subtree) written-plain
+  module _ (whole : IsUnbroken st subtree) where
+    exact-plain : AllByRecursion (IsExact opened_tree user subtree) (plain_tries st subtree)
+    exact-plain =
+        subst (AllByRecursion (IsExact opened_tree user subtree)) (same_tries user st opened_tree (wider-opened st user subtree) subtree)
+        (exact-plain_tries opened_tree user subtree (unbroken-opened st user subtree whole) (formed-opened st user subtree formed)
+        (subtree-opened st user subtree sub))
+
+    abbrev Broken : List Op → Type 0
+    Broken ops = breaks opened_tree user subtree ops ≡ true → AreWritten vocabulary ops
+
+    all-broken : AllByRecursion Broken (plain_tries st subtree)
+    all-broken =
+        all-both (IsExact opened_tree user subtree) Writes Broken (λ ops is writes. writes is) (plain_tries st subtree) exact-plain
+        writes-plain
+
+    lines_of_found : (found : Option (List Op)) → find (breaks opened_tree user subtree) (plain_tries st subtree) ≡ found → (ops : List Op)
+        → option_map (λ t. unless_free (is_free st user t) (opening st user subtree) t) found ≡ Some ops → HaveLines vocabulary ops
+    lines_of_found None is ops some = cc
+    lines_of_found (Some t) is ops some =
+        let written = find-all Broken (breaks opened_tree user subtree) (plain_tries st subtree) all-broken t is
+        (find-passes (breaks opened_tree user subtree) (plain_tries st subtree) t is) in
+        let same : unless_free (is_free st user t) (opening st user subtree) t ≡ ops = cc in
+        subst (HaveLines vocabulary) same (lines_behind (is_free st user t) t written)
+
+    unbroken-lines : (ops : List Op) → first_escape st user subtree ≡ Some ops → HaveLines vocabulary ops
+    unbroken-lines ops is =
+        lines_of_found _ refl ops (
+        ap
+        (λ xs. option_map (λ t. unless_free (is_free st user t) (opening st user subtree) t) (find (breaks opened_tree user subtree) xs))
+        (sym (same_tries user st opened_tree (wider-opened st user subtree) subtree))
+        ∙ sym (first_escape-is st user subtree whole formed sub) ∙ is
+        )
+
+  over-lines : (ops : List Op) → not (fits_descendants st subtree && fits_depth st subtree) ≡ true
+      → first_escape st user subtree ≡ Some ops → HaveLines vocabulary ops
+  over-lines ops over is =
+      let same : [] ≡ ops = same_some [] ops (sym (escape-over st user subtree over) ∙ is) in
+      subst (HaveLines vocabulary) same (tt, omega arith)
 
   pub escape_lines : (ops : List Op) → answer st user subtree ≡ Escapes ops → HaveLines vocabulary ops
   escape_lines ops is =
-      find-all (HaveLines vocabulary) (breaks st user subtree) (tries st user subtree) all-lines ops
-      (found-escape (failures st user subtree) (first_escape st user subtree) ops is)
+      let found = found-escape (failures st user subtree) (first_escape st user subtree) ops is in
+      elim (not (fits_descendants st subtree && fits_depth st subtree)) as
+      (λ over. not (fits_descendants st subtree && fits_depth st subtree) ≡ over → HaveLines vocabulary ops) [
+        | true ↦ λ over. over-lines ops over found
+        | false ↦ λ fits. unbroken-lines (unbroken-fits st subtree sub fits) ops found
+      ] refl

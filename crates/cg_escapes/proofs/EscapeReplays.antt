@@ -1,9 +1,11 @@
 -- The lines of an escape are replayed one by one, and break the subtree.
-use Rattle.std.proofs.Common.{◌≡◌, ℕ, ◌+◌, ◌<◌, ◌≤◌, Bool, true, false, nat_lt, cond, not, List, [], ◌∷◌, ◌++◌, length, Option, Some, None, is_some, Result, Ok, Err, refl, ap, sym, ◌∙◌, subst, append_assoc, append-nil, true≢false, arith, codes, inl, inr}
+use Rattle.std.proofs.Common.{◌≡◌, ℕ, ◌+◌, ◌<◌, ◌≤◌, Bool, true, false, nat_lt, nat_eq, cond, not, List, [], ◌∷◌, ◌++◌, length, Option, Some, None, is_some, Result, Ok, Err, refl, ap, sym, ◌∙◌, subst, append_assoc, append-nil, true≢false, arith, codes, inl, inr}
 use Rattle.std.specs.List.{AllByRecursion}
+use Rattle.std.specs.FinMap as finite
 use Rattle.std.proofs.lemmas.Bool.{lt-ltb, le-ltb}
 use Rattle.std.proofs.lemmas.List.Elements.{All-nil}
 use Rattle.cg_cgroup.specs.Identity.{Identity}
+use Rattle.cg_cgroup.specs.Users.{is_user}
 use Rattle.cg_cgroup.specs.Paths.{Names, is_root}
 use Rattle.cg_cgroup.specs.declared.cgroup.Cgroup.{Cgroup}
 use Rattle.cg_model.specs.States.{State, row_at}
@@ -41,7 +43,7 @@ use Rattle.cg_format.specs.TextOf.{IsTextOf}
 use Rattle.cg_format.specs.declared.fault.TreeFault.{TreeFault}
 use Rattle.cg_format.proofs.OneState.{paths_are_paths, pids_are_pids}
 use Rattle.cg_faults.specs.Faults.{lifted}
-use Rattle.cg_cli.specs.Arguments.{user_read, path_read}
+use Rattle.cg_cli.specs.Arguments.{or_fault, user_read, path_read}
 use Rattle.cg_cli.specs.May.{tree_read}
 use Rattle.cg_cli.specs.Reports.{Said, Report, report_on}
 use Rattle.cg_cli.specs.Containment.{in_call, answer_status, answer_report, subtree_report, check_report}
@@ -49,14 +51,11 @@ use Rattle.cg_cli.specs.Courses.{Course, Unwatched, Watched, state_of, on_course
 use Rattle.cg_cli.specs.Replays.{outcome_of, operation_read, with_front, lines_said, closed, course_read, replay_report}
 use Rattle.cg_escapes.specs.EscapeReplays.{AreLines, EndsBroken, IsReplayed}
 use Rattle.cg_faults.specs.declared.fault.CliFault.{CliFault}
-use Rattle.cg_faults.specs.declared.fault.CliFault.TheVariants.{Subtree}
+use Rattle.cg_faults.specs.declared.fault.CliFault.TheVariants.{Subtree, Uid, Gids}
 use Rattle.cg_cli.proofs.ReplayReports.{report_of_line, report_of_end}
 use Rattle.cg_cli.proofs.CheckReports.{report_is, of_bytes}
 use Rattle.cg_cgroup.specs.declared.files.Vocabulary.{Vocabulary}
-use Rattle.cg_cgroup.specs.Files.{vocabulary_of}
-use Rattle.cg_cgroup.proofs.ControllerLaws.{vocabulary-least}
-use Rattle.cg_lines.proofs.Wider.{wider-lines}
-use Rattle.cg_format.proofs.ReadingLaws.{known_controllers}
+use Rattle.cg_escapes.proofs.Worded.{text_worded}
 
 -- ---- operations whose lines are replayed
 
@@ -205,7 +204,14 @@ abbrev course_by : State → Names → Bool → Option Cgroup → Result Course 
 course_by st path root found =
     cond root (Err (Subtree RootSubtree)) (elim found [
       | None ↦ Err (Subtree NoSuchSubtree)
-      | Some row ↦ Ok (Watched (record { subtree = path; original = row; state = st; steps = 0; verdict = verdict st [] path }))
+      | Some row ↦ Ok (Watched (record {
+        subtree = path;
+        original = row;
+        told = finite.get st.told path;
+        state = st;
+        steps = 0;
+        verdict = verdict st [] path;
+      }))
     ])
 
 abbrev read_by : Result Names CliFault → Result State TreeFault → Result Course CliFault
@@ -217,6 +223,17 @@ read_by named tree =
       | Err fault ↦ Err fault
     ]
 
+-- who is read is a user
+may_by : (made user : Identity) (root may : Bool) → is_user made ≡ may
+    → cond root (Err Uid) (or_fault (cond may (Some made) None) Gids) ≡ Ok user → is_user user ≡ true
+may_by made user true may _ is = cc
+may_by made user false true may is = let same : made ≡ user = cc in subst (λ who. is_user who ≡ true) same may
+may_by made user false false _ is = cc
+
+user_may : (uid : ℕ) (gids : List ℕ) (user : Identity) → user_read uid gids ≡ Ok user → is_user user ≡ true
+user_may uid gids user is =
+    let made : Identity = record { uid = uid; gids = gids } in may_by made user (nat_eq uid 0) (is_user made) refl is
+
 -- ---- a watched replay
 
 module _ (vocabulary : Vocabulary) (tree : Reading) (uid : ℕ) (gids : List ℕ) (subtree : List ℕ) (user : Identity) (path : Names)
@@ -227,7 +244,7 @@ module _ (vocabulary : Vocabulary) (tree : Reading) (uid : ℕ) (gids : List ℕ
   row = row_of (row_at st path) sub.0
 
   abbrev begun : Progress
-  begun = record { subtree = path; original = row.0; state = st; steps = 0; verdict = verdict st [] path }
+  begun = record { subtree = path; original = row.0; told = finite.get st.told path; state = st; steps = 0; verdict = verdict st [] path }
 
   begins : course_from st (Some path) ≡ Ok (Watched begun)
   begins = λ i. course_by st path (sub.1 i) (row.1 i)
@@ -236,7 +253,7 @@ module _ (vocabulary : Vocabulary) (tree : Reading) (uid : ℕ) (gids : List ℕ
   course_is = ap (λ named. read_by named tree) of_path ∙ ap (read_by (Ok path)) of_text ∙ begins
 
   run : RunsOn begun user ops st []
-  run = runs_on user ops begun st [] (record { original = row.1; state = refl; steps = refl; verdict = refl })
+  run = runs_on user ops begun st [] (record { original = row.1; told = refl; state = refl; steps = refl; verdict = refl })
 
   found : run.to.verdict ≡ verdict st (by_user user ops) path
   found = run.run_of.verdict ∙ ap (verdict st (by_user user ops)) run.subtree
@@ -276,10 +293,9 @@ module _ (text : List ℕ) (tree : Reading) (is_read : IsReading text tree) (uid
 
   lines : HaveLines (vocabulary_in text) ops
   lines =
-      wider-lines (vocabulary_of st.controllers) (vocabulary_in text)
-      (vocabulary-least (vocabulary_in text) st.controllers (known_controllers text st says)) ops
-      (escape_lines st user path says.says.formed
-      (record { paths = λ named. paths_are_paths text st named says; pids = λ pid. pids_are_pids text st pid says }) sub ops stated.1)
+      escape_lines (vocabulary_in text) st user path says.says.formed
+      (record { paths = λ named. paths_are_paths text st named says; pids = λ pid. pids_are_pids text st pid says })
+      (text_worded text st says user (user_may uid gids user of_user)) sub ops stated.1
 
   printed : (check_report tree uid gids subtree).text ≡ codes "escapes\n" ++ op_lines ops
   printed =

@@ -1,2 +1,3 @@
+mod Worded
 pub mod EscapeLines
 pub mod EscapeReplays

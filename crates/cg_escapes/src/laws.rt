@@ -9,19 +9,19 @@ ghost use Rattle.cg_model.specs.declared.operation.Op.{Op};
 ghost use Rattle.cg_model.specs.Answers.{answer};
 ghost use Rattle.cg_model.specs.declared.answer.Answer.TheVariants.{Escapes};
 ghost use Rattle.cg_lines.specs.OperationLines.{HaveLines};
-ghost use Rattle.cg_escapes.specs.EscapeLines.{IsNamed};
+ghost use Rattle.cg_escapes.specs.EscapeLines.{IsNamed, IsWorded};
 ghost use Rattle.std.specs.Prelude.{◌≡◌, ℕ, List, Ok};
 ghost use Rattle.cg_format.specs.Readings.{Reading, IsReading, vocabulary_in};
-ghost use Rattle.cg_cgroup.specs.Files.{vocabulary_of};
+ghost use Rattle.cg_cgroup.specs.declared.files.Vocabulary.{Vocabulary};
 ghost use Rattle.cg_cli.specs.Containment.{check_report};
 ghost use Rattle.cg_escapes.specs.EscapeReplays.{IsReplayed};
 
-/// Each operation of an escape has a line that isn't too long to be read, of controllers that formats 1 and 2 or the root have, and
-/// there are fewer than 65536 of them.
+/// Each operation of an escape has a line that isn't too long to be read, and there are fewer than 65536 of them, where lines name
+/// each controller that the root has and each entry that the user reaches.
 pub fn escapes_have_lines()
-    ensures { (st : State) (user : Identity) (subtree : Names) (ops : List Op)
-        → IsWellFormed st → IsNamed st → IsSubtree st subtree → answer st user subtree ≡ Escapes ops
-        → HaveLines (vocabulary_of st.controllers) ops }
+    ensures { (vocabulary : Vocabulary) (st : State) (user : Identity) (subtree : Names) (ops : List Op)
+        → IsWellFormed st → IsNamed st → IsWorded vocabulary st user → IsSubtree st subtree → answer st user subtree ≡ Escapes ops
+        → HaveLines vocabulary ops }
 {}
 
 /// The status of a check is 1 where its user escapes. Then its lines after `escapes` are those of operations, each short

@@ -1,5 +1,5 @@
 -- The guards hold where the user reaches no entry that is told, and the other way round.
-use Rattle.std.proofs.Common.{◌≡◌, Bool, true, false, not, ◌||◌, ◌&&◌, cond, List, [], ◌∷◌, ◌++◌, length, Option, Some, None, refl, ap}
+use Rattle.std.proofs.Common.{◌≡◌, Bool, true, false, not, ◌||◌, ◌&&◌, cond, List, [], ◌∷◌, ◌++◌, length, Option, Some, None, is_some, refl, ap}
 use Rattle.std.specs.List.{All, AllByRecursion, flat_map}
 use Rattle.std.specs.Option.{option_map}
 use Rattle.std.proofs.lemmas.List.Elements.{All-from_recursion, recursion_from_All}
@@ -15,27 +15,25 @@ use Rattle.cg_model.specs.declared.guard.Failed.{Failed}
 use Rattle.cg_model.specs.declared.guard.Guard.TheVariants.{AlreadyOver}
 use Rattle.cg_model.proofs.ClauseLaws.{no_parts, no_unless}
 use Rattle.cg_model.specs.declared.mend.Class.{Class}
-use Rattle.cg_model.specs.declared.mend.Class.TheVariants.{Owner}
+use Rattle.cg_model.specs.declared.guard.GuardedEntry.{GuardedEntry}
 use Rattle.cg_explain.specs.declared.first.Told.{Told}
-use Rattle.cg_explain.specs.FirstRow.{told, first_row}
+use Rattle.cg_explain.specs.FirstRow.{class_of, is_told_of, has_line, told, first_row}
+use Rattle.cg_explain.proofs.Classes.{no_class, not_reached}
 use Rattle.cg_explain.proofs.Telling.{line_of}
 
 abbrev pub IsSpared : Told → Type 0
 IsSpared each = each.by ≡ None
 
-no_class : (owned written : Bool) (class : Class) → not (written || owned) ≡ true
-    → ◌≡◌ {A = Option Class} (cond owned (Some Owner) (cond written (Some class) None)) None
-no_class true true class h = cc
-no_class true false class h = cc
-no_class false true class h = cc
-no_class false false class h = refl
+-- a line, where there is one
+spared_line : (lined : Bool) (each : Told) → IsSpared each → AllByRecursion IsSpared (cond lined (each ∷ []) [])
+spared_line true each none = (none, tt)
+spared_line false each none = tt
 
-not_reached : (owned written : Bool) (class : Class)
-    → ◌≡◌ {A = Option Class} (cond owned (Some Owner) (cond written (Some class) None)) None
-    → not (written || owned) ≡ true
-not_reached true written class h = cc
-not_reached false true class h = cc
-not_reached false false class h = refl
+-- whatever the user reaches has one
+none_by : (named : Bool) (at : GuardedEntry) (by : Option Class)
+    → AllByRecursion IsSpared (cond (is_some by || named) (record { at = at; by = by } ∷ []) []) → by ≡ None
+none_by named at None all = refl
+none_by named at (Some class) all = all.0
 
 both_parts : (xs ys : List Told) → AllByRecursion IsSpared (xs ++ ys) → AllByRecursion IsSpared xs × AllByRecursion IsSpared ys
 both_parts [] ys all = (tt, all)
@@ -57,17 +55,20 @@ module _ (st : State) (user : Identity) (subtree : Names) where
     fails here = present here (λ entry. unless (not (reaches user entry)) failed)
 
     abbrev lines : Option Entry → List Told
-    lines here = present (option_map (found guarded) here) (told user)
+    lines here = present (option_map (found guarded) here) (told st user subtree)
 
     none_told : (here : Option Entry) → fails here ≡ [] → AllByRecursion IsSpared (lines here)
     none_told None h = tt
     none_told (Some entry) h =
-        (no_class (owns user entry) (writes user entry) _ (no_unless (not (reaches user entry)) failed h), tt)
+        spared_line (has_line st subtree guarded.name (class_of user entry))
+        (record { at = found guarded entry; by = class_of user entry })
+        (no_class (owns user entry) (writes user entry) _ (no_unless (not (reaches user entry)) failed h))
 
     none_fails : (here : Option Entry) → AllByRecursion IsSpared (lines here) → fails here ≡ []
     none_fails None all = refl
     none_fails (Some entry) all =
-        unless_none (not (reaches user entry)) failed (not_reached (owns user entry) (writes user entry) _ all.0)
+        unless_none (not (reaches user entry)) failed (not_reached (owns user entry) (writes user entry) _
+        (none_by (is_told_of st subtree guarded.name) (found guarded entry) (class_of user entry) all))
 
   all_told : (gs : List Guarded) → flat_map (entry_failures st user subtree) gs ≡ []
       → AllByRecursion IsSpared (flat_map (line_of st user subtree) gs)

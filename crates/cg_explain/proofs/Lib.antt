@@ -1,3 +1,4 @@
+mod Classes
 mod Telling
 mod Holding
 mod Within

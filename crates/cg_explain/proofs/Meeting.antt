@@ -12,7 +12,7 @@ use Rattle.cg_model.specs.WellFormed.{IsWellFormed}
 use Rattle.cg_model.specs.Tries.{is_told, told_controllers}
 use Rattle.cg_model.specs.Limits.{fits_descendants, fits_depth}
 use Rattle.cg_second.specs.Greatest.{greatest}
-use Rattle.cg_second.specs.Judged.{takes_none, grows_none, is_closed_to, second_row}
+use Rattle.cg_second.specs.Judged.{takes_none, grows_none, spares_files, is_closed_to, second_row}
 use Rattle.cg_second.specs.Anchors.{is_anchored}
 use Rattle.cg_second.specs.Exposed.{is_off_to, is_exposed, is_shut_or_apart}
 use Rattle.cg_second.proofs.Staying.{off-above}
@@ -27,7 +27,7 @@ use Rattle.cg_explain.specs.declared.second.Growing.TheVariants.{Spared as Spare
 use Rattle.cg_explain.specs.declared.second.Place.{Place}
 use Rattle.cg_explain.specs.declared.second.Asked.{Asked}
 use Rattle.cg_explain.specs.declared.second.Asked.TheVariants.{Files, Shut}
-use Rattle.cg_explain.specs.SecondRow.{why_stays, why_control, control_asked, controls_asked, place_with, place_asked, spares_files, second_row_asked, is_met}
+use Rattle.cg_explain.specs.SecondRow.{why_stays, why_control, control_asked, controls_asked, place_with, place_asked, second_row_asked, is_met}
 
 some-is : {A : Type 0} (b : Bool) (x : A) → is_some (cond b (Some x) None) ≡ b
 some-is true x = refl

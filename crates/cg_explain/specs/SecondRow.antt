@@ -1,16 +1,15 @@
 -- What the second row of guards asks of a subtree against some users, one thing after another, and by what it is so.
-use Rattle.std.specs.Prelude.{Bool, ◌&&◌, not, cond, List, [], ◌∷◌, ◌++◌, map, length, Option, Some, None, is_some}
-use Rattle.std.specs.List.{list_all, flat_map}
+use Rattle.std.specs.Prelude.{Bool, ◌&&◌, cond, List, [], ◌∷◌, ◌++◌, map, length, Option, Some, None, is_some}
+use Rattle.std.specs.List.{flat_map}
 use Rattle.cg_cgroup.specs.Paths.{Names, parent}
 use Rattle.cg_cgroup.specs.Identity.{Identity}
-use Rattle.cg_cgroup.specs.Files.{all_files}
 use Rattle.cg_cgroup.specs.declared.files.Controller.{Controller}
-use Rattle.cg_cgroup.specs.declared.files.EntryName.TheVariants.{Dir, Procs, File}
+use Rattle.cg_cgroup.specs.declared.files.EntryName.TheVariants.{Dir, Procs}
 use Rattle.cg_model.specs.States.{State, paths_of}
 use Rattle.cg_model.specs.Tries.{told_controllers}
 use Rattle.cg_second.specs.Lasting.{is_reached}
 use Rattle.cg_second.specs.Greatest.{greatest}
-use Rattle.cg_second.specs.Judged.{takes_none, grows_none}
+use Rattle.cg_second.specs.Judged.{takes_none, grows_none, spares_files}
 use Rattle.cg_second.specs.Anchors.{is_anchored}
 use Rattle.cg_second.specs.Exposed.{is_off_to, is_exposed}
 use Rattle.cg_explain.specs.declared.second.Staying.{Staying}
@@ -61,9 +60,6 @@ control_asked st users subtree controller = Control controller (why_control st u
 -- each controller that is told of
 abbrev pub controls_asked : State → List Identity → Names → List Asked
 controls_asked st users subtree = map (control_asked st users subtree) (told_controllers st)
-
-abbrev pub spares_files : State → List Identity → Names → Bool
-spares_files st users subtree = list_all (λ file. not (is_reached st users subtree (File file))) all_files
 
 -- all but that the subtree is within its own limits
 abbrev pub second_row_asked : State → List Identity → Names → List Asked

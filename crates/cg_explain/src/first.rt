@@ -3,15 +3,19 @@ ghost use Rattle.std.specs.Prelude.{◌≡◌, false, IfOk};
 ghost use Rattle.std.specs.List.{All};
 ghost use Rattle.cg_advice.specs.AdviceLines.{IsShown};
 ghost use Rattle.cg_cgroup.specs.Paths.{is_root};
-ghost use Rattle.cg_explain.specs.FirstRow.{class_of, first_row};
+ghost use Rattle.cg_explain.specs.FirstRow.{class_of, is_told_of, has_line, first_row};
 
+use cg_cgroup::files::EntryName;
 use cg_cgroup::memory::NoMemory;
 use cg_cgroup::path::Path;
 use cg_cgroup::user::{Entry, User};
-use cg_guards::table::{guarded_count, guarded_entry};
+use cg_guards::asked::{asked_count, asked_place};
+use cg_guards::table::guarded_entry;
+use cg_model::files::told_at;
 use cg_model::guard::GuardedEntry;
 use cg_model::hierarchy::Hierarchy;
 use cg_model::mend::Class;
+use cg_second::reach::spares_untold;
 use std::alloc::Global;
 
 /// An entry on which a guard stands. The guard holds where the user reaches it by no class.
@@ -21,7 +25,8 @@ pub struct Told {
     pub by: Option<Class>,
 }
 
-/// Each entry that is there and on which a guard of the subtree stands, in the order of the guards.
+/// Each entry that is there and on which a guard of the subtree stands, in the order of the guards; of its limit files beyond
+/// `LimitFile` those of which something is told, or which the user reaches.
 pub fn first_row<H: Hierarchy>(
     alloc: Global,
     tree: &H,
@@ -32,15 +37,35 @@ pub fn first_row<H: Hierarchy>(
     ensures row { IfOk result (λ row. row.items ≡ first_row (H.state tree.now) user.now subtree.now) }
     ensures shown { IfOk result (λ row. All (λ told. IsShown subtree.now told.at) row.items) }
 {
+    let passes = spares_untold(tree, std::slice::from_ref(user), subtree);
     let mut row = Vec::new(alloc);
-    for place in 0..guarded_count(subtree) {
-        let Some(at) = guarded_entry(tree, subtree, place) else {
+    for turn in 0..asked_count(subtree, passes) {
+        let Some(at) = guarded_entry(tree, subtree, asked_place(subtree, passes, turn)) else {
             continue;
         };
         let by = class_of(user, &at.entry);
-        row.push(Told { at, by })?;
+        if has_line(tree, subtree, at.name, by) {
+            row.push(Told { at, by })?;
+        }
     }
     Ok(row)
+}
+
+/// Whether an entry of the subtree has a line: where the tree doesn't tell of it, only if the user reaches it.
+fn has_line<H: Hierarchy>(tree: &H, subtree: &Path, name: EntryName, by: Option<Class>) -> bool
+    ensures { result ≡ has_line (H.state tree.now) subtree.now name by }
+{
+    by.is_some() || is_told_of(tree, subtree, name)
+}
+
+/// Whether the tree tells of an entry of the subtree.
+fn is_told_of<H: Hierarchy>(tree: &H, subtree: &Path, name: EntryName) -> bool
+    ensures { result ≡ is_told_of (H.state tree.now) subtree.now name }
+{
+    match name {
+        EntryName::Other(file) => told_at(tree, subtree, subtree.depth(), file).is_some(),
+        _ => true,
+    }
 }
 
 /// By what class a user reaches an entry, if they do.

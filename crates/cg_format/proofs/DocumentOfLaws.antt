@@ -1,5 +1,5 @@
 -- Cgroups and processes that are those of a document's tables are a well-formed state, which the document is of.
-use Rattle.std.proofs.Common.{◌≡◌, ℕ, ◌≤◌, Bool, true, false, not, cond, ◌||◌, List, [], ◌∷◌, ◌++◌, codes, Option, Some, None, is_some, option_map, option_and_then, unwrap_or, refl, sym, ap, subst, ◌∙◌, eqb-true, eq-eqb, arith}
+use Rattle.std.proofs.Common.{true≢false, ◌≡◌, ℕ, ◌≤◌, Bool, true, false, not, cond, ◌||◌, List, [], ◌∷◌, ◌++◌, codes, Option, Some, None, is_some, option_map, option_and_then, unwrap_or, refl, sym, ap, subst, ◌∙◌, eqb-true, eq-eqb, arith}
 use Rattle.std.specs.Prelude.{find, count_by, nat_eq}
 use Rattle.std.specs.Bool.{passes}
 use Rattle.std.specs.List.{AllByRecursion, list_any}
@@ -9,8 +9,8 @@ use Rattle.std.specs.FinMap as map
 use Rattle.std.specs.FinSet as set
 use Rattle.toml.specs.Data.{Data, Members, no_members, get_member}
 use Rattle.cg_cgroup.specs.Paths.{Names, path_cmp, same_path, is_root, parent}
-use Rattle.cg_cgroup.specs.Files.{no_controllers, default_value, accepts, is_within, stands_under}
-use Rattle.cg_cgroup.specs.Cgroups.{file_of, entry_in}
+use Rattle.cg_cgroup.specs.Files.{is_beyond, brought_by, no_controllers, default_value, accepts, is_within, stands_under}
+use Rattle.cg_cgroup.specs.Cgroups.{other_in, file_of, entry_in}
 use Rattle.cg_cgroup.proofs.CgroupLaws.{accepts-default_value}
 use Rattle.cg_cgroup.proofs.Options.{some_value, none_value, same_some, is_some-mapped}
 use Rattle.cg_cgroup.proofs.PathOrder.{same_path-is, same_path_refl, same_path-ties}
@@ -18,19 +18,21 @@ use Rattle.cg_cgroup.proofs.PathParents.{parent-root}
 use Rattle.cg_cgroup.specs.declared.user.Entry.{Entry}
 use Rattle.cg_cgroup.specs.declared.files.Limit.{Limit}
 use Rattle.cg_cgroup.specs.declared.controllers.ControllerSet.{ControllerSet}
+use Rattle.cg_cgroup.specs.declared.files.Controller.{Controller}
 use Rattle.cg_cgroup.specs.declared.files.LimitFile.{LimitFile}
 use Rattle.cg_cgroup.specs.declared.files.EntryName.{EntryName}
-use Rattle.cg_cgroup.specs.declared.files.EntryName.TheVariants.{Dir, Procs, SubtreeControl, File}
+use Rattle.cg_cgroup.specs.declared.files.EntryName.TheVariants.{Dir, Procs, SubtreeControl, File, Other}
 use Rattle.cg_cgroup.specs.declared.cgroup.LimitEntry.{LimitEntry}
 use Rattle.cg_cgroup.specs.declared.cgroup.Cgroup.{Cgroup}
 use Rattle.cg_cgroup.specs.declared.process.Process.{Process}
+use Rattle.cg_cgroup.specs.declared.told.ToldFiles.{ToldFiles}
 use Rattle.cg_model.specs.Clauses.{first}
 use Rattle.cg_model.specs.States.{State, row_at, process_at}
 use Rattle.cg_model.specs.WellFormed.{has_row, enabled_at, enabled_above, available_at, may_hold, IsFormedRow, IsWellFormed}
 use Rattle.cg_model.proofs.ClauseLaws.{none_of_first}
 use Rattle.cg_model.proofs.FormedParts.{row-may_hold}
 use Rattle.cg_format.specs.Said.{tables_at, integer_at, path_said, controllers_said, known_said, mode_missing, limit_of, accepted, id_read, mode_read, table_of, entry_said, value_said, is_named, has_path, pid_said}
-use Rattle.cg_format.specs.TextOf.{IsInForm, IsRowOf, IsProcessOf, has_pid, IsDocumentOf}
+use Rattle.cg_format.specs.TextOf.{OthersAreRoots, IsInForm, IsRowOf, IsProcessOf, has_pid, IsDocumentOf}
 use Rattle.cg_format.specs.TextFaults.{each_cgroup, each_process, row_faults, is_there, enabled_there, over, cgroup_faults, process_faults}
 use Rattle.cg_format.specs.Tables.{IsEntryOf, AreEntriesOf, IsAmong, IsLive, AreProcesses}
 use Rattle.cg_format.specs.declared.fault.Place.TheVariants.{Cgroup as AtCgroup, Process as AtProcess}
@@ -63,11 +65,30 @@ value_accepted : (file : LimitFile) (row : Members) (value : Limit) → value_sa
 value_accepted file row value is = found_accepted file (get_member (codes "value") (unwrap_or (table_of (File file) row) no_members)) value
     is
 
+-- ---- modes
+
+untold_small : (cgroup : Cgroup) → OthersAreRoots cgroup → (by : Option Controller) (entry : Entry)
+    → elim by [ None ↦ Some cgroup.freeze | Some controller ↦ other_in cgroup controller ] ≡ Some entry → entry.mode ≤ 511
+untold_small cgroup roots None entry is =
+    subst (λ (e : Entry). e.mode ≤ 511) (sym roots.freeze ∙ same_some cgroup.freeze entry is) (omega arith)
+untold_small cgroup roots (Some controller) entry is =
+    subst (λ (e : Entry). e.mode ≤ 511) (sym (roots.others controller entry is)) (omega arith)
+
+modes_small : (format : Format) (tables : List Members) (row : Members) (cgroup : Cgroup) → IsEntryOf format tables row cgroup
+    → (name : EntryName) (entry : Entry) → entry_in cgroup name ≡ Some entry → entry.mode ≤ 511
+modes_small format tables row cgroup is (Other file) entry there = untold_small cgroup is.roots (brought_by file) entry there
+modes_small format tables row cgroup is Dir entry there = entry_small format row Dir entry (is.entries Dir entry refl there)
+modes_small format tables row cgroup is Procs entry there = entry_small format row Procs entry (is.entries Procs entry refl there)
+modes_small format tables row cgroup is SubtreeControl entry there =
+    entry_small format row SubtreeControl entry (is.entries SubtreeControl entry refl there)
+modes_small format tables row cgroup is (File file) entry there =
+    entry_small format row (File file) entry (is.entries (File file) entry refl there)
+
 -- ---- look-ups
 
 -- the state of these cgroups and processes
 abbrev pub state_with : map.FinMap path_cmp Cgroup → map.FinMap nat_cmp Process → set.FinSet nat_cmp → ControllerSet → State
-state_with rows live used controllers = record { rows = rows; live = live; used = used; controllers = controllers }
+state_with rows live used controllers = record { rows = rows; told = map.empty; live = live; used = used; controllers = controllers }
 
 pub found_by_path : {X : Type 0} (path : Names) (es : List (Names × X)) → map.find path_cmp path es ≡ lookup (same_path path) es
 found_by_path path [] = refl
@@ -186,7 +207,7 @@ module _ (format : Format) (document : Members) (controllers : ControllerSet) (e
           files = at.entry.files path (enabled_above st path) at.named (over_is no_controllers path at.stands.parent_there);
           others = at.entry.others path (enabled_above st path) at.named (over_is no_controllers path at.stands.parent_there);
           values = λ file held there. value_accepted file at.table held.value (at.entry.values file held there);
-          modes = λ name entry there. entry_small format at.table name entry (at.entry.entries name entry there);
+          modes = modes_small format tables at.table cgroup at.entry;
         }
 
     -- ---- the tables' rows
@@ -218,11 +239,13 @@ module _ (format : Format) (document : Members) (controllers : ControllerSet) (e
       where
         files_named : (row : Members) (cgroup : Cgroup) → ((file : LimitFile) → is_named (File file) row ≡ true
             → is_some (file_of cgroup file) ≡ true)
-            → (name : EntryName) → is_named name row ≡ true → is_some (entry_in cgroup name) ≡ true
-        files_named row cgroup each (File file) named = is_some-mapped (λ (f : LimitEntry). f.entry) (file_of cgroup file) ∙ each file named
-        files_named row cgroup each Dir named = refl
-        files_named row cgroup each Procs named = refl
-        files_named row cgroup each SubtreeControl named = refl
+            → (name : EntryName) → is_beyond name ≡ false → is_named name row ≡ true → is_some (entry_in cgroup name) ≡ true
+        files_named row cgroup each (File file) within named =
+            is_some-mapped (λ (f : LimitEntry). f.entry) (file_of cgroup file) ∙ each file named
+        files_named row cgroup each Dir within named = refl
+        files_named row cgroup each Procs within named = refl
+        files_named row cgroup each SubtreeControl within named = refl
+        files_named row cgroup each (Other file) within named = absurd (true≢false within)
 
     rows_are : AllByRecursion (IsRowOf format st) tables
     rows_are = all_rows (IsRowOf format st) [] tables row_is
@@ -268,12 +291,16 @@ module _ (format : Format) (document : Members) (controllers : ControllerSet) (e
           let enabled = sym (among.enabled says.place) ∙ ap (option_map (λ (c : Cgroup). c.enabled)) cgroup.1 in
           ap (may_hold st) same ∙ row-may_hold st says.place cgroup.0 cgroup.1 (says.free cgroup.0.enabled enabled)
 
+      untold : (path : Names) (files : ToldFiles) → map.get st.told path ≡ Some files → ⊥
+      untold path files is = true≢false (sym (ap is_some is) ∙ ap is_some (map.get-empty path_cmp path))
+
       formed : IsWellFormed st
       formed = record {
         root = among.there [] ∙ root_there controllers tables together;
         parents = parents_there;
         top_down = rows_within;
         rows = rows_formed;
+        told = λ path files is. absurd (untold path files is);
         places = placed;
         used = λ pid process is. these.used pid ∙ ap is_some is;
       }
@@ -311,6 +338,7 @@ module _ (format : Format) (document : Members) (controllers : ControllerSet) (e
               format = format;
               form = form;
               controllers = said;
+              told = refl;
               cgroups = rows_are;
               paths = paths_counted;
               processes = processes_are;

@@ -7,13 +7,13 @@ use Rattle.std.proofs.lemmas.List.{append-nil, length-append, nil_from_length}
 use Rattle.std.proofs.lemmas.List.Sums.{length-filter}
 use Rattle.toml.specs.Data.{Data, Members, no_members}
 use Rattle.cg_cgroup.specs.Paths.{Names, same_path, is_root, parent}
-use Rattle.cg_cgroup.specs.Files.{all_files, all_entries, no_controllers, enables_nothing, stands_under}
+use Rattle.cg_cgroup.specs.Files.{is_beyond, all_files, no_controllers, enables_nothing, stands_under}
 use Rattle.cg_cgroup.specs.Cgroups.{file_of}
 use Rattle.cg_cgroup.specs.declared.user.Entry.{Entry}
 use Rattle.cg_cgroup.specs.declared.controllers.ControllerSet.{ControllerSet}
 use Rattle.cg_cgroup.specs.declared.files.LimitFile.{LimitFile}
 use Rattle.cg_cgroup.specs.declared.files.EntryName.{EntryName}
-use Rattle.cg_cgroup.specs.declared.files.EntryName.TheVariants.{Dir, Procs, SubtreeControl, File}
+use Rattle.cg_cgroup.specs.declared.files.EntryName.TheVariants.{Dir, Procs, SubtreeControl, File, Other}
 use Rattle.cg_cgroup.specs.declared.cgroup.LimitEntry.{LimitEntry}
 use Rattle.cg_cgroup.proofs.Options.{none_value, is_some-mapped}
 use Rattle.cg_cgroup.proofs.PathOrder.{same_path_refl}
@@ -33,7 +33,7 @@ use Rattle.cg_format.specs.declared.fault.TreeFault.TheVariants.{TooLong, NotTom
 use Rattle.cg_format.specs.declared.format.Format.{Format}
 use Rattle.cg_format.specs.declared.format.Format.TheVariants.{One, Two, Four}
 use Rattle.cg_format.proofs.SaidRanges.{said_of_known}
-use Rattle.cg_format.proofs.TablesSay.{all_so}
+use Rattle.cg_format.proofs.TablesSay.{all_so, each_within}
 use Rattle.cg_format.proofs.CgroupClauses.{twice_clause, orphan_clause, within_clause, files_clause}
 use Rattle.cg_format.proofs.Cuts.{head_of, is_some-find, any_filter, filter_cut}
 use Rattle.cg_format.proofs.OneState.{Passes, one_passes, path_is, enabled_in}
@@ -113,7 +113,7 @@ module _ (format : Format) (st : State) (row : Members) (is : IsRowOf format st 
   unnamed file none =
       let entry_of : Option LimitEntry → Option Entry = option_map (λ (f : LimitEntry). f.entry) in
       none_value (table_of (File file) row) (false_from_ne_true (is_named (File file) row) (λ named.
-      true≢false (sym (is.files (File file) named) ∙ ap (λ o. is_some (entry_of o)) none)))
+      true≢false (sym (is.files (File file) refl named) ∙ ap (λ o. is_some (entry_of o)) none)))
 
   file_said : (file : LimitFile) (found : Option LimitEntry) → file_of is.cgroup file ≡ found
       → (is_some (entry_said format row (File file)) ≡ true) × (is_some (value_said row file) ≡ true)
@@ -123,22 +123,23 @@ module _ (format : Format) (st : State) (row : Members) (is : IsRowOf format st 
         ap (λ o. is_some (limit_said file (unwrap_or o no_members))) missing,
       )
   file_said file (Some held) there = (
-    ap is_some (is.entries (File file) held.entry (ap (option_map (λ (f : LimitEntry). f.entry)) there)),
+    ap is_some (is.entries (File file) held.entry refl (ap (option_map (λ (f : LimitEntry). f.entry)) there)),
     ap is_some (is.values file held there),
   )
 
-  each_entry : (name : EntryName) → is_some (entry_said format row name) ≡ true
-  each_entry Dir = ap is_some (is.entries Dir is.cgroup.dir refl)
-  each_entry Procs = ap is_some (is.entries Procs is.cgroup.procs refl)
-  each_entry SubtreeControl = ap is_some (is.entries SubtreeControl is.cgroup.subtree_control refl)
-  each_entry (File file) = (file_said file (file_of is.cgroup file) refl).0
+  each_entry : (name : EntryName) → is_beyond name ≡ false → is_some (entry_said format row name) ≡ true
+  each_entry Dir within = ap is_some (is.entries Dir is.cgroup.dir refl refl)
+  each_entry Procs within = ap is_some (is.entries Procs is.cgroup.procs refl refl)
+  each_entry SubtreeControl within = ap is_some (is.entries SubtreeControl is.cgroup.subtree_control refl refl)
+  each_entry (File file) within = (file_said file (file_of is.cgroup file) refl).0
+  each_entry (Other file) within = absurd (true≢false within)
 
   each_value : (file : LimitFile) → is_some (value_said row file) ≡ true
   each_value file = (file_said file (file_of is.cgroup file) refl).1
 
   row_has_none : (place : Place) → row_faults format place row ≡ []
   row_has_none place =
-      let entries = all_so (λ name. is_some (entry_said format row name)) each_entry all_entries in
+      let entries = each_within (λ name. is_some (entry_said format row name)) each_entry in
       let values = all_so (λ file. is_some (value_said row file)) each_value all_files in
       λ i. absent (is.named i) (BadPath place) ++ absent (is.enabled i) (BadController place) ++ unless (entries i) (BadEntry place)
       ++ unless (values i) (BadValue place)
@@ -208,7 +209,7 @@ module _ (format : Format) (st : State) (tables : List Members) (all : AllByRecu
       → stands_under (enabled_above st is.path) file ≡ true
   stands row is file named =
       sym ((formed.rows is.path is.cgroup is.there).files file)
-      ∙ sym (is_some-mapped (λ (f : LimitEntry). f.entry) (file_of is.cgroup file)) ∙ is.files (File file) named
+      ∙ sym (is_some-mapped (λ (f : LimitEntry). f.entry) (file_of is.cgroup file)) ∙ is.files (File file) refl named
 
   none_misplaced : each_cgroup (files_clause tables) tables ≡ []
   none_misplaced =

@@ -9,7 +9,7 @@ use Rattle.cg_model.proofs.Lists.{all-both, find-all, find-passes}
 use Rattle.toml.specs.Data.{Members}
 use Rattle.cg_cgroup.specs.Paths.{Names, IsPath, same_path, is_root, parent, path_at}
 use Rattle.cg_cgroup.specs.Numbers.{is_pid}
-use Rattle.cg_cgroup.specs.Files.{enables, no_controllers, stands_under}
+use Rattle.cg_cgroup.specs.Files.{is_beyond, enables, no_controllers, stands_under}
 use Rattle.cg_cgroup.specs.Cgroups.{file_of, other_in, entry_in}
 use Rattle.cg_cgroup.specs.declared.user.Entry.{Entry}
 use Rattle.cg_cgroup.specs.declared.controllers.ControllerSet.{ControllerSet}
@@ -26,7 +26,7 @@ use Rattle.cg_cgroup.proofs.CgroupLaws.{SameRest, same_cgroup}
 use Rattle.cg_model.specs.States.{State, row_at, process_at}
 use Rattle.cg_model.specs.WellFormed.{has_row, enabled_at, enabled_above, IsWellFormed}
 use Rattle.cg_format.specs.Said.{known_said, tables_at, text_at, integer_at, path_said, pid_said, pid_read, number_or, has_path}
-use Rattle.cg_format.specs.TextOf.{IsRowOf, IsProcessOf, has_pid, IsDocumentOf, IsTextOf}
+use Rattle.cg_format.specs.TextOf.{OthersAreRoots, IsRowOf, IsProcessOf, has_pid, IsDocumentOf, IsTextOf}
 use Rattle.cg_format.specs.declared.format.Format.{Format}
 use Rattle.cg_format.proofs.Cuts.{is_some-find, any_counted}
 use Rattle.cg_format.proofs.SaidRanges.{passed}
@@ -69,6 +69,14 @@ paths_are_paths bytes st path is there =
     let read = and_then_from path_at (text_at (codes "path") found.0) found.1.path found.1.named in
     subst IsPath (sym (path_is path found.1.path found.0 found.1.named found.2)) (path_at-is read.0 found.1.path read.2).0
 
+pub others_read : (st : State) (document : Members) → IsDocumentOf st document → (path : Names) (row : Cgroup) → row_at st path ≡ Some row
+    → OthersAreRoots row
+others_read st document is path row there =
+    let found = one_passes (IsRowOf is.format st) (has_path path) (tables_at (codes "cgroup") document) (has_row st path) is.cgroups
+    (is.paths path) (ap is_some there) in
+    let named : path ≡ found.1.path = path_is path found.1.path found.0 found.1.named found.2 in
+    subst OthersAreRoots (same_some found.1.cgroup row (sym (ap (row_at st) named ∙ found.1.there) ∙ there)) found.1.others
+
 pub pids_are_pids : (bytes : List ℕ) (st : State) (pid : ℕ) → IsTextOf st bytes → is_some (process_at st pid) ≡ true → is_pid pid ≡ true
 pids_are_pids bytes st pid is there =
     let lives : List Members = tables_at (codes "process") is.document in
@@ -82,14 +90,16 @@ module _ (format : Format) (st other : State) (row : Members) (is : IsRowOf form
   same_enabled : is.cgroup.enabled ≡ also.cgroup.enabled
   same_enabled = same_some is.cgroup.enabled also.cgroup.enabled (sym is.enabled ∙ also.enabled)
 
-  same_entry : (name : EntryName) (one two : Entry) → entry_in is.cgroup name ≡ Some one → entry_in also.cgroup name ≡ Some two → one ≡ two
-  same_entry name one two here there = same_some one two (sym (is.entries name one here) ∙ also.entries name two there)
+  same_entry : (name : EntryName) → is_beyond name ≡ false → (one two : Entry) → entry_in is.cgroup name ≡ Some one
+      → entry_in also.cgroup name ≡ Some two → one ≡ two
+  same_entry name within one two here there =
+      same_some one two (sym (is.entries name one within here) ∙ also.entries name two within there)
 
   same_rest : SameRest also.cgroup is.cgroup
   same_rest = record {
-    dir = same_entry Dir is.cgroup.dir also.cgroup.dir refl refl;
-    procs = same_entry Procs is.cgroup.procs also.cgroup.procs refl refl;
-    subtree_control = same_entry SubtreeControl is.cgroup.subtree_control also.cgroup.subtree_control refl refl;
+    dir = same_entry Dir refl is.cgroup.dir also.cgroup.dir refl refl;
+    procs = same_entry Procs refl is.cgroup.procs also.cgroup.procs refl refl;
+    subtree_control = same_entry SubtreeControl refl is.cgroup.subtree_control also.cgroup.subtree_control refl refl;
     freeze = is.others.freeze ∙ sym also.others.freeze;
     enabled = same_enabled;
   }
@@ -103,7 +113,7 @@ module _ (format : Format) (st other : State) (row : Members) (is : IsRowOf form
     same_file file (Some one) None here there stands = cc
     same_file file (Some one) (Some two) here there stands =
         let entry_of : Option LimitEntry → Option Entry = option_map (λ (f : LimitEntry). f.entry) in
-        let entry : one.entry ≡ two.entry = same_entry (File file) one.entry two.entry (ap entry_of here) (ap entry_of there) in
+        let entry : one.entry ≡ two.entry = same_entry (File file) refl one.entry two.entry (ap entry_of here) (ap entry_of there) in
         let value : one.value ≡ two.value = same_some one.value two.value (sym (is.values file one here) ∙ also.values file two there) in
         λ i. Some (record { entry = entry i; value = value i })
 
@@ -230,7 +240,8 @@ one_of_document document st other is also =
     let controllers : st.controllers ≡ other.controllers =
     same_some st.controllers other.controllers (sym is.controllers
     ∙ sym (ap (λ format. known_said format (codes "controllers") document) one_format) ∙ also.controllers) in
-    λ i. record { rows = rows i; live = live i; used = used i; controllers = controllers i }
+    let told : st.told ≡ other.told = is.told ∙ sym also.told in
+    λ i. record { rows = rows i; told = told i; live = live i; used = used i; controllers = controllers i }
 
 pub one_state : (bytes : List ℕ) (st other : State) → IsTextOf st bytes → IsTextOf other bytes → st ≡ other
 one_state bytes st other is also =

@@ -1,5 +1,5 @@
 -- A text without a fault is of a state: the cgroups and the processes that its tables say.
-use Rattle.std.proofs.Common.{◌≡◌, ℕ, Bool, true, false, T, List, [], length, map as map_list, codes, Option, Some, is_some, option_map, unwrap_or, cond, None, arith, refl, sym, ap, subst, ◌∙◌}
+use Rattle.std.proofs.Common.{true≢false, ◌≡◌, ℕ, Bool, true, false, T, List, [], length, map as map_list, codes, Option, Some, is_some, option_map, unwrap_or, cond, None, arith, refl, sym, ap, subst, ◌∙◌}
 use Rattle.std.specs.Prelude.{find, nat_eq}
 use Rattle.std.specs.List.{AllByRecursion}
 use Rattle.std.specs.Map.{lookup}
@@ -13,14 +13,14 @@ use Rattle.std.specs.FinSet.{contains-from_list}
 use Rattle.std.proofs.lemmas.Bool.{leb-true}
 use Rattle.toml.specs.Data.{Members}
 use Rattle.cg_cgroup.specs.Paths.{Names, path_cmp, same_path}
-use Rattle.cg_cgroup.specs.Files.{enables, no_controllers, stands_under}
+use Rattle.cg_cgroup.specs.Files.{is_beyond, enables, no_controllers, stands_under}
 use Rattle.cg_cgroup.specs.Cgroups.{file_of, files_by, others_under, root_file, entry_in}
 use Rattle.cg_cgroup.proofs.CgroupLaws.{stands-under, entry-under}
 use Rattle.cg_cgroup.proofs.Options.{same_some}
 use Rattle.cg_cgroup.proofs.PathOrder.{path_cmp_total, path_cmp-IsAntisymmetric, same_path-ties}
 use Rattle.cg_cgroup.specs.declared.controllers.ControllerSet.{ControllerSet}
 use Rattle.cg_cgroup.specs.declared.files.EntryName.{EntryName}
-use Rattle.cg_cgroup.specs.declared.files.EntryName.TheVariants.{Dir, Procs, SubtreeControl, File}
+use Rattle.cg_cgroup.specs.declared.files.EntryName.TheVariants.{Dir, Procs, SubtreeControl, File, Other}
 use Rattle.cg_cgroup.specs.declared.files.LimitFile.{LimitFile}
 use Rattle.cg_cgroup.specs.declared.files.LimitFile.TheVariants.{MaxDescendants, MaxDepth}
 use Rattle.cg_cgroup.specs.declared.user.Entry.{Entry}
@@ -79,13 +79,15 @@ module _ (format : Format) (row : Members) (says : SaysCgroup format row) (above
   file_is MaxDepth = refl
   file_is file = refl
 
-  owned : (name : EntryName) (entry : Entry) → entry_in cgroup_of name ≡ Some entry → entry_said format row name ≡ Some entry
-  owned Dir entry is = says.owned Dir ∙ is
-  owned Procs entry is = says.owned Procs ∙ is
-  owned SubtreeControl entry is = says.owned SubtreeControl ∙ is
-  owned (File file) entry is =
+  owned : (name : EntryName) (entry : Entry) → is_beyond name ≡ false → entry_in cgroup_of name ≡ Some entry
+      → entry_said format row name ≡ Some entry
+  owned Dir entry within is = says.owned Dir refl ∙ is
+  owned Procs entry within is = says.owned Procs refl ∙ is
+  owned SubtreeControl entry within is = says.owned SubtreeControl refl ∙ is
+  owned (Other file) entry within is = absurd (true≢false within)
+  owned (File file) entry within is =
       let entry_at : LimitEntry → Entry = λ held. held.entry in
-      says.owned (File file)
+      says.owned (File file) refl
       ∙ ap Some (had entry_at (stands_under above file) (held file) entry (ap (option_map entry_at) (sym (file_is file)) ∙ is))
 
   valued : (file : LimitFile) (found : LimitEntry) → file_of cgroup_of file ≡ Some found → value_said row file ≡ Some found.value

@@ -1,20 +1,21 @@
 -- What the tables of a document say, where the clauses on them find nothing.
-use Rattle.std.proofs.Common.{◌≡◌, ℕ, Bool, true, false, not, ◌||◌, List, [], ◌∷◌, ◌++◌, codes, get_or, Option, Some, None, is_some, option_and_then, refl, sym, ap, ◌∙◌}
+use Rattle.std.proofs.Common.{unwrap_or, true≢false, ◌≡◌, ℕ, Bool, true, false, not, ◌||◌, List, [], ◌∷◌, ◌++◌, codes, get_or, Option, Some, None, is_some, option_and_then, refl, sym, ap, ◌∙◌}
 use Rattle.std.specs.Prelude.{find}
 use Rattle.std.specs.List.{list_all, list_any}
-use Rattle.std.proofs.lemmas.Bool.{not-true, and_parts}
+use Rattle.std.proofs.lemmas.Bool.{and_from, not-true, and_parts}
 use Rattle.std.proofs.lemmas.List.Folds.{list_all-map}
 use Rattle.std.proofs.lemmas.List.Sums.{list_all-from_AllPass}
 use Rattle.toml.specs.Data.{Members}
 use Rattle.cg_cgroup.specs.Paths.{Names, is_root, parent}
-use Rattle.cg_cgroup.specs.Files.{all_files, all_entries, no_controllers, enables_nothing, is_within, stands_under}
+use Rattle.cg_cgroup.specs.Files.{all_files, format_2_entries, no_controllers, enables_nothing, is_within, stands_under, is_beyond}
+use Rattle.cg_cgroup.specs.Cgroups.{root_file}
 use Rattle.cg_cgroup.proofs.AllFiles.{each_passes}
 use Rattle.cg_cgroup.proofs.Options.{some_value}
 use Rattle.cg_cgroup.specs.declared.user.Entry.{Entry}
 use Rattle.cg_cgroup.specs.declared.files.Limit.{Limit}
 use Rattle.cg_cgroup.specs.declared.controllers.ControllerSet.{ControllerSet}
 use Rattle.cg_cgroup.specs.declared.files.EntryName.{EntryName}
-use Rattle.cg_cgroup.specs.declared.files.EntryName.TheVariants.{Dir, Procs, SubtreeControl, File}
+use Rattle.cg_cgroup.specs.declared.files.EntryName.TheVariants.{Dir, Procs, SubtreeControl, File, Other}
 use Rattle.cg_cgroup.specs.declared.files.LimitFile.{LimitFile}
 use Rattle.cg_model.proofs.ClauseLaws.{no_unless}
 use Rattle.cg_format.specs.Said.{path_said, controllers_said, known_said, entry_said, value_said, is_named, has_path, pid_said, uid_said}
@@ -36,7 +37,7 @@ pub record SaysCgroup (format : Format) (row : Members) : Type 0 where
   pub enabled : ControllerSet
   pub enables : known_said format (codes "enabled") row ≡ Some enabled
   pub owner : EntryName → Entry
-  pub owned : (name : EntryName) → entry_said format row name ≡ Some (owner name)
+  pub owned : (name : EntryName) → is_beyond name ≡ false → entry_said format row name ≡ Some (owner name)
   pub value : LimitFile → Limit
   pub valued : (file : LimitFile) → value_said row file ≡ Some (value file)
 
@@ -44,25 +45,36 @@ pub record SaysCgroup (format : Format) (row : Members) : Type 0 where
 pub all_so : {A : Type 0} (p : A → Bool) → ((x : A) → p x ≡ true) → (xs : List A) → list_all p xs ≡ true
 all_so p each xs = list_all-from_AllPass p xs (λ k d inside. each (get_or xs k d))
 
-pub each_entry : (p : EntryName → Bool) → list_all p all_entries ≡ true → (name : EntryName) → p name ≡ true
+-- what all entries pass that texts name
+pub each_within : (p : EntryName → Bool) → ((name : EntryName) → is_beyond name ≡ false → p name ≡ true)
+    → list_all p format_2_entries ≡ true
+each_within p each =
+    and_from (p Dir) _ (each Dir refl) (and_from (p Procs) _ (each Procs refl) (and_from (p SubtreeControl) _ (each SubtreeControl refl)
+    (list_all-map p File all_files ∙ all_so (λ file. p (File file)) (λ file. each (File file) refl) all_files)))
+
+pub each_entry : (p : EntryName → Bool) → list_all p format_2_entries ≡ true → (name : EntryName) → is_beyond name ≡ false → p name ≡ true
 each_entry p all name =
     let dir = and_parts (p Dir) _ all in
     let procs = and_parts (p Procs) _ dir.1 in
     let control = and_parts (p SubtreeControl) _ procs.1 in
-    elim name as (λ name. p name ≡ true) [
-      | Dir ↦ dir.0
-      | Procs ↦ procs.0
-      | SubtreeControl ↦ control.0
-      | File file ↦ each_passes (λ file. p (File file)) (sym (list_all-map p File all_files) ∙ control.1) file
+    elim name as (λ name. is_beyond name ≡ false → p name ≡ true) [
+      | Dir ↦ λ _. dir.0
+      | Procs ↦ λ _. procs.0
+      | SubtreeControl ↦ λ _. control.0
+      | Other file ↦ λ no. absurd (true≢false no)
+      | File file ↦ λ _. each_passes (λ file. p (File file)) (sym (list_all-map p File all_files) ∙ control.1) file
     ]
+
+value_or : {A : Type 0} (found : Option A) (other : A) → is_some found ≡ true → found ≡ Some (unwrap_or found other)
+value_or None other is = cc
+value_or (Some x) other is = refl
 
 pub row_says : (format : Format) (place : Place) (row : Members) → row_faults format place row ≡ [] → SaysCgroup format row
 row_says format place row none =
     let parts = five_none [] _ _ _ _ none in
     let path = absent_none _ _ parts.1 in
     let enabled = absent_none _ _ parts.2 in
-    let owned = λ (name : EntryName). some_value (entry_said format row name)
-    (each_entry (λ name. is_some (entry_said format row name)) (no_unless _ _ parts.3) name) in
+    let owned = each_entry (λ name. is_some (entry_said format row name)) (no_unless _ _ parts.3) in
     let valued = λ (file : LimitFile). some_value (value_said row file)
     (each_passes (λ file. is_some (value_said row file)) (no_unless _ _ parts.4) file) in
     record {
@@ -70,8 +82,8 @@ row_says format place row none =
       named = path.1;
       enabled = enabled.0;
       enables = enabled.1;
-      owner = λ name. (owned name).0;
-      owned = λ name. (owned name).1;
+      owner = λ name. unwrap_or (entry_said format row name) root_file;
+      owned = λ name within. value_or (entry_said format row name) root_file (owned name within);
       value = λ file. (valued file).0;
       valued = λ file. (valued file).1;
     }

@@ -1,6 +1,6 @@
 -- How it is read and written: nobody has to believe it.
 -- Cgroups and processes, held against what the tables of a document say.
-use Rattle.std.specs.Prelude.{◌≡◌, ℕ, true, List, codes, Some, is_some, find}
+use Rattle.std.specs.Prelude.{◌≡◌, ℕ, true, false, List, codes, Some, is_some, find}
 use Rattle.std.specs.Option.{option_map}
 use Rattle.std.specs.List.{list_any}
 use Rattle.std.specs.Map.{lookup}
@@ -10,7 +10,7 @@ use Rattle.std.specs.FinMap.{is_sorted}
 use Rattle.std.specs.FinSet as set
 use Rattle.toml.specs.Data.{Members}
 use Rattle.cg_cgroup.specs.Paths.{Names, path_cmp, same_path}
-use Rattle.cg_cgroup.specs.Files.{enables, no_controllers, stands_under}
+use Rattle.cg_cgroup.specs.Files.{enables, no_controllers, stands_under, is_beyond}
 use Rattle.cg_cgroup.specs.Cgroups.{file_of, other_in, entry_in}
 use Rattle.cg_cgroup.specs.declared.user.Entry.{Entry}
 use Rattle.cg_cgroup.specs.declared.controllers.ControllerSet.{ControllerSet}
@@ -30,7 +30,8 @@ use Rattle.cg_format.specs.declared.format.Format.{Format}
 -- a cgroup as a table says it, with the files that stand at it
 pub record IsEntryOf (format : Format) (tables : List Members) (table : Members) (cgroup : Cgroup) : Type 0 where
   pub enabled : known_said format (codes "enabled") table ≡ Some cgroup.enabled
-  pub entries : (name : EntryName) (entry : Entry) → entry_in cgroup name ≡ Some entry → entry_said format table name ≡ Some entry
+  pub entries : (name : EntryName) (entry : Entry) → is_beyond name ≡ false → entry_in cgroup name ≡ Some entry
+      → entry_said format table name ≡ Some entry
   pub values : (file : LimitFile) (held : LimitEntry) → file_of cgroup file ≡ Some held → value_said table file ≡ Some held.value
   pub files : (path : Names) (above : ControllerSet) → path_said (codes "path") table ≡ Some path → over (Some no_controllers) tables path ≡ Some above
       → (file : LimitFile) → is_some (file_of cgroup file) ≡ stands_under above file

@@ -3,7 +3,7 @@ use Rattle.std.specs.Prelude.{ℕ, ◌+◌, ◌&&◌, ◌||◌, not, nat_le, Boo
 use Rattle.std.specs.List.{list_all, list_any}
 use Rattle.toml.specs.Data.{Members, table}
 use Rattle.cg_cgroup.specs.Paths.{Names, is_root, parent}
-use Rattle.cg_cgroup.specs.Files.{all_files, all_entries, no_controllers, enables_nothing, is_within, stands_under}
+use Rattle.cg_cgroup.specs.Files.{all_files, format_2_entries, no_controllers, enables_nothing, is_within, stands_under}
 use Rattle.cg_cgroup.specs.declared.controllers.ControllerSet.{ControllerSet}
 use Rattle.cg_cgroup.specs.declared.files.EntryName.TheVariants.{File}
 use Rattle.cg_model.specs.Clauses.{unless, absent, present}
@@ -50,7 +50,7 @@ abbrev pub row_faults : Format → Place → Members → List TreeFault
 row_faults format place row =
     absent (path_said (codes "path") row) (BadPath place)
     ++ absent (known_said format (codes "enabled") row) (BadController place)
-    ++ unless (list_all (λ name. is_some (entry_said format row name)) all_entries) (BadEntry place)
+    ++ unless (list_all (λ name. is_some (entry_said format row name)) format_2_entries) (BadEntry place)
     ++ unless (list_all (λ file. is_some (value_said row file)) all_files) (BadValue place)
 
 -- whether a cgroup is there

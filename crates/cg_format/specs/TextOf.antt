@@ -1,8 +1,10 @@
 -- Which state a tree text is of, said of the state and of the document's tables. Own.
 use Rattle.std.specs.Prelude.{◌≡◌, ℕ, ◌≤◌, Bool, true, false, cond, List, length, count_by, codes, Some, None, is_some, nat_eq}
 use Rattle.std.specs.List.{AllByRecursion, list_all}
+use Rattle.std.specs.FinMap as map
 use Rattle.toml.specs.Data.{Members, table}
 use Rattle.cg_cgroup.specs.Paths.{Names}
+use Rattle.cg_cgroup.specs.Files.{is_beyond}
 use Rattle.cg_cgroup.specs.Cgroups.{file_of, other_in, entry_in, root_file}
 use Rattle.cg_cgroup.specs.declared.user.Entry.{Entry}
 use Rattle.cg_cgroup.specs.declared.files.Controller.{Controller}
@@ -39,9 +41,10 @@ pub record IsRowOf (format : Format) (st : State) (row : Members) : Type 0 where
   pub there : row_at st path ≡ Some cgroup
   pub named : path_said (codes "path") row ≡ Some path
   pub enabled : known_said format (codes "enabled") row ≡ Some cgroup.enabled
-  pub entries : (name : EntryName) (entry : Entry) → entry_in cgroup name ≡ Some entry → entry_said format row name ≡ Some entry
+  pub entries : (name : EntryName) (entry : Entry) → is_beyond name ≡ false → entry_in cgroup name ≡ Some entry
+      → entry_said format row name ≡ Some entry
   pub values : (file : LimitFile) (held : LimitEntry) → file_of cgroup file ≡ Some held → value_said row file ≡ Some held.value
-  pub files : (name : EntryName) → is_named name row ≡ true → is_some (entry_in cgroup name) ≡ true
+  pub files : (name : EntryName) → is_beyond name ≡ false → is_named name row ≡ true → is_some (entry_in cgroup name) ≡ true
   pub others : OthersAreRoots cgroup
 
 -- A live process of the state is as the table says.
@@ -57,10 +60,12 @@ abbrev pub has_pid : ℕ → Members → Bool
 has_pid pid row = elim (pid_said row) [ None ↦ false | Some said ↦ nat_eq pid said ]
 
 -- The state is well-formed. Its cgroups are those of the tables, one for each, and so are its processes, whose PIDs are the used ones.
+-- Nothing is told of the limit files that no text names.
 pub record IsDocumentOf (st : State) (document : Members) : Type 0 where
   pub format : Format
   pub form : IsInForm format document
   pub controllers : known_said format (codes "controllers") document ≡ Some st.controllers
+  pub told : st.told ≡ map.empty
   pub cgroups : AllByRecursion (IsRowOf format st) (tables_at (codes "cgroup") document)
   pub paths : (path : Names) → count_by (has_path path) (tables_at (codes "cgroup") document) ≡ cond (has_row st path) 1 0
   pub processes : AllByRecursion (IsProcessOf st) (tables_at (codes "process") document)

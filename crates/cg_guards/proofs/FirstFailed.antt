@@ -1,5 +1,5 @@
 -- The first failure of the guarded entries, one place after another.
-use Rattle.std.proofs.Common.{◌≡◌, ℕ, ◌+◌, ◌≤◌, List, ◌++◌, Option, Some, None, refl, sym, ap, ◌∙◌, arith, true, false, not, length, take, take_all, drop, option_and_then}
+use Rattle.std.proofs.Common.{◌≡◌, ℕ, ◌+◌, ◌≤◌, Bool, ◌&&◌, List, [], ◌∷◌, ◌++◌, Option, Some, None, refl, sym, ap, ◌∙◌, arith, true, false, not, length, take, take_all, drop, option_and_then}
 use Rattle.std.specs.Prelude.{slice_get}
 use Rattle.std.specs.List.{flat_map}
 use Rattle.std.specs.Option.{option_map}
@@ -10,13 +10,15 @@ use Rattle.cg_cgroup.specs.declared.cgroup.Cgroup.{Cgroup}
 use Rattle.cg_cgroup.specs.declared.user.Entry.{Entry}
 use Rattle.cg_model.specs.States.{State, row_at, count_below}
 use Rattle.cg_model.specs.Clauses.{first, present, unless}
-use Rattle.cg_model.specs.Guards.{Guarded, guarded_entries, guarded_entry, entry_failures, found, standing}
-use Rattle.cg_model.specs.Limits.{is_within_limit, fits_descendants}
+use Rattle.cg_model.specs.Guards.{Guarded, guarded_entries, guarded_entry, entry_failures, over_failures, failures, found, standing}
+use Rattle.cg_model.specs.Limits.{is_within_limit, fits_descendants, fits_depth}
 use Rattle.cg_model.specs.declared.guard.Failed.{Failed}
+use Rattle.cg_model.specs.declared.guard.Guard.TheVariants.{AlreadyOver}
 use Rattle.cg_model.specs.declared.guard.GuardedEntry.{GuardedEntry}
+use Rattle.cg_guards.specs.Asked.{asked_entries}
 use Rattle.cg_guards.proofs.TableWalk.{of_guarded, walk_turn, drop_all}
 
-module _ (st : State) (user : Identity) (subtree : Names) where
+module _ (st : State) (user : Identity) (subtree : Names) (passes : Bool) where
   abbrev pub failing : GuardedEntry → List Failed
   failing at = unless (not (reaches user at.entry)) (record { guard = at.guard; len = at.len })
 
@@ -31,23 +33,23 @@ module _ (st : State) (user : Identity) (subtree : Names) where
 
   -- what fails from a place on
   abbrev pub failures_from : ℕ → List Failed
-  failures_from place = flat_map (entry_failures st user subtree) (drop place (guarded_entries subtree))
+  failures_from place = flat_map (entry_failures st user subtree) (drop place (asked_entries passes subtree))
 
   module _ (place : ℕ) (here : Option GuardedEntry)
-      (is : here ≡ option_and_then (standing st subtree) (slice_get (guarded_entries subtree) place)) where
+      (is : here ≡ option_and_then (standing st subtree) (slice_get (asked_entries passes subtree) place)) where
     pub failures_turn : failures_from place ≡ present here failing ++ failures_from (place + 1)
     failures_turn =
-        ap (λ each. flat_map each (drop place (guarded_entries subtree))) (λ i guarded. of_standing guarded i)
-        ∙ walk_turn st subtree failing (guarded_entries subtree) place here is
-        ∙ ap (λ each. present here failing ++ flat_map each (drop (place + 1) (guarded_entries subtree)))
+        ap (λ each. flat_map each (drop place (asked_entries passes subtree))) (λ i guarded. of_standing guarded i)
+        ∙ walk_turn st subtree failing (asked_entries passes subtree) place here is
+        ∙ ap (λ each. present here failing ++ flat_map each (drop (place + 1) (asked_entries passes subtree)))
         (λ i guarded. sym (of_standing guarded) i)
 
-  pub none_fails : (place : ℕ) → None ≡ option_and_then (standing st subtree) (slice_get (guarded_entries subtree) place)
+  pub none_fails : (place : ℕ) → None ≡ option_and_then (standing st subtree) (slice_get (asked_entries passes subtree) place)
       → first (failures_from (place + 1)) ≡ first (failures_from place)
   none_fails place is = ap first (sym (failures_turn place None is))
 
   module _ (place : ℕ) (at : GuardedEntry)
-      (is : Some at ≡ option_and_then (standing st subtree) (slice_get (guarded_entries subtree) place)) where
+      (is : Some at ≡ option_and_then (standing st subtree) (slice_get (asked_entries passes subtree) place)) where
     pub here_fails : reaches user at.entry ≡ true → Some (record { guard = at.guard; len = at.len }) ≡ first (failures_from place)
     here_fails reached =
         sym (ap first (failures_turn place (Some at) is)
@@ -58,9 +60,30 @@ module _ (st : State) (user : Identity) (subtree : Names) where
         sym (ap first (failures_turn place (Some at) is)
         ∙ ap (λ b. first (unless (not b) (record { guard = at.guard; len = at.len }) ++ failures_from (place + 1))) spared)
 
-  pub none_left : (place : ℕ) → length (guarded_entries subtree) ≤ place → None ≡ first (failures_from place)
+  pub none_left : (place : ℕ) → length (asked_entries passes subtree) ≤ place → None ≡ first (failures_from place)
   none_left place all =
-      sym (ap (λ rest. first (flat_map (entry_failures st user subtree) rest)) (drop_all (guarded_entries subtree) place all))
+      sym (ap (λ rest. first (flat_map (entry_failures st user subtree) rest)) (drop_all (asked_entries passes subtree) place all))
+
+-- the limits are asked where no entry fails
+module _ {A : Type 0} where
+  pub behind_none : (xs ys : List A) → None ≡ first xs → first ys ≡ first (xs ++ ys)
+  behind_none [] ys none = refl
+  behind_none (x ∷ xs) ys none = cc
+
+abbrev over_at : ℕ → Failed
+over_at len = record { guard = AlreadyOver; len = len }
+
+pub over_fails : (st : State) (user : Identity) (subtree : Names) (len : ℕ) → len ≡ length subtree
+    → None ≡ first (flat_map (entry_failures st user subtree) (guarded_entries subtree))
+    → not (fits_descendants st subtree && fits_depth st subtree) ≡ true
+    → Some (over_at len) ≡ first (failures st user subtree)
+over_fails st user subtree len level none over =
+    by_fit (fits_descendants st subtree && fits_depth st subtree) over
+    ∙ behind_none (flat_map (entry_failures st user subtree) (guarded_entries subtree)) (over_failures st subtree) none
+  where
+    by_fit : (b : Bool) → not b ≡ true → Some (over_at len) ≡ first (unless b (over_at (length subtree)))
+    by_fit true h = cc
+    by_fit false h = ap (λ n. Some (over_at n)) level
 
 -- ---- counts, of a cgroup that is there
 

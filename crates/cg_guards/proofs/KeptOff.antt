@@ -1,23 +1,25 @@
 -- The users of a list before the first who reaches one of some entries.
-use Rattle.std.proofs.Common.{◌≡◌, ℕ, ◌+◌, ◌<◌, ◌≤◌, Bool, true, false, not, ◌&&◌, ◌||◌, nat_eq, bit_and, cond, List, [], ◌∷◌, ◌++◌, length, take, take_all, drop, drop-cons, add-one, get_or, Option, Some, None, is_none, refl, sym, ap, ◌∙◌, arith, option_and_then, eqb-true}
+use Rattle.std.proofs.Common.{◌≡◌, ℕ, ◌+◌, ◌<◌, ◌≤◌, Bool, true, false, not, ◌&&◌, cond, List, [], ◌∷◌, ◌++◌, length, take, take_all, drop, drop-cons, add-one, get_or, Option, Some, None, is_none, refl, sym, ap, ◌∙◌, arith, option_and_then}
 use Rattle.std.specs.Prelude.{slice_get}
 use Rattle.std.specs.List.{flat_map, take_while, prefix_len}
 use Rattle.std.proofs.lemmas.List.Sums.{take_while-cons}
-use Rattle.std.proofs.lemmas.Nat.{and_assoc}
-use Rattle.cg_cgroup.specs.Paths.{Names}
+use Rattle.cg_cgroup.specs.Paths.{Names, is_root}
 use Rattle.cg_cgroup.specs.Identity.{Identity}
-use Rattle.cg_cgroup.specs.Users.{in_group, has_bit, writes, reaches}
+use Rattle.cg_cgroup.specs.Users.{reaches}
 use Rattle.cg_cgroup.specs.declared.user.Entry.{Entry}
 use Rattle.cg_model.specs.States.{State}
 use Rattle.cg_model.specs.Clauses.{first, unless}
 use Rattle.cg_model.specs.Guards.{guarded_entries, entry_failures, is_guarded, standing}
 use Rattle.cg_model.specs.Limits.{fits_descendants, fits_depth}
-use Rattle.cg_guards.specs.GuardedUsers.{is_spared, is_alike, is_asked, AreSpared, is_kept_off, kept_off}
+use Rattle.cg_guards.specs.Asked.{asked_entries, passes_others}
+use Rattle.cg_guards.specs.GuardedUsers.{is_spared, is_asked, AreSpared, is_kept_off, kept_off}
 use Rattle.cg_model.specs.declared.guard.Failed.{Failed}
 use Rattle.cg_model.specs.declared.guard.Guard.TheVariants.{AlreadyOver}
 use Rattle.cg_model.specs.declared.guard.GuardedEntry.{GuardedEntry}
 use Rattle.cg_guards.proofs.FirstFailed.{failing, failures_from, failures_turn}
 use Rattle.cg_guards.proofs.TableWalk.{drop_all}
+use Rattle.cg_guards.proofs.AlikeEntries.{alike-reached}
+use Rattle.cg_guards.proofs.PassedOver.{first_asked}
 
 -- ---- the front of a list
 
@@ -60,51 +62,6 @@ none_stops p xs i far all = sym (take_all (prefix_len p xs) xs (omega (arith, fa
 
 -- ---- entries that the same users reach
 
--- by the owner, the group and the bits
-abbrev reach : Bool → Bool → Bool → Bool → Bool → Bool
-reach owner member of_owner of_group of_others = cond owner of_owner (cond member of_group of_others) || owner
-
-any_owner : (owner member of_owner other of_group of_others : Bool)
-    → reach owner member of_owner of_group of_others ≡ reach owner member other of_group of_others
-any_owner true member true true of_group of_others = refl
-any_owner true member true false of_group of_others = refl
-any_owner true member false true of_group of_others = refl
-any_owner true member false false of_group of_others = refl
-any_owner false member of_owner other of_group of_others = refl
-
-both_true : (a b : Bool) → a && b ≡ true → (a ≡ true) × (b ≡ true)
-both_true true b h = (refl, h)
-both_true false b h = let never : ⊥ = cc in absurd never
-
-pub alike-reached : (user : Identity) (entry other : Entry) → is_alike entry other ≡ true → reaches user entry ≡ reaches user other
-unfolding writes
-alike-reached user entry other is =
-    any_owner (nat_eq entry.uid user.uid) (in_group user entry.gid) (has_bit entry.mode 128) (has_bit other.mode 128)
-    (has_bit entry.mode 16) (has_bit entry.mode 2)
-    ∙ (λ i. reach (nat_eq (uids i) user.uid) (in_group user (gids i)) (has_bit other.mode 128)
-    (same_bit 16 (and_assoc 16 entry.mode 18) (and_assoc 16 other.mode 18) i)
-    (same_bit 2 (and_assoc 2 entry.mode 18) (and_assoc 2 other.mode 18) i))
-  where
-    parts : ((nat_eq entry.uid other.uid && nat_eq entry.gid other.gid) ≡ true)
-        × (nat_eq (bit_and entry.mode 18) (bit_and other.mode 18) ≡ true)
-    parts = both_true (nat_eq entry.uid other.uid && nat_eq entry.gid other.gid) (nat_eq (bit_and entry.mode 18) (bit_and other.mode 18)) is
-
-    owners : (nat_eq entry.uid other.uid ≡ true) × (nat_eq entry.gid other.gid ≡ true)
-    owners = both_true (nat_eq entry.uid other.uid) (nat_eq entry.gid other.gid) parts.0
-
-    uids : entry.uid ≡ other.uid
-    uids = eqb-true entry.uid other.uid owners.0
-
-    gids : entry.gid ≡ other.gid
-    gids = eqb-true entry.gid other.gid owners.1
-
-    bits : bit_and entry.mode 18 ≡ bit_and other.mode 18
-    bits = eqb-true (bit_and entry.mode 18) (bit_and other.mode 18) parts.1
-
-    same_bit : (bit : ℕ) → bit_and (bit_and entry.mode 18) bit ≡ bit_and entry.mode bit
-        → bit_and (bit_and other.mode 18) bit ≡ bit_and other.mode bit → has_bit entry.mode bit ≡ has_bit other.mode bit
-    same_bit bit one two = ap (λ n. nat_eq n bit) (sym one ∙ ap (λ n. bit_and n bit) bits ∙ two)
-
 pub asked_spares : (before : Option Entry) (entry : Entry) (users : List Identity) → is_asked before entry ≡ true → AreSpared before users
     → users ≡ take_while (is_spared (Some entry)) users
 asked_spares None entry users is spared = let never : ⊥ = cc in absurd never
@@ -129,26 +86,26 @@ none_of_both : {R : Type 0} (xs ys : List R) → is_none (first (xs ++ ys)) ≡ 
 none_of_both [] ys = refl
 none_of_both (x ∷ xs) ys = refl
 
-module _ (st : State) (subtree : Names) where
+module _ (st : State) (subtree : Names) (passes : Bool) where
   -- those kept off the entries from a place on
   abbrev pub kept_from : ℕ → List Identity → List Identity
-  kept_from place users = kept_off st subtree (drop place (guarded_entries subtree)) users
+  kept_from place users = kept_off st subtree (drop place (asked_entries passes subtree)) users
 
   pub absent_turn : (place : ℕ) (users : List Identity)
-      → None ≡ option_and_then (standing st subtree) (slice_get (guarded_entries subtree) place)
+      → None ≡ option_and_then (standing st subtree) (slice_get (asked_entries passes subtree) place)
       → kept_from (place + 1) users ≡ kept_from place users
   absent_turn place users is =
-      ap (λ p. take_while p users) (λ i user. is_none (first (sym (failures_turn st user subtree place None is) i)))
+      ap (λ p. take_while p users) (λ i user. is_none (first (sym (failures_turn st user subtree passes place None is) i)))
 
   module _ (place : ℕ) (at : GuardedEntry)
-      (is : Some at ≡ option_and_then (standing st subtree) (slice_get (guarded_entries subtree) place)) where
+      (is : Some at ≡ option_and_then (standing st subtree) (slice_get (asked_entries passes subtree) place)) where
     one_more : (user : Identity)
-        → is_kept_off st subtree (drop place (guarded_entries subtree)) user
-        ≡ is_spared (Some at.entry) user && is_kept_off st subtree (drop (place + 1) (guarded_entries subtree)) user
+        → is_kept_off st subtree (drop place (asked_entries passes subtree)) user
+        ≡ is_spared (Some at.entry) user && is_kept_off st subtree (drop (place + 1) (asked_entries passes subtree)) user
     one_more user =
-        ap (λ failed. is_none (first failed)) (failures_turn st user subtree place (Some at) is)
-        ∙ none_of_both (failing st user subtree at) (failures_from st user subtree (place + 1))
-        ∙ ap (λ b. b && is_kept_off st subtree (drop (place + 1) (guarded_entries subtree)) user)
+        ap (λ failed. is_none (first failed)) (failures_turn st user subtree passes place (Some at) is)
+        ∙ none_of_both (failing st user subtree passes at) (failures_from st user subtree passes (place + 1))
+        ∙ ap (λ b. b && is_kept_off st subtree (drop (place + 1) (asked_entries passes subtree)) user)
         (by_reach (record { guard = at.guard; len = at.len }) (reaches user at.entry))
       where
         by_reach : (failed : Failed) (b : Bool) → is_none (first (unless (not b) failed)) ≡ not b
@@ -159,16 +116,24 @@ module _ (st : State) (subtree : Names) where
         → kept_from (place + 1) next ≡ kept_from place users
     entry_turn users next turned =
         ap (kept_from (place + 1)) turned
-        ∙ while_both (is_spared (Some at.entry)) (is_kept_off st subtree (drop (place + 1) (guarded_entries subtree))) users
+        ∙ while_both (is_spared (Some at.entry)) (is_kept_off st subtree (drop (place + 1) (asked_entries passes subtree))) users
         ∙ ap (λ p. take_while p users) (λ i user. sym (one_more user) i)
 
-  pub walk_end : (place : ℕ) (users : List Identity) → length (guarded_entries subtree) ≤ place → users ≡ kept_from place users
+  pub walk_end : (place : ℕ) (users : List Identity) → length (asked_entries passes subtree) ≤ place → users ≡ kept_from place users
   walk_end place users all =
-      sym (ap (λ rest. kept_off st subtree rest users) (drop_all (guarded_entries subtree) place all)
+      sym (ap (λ rest. kept_off st subtree rest users) (drop_all (asked_entries passes subtree) place all)
       ∙ while_all (is_kept_off st subtree []) users (λ user. refl))
 
-  -- ---- and the limits
+-- those kept off the asked entries are those kept off all
+pub kept_asked : (st : State) (subtree : Names) (passes : Bool) → is_root subtree ≡ false → passes ≡ passes_others st subtree
+    → (users : List Identity)
+    → kept_off st subtree (asked_entries passes subtree) users ≡ kept_off st subtree (guarded_entries subtree) users
+kept_asked st subtree passes filled is users =
+    ap (λ p. take_while p users) (λ i user. is_none (first_asked st user subtree passes filled is i))
 
+-- ---- and the limits
+
+module _ (st : State) (subtree : Names) where
   abbrev fits : Bool
   fits = fits_descendants st subtree && fits_depth st subtree
 

@@ -1,35 +1,39 @@
 -- The table of the guarded entries, by places.
-use Rattle.std.proofs.Common.{◌≡◌, ℕ, zero, suc, ◌+◌, ◌-◌, ◌<◌, ◌≤◌, List, [], ◌∷◌, ◌++◌, length, drop, get_or, Option, Some, option_and_then, refl, sym, ap, ◌∙◌, arith}
+use Rattle.std.proofs.Common.{◌≡◌, ℕ, zero, suc, ◌+◌, ◌-◌, ◌<◌, ◌≤◌, false, List, [], ◌∷◌, ◌++◌, map, length, drop, get_or, Option, Some, None, is_some, option_and_then, refl, sym, ap, ◌∙◌, subst, true≢false, arith}
 use Rattle.std.specs.Prelude.{slice_get}
 use Rattle.std.specs.List.{flat_map}
 use Rattle.std.specs.Option.{option_map}
-use Rattle.std.proofs.lemmas.List.{length-append}
+use Rattle.std.proofs.lemmas.List.{length-append, length-map}
 use Rattle.std.proofs.lemmas.Option.{slice_get-map, slice_get-get_or}
 use Rattle.cg_cgroup.specs.Paths.{Names, IsPath}
 use Rattle.cg_cgroup.specs.PathText.{names_text}
-use Rattle.cg_cgroup.specs.Files.{all_files}
+use Rattle.cg_cgroup.specs.Files.{all_files, all_others, is_beyond}
 use Rattle.cg_cgroup.specs.declared.files.LimitFile.{LimitFile}
 use Rattle.cg_cgroup.proofs.PathEnds.{path_bytes}
 use Rattle.cg_cgroup.specs.declared.files.EntryName.{EntryName}
+use Rattle.cg_cgroup.specs.declared.files.EntryName.TheVariants.{Dir, File, Other}
+use Rattle.cg_cgroup.specs.declared.other_file.OtherFile.{OtherFile}
+use Rattle.cg_cgroup.proofs.Options.{mapped_from}
 use Rattle.cg_cgroup.specs.declared.user.Entry.{Entry}
-use Rattle.cg_cgroup.specs.declared.cgroup.Cgroup.{Cgroup}
 use Rattle.cg_cgroup.specs.Cgroups.{entry_in}
-use Rattle.cg_model.specs.States.{State, row_at}
+use Rattle.cg_model.specs.States.{State, row_at, file_told, entry_at}
 use Rattle.cg_model.specs.WellFormed.{IsWellFormed}
+use Rattle.cg_model.proofs.FormedTold.{stands}
+use Rattle.cg_model.proofs.StateEntries.{entry_at-row}
 use Rattle.cg_model.specs.Clauses.{present}
 use Rattle.cg_model.specs.Guards.{Guarded, ancestor, ancestors, limit_file, limit_files, parent_control, parent_dir, guarded_entries, standing}
-use Rattle.cg_guards.specs.Standing.{parent_guards}
+use Rattle.cg_guards.specs.Standing.{guarded_files, parent_guards}
 use Rattle.cg_model.specs.declared.guard.GuardedEntry.{GuardedEntry}
 
 -- ---- places of joined lists
 
 module _ {A : Type 0} where
-  get_front : (xs ys : List A) (k : ℕ) → k < length xs → slice_get (xs ++ ys) k ≡ slice_get xs k
+  pub get_front : (xs ys : List A) (k : ℕ) → k < length xs → slice_get (xs ++ ys) k ≡ slice_get xs k
   get_front [] ys k h = absurd (omega arith)
   get_front (x ∷ xs) ys zero h = refl
   get_front (x ∷ xs) ys (suc k) h = get_front xs ys k (omega arith)
 
-  get_back : (xs ys : List A) (k : ℕ) → length xs ≤ k → slice_get (xs ++ ys) k ≡ slice_get ys (k - length xs)
+  pub get_back : (xs ys : List A) (k : ℕ) → length xs ≤ k → slice_get (xs ++ ys) k ≡ slice_get ys (k - length xs)
   get_back [] ys k h = let e : k - 0 ≡ k = omega arith in rw e refl
   get_back (x ∷ xs) ys zero h = absurd (omega arith)
   get_back (x ∷ xs) ys (suc k) h = let e : suc k - suc (length xs) ≡ k - length xs = omega arith in rw e (get_back xs ys k (omega arith))
@@ -40,16 +44,16 @@ pub length-ancestors : (len : ℕ) → length (ancestors len) ≡ len
 length-ancestors zero = refl
 length-ancestors (suc len) = ap suc (length-ancestors len)
 
-get-ancestors : (len k : ℕ) → k < len → slice_get (ancestors len) k ≡ Some (ancestor (len - 1 - k))
+pub get-ancestors : (len k : ℕ) → k < len → slice_get (ancestors len) k ≡ Some (ancestor (len - 1 - k))
 get-ancestors zero k h = absurd (omega arith)
 get-ancestors (suc len) zero h = let e : suc len - 1 - 0 ≡ len = omega arith in rw e refl
 get-ancestors (suc len) (suc k) h = let e : suc len - 1 - suc k ≡ len - 1 - k = omega arith in rw e (get-ancestors len k (omega arith))
 
-pub guarded_length : (subtree : Names) → length (guarded_entries subtree) ≡ length subtree + length all_files + 2
+pub guarded_length : (subtree : Names) → length (guarded_entries subtree) ≡ length subtree + length guarded_files + 2
 guarded_length subtree =
     length-append (ancestors (length subtree) ++ limit_files (length subtree)) (parent_control subtree ∷ parent_dir subtree ∷ [])
     ∙ ap (λ n. n + 2) (length-append (ancestors (length subtree)) (limit_files (length subtree))
-    ∙ ap (λ n. n + length all_files) (length-ancestors (length subtree)))
+    ∙ ap (λ n. n + length guarded_files) (length-ancestors (length subtree)))
 
 module _ (subtree : Names) (place : ℕ) where
   abbrev above : List Guarded
@@ -58,9 +62,9 @@ module _ (subtree : Names) (place : ℕ) where
   abbrev last_two : List Guarded
   last_two = parent_control subtree ∷ parent_dir subtree ∷ []
 
-  above-length : length above ≡ length subtree + length all_files
+  above-length : length above ≡ length subtree + length guarded_files
   above-length = length-append (ancestors (length subtree)) (limit_files (length subtree))
-      ∙ ap (λ n. n + length all_files) (length-ancestors (length subtree))
+      ∙ ap (λ n. n + length guarded_files) (length-ancestors (length subtree))
 
   module _ (depth : ℕ) (level : depth ≡ length subtree) where
     pub ancestor_at : place < depth → Some (ancestor (depth - 1 - place)) ≡ slice_get (guarded_entries subtree) place
@@ -72,31 +76,60 @@ module _ (subtree : Names) (place : ℕ) where
         ∙ get_front (ancestors (length subtree)) (limit_files (length subtree)) place (omega (arith, e, level, h))
         ∙ get-ancestors (length subtree) place (omega (arith, level, h)))
 
-    pub file_at : (d : LimitFile) → depth ≤ place → place - depth < length all_files
-        → Some (limit_file depth (get_or all_files (place - depth) d)) ≡ slice_get (guarded_entries subtree) place
-    file_at d low high =
+    pub file_at : (name : EntryName) → depth ≤ place → place - depth < length guarded_files
+        → Some name ≡ slice_get guarded_files (place - depth)
+        → Some (limit_file depth name) ≡ slice_get (guarded_entries subtree) place
+    file_at name low high is =
         let e = length-ancestors (length subtree) in
         let f = above-length in
-        ap (λ n. Some (limit_file n (get_or all_files (place - n) d))) level
+        ap (λ n. Some (limit_file n name)) level
         ∙ sym (get_front above last_two place (omega (arith, f, level, low, high))
         ∙ get_back (ancestors (length subtree)) (limit_files (length subtree)) place (omega (arith, e, level, low))
-        ∙ ap (λ n. slice_get (limit_files (length subtree)) (place - n)) e
-        ∙ slice_get-map (limit_file (length subtree)) all_files (place - length subtree)
-        ∙ ap (option_map (limit_file (length subtree)))
-        (slice_get-get_or all_files (place - length subtree) d (omega (arith, level, low, high))))
+        ∙ ap (λ n. slice_get (limit_files (length subtree)) (place - n)) (e ∙ sym level)
+        ∙ slice_get-map (limit_file (length subtree)) guarded_files (place - depth)
+        ∙ ap (option_map (limit_file (length subtree))) (sym is))
 
-    pub parent_at : depth ≤ place → length all_files ≤ place - depth
-        → slice_get (parent_guards (depth - 1)) (place - depth - length all_files) ≡ slice_get (guarded_entries subtree) place
+    pub parent_at : depth ≤ place → length guarded_files ≤ place - depth
+        → slice_get (parent_guards (depth - 1)) (place - depth - length guarded_files) ≡ slice_get (guarded_entries subtree) place
     parent_at low high =
         let f = above-length in
-        let g : place - length above ≡ place - length subtree - length all_files = omega (arith, f) in
-        ap (λ n. slice_get (parent_guards (n - 1)) (place - n - length all_files)) level
+        let g : place - length above ≡ place - length subtree - length guarded_files = omega (arith, f) in
+        ap (λ n. slice_get (parent_guards (n - 1)) (place - n - length guarded_files)) level
         ∙ sym (get_back above last_two place (omega (arith, f, level, low, high)) ∙ ap (slice_get last_two) g)
 
+-- the limit file of a place
+pub usual_file : (place : ℕ) (d : LimitFile) → place < length all_files
+    → Some (File (get_or all_files place d)) ≡ slice_get guarded_files place
+usual_file place d h =
+    sym (get_front (map File all_files) (map Other all_others) place (omega (arith, length-map all_files File, h))
+    ∙ slice_get-map File all_files place ∙ ap (option_map File) (slice_get-get_or all_files place d h))
+
+pub other_file : (place : ℕ) (d : OtherFile) → length all_files ≤ place → place < length guarded_files
+    → Some (Other (get_or all_others (place - length all_files) d)) ≡ slice_get guarded_files place
+other_file place d low high =
+    sym (get_back (map File all_files) (map Other all_others) place (omega (arith, low))
+    ∙ slice_get-map Other all_others (place - length all_files)
+    ∙ ap (option_map Other) (slice_get-get_or all_others (place - length all_files) d (omega (arith, low, high))))
+
 -- an entry of a well-formed tree has a mode
-pub guarded_mode : (st : State) (path : Names) (row : Cgroup) (name : EntryName) (entry : Entry) → IsWellFormed st
-    → Some row ≡ row_at st path → Some entry ≡ entry_in row name → entry.mode ≤ 511
-guarded_mode st path row name entry formed is held = (formed.rows path row (sym is)).modes name entry (sym held)
+chained_from : {A B : Type 0} (g : A → Option B) (o : Option A) (y : B) → option_and_then g o ≡ Some y
+    → (x : A) × (o ≡ Some x) × (g x ≡ Some y)
+chained_from g None y is = absurd (true≢false (sym (ap is_some is)))
+chained_from g (Some x) y is = (x, refl, is)
+
+row_mode : (st : State) (path : Names) (name : EntryName) (entry : Entry) → IsWellFormed st → is_beyond name ≡ false
+    → Some entry ≡ entry_at st path name → entry.mode ≤ 511
+row_mode st path name entry formed listed is =
+    let held = chained_from (λ row. entry_in row name) (row_at st path) entry (sym (entry_at-row st path name listed) ∙ sym is) in
+    (formed.rows path held.0 held.1).modes name entry held.2
+
+pub guarded_mode : (st : State) (path : Names) (name : EntryName) (entry : Entry) → IsWellFormed st
+    → Some entry ≡ entry_at st path name → entry.mode ≤ 511
+guarded_mode st path (Other file) entry formed is =
+    let held = mapped_from (λ told. told.entry) (file_told st path file) entry (sym is) in
+    subst (λ (e : Entry). e.mode ≤ 511) held.2 (stands st formed path file held.0 held.1).mode
+guarded_mode st path Dir entry formed is = row_mode st path Dir entry formed refl is
+guarded_mode st path name entry formed is = row_mode st path name entry formed refl is
 
 -- ---- a path has no more names than bytes
 

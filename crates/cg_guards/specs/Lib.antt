@@ -1,3 +1,4 @@
+pub mod Asked
 pub mod GuardedUsers
 pub mod Reach
 pub mod Standing

@@ -1,12 +1,14 @@
 //! The entries on which guards stand, one after another in the order of the guards.
-ghost use Rattle.std.specs.Prelude.{◌≡◌, ◌≤◌, false, length, slice_get, option_and_then, IfSome};
+ghost use Rattle.std.specs.Prelude.{◌≡◌, ◌≤◌, ◌<◌, Some, false, length, slice_get, option_and_then, IfSome};
 ghost use Rattle.std.specs.Option.{option_map};
 ghost use Rattle.cg_cgroup.specs.Paths.{is_root};
 ghost use Rattle.cg_model.specs.Guards.{guarded_entries, standing};
-ghost use Rattle.cg_guards.specs.Standing.{spotted, parent_guards};
+ghost use Rattle.cg_guards.specs.Standing.{spotted, guarded_files, parent_guards};
 
 use cg_cgroup::files::{EntryName, LimitFile};
+use cg_cgroup::other_file::OtherFile;
 use cg_cgroup::path::Path;
+use cg_model::files::entry_at;
 use cg_model::guard::{Guard, GuardedEntry};
 use cg_model::hierarchy::Hierarchy;
 
@@ -22,7 +24,7 @@ struct Spot {
 pub fn guarded_count(subtree: &Path) -> usize
     ensures { result ≡ length (guarded_entries subtree.now) }
 {
-    subtree.depth() + LimitFile::ALL.len() + 2
+    subtree.depth() + LimitFile::ALL.len() + OtherFile::ALL.len() + 2
 }
 
 /// The entry on which the guard of a place stands, counted from 0 in the order of the guards; `None` where the entry isn't
@@ -34,7 +36,9 @@ pub fn guarded_entry<H: Hierarchy>(tree: &H, subtree: &Path, place: usize) -> Op
     ensures mode { IfSome result (λ at. at.entry.mode ≤ 511) }
 {
     let spot = spot_at(subtree, place)?;
-    let entry = tree.get(subtree, spot.len)?.entry(spot.name)?;
+    // tells that the tree is well-formed
+    let _ = tree.controllers();
+    let entry = entry_at(tree, subtree, spot.len, spot.name)?;
     Some(GuardedEntry {
         guard: spot.guard,
         len: spot.len,
@@ -58,16 +62,29 @@ fn spot_at(subtree: &Path, place: usize) -> Option<Spot>
         });
     }
     let below = place - depth;
-    let files = LimitFile::ALL.len();
+    let files = LimitFile::ALL.len() + OtherFile::ALL.len();
     if below < files {
-        let file = LimitFile::ALL[below];
+        let name = guarded_file(below);
         return Some(Spot {
-            guard: Guard::LimitFile(file),
+            guard: Guard::LimitFile(name),
             len: depth,
-            name: EntryName::File(file),
+            name,
         });
     }
     parent_spot(depth - 1, below - files)
+}
+
+/// The limit file of a place: those of `LimitFile` come first.
+fn guarded_file(place: usize) -> EntryName
+    requires { place < length guarded_files }
+    ensures { Some result ≡ slice_get guarded_files place }
+{
+    let files = LimitFile::ALL.len();
+    if place < files {
+        EntryName::File(LimitFile::ALL[place])
+    } else {
+        EntryName::Other(OtherFile::ALL[place - files])
+    }
 }
 
 /// The guards on the entries of the subtree's parent: its `cgroup.subtree_control` and its directory.

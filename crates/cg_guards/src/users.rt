@@ -3,12 +3,12 @@
 ghost use Rattle.std.specs.Prelude.{◌≡◌, Some, option_copied};
 ghost use Rattle.std.specs.List.{take_while};
 ghost use Rattle.cg_model.specs.Guards.{IsSubtree, is_guarded};
-ghost use Rattle.cg_guards.specs.GuardedUsers.{is_spared, is_alike, is_asked, AreSpared};
+ghost use Rattle.cg_guards.specs.GuardedUsers.{is_spared, is_asked, AreSpared};
 ghost use Rattle.cg_guards.specs.Reach.{is_out_of_reach, AreCovered};
 
+use crate::asked::{asked_count, asked_entry, is_alike, passes_others};
 use crate::failed::is_over;
 use crate::identities::Identities;
-use crate::table::{guarded_count, guarded_entry};
 use cg_cgroup::path::Path;
 use cg_cgroup::user::{Entry, User};
 use cg_model::hierarchy::Hierarchy;
@@ -37,8 +37,9 @@ pub fn guarded_users<'a, H: Hierarchy>(
         return &users[..0];
     }
     let mut left = users;
-    for place in 0..guarded_count(subtree) {
-        let Some(at) = guarded_entry(tree, subtree, place) else {
+    let passes = passes_others(tree, subtree);
+    for turn in 0..asked_count(subtree, passes) {
+        let Some(at) = asked_entry(tree, subtree, passes, turn) else {
             continue;
         };
         if is_asked(*asked, &at.entry) || is_out_of_reach(identities, &at.entry) {
@@ -68,13 +69,6 @@ fn is_out_of_reach(identities: Option<&Identities>, entry: &Entry) -> bool
         return false;
     };
     !identities.may_reach(entry)
-}
-
-/// Whether two entries are reached by the same users.
-fn is_alike(entry: &Entry, other: &Entry) -> bool
-    ensures { result ≡ is_alike entry.now other.now }
-{
-    entry.uid == other.uid && entry.gid == other.gid && entry.mode & 0o022 == other.mode & 0o022
 }
 
 /// Those before the first who reaches an entry.

@@ -188,7 +188,7 @@ fn tree_bytes<F: Files>(
     }
 }
 
-/// Which controllers lines of operations name with the tree.
+/// Which controllers and files lines of operations name with the tree.
 fn vocabulary_seen<F: Files>(
     alloc: Global,
     files: &F,

@@ -3,6 +3,7 @@ use crate::input::kind_said;
 use crate::names::{controller_names, none_said};
 use arguments::request::Request;
 use cg_cgroup::files::{Controller, EntryName, LimitFile, Vocabulary};
+use cg_cgroup::other_file::OtherFile;
 use std::alloc::{AllocError, Global};
 use text_places::shown::quoted;
 
@@ -40,7 +41,7 @@ fn shown_with(alloc: Global, line: &str, form: &str) -> Result<String, AllocErro
 }
 
 fn operation_said(alloc: Global, vocabulary: Vocabulary, line: &str) -> Result<String, AllocError> {
-    let mut said = shown_with(alloc, line, form_of(first_word(line)))?;
+    let mut said = shown_with(alloc, line, form_of(vocabulary, line))?;
     for (index, word) in line.split(' ').enumerate() {
         if let Some(why) = word_said(alloc, vocabulary, first_word(line), index, word)? {
             said.push_str("\n")?;
@@ -53,18 +54,28 @@ fn operation_said(alloc: Global, vocabulary: Vocabulary, line: &str) -> Result<S
     Ok(said)
 }
 
-/// What an operation's line looks like that begins with a word.
-fn form_of(word: &str) -> &'static str {
-    match word {
+/// What an operation's line looks like that begins as this one.
+fn form_of(vocabulary: Vocabulary, line: &str) -> &'static str {
+    match first_word(line) {
         "move" => "move PID PATH",
         "control" => "control PATH +CONTROLLER -CONTROLLER ..",
         "mkdir" => "mkdir PATH",
         "rmdir" => "rmdir PATH",
-        "set" => "set PATH LIMITFILE NUMBER, or max in place of the number",
+        "set" => setting_form(vocabulary, line),
         "fork" => "fork PARENTPID CHILDPID",
         "exit" => "exit PID",
         "chmod" => "chmod PATH ENTRY MODE, of three octal digits",
         _ => "an operation is move, control, mkdir, rmdir, set, fork, exit or chmod",
+    }
+}
+
+/// What a line of `set` looks like: the files of `OtherFile` have texts for values.
+fn setting_form(vocabulary: Vocabulary, line: &str) -> &'static str {
+    let name = line.split(' ').nth(2).unwrap_or("");
+    if vocabulary == Vocabulary::Format4 && OtherFile::from_name(name).is_some() {
+        "set PATH LIMITFILE VALUE, of at most 3800 printable bytes"
+    } else {
+        "set PATH LIMITFILE NUMBER, or max in place of the number"
     }
 }
 
@@ -107,23 +118,28 @@ fn names_at(
 ) -> Result<Vec<&'static str>, AllocError> {
     match (operation, index) {
         (_, 0) => Vec::from_slice(alloc, &OPERATIONS),
-        ("set", 2) => file_names(alloc),
-        ("chmod", 2) => entry_names(alloc),
+        ("set", 2) => file_names(alloc, vocabulary),
+        ("chmod", 2) => entry_names(alloc, vocabulary),
         ("control", place) if 2 <= place => controller_names(alloc, vocabulary),
         _ => Ok(Vec::new(alloc)),
     }
 }
 
-fn file_names(alloc: Global) -> Result<Vec<&'static str>, AllocError> {
-    Vec::from_slice(alloc, &LimitFile::ALL.map(|file| file.name()))
+/// The names of the limit files of a vocabulary.
+fn file_names(alloc: Global, vocabulary: Vocabulary) -> Result<Vec<&'static str>, AllocError> {
+    let mut names = Vec::from_slice(alloc, &LimitFile::ALL.map(|file| file.name()))?;
+    if vocabulary == Vocabulary::Format4 {
+        names.extend_from_slice(&OtherFile::ALL.map(|file| file.name()))?;
+    }
+    Ok(names)
 }
 
-/// The names of all entries of a cgroup.
-fn entry_names(alloc: Global) -> Result<Vec<&'static str>, AllocError> {
+/// The names of all entries of a cgroup that lines of a vocabulary name.
+fn entry_names(alloc: Global, vocabulary: Vocabulary) -> Result<Vec<&'static str>, AllocError> {
     let mut names = Vec::new(alloc);
     for entry in [EntryName::Dir, EntryName::Procs, EntryName::SubtreeControl] {
         names.push(entry.name())?;
     }
-    names.extend_from_slice(file_names(alloc)?.as_slice())?;
+    names.extend_from_slice(file_names(alloc, vocabulary)?.as_slice())?;
     Ok(names)
 }

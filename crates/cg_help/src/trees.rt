@@ -47,7 +47,7 @@ pub(crate) fn tree_said(
     }
 }
 
-/// Which controllers lines of operations name with the tree of a text: those of formats 1 and 2 where that can't be told.
+/// Which controllers and files lines of operations name with the tree of a text: those of formats 1 and 2 where that can't be told.
 pub(crate) fn vocabulary_of(alloc: Global, bytes: &[u8]) -> Vocabulary {
     if MOST_BYTES < bytes.len() {
         return Vocabulary::Format2;

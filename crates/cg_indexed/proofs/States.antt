@@ -9,7 +9,8 @@ use Rattle.cg_cgroup.specs.Files.{enables, stands_under, no_controllers}
 use Rattle.cg_cgroup.specs.Cgroups.{with_files_of}
 use Rattle.cg_cgroup.specs.declared.controllers.ControllerSet.{ControllerSet}
 use Rattle.cg_cgroup.specs.declared.cgroup.Cgroup.{Cgroup}
-use Rattle.cg_model.specs.States.{State, row_at, change_at, change_each, enabling, enabling_these, with_row, with_enabled}
+use Rattle.cg_cgroup.specs.declared.told.ToldFiles.{ToldFiles}
+use Rattle.cg_model.specs.States.{State, row_at, change_at, change_each, enabling, enabling_these, with_row}
 use Rattle.cg_model.specs.WellFormed.{IsWellFormed, has_row, enabled_above, enabled_at}
 use Rattle.cg_cgroup.proofs.PathOrder.{path_cmp-IsAntisymmetric, same_path-is}
 use Rattle.cg_cgroup.proofs.PathParents.{parent-is_child, is_root-is_child, parent-other}
@@ -88,16 +89,16 @@ fitted_formed st formed p q row child has =
       others = λ controller. of_row.others controller ∙ ap (λ set. enables set controller) above;
     }
 
--- where what a path enables stays, all stays
+-- where what a path enables stays, all rows stay
 pub nothing_enabled : (st : State) → IsWellFormed st → (p : Names) (row : Cgroup) (enabled : ControllerSet) (user : Identity)
-    → row_at st p ≡ Some row → row.enabled ≡ enabled → with_enabled st p enabled user ≡ st
+    → row_at st p ≡ Some row → row.enabled ≡ enabled → change_each (enabling p enabled user) st.rows ≡ st.rows
 nothing_enabled st formed p row enabled user is same =
-    ap (λ rows. record st { rows = rows }) (same_maps _ _ (λ q.
+    same_maps _ _ (λ q.
     get-changed path_cmp-IsAntisymmetric (enabling p enabled user) st.rows q
     ∙ elim (map.get st.rows q) as (λ o. map.get st.rows q ≡ o → option_map (enabling p enabled user q) o ≡ o) [
       | None ↦ λ e. refl
       | Some r ↦ λ e. ap Some (stays q r e)
-    ] refl))
+    ] refl)
   where
     stays : (q : Names) (r : Cgroup) → map.get st.rows q ≡ Some r → enabling p enabled user q r ≡ r
     stays q r has =
@@ -139,16 +140,17 @@ live_of_row true row h = refl
 live_of_row false row h = refl
 
 -- such a cgroup is the one that was there, changed
-module _ (held : FinMap path_cmp Held) (processes : LiveAndUsed) (controllers : ControllerSet) (st : State)
-    (view : state_of held processes controllers ≡ st) (p : Names) (g : Cgroup → Cgroup) (row new : Cgroup)
+module _ (held : FinMap path_cmp Held) (processes : LiveAndUsed) (told : FinMap path_cmp ToldFiles) (controllers : ControllerSet)
+    (st : State) (view : state_of held processes told controllers ≡ st) (p : Names) (g : Cgroup → Cgroup) (row new : Cgroup)
     (there : Some row ≡ map.get (cgroups_of held) p) (by : new ≡ g row) (now : FinMap path_cmp Held)
     (put : now ≡ change_held held p (with_row_of new)) where
-  pub put_shows : state_of now processes controllers ≡ change_at p g st
+  pub put_shows : state_of now processes told controllers ≡ change_at p g st
   put_shows =
-      ap (λ rows. state_of_tables rows processes controllers) (ap cgroups_of put ∙ cgroups_put held p g row new there by)
+      ap (λ rows. state_of_tables rows processes told controllers) (ap cgroups_of put ∙ cgroups_put held p g row new there by)
       ∙ ap (change_at p g) view
 
-  pub put_indexed : IsIndexed held processes controllers → IsWellFormed (change_at p g st) → IsIndexed now processes controllers
+  pub put_indexed : IsIndexed held processes told controllers → IsWellFormed (change_at p g st)
+      → IsIndexed now processes told controllers
   put_indexed was formed = record {
     formed = subst IsWellFormed (sym put_shows) formed;
     live =

@@ -12,14 +12,17 @@ ghost use Rattle.cg_indexed.specs.Indexed.{state_of, IsIndexed};
 use cg_cgroup::cgroup::Cgroup;
 use cg_cgroup::files::{Controller, ControllerSet, EntryName, Limit, LimitFile};
 use cg_cgroup::memory::NoMemory;
+use cg_cgroup::other_file::OtherFile;
 use cg_cgroup::path::Path;
 use cg_cgroup::process::{Pid, Process};
+use cg_cgroup::told::{ToldFile, ToldFiles};
 use cg_cgroup::user::{Mode, User};
 use cg_counts::cgroups::Cgroups;
 use cg_model::hierarchy::Hierarchy;
 use cg_places::links::Tally;
 use cg_rows::processes::Processes;
 use cg_rows::rows::Rows;
+use cg_rows::tables::path_table::PathTable;
 use std::alloc::Global;
 use std::marker::Model;
 
@@ -31,6 +34,8 @@ use std::marker::Model;
 pub struct Indexed {
     cgroups: Cgroups,
     processes: Processes,
+    /// What is told of limit files beyond `LimitFile`, by cgroup.
+    told: PathTable<ToldFiles>,
     controllers: ControllerSet,
 }
 
@@ -39,9 +44,9 @@ impl Model for Indexed {
 
     ghost coded = { Prim.hlevel (codes, map.code, set.code) };
 
-    ghost view = { λ t. state_of t.cgroups t.processes t.controllers };
+    ghost view = { λ t. state_of t.cgroups t.processes t.told t.controllers };
 
-    ghost invariant = { λ t. IsIndexed t.cgroups t.processes t.controllers };
+    ghost invariant = { λ t. IsIndexed t.cgroups t.processes t.told t.controllers };
 }
 
 impl Indexed {
@@ -53,6 +58,7 @@ impl Indexed {
         Ok(Indexed {
             cgroups: Cgroups::new(alloc, root)?,
             processes: Processes::new(alloc),
+            told: PathTable::new(alloc),
             controllers,
         })
     }
@@ -67,10 +73,13 @@ impl Indexed {
         for (_pid, process) in rows.processes().iter() {
             cgroups.count_live(&process.place, Tally::More);
         }
+        let controllers = rows.controllers();
+        let (processes, told) = rows.into_parts();
         Ok(Indexed {
             cgroups,
-            controllers: rows.controllers(),
-            processes: rows.into_processes(),
+            processes,
+            told,
+            controllers,
         })
     }
 }
@@ -97,6 +106,10 @@ impl Hierarchy for Indexed {
 
     fn get(&self, path: &Path, len: usize) -> Option<&Cgroup> {
         self.cgroups.get(path, len)
+    }
+
+    fn told(&self, path: &Path, len: usize) -> Option<&ToldFiles> {
+        self.told.get(path, len)
     }
 
     fn place(&self, pid: Pid) -> Option<&Path> {
@@ -146,6 +159,7 @@ impl Hierarchy for Indexed {
     }
 
     fn set_enabled(&mut self, path: &Path, enabled: ControllerSet, user: &User) {
+        self.told.keep(path, enabled);
         if self.cgroups.cgroup(path).enabled != enabled {
             self.cgroups.enable(path, enabled, user);
         }
@@ -160,6 +174,7 @@ impl Hierarchy for Indexed {
     }
 
     fn remove(&mut self, path: &Path) {
+        self.told.forget(path);
         self.cgroups.remove(path);
     }
 
@@ -183,12 +198,23 @@ impl Hierarchy for Indexed {
         Ok(Indexed {
             cgroups: self.cgroups.try_clone(alloc)?,
             processes: self.processes.try_clone(alloc)?,
+            told: self.told.try_clone(alloc)?,
             controllers: self.controllers,
         })
     }
 
     fn add(&mut self, alloc: Global, path: &Path, cgroup: Cgroup) -> Result<(), NoMemory> {
         self.cgroups.add(alloc, path, cgroup)
+    }
+
+    fn tell(
+        &mut self,
+        alloc: Global,
+        path: &Path,
+        file: OtherFile,
+        told: ToldFile,
+    ) -> Result<(), NoMemory> {
+        self.told.tell(alloc, path, file, told)
     }
 
     fn set_place(&mut self, alloc: Global, pid: Pid, path: &Path) -> Result<(), NoMemory> {

@@ -21,7 +21,7 @@ use Rattle.cg_model.specs.Limits.{is_under, limits, fits_descendants, fits_depth
 use Rattle.cg_model.specs.Next.{next}
 use Rattle.cg_model.specs.Steps.{after}
 use Rattle.cg_model.specs.declared.operation.Op.{Op}
-use Rattle.cg_model.specs.declared.operation.Op.TheVariants.{Move, Control, Mkdir, Rmdir, Set, Fork, Exit, Chmod}
+use Rattle.cg_model.specs.declared.operation.Op.TheVariants.{Move, Control, Mkdir, Rmdir, Set, SetOther, Fork, Exit, Chmod}
 use Rattle.cg_model.specs.declared.outcome.Refusal.TheVariants.{DescendantLimit, DepthLimit}
 use Rattle.cg_model.proofs.ClauseLaws.{no_parts, no_unless, no_present}
 use Rattle.cg_model.proofs.LimitLaws.{fits_in, descendants-limit, depth-limit}
@@ -184,6 +184,7 @@ module _ (st : State) (user : Identity) (subtree : Names) (fits : FitIn st subtr
   fits-next (Mkdir path) there free = fits-with_row st user subtree path there free _ fits
   fits-next (Rmdir path) there free = fits-without_row st subtree path (value_at st subtree) (allowed_rmdir st user path free).there fits
   fits-next (Set at file value) there free = same_paths (next st user (Set at file value)) (paths_of-with_value st at file value)
+  fits-next (SetOther at file value) there free = fits
   fits-next (Fork parent child) there free =
       fork-by (λ new. FitIn new subtree (value_at st subtree)) st child (process_at st parent) fits (λ process. fits)
   fits-next (Exit pid) there free = fits

@@ -1,4 +1,5 @@
 pub mod GuardedEntries
+pub mod Standing
 pub mod Sound
 pub mod Untouched
 pub mod Barred

@@ -1,7 +1,7 @@
 -- What is read of a line is spelled so, and what is spelled so is read.
 use Rattle.std.proofs.Common.{◌≡◌, ◌≢◌, ℕ, true, cond, List, [], ◌∷◌, ◌++◌, length, map, refl, ap, sym, ◌∙◌, subst, inl, inr, arith}
 use Rattle.std.specs.Prelude.{◌≤◌, Option, Some, None, codes, Result, Ok, Err, IfOk}
-use Rattle.std.specs.List.{slice_split, join_with_byte}
+use Rattle.std.specs.List.{list_all, slice_split, join_with_byte}
 use Rattle.std.specs.Fmt.{decimal}
 use Rattle.std.specs.Str.{IsUtf8}
 use Rattle.std.specs.Cmp.Lexicographic.{bytes_decides}
@@ -11,20 +11,24 @@ use Rattle.std.proofs.lemmas.List.Splits.{join_with_byte-slice_split, length-sli
 use Rattle.std.proofs.lemmas.Str.{IsUtf8-from_ascii}
 use Rattle.cg_cgroup.specs.Paths.{Names, same_name, path_text, path_at, IsPath}
 use Rattle.cg_cgroup.specs.Numbers.{is_pid, is_mode}
-use Rattle.cg_cgroup.specs.Files.{file_name, file_named, entry_text, entry_named}
+use Rattle.cg_cgroup.specs.Files.{file_name, file_named, other_name, entry_text, entry_known_as}
+use Rattle.cg_cgroup.specs.declared.files.LimitFile.{LimitFile}
+use Rattle.cg_cgroup.specs.declared.files.Limit.{Limit}
+use Rattle.cg_cgroup.specs.declared.other_file.OtherFile.{OtherFile}
+use Rattle.cg_cgroup.specs.declared.told.FileText.{FileText}
 use Rattle.cg_cgroup.specs.declared.files.Vocabulary.{Vocabulary}
 use Rattle.cg_cgroup.proofs.PathAt.{path_at-is, path_at-text}
-use Rattle.cg_cgroup.proofs.NameLaws.{file_names, entry_names}
+use Rattle.cg_cgroup.proofs.NameLaws.{file_names}
 use Rattle.cg_model.specs.declared.changes.Change.{Change}
 use Rattle.cg_model.specs.declared.operation.Op.{Op}
-use Rattle.cg_model.specs.declared.operation.Op.TheVariants.{Move, Control, Mkdir, Rmdir, Set, Fork, Exit, Chmod}
-use Rattle.cg_lines.specs.OperationLines.{change_word, are_known, limit_word, mode_word, words, spelling, IsInRange, IsLimitInRange}
-use Rattle.cg_lines.specs.LineReading.{is_space, cut, two_words, three_words, pid_at, limit_at, mode_at, changes_at, move_at, control_from, control_at, mkdir_at, rmdir_at, set_at, fork_at, exit_at, chmod_at, operation_named, operation_at, ReadsAs}
+use Rattle.cg_model.specs.declared.operation.Op.TheVariants.{Move, Control, Mkdir, Rmdir, Set, SetOther, Fork, Exit, Chmod}
+use Rattle.cg_lines.specs.OperationLines.{is_entry_of, change_word, are_known, limit_word, mode_word, words, spelling, IsInRange, IsLimitInRange}
+use Rattle.cg_lines.specs.LineReading.{is_space, cut, two_words, three_words, pid_at, limit_at, mode_at, text_value_at, other_known_as, changes_at, move_at, control_from, control_at, mkdir_at, rmdir_at, set_from, setting_at, set_at, fork_at, exit_at, chmod_at, operation_named, operation_at, ReadsAs}
 use Rattle.cg_cgroup.specs.Options.{◌>>=◌}
 use Rattle.cg_lines.specs.declared.lines.fault.LineFault.{LineFault}
 use Rattle.cg_lines.specs.declared.lines.fault.LineFault.TheVariants.{BadWord}
-use Rattle.cg_lines.proofs.LineWords.{is_word, are_words, cut_word, cut_none, cut_parts, split_joined, IsAscii-joined}
-use Rattle.cg_lines.proofs.LineSpelled.{bind_some, bind_at, chosen, decimal_word, path_word, file_word, entry_word, changes_words, limit_is_word, mode_is_word, small_pid, pid_takes, pid_again, limit_takes, limit_again, mode_takes, mode_again, changes_takes, changes_again}
+use Rattle.cg_lines.proofs.LineWords.{is_word, are_words, cut_word, cut_none, cut_parts, split_joined, is_printable, printable_word, printable_words, printable_joined, value_printable, IsAscii-printable}
+use Rattle.cg_lines.proofs.LineSpelled.{bind_some, bind_at, chosen, decimal_word, path_word, file_word, other_word, entry_word, changes_words, limit_is_word, mode_is_word, small_pid, pid_takes, pid_again, limit_takes, limit_again, value_takes, value_again, entry_takes, entry_again, other_takes, other_again, other_is_beyond, mode_takes, mode_again, changes_takes, changes_again}
 
 -- ---- what is read
 
@@ -63,21 +67,9 @@ pids = record { takes = pid_takes; again = pid_again; one = λ pid h. decimal_wo
 paths : Spelled path_at path_text IsPath
 paths = record { takes = λ word path h. let p = path_at-is word path h in (p.0, sym p.1); again = path_at-text; one = path_word }
 
-files : Spelled file_named file_name (λ _. Unit {0})
-files =
-    record
-    { takes = λ word file h. (tt, file_names.named word file h); again = λ file _. file_names.found file; one = λ file _. file_word file }
-
-entries : Spelled entry_named entry_text (λ _. Unit {0})
-entries =
-    record {
-      takes = λ word entry h. (tt, entry_names.named word entry h);
-      again = λ entry _. entry_names.found entry;
-      one = λ entry _. entry_word entry;
-    }
-
-limits : Spelled limit_at limit_word IsLimitInRange
-limits = record { takes = limit_takes; again = limit_again; one = limit_is_word }
+entries : (vocabulary : Vocabulary) → Spelled (entry_known_as vocabulary) entry_text (λ entry. is_entry_of vocabulary entry ≡ true)
+entries vocabulary =
+    record { takes = entry_takes vocabulary; again = entry_again vocabulary; one = λ entry _. entry_word entry }
 
 modes : Spelled mode_at mode_word (λ mode. is_mode mode ≡ true)
 modes = record { takes = mode_takes; again = mode_again; one = mode_is_word }
@@ -220,15 +212,49 @@ rmdir_takes : (vocabulary : Vocabulary) (text : List ℕ) (op : Op) → rmdir_at
 unfolding rmdir_at
 rmdir_takes vocabulary text op h = one_takes paths Rmdir vocabulary (codes "rmdir") text op (λ path p. (p, refl)) h
 
-set_takes : (vocabulary : Vocabulary) (text : List ℕ) (op : Op) → set_at text ≡ Some op → Takes vocabulary (codes "set") text op
+-- a path, a name and a value with spaces between them
+abbrev set_text : Names → List ℕ → List ℕ → List ℕ
+set_text at name text = path_text at ++ (32 ∷ (name ++ (32 ∷ text)))
+
+set_from_takes : (vocabulary : Vocabulary) (at : Names) (name text : List ℕ) (found : Option LimitFile) (op : Op) → IsPath at
+    → file_named name ≡ found → set_from vocabulary at name text found ≡ Some op → Takes vocabulary (codes "set") (set_text at name text) op
+set_from_takes vocabulary at name text (Some file) op path is h =
+    let value = bind_some (limit_at text) (λ value. Some (Set at file value)) op h in
+    let p = limit_takes text value.0 value.1 in
+    from_text vocabulary (codes "set") (set_text at name text) (set_text at (file_name file) (limit_word value.0)) (Set at file value.0) op
+    (ap (λ n. set_text at n text) (file_names.named name file is) ∙ ap (set_text at (file_name file)) p.1) value.2 ((path, p.0), refl)
+set_from_takes vocabulary at name text None op path is h =
+    let file = bind_some (other_known_as vocabulary name) (λ file. text_value_at text >>= λ value. Some (SetOther at file value)) op h in
+    let value = bind_some (text_value_at text) (λ value. Some (SetOther at file.0 value)) op file.2 in
+    let p = other_takes vocabulary name file.0 file.1 in
+    let q = value_takes text value.0 value.1 in
+    from_text vocabulary (codes "set") (set_text at name text) (set_text at (other_name file.0) value.0) (SetOther at file.0 value.0) op
+    (ap (λ n. set_text at n text) p.1 ∙ ap (set_text at (other_name file.0)) q.1) value.2 ((path, p.0, q.0), refl)
+
+set_parts_take : (vocabulary : Vocabulary) (text : List ℕ) (words others : List ℕ × List ℕ) (at : Names) (op : Op) → cut text ≡ Some words
+    → cut words.1 ≡ Some others → path_at words.0 ≡ Some at → setting_at vocabulary at others.0 others.1 ≡ Some op
+    → Takes vocabulary (codes "set") text op
+unfolding setting_at
+set_parts_take vocabulary text words others at op h k path read =
+    let q = path_at-is words.0 at path in
+    let e = joined_three text words others (path_text at) others.0 others.1 h k (sym q.1) refl refl in
+    subst (λ t. Takes vocabulary (codes "set") t op) (sym {b = set_text at others.0 others.1} e)
+    (set_from_takes vocabulary at others.0 others.1 (file_named others.0) op q.0 refl read)
+
+set_takes : (vocabulary : Vocabulary) (text : List ℕ) (op : Op) → set_at vocabulary text ≡ Some op → Takes vocabulary (codes "set") text op
 unfolding set_at
 set_takes vocabulary text op h =
-    three_takes paths files limits Set vocabulary (codes "set") text op (λ at file value p _ q. ((p, q), refl)) h
+    let w =
+    bind_some (cut text) (λ words. cut words.1 >>= λ others. path_at words.0 >>= λ at. setting_at vocabulary at others.0 others.1) op h in
+    let v = bind_some (cut w.0.1) (λ others. path_at w.0.0 >>= λ at. setting_at vocabulary at others.0 others.1) op w.2 in
+    let at = bind_some (path_at w.0.0) (λ at. setting_at vocabulary at v.0.0 v.0.1) op v.2 in
+    set_parts_take vocabulary text w.0 v.0 at.0 op w.1 v.1 at.1 at.2
 
-chmod_takes : (vocabulary : Vocabulary) (text : List ℕ) (op : Op) → chmod_at text ≡ Some op → Takes vocabulary (codes "chmod") text op
+chmod_takes : (vocabulary : Vocabulary) (text : List ℕ) (op : Op) → chmod_at vocabulary text ≡ Some op
+    → Takes vocabulary (codes "chmod") text op
 unfolding chmod_at
 chmod_takes vocabulary text op h =
-    three_takes paths entries modes Chmod vocabulary (codes "chmod") text op (λ at entry mode p _ q. ((p, q), refl)) h
+    three_takes paths (entries vocabulary) modes Chmod vocabulary (codes "chmod") text op (λ at entry mode p q r. ((p, r, q), refl)) h
 
 -- the operation of one name, or that of the others
 takes_named : (vocabulary : Vocabulary) (name word text : List ℕ) (op : Op) (read others : Option Op)
@@ -248,10 +274,10 @@ named_takes vocabulary name text op h =
     takes_named vocabulary name (codes "control") text op (control_at vocabulary text) _ h (control_takes vocabulary text op) (λ h.
     takes_named vocabulary name (codes "mkdir") text op (mkdir_at text) _ h (mkdir_takes vocabulary text op) (λ h.
     takes_named vocabulary name (codes "rmdir") text op (rmdir_at text) _ h (rmdir_takes vocabulary text op) (λ h.
-    takes_named vocabulary name (codes "set") text op (set_at text) _ h (set_takes vocabulary text op) (λ h.
+    takes_named vocabulary name (codes "set") text op (set_at vocabulary text) _ h (set_takes vocabulary text op) (λ h.
     takes_named vocabulary name (codes "fork") text op (fork_at text) _ h (fork_takes vocabulary text op) (λ h.
     takes_named vocabulary name (codes "exit") text op (exit_at text) _ h (exit_takes vocabulary text op) (λ h.
-    takes_named vocabulary name (codes "chmod") text op (chmod_at text) None h (chmod_takes vocabulary text op) (λ h.
+    takes_named vocabulary name (codes "chmod") text op (chmod_at vocabulary text) None h (chmod_takes vocabulary text op) (λ h.
     absurd (none-some op h)))))))))
 
 -- What is read of a line is an operation that can be held, and the line is its line.
@@ -265,29 +291,40 @@ line_takes vocabulary line op h =
 
 -- ---- what is spelled
 
--- Its words are printable and hold no space.
-pub line_words : (vocabulary : Vocabulary) (op : Op) → IsInRange vocabulary op → are_words (words op) ≡ true
-line_words vocabulary (Move pid to) h =
-    and_from (is_word (decimal pid)) _ (decimal_word pid (small_pid pid h.0))
-    (and_from (is_word (path_text to)) true (path_word to h.1) refl)
-line_words vocabulary (Control at changes) h =
-    and_from (is_word (path_text at)) (are_words (map change_word changes)) (path_word at h.0) (changes_words changes)
-line_words vocabulary (Mkdir path) h = and_from (is_word (path_text path)) true (path_word path h) refl
-line_words vocabulary (Rmdir path) h = and_from (is_word (path_text path)) true (path_word path h) refl
-line_words vocabulary (Set at file value) h =
-    and_from (is_word (path_text at)) _ (path_word at h.0)
-    (and_from (is_word (file_name file)) _ (file_word file) (and_from (is_word (limit_word value)) true (limit_is_word value h.1) refl))
-line_words vocabulary (Fork parent child) h =
-    and_from (is_word (decimal parent)) _ (decimal_word parent (small_pid parent h.0))
-    (and_from (is_word (decimal child)) true (decimal_word child (small_pid child h.1)) refl)
-line_words vocabulary (Exit pid) h = and_from (is_word (decimal pid)) true (decimal_word pid (small_pid pid h)) refl
-line_words vocabulary (Chmod at entry mode) h =
-    and_from (is_word (path_text at)) _ (path_word at h.0)
-    (and_from (is_word (entry_text entry)) _ (entry_word entry) (and_from (is_word (mode_word mode)) true (mode_is_word mode h.1) refl))
+-- Its parts are printable.
+line_parts : (vocabulary : Vocabulary) (op : Op) → IsInRange vocabulary op → list_all is_printable (words op) ≡ true
+line_parts vocabulary (Move pid to) h =
+    printable_words (words (Move pid to)) (and_from (is_word (decimal pid)) _ (decimal_word pid (small_pid pid h.0))
+    (and_from (is_word (path_text to)) true (path_word to h.1) refl))
+line_parts vocabulary (Control at changes) h =
+    printable_words (words (Control at changes))
+    (and_from (is_word (path_text at)) (are_words (map change_word changes)) (path_word at h.0) (changes_words changes))
+line_parts vocabulary (Mkdir path) h =
+    printable_words (words (Mkdir path)) (and_from (is_word (path_text path)) true (path_word path h) refl)
+line_parts vocabulary (Rmdir path) h =
+    printable_words (words (Rmdir path)) (and_from (is_word (path_text path)) true (path_word path h) refl)
+line_parts vocabulary (Set at file value) h =
+    printable_words (words (Set at file value)) (and_from (is_word (path_text at)) _ (path_word at h.0)
+    (and_from (is_word (file_name file)) _ (file_word file) (and_from (is_word (limit_word value)) true (limit_is_word value h.1) refl)))
+line_parts vocabulary (SetOther at file value) h =
+    and_from (is_printable (path_text at)) _ (printable_word (path_text at) (path_word at h.0))
+    (and_from (is_printable (other_name file)) _ (printable_word (other_name file) (other_word file))
+    (and_from (is_printable value) true (value_printable value h.2) refl))
+line_parts vocabulary (Fork parent child) h =
+    printable_words (words (Fork parent child)) (and_from (is_word (decimal parent)) _ (decimal_word parent (small_pid parent h.0))
+    (and_from (is_word (decimal child)) true (decimal_word child (small_pid child h.1)) refl))
+line_parts vocabulary (Exit pid) h =
+    printable_words (words (Exit pid)) (and_from (is_word (decimal pid)) true (decimal_word pid (small_pid pid h)) refl)
+line_parts vocabulary (Chmod at entry mode) h =
+    printable_words (words (Chmod at entry mode)) (and_from (is_word (path_text at)) _ (path_word at h.0)
+    (and_from (is_word (entry_text entry)) _ (entry_word entry) (and_from (is_word (mode_word mode)) true (mode_is_word mode h.1) refl)))
+
+pub line_printable : (vocabulary : Vocabulary) (op : Op) → IsInRange vocabulary op → is_printable (spelling op) ≡ true
+line_printable vocabulary op h = printable_joined (words op) (line_parts vocabulary op h)
 
 -- so its line is text
 pub line_utf8 : (vocabulary : Vocabulary) (op : Op) → IsInRange vocabulary op → IsUtf8 (spelling op)
-line_utf8 vocabulary op h = IsUtf8-from_ascii (spelling op) (IsAscii-joined (words op) (line_words vocabulary op h))
+line_utf8 vocabulary op h = IsUtf8-from_ascii (spelling op) (IsAscii-printable (spelling op) (line_printable vocabulary op h))
 
 control_again : (vocabulary : Vocabulary) (at : Names) (changes : List Change) → IsPath at → are_known vocabulary changes ≡ true
     → control_at vocabulary (join_with_byte 32 (path_text at ∷ map change_word changes)) ≡ Some (Control at changes)
@@ -304,6 +341,35 @@ control_again vocabulary at (change ∷ changes) h known =
     (split_joined (change_word change) (map change_word changes) (changes_words (change ∷ changes)))
     ∙ ap (λ (o : Option (List Change)). o >>= λ changes. Some (Control at changes)) (changes_again vocabulary (change ∷ changes) known)
 
+-- a text that begins with a path and a name
+set_again : (vocabulary : Vocabulary) (at : Names) (name text : List ℕ) (op : Op) → IsPath at → is_word name ≡ true
+    → setting_at vocabulary at name text ≡ Some op → set_at vocabulary (set_text at name text) ≡ Some op
+unfolding set_at
+set_again vocabulary at name text op h one read =
+    let rest = name ++ (32 ∷ text) in
+    bind_at (cut (set_text at name text)) (path_text at, rest)
+    (λ words. cut words.1 >>= λ others. path_at words.0 >>= λ at. setting_at vocabulary at others.0 others.1)
+    (Some op) (cut_word (path_text at) rest (path_word at h))
+    (bind_at (cut rest) (name, text) (λ others. path_at (path_text at) >>= λ at. setting_at vocabulary at others.0 others.1)
+    (Some op) (cut_word name text one)
+    (bind_at (path_at (path_text at)) at (λ at. setting_at vocabulary at name text) (Some op) (path_at-text at h) read))
+
+limit_set : (vocabulary : Vocabulary) (at : Names) (file : LimitFile) (value : Limit) → IsLimitInRange value
+    → setting_at vocabulary at (file_name file) (limit_word value) ≡ Some (Set at file value)
+unfolding setting_at
+limit_set vocabulary at file value h =
+    ap (set_from vocabulary at (file_name file) (limit_word value)) (file_names.found file)
+    ∙ ap (λ (o : Option Limit). o >>= λ value. Some (Set at file value)) (limit_again value h)
+
+text_set : (vocabulary : Vocabulary) (at : Names) (file : OtherFile) (value : FileText)
+    → IsInRange vocabulary (SetOther at file value) → setting_at vocabulary at (other_name file) value ≡ Some (SetOther at file value)
+unfolding setting_at
+text_set vocabulary at file value h =
+    ap (set_from vocabulary at (other_name file) value) (other_is_beyond file)
+    ∙ ap (λ (o : Option OtherFile). o >>= λ file. text_value_at value >>= λ text. Some (SetOther at file text))
+    (other_again vocabulary file h.1)
+    ∙ ap (λ (o : Option FileText). o >>= λ text. Some (SetOther at file text)) (value_again value h.2)
+
 -- a name, a space and what the operation of that name reads
 named_again : (vocabulary : Vocabulary) (name text : List ℕ) (op : Op) → is_word name ≡ true
     → operation_named vocabulary name text ≡ Some op
@@ -315,7 +381,7 @@ named_again vocabulary name text op w h =
 
 -- The line of an operation that can be held is read as that operation.
 pub line_again : (vocabulary : Vocabulary) (op : Op) → IsInRange vocabulary op → operation_at vocabulary (spelling op) ≡ Some op
-unfolding operation_named move_at mkdir_at rmdir_at set_at fork_at exit_at chmod_at
+unfolding operation_named move_at mkdir_at rmdir_at fork_at exit_at chmod_at
 line_again vocabulary (Move pid to) h =
     named_again vocabulary (codes "move") _ (Move pid to) refl (two_again pids paths Move pid to h.0 h.1)
 line_again vocabulary (Control at changes) h =
@@ -323,12 +389,18 @@ line_again vocabulary (Control at changes) h =
 line_again vocabulary (Mkdir path) h = named_again vocabulary (codes "mkdir") _ (Mkdir path) refl (one_again paths Mkdir path h)
 line_again vocabulary (Rmdir path) h = named_again vocabulary (codes "rmdir") _ (Rmdir path) refl (one_again paths Rmdir path h)
 line_again vocabulary (Set at file value) h =
-    named_again vocabulary (codes "set") _ (Set at file value) refl (three_again paths files limits Set at file value h.0 tt h.1)
+    named_again vocabulary (codes "set") _ (Set at file value) refl
+    (set_again vocabulary at (file_name file) (limit_word value) (Set at file value) h.0 (file_word file)
+    (limit_set vocabulary at file value h.1))
+line_again vocabulary (SetOther at file value) h =
+    named_again vocabulary (codes "set") _ (SetOther at file value) refl
+    (set_again vocabulary at (other_name file) value (SetOther at file value) h.0 (other_word file) (text_set vocabulary at file value h))
 line_again vocabulary (Fork parent child) h =
     named_again vocabulary (codes "fork") _ (Fork parent child) refl (two_again pids pids Fork parent child h.0 h.1)
 line_again vocabulary (Exit pid) h = named_again vocabulary (codes "exit") _ (Exit pid) refl (one_again pids Exit pid h)
 line_again vocabulary (Chmod at entry mode) h =
-    named_again vocabulary (codes "chmod") _ (Chmod at entry mode) refl (three_again paths entries modes Chmod at entry mode h.0 tt h.1)
+    named_again vocabulary (codes "chmod") _ (Chmod at entry mode) refl
+    (three_again paths (entries vocabulary) modes Chmod at entry mode h.0 h.2 h.1)
 
 -- ---- both
 

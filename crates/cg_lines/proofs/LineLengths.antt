@@ -1,19 +1,20 @@
 -- How long the line of an operation is at most, and that it is one line.
-use Rattle.std.proofs.Common.{◌≡◌, ℕ, ◌+◌, ◌*◌, ◌^◌, ◌<◌, ◌≤◌, true, false, List, [], ◌∷◌, ◌++◌, length, map, subst, arith, length-append, append-nil, All, refl}
-use Rattle.std.specs.Prelude.{nat_lt, codes, ◌==◌}
+use Rattle.std.proofs.Common.{◌≡◌, ℕ, ◌+◌, ◌*◌, ◌^◌, ◌<◌, ◌≤◌, true, List, [], ◌∷◌, ◌++◌, length, map, arith, length-append, All}
+use Rattle.std.specs.Prelude.{codes}
 use Rattle.std.specs.List.{join_with_byte}
 use Rattle.std.specs.Fmt.{decimal}
-use Rattle.std.proofs.lemmas.Bool.{and_parts, ltb-true, ne_eqb}
+use Rattle.std.proofs.lemmas.Bool.{and_parts}
 use Rattle.std.proofs.lemmas.Fmt.{length-decimal-le}
-use Rattle.std.proofs.lemmas.List.Elements.{All-nil, All-cons}
 use Rattle.cg_cgroup.specs.Paths.{Names, path_text, IsPath}
-use Rattle.cg_cgroup.specs.Files.{controller_name, is_known, file_name, entry_text}
+use Rattle.cg_cgroup.specs.Files.{controller_name, is_known, file_name, other_name, entry_text}
 use Rattle.cg_cgroup.specs.declared.files.Limit.{Limit}
 use Rattle.cg_cgroup.specs.declared.files.Limit.TheVariants.{Max, At}
 use Rattle.cg_cgroup.specs.declared.files.LimitFile.{LimitFile}
 use Rattle.cg_cgroup.specs.declared.files.LimitFile.TheVariants.{MaxDescendants}
 use Rattle.cg_cgroup.specs.declared.files.EntryName.{EntryName}
-use Rattle.cg_cgroup.specs.declared.files.EntryName.TheVariants.{Dir, Procs, SubtreeControl, File}
+use Rattle.cg_cgroup.specs.declared.files.EntryName.TheVariants.{Dir, Procs, SubtreeControl, File, Other}
+use Rattle.cg_cgroup.specs.declared.other_file.OtherFile.{OtherFile}
+use Rattle.cg_cgroup.specs.declared.other_file.OtherFile.TheVariants.{CpuMax}
 use Rattle.cg_cgroup.specs.declared.files.Controller.{Controller}
 use Rattle.cg_cgroup.specs.declared.files.Controller.TheVariants.{Cpu}
 use Rattle.cg_cgroup.specs.declared.files.Vocabulary.{Vocabulary}
@@ -23,12 +24,12 @@ use Rattle.cg_cgroup.proofs.PathEnds.{path_bytes}
 use Rattle.cg_cgroup.specs.Numbers.{is_pid}
 use Rattle.cg_model.specs.declared.changes.Change.{Change}
 use Rattle.cg_model.specs.declared.operation.Op.{Op}
-use Rattle.cg_model.specs.declared.operation.Op.TheVariants.{Move, Control, Mkdir, Rmdir, Set, Fork, Exit, Chmod}
-use Rattle.cg_lines.specs.OperationLines.{change_word, are_known, limit_word, mode_word, words, spelling, IsInRange, IsLimitInRange}
+use Rattle.cg_model.specs.declared.operation.Op.TheVariants.{Move, Control, Mkdir, Rmdir, Set, SetOther, Fork, Exit, Chmod}
+use Rattle.cg_lines.specs.OperationLines.{change_word, are_known, limit_word, mode_word, spelling, IsInRange, IsLimitInRange}
 use Rattle.cg_lines.specs.LineLengths.{most_changes, HasFewChanges}
-use Rattle.cg_lines.proofs.LineWords.{is_graphic, is_word, are_words}
+use Rattle.cg_lines.proofs.LineWords.{IsNoNewline, no_newline, value_length}
 use Rattle.cg_lines.proofs.LineSpelled.{small_pid}
-use Rattle.cg_lines.proofs.LineLaws.{line_words}
+use Rattle.cg_lines.proofs.LineLaws.{line_printable}
 
 -- ---- lengths
 
@@ -46,11 +47,16 @@ file_length : (file : LimitFile) → length (file_name file) ≤ 22
 file_length MaxDescendants = omega arith
 file_length file = omega arith
 
+other_length : (file : OtherFile) → length (other_name file) ≤ 22
+other_length CpuMax = omega arith
+other_length file = omega arith
+
 entry_length : (entry : EntryName) → length (entry_text entry) ≤ 22
 entry_length Dir = omega arith
 entry_length Procs = omega arith
 entry_length SubtreeControl = omega arith
 entry_length (File file) = file_length file
+entry_length (Other file) = other_length file
 
 limit_length : (value : Limit) → IsLimitInRange value → length (limit_word value) ≤ 20
 limit_length Max h = omega arith
@@ -123,6 +129,9 @@ line_length vocabulary (Rmdir path) h few = omega (arith, path_length path h, be
 line_length vocabulary (Set at file value) h few =
     let words = three (codes "set") (path_text at) (file_name file) (limit_word value) in
     omega (arith, path_length at h.0, file_length file, limit_length value h.1, words)
+line_length vocabulary (SetOther at file value) h few =
+    let words = three (codes "set") (path_text at) (other_name file) value in
+    omega (arith, path_length at h.0, other_length file, value_length value h.2, words)
 line_length vocabulary (Fork parent child) h few =
     omega (arith, pid_length parent h.0, pid_length child h.1, two (codes "fork") (decimal parent) (decimal child))
 line_length vocabulary (Exit pid) h few = omega (arith, pid_length pid h, between (codes "exit") (decimal pid))
@@ -131,29 +140,6 @@ line_length vocabulary (Chmod at entry mode) h few =
 
 -- ---- one line
 
-abbrev pub IsNoNewline : ℕ → Type 0
-IsNoNewline b = (b == 10) ≡ false
-
-not_newline : (b : ℕ) → is_graphic b ≡ true → IsNoNewline b
-not_newline b h =
-    let l = ltb-true 32 b (and_parts (nat_lt 32 b) (nat_lt b 127) h).0 in
-    ne_eqb b 10 (λ e. omega (arith, l, e))
-
-word_line : (word rest : List ℕ) → is_word word ≡ true → All IsNoNewline rest → All IsNoNewline (word ++ rest)
-word_line [] rest h one = one
-word_line (b ∷ word) rest h one =
-    let p = and_parts (is_graphic b) (is_word word) h in
-    All-cons IsNoNewline b (word ++ rest) (not_newline b p.0) (word_line word rest p.1 one)
-
-words_line : (words : List (List ℕ)) → are_words words ≡ true → All IsNoNewline (join_with_byte 32 words)
-words_line [] h = All-nil IsNoNewline
-words_line (word ∷ []) h =
-    subst (All IsNoNewline) (append-nil word) (word_line word [] (and_parts (is_word word) true h).0 (All-nil IsNoNewline))
-words_line (word ∷ next ∷ words) h =
-    let p = and_parts (is_word word) (are_words (next ∷ words)) h in
-    let rest = join_with_byte 32 (next ∷ words) in
-    word_line word (32 ∷ rest) p.0 (All-cons IsNoNewline 32 rest refl (words_line (next ∷ words) p.1))
-
 -- No newline stands in it.
 pub one_line : (vocabulary : Vocabulary) (op : Op) → IsInRange vocabulary op → All IsNoNewline (spelling op)
-one_line vocabulary op h = words_line (words op) (line_words vocabulary op h)
+one_line vocabulary op h = no_newline (spelling op) (line_printable vocabulary op h)

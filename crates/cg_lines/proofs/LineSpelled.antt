@@ -1,12 +1,12 @@
 -- Each word of an operation's line: its bytes, what is read of it, and what a read one is.
 use Rattle.std.proofs.Common.{◌≡◌, ℕ, ◌+◌, ◌-◌, ◌*◌, ◌/◌, ◌%◌, ◌^◌, ◌<◌, ◌≤◌, ◌⊎◌, Bool, true, false, cond, List, [], ◌∷◌, ◌++◌, get_or, map, refl, ap, sym, ◌∙◌, subst, inl, inr, arith, append_assoc}
-use Rattle.std.specs.Prelude.{◌&&◌, nat_lt, nat_le, nat_eq, Option, Some, None, codes}
+use Rattle.std.specs.Prelude.{◌&&◌, not, nat_lt, nat_le, nat_eq, Option, Some, None, codes}
 use Rattle.std.specs.Option.{option_map}
-use Rattle.std.specs.List.{list_all, flat_map, join_with_byte}
+use Rattle.std.specs.List.{list_all, find, flat_map, join_with_byte}
 use Rattle.std.specs.Fmt.{decimal}
 use Rattle.std.specs.Str.Parse.{AllDigits}
 use Rattle.std.specs.Cmp.Lexicographic.{bytes_decides}
-use Rattle.std.proofs.lemmas.Bool.{and_parts, and_from, lt-ltb, le-leb, leb-true, eqb-true, false_from_ne_true}
+use Rattle.std.proofs.lemmas.Bool.{false≢true, and_parts, and_from, lt-ltb, le-leb, leb-true, eqb-true, false_from_ne_true}
 use Rattle.std.proofs.lemmas.List.{append-nil}
 use Rattle.std.proofs.lemmas.List.Folds.{list_all-append}
 use Rattle.std.proofs.lemmas.Option.{cond_some, none-some, same_Some}
@@ -14,23 +14,29 @@ use Rattle.std.proofs.lemmas.Str.Parse.{digit_from_value}
 use Rattle.std.proofs.lemmas.Fmt.{decimal_is_IsNumeral, decimal_digit}
 use Rattle.cg_cgroup.specs.Paths.{Name, Names, same_name, is_name, is_name_byte, path_text, IsPath}
 use Rattle.cg_cgroup.specs.Numbers.{is_pid, pid_of, is_mode, mode_of}
-use Rattle.cg_cgroup.specs.Files.{controller_name, is_known, known_as, file_name, entry_text}
+use Rattle.cg_cgroup.specs.Files.{controller_name, is_known, known_as, file_name, file_named, other_name, all_others, entry_text, entry_known_as, format_2_entries, is_beyond}
+use Rattle.cg_cgroup.specs.OtherKinds.{other_named}
 use Rattle.cg_cgroup.specs.declared.files.Limit.{Limit}
 use Rattle.cg_cgroup.specs.declared.files.Limit.TheVariants.{Max, At}
 use Rattle.cg_cgroup.specs.declared.files.Controller.{Controller}
 use Rattle.cg_cgroup.specs.declared.files.Controller.TheVariants.{Cpu}
 use Rattle.cg_cgroup.specs.declared.files.Vocabulary.{Vocabulary}
+use Rattle.cg_cgroup.specs.declared.files.Vocabulary.TheVariants.{Format2, Format4}
+use Rattle.cg_cgroup.specs.declared.other_file.OtherFile.{OtherFile}
+use Rattle.cg_cgroup.specs.declared.other_file.OtherFile.TheVariants.{CpuMax}
+use Rattle.cg_cgroup.specs.declared.told.FileText.{FileText}
 use Rattle.cg_cgroup.specs.declared.files.LimitFile.{LimitFile}
 use Rattle.cg_cgroup.specs.declared.files.LimitFile.TheVariants.{MaxDescendants}
 use Rattle.cg_cgroup.specs.declared.files.EntryName.{EntryName}
-use Rattle.cg_cgroup.specs.declared.files.EntryName.TheVariants.{Dir, Procs, SubtreeControl, File}
+use Rattle.cg_cgroup.specs.declared.files.EntryName.TheVariants.{Dir, Procs, SubtreeControl, File, Other}
 use Rattle.cg_cgroup.proofs.PathEnds.{path_names, is_name-bytes}
-use Rattle.cg_cgroup.proofs.NameLaws.{again_known, name_known, known_known}
+use Rattle.cg_cgroup.proofs.NameLaws.{again_known, name_known, known_known, entry_names}
+use Rattle.cg_model.proofs.Lists.{find-passes}
 use Rattle.cg_model.specs.declared.changes.Change.{Change}
-use Rattle.cg_lines.specs.OperationLines.{change_word, are_known, limit_word, mode_word, IsLimitInRange}
-use Rattle.cg_lines.specs.LineReading.{number_at, pid_at, limit_at, octal_at, mode_at, sign_at, change_at, changes_at}
+use Rattle.cg_lines.specs.OperationLines.{is_graphic, is_line_value, is_entry_of, change_word, are_known, limit_word, mode_word, IsLimitInRange}
+use Rattle.cg_lines.specs.LineReading.{number_at, pid_at, limit_at, text_value_at, other_known_as, octal_at, mode_at, sign_at, change_at, changes_at}
 use Rattle.cg_cgroup.specs.Options.{◌>>=◌}
-use Rattle.cg_lines.proofs.LineWords.{is_graphic, is_word, are_words}
+use Rattle.cg_lines.proofs.LineWords.{is_word, are_words}
 use Rattle.cg_lines.proofs.LineNumbers.{number_takes, number_again, decimal_byte}
 
 -- ---- bytes
@@ -73,11 +79,16 @@ pub file_word : (file : LimitFile) → is_word (file_name file) ≡ true
 file_word MaxDescendants = refl
 file_word file = refl
 
+pub other_word : (file : OtherFile) → is_word (other_name file) ≡ true
+other_word CpuMax = refl
+other_word file = refl
+
 pub entry_word : (entry : EntryName) → is_word (entry_text entry) ≡ true
 entry_word Dir = refl
 entry_word Procs = refl
 entry_word SubtreeControl = refl
 entry_word (File file) = file_word file
+entry_word (Other file) = other_word file
 
 sign_word : (on : Bool) (controller : Controller) → is_word (cond on 43 45 ∷ controller_name controller) ≡ true
 sign_word true Cpu = refl
@@ -176,6 +187,68 @@ limit_again Max h = refl
 limit_again (At value) h =
     ap (λ (b : Bool). cond b (Some Max) (option_map At (number_at (decimal value)))) (not_max value h)
     ∙ ap (option_map At) (number_again value h)
+
+-- ---- values of limit files beyond `LimitFile`
+
+pub value_takes : (text : List ℕ) (value : FileText) → text_value_at text ≡ Some value → (is_line_value value ≡ true) × (text ≡ value)
+unfolding text_value_at
+value_takes text value h =
+    let p = cond_some (is_line_value text) text value h in
+    (subst (λ (v : List ℕ). is_line_value v ≡ true) p.1 p.0, p.1)
+
+pub value_again : (value : FileText) → is_line_value value ≡ true → text_value_at value ≡ Some value
+unfolding text_value_at
+value_again value h = ap (λ (b : Bool). cond b (Some value) None) h
+
+-- ---- names of entries
+
+-- what is found in a list passes what all of the list pass
+found_passes : {A : Type 0} (test also : A → Bool) (xs : List A) (x : A) → list_all also xs ≡ true → find test xs ≡ Some x → also x ≡ true
+found_passes test also [] x all h = absurd (none-some x h)
+found_passes test also (y ∷ xs) x all h =
+    let parts = and_parts (also y) (list_all also xs) all in
+    elim (chosen (test y) (Some y) (find test xs) (Some x) h) [
+      | inl p ↦ sym (ap also (same_Some y x p.1)) ∙ parts.0
+      | inr p ↦ found_passes test also xs x parts.1 p.1
+    ]
+
+pub entry_takes : (vocabulary : Vocabulary) (text : List ℕ) (entry : EntryName) → entry_known_as vocabulary text ≡ Some entry
+    → (is_entry_of vocabulary entry ≡ true) × (text ≡ entry_text entry)
+entry_takes Format2 text entry h = (
+  found_passes (λ name. same_name text (entry_text name)) (λ name. not (is_beyond name)) format_2_entries entry refl h,
+  (bytes_decides text (entry_text entry)).0 (find-passes (λ name. same_name text (entry_text name)) format_2_entries entry h),
+)
+entry_takes Format4 text entry h = (refl, entry_names.named text entry h)
+
+pub entry_again : (vocabulary : Vocabulary) (entry : EntryName) → is_entry_of vocabulary entry ≡ true
+    → entry_known_as vocabulary (entry_text entry) ≡ Some entry
+entry_again Format2 Dir h = refl
+entry_again Format2 Procs h = refl
+entry_again Format2 SubtreeControl h = refl
+entry_again Format2 (File MaxDescendants) h = refl
+entry_again Format2 (File file) h = refl
+entry_again Format2 (Other file) h = absurd (false≢true h)
+entry_again Format4 entry h = entry_names.found entry
+
+pub other_takes : (vocabulary : Vocabulary) (name : List ℕ) (file : OtherFile) → other_known_as vocabulary name ≡ Some file
+    → (is_entry_of vocabulary (Other file) ≡ true) × (name ≡ other_name file)
+other_takes Format2 name file h = absurd (none-some file h)
+other_takes Format4 name file h =
+    (refl, (bytes_decides name (other_name file)).0 (find-passes (λ other. same_name name (other_name other)) all_others file h))
+
+other_found : (file : OtherFile) → other_named (other_name file) ≡ Some file
+other_found CpuMax = refl
+other_found file = refl
+
+pub other_again : (vocabulary : Vocabulary) (file : OtherFile) → is_entry_of vocabulary (Other file) ≡ true
+    → other_known_as vocabulary (other_name file) ≡ Some file
+other_again Format2 file h = absurd (false≢true h)
+other_again Format4 file h = other_found file
+
+-- no name is that of two limit files
+pub other_is_beyond : (file : OtherFile) → file_named (other_name file) ≡ None
+other_is_beyond CpuMax = refl
+other_is_beyond file = refl
 
 -- ---- modes
 

@@ -4,15 +4,21 @@ use Rattle.std.specs.List.{position_or_len, before_first, after_first, slice_spl
 use Rattle.std.specs.Option.{option_map}
 use Rattle.std.specs.Str.Parse.{digits_value}
 use Rattle.std.specs.Fmt.{decimal}
-use Rattle.cg_cgroup.specs.Paths.{same_name, path_at}
+use Rattle.cg_cgroup.specs.Paths.{Names, same_name, path_at}
 use Rattle.cg_cgroup.specs.Numbers.{pid_of, mode_of}
-use Rattle.cg_cgroup.specs.Files.{known_as, file_named, entry_named}
+use Rattle.cg_cgroup.specs.Files.{known_as, file_named, entry_known_as}
+use Rattle.cg_cgroup.specs.OtherKinds.{other_named}
 use Rattle.cg_cgroup.specs.declared.files.Limit.{Limit}
 use Rattle.cg_cgroup.specs.declared.files.Limit.TheVariants.{Max, At}
+use Rattle.cg_cgroup.specs.declared.files.LimitFile.{LimitFile}
 use Rattle.cg_cgroup.specs.declared.files.Vocabulary.{Vocabulary}
+use Rattle.cg_cgroup.specs.declared.files.Vocabulary.TheVariants.{Format2, Format4}
+use Rattle.cg_cgroup.specs.declared.other_file.OtherFile.{OtherFile}
+use Rattle.cg_cgroup.specs.declared.told.FileText.{FileText}
 use Rattle.cg_model.specs.declared.changes.Change.{Change}
 use Rattle.cg_model.specs.declared.operation.Op.{Op}
-use Rattle.cg_model.specs.declared.operation.Op.TheVariants.{Move, Control, Mkdir, Rmdir, Set, Fork, Exit, Chmod}
+use Rattle.cg_model.specs.declared.operation.Op.TheVariants.{Move, Control, Mkdir, Rmdir, Set, SetOther, Fork, Exit, Chmod}
+use Rattle.cg_lines.specs.OperationLines.{is_line_value}
 use Rattle.cg_lines.specs.declared.lines.fault.LineFault.{LineFault}
 use Rattle.cg_lines.specs.declared.lines.fault.LineFault.TheVariants as faults
 use Rattle.cg_cgroup.specs.Options.{◌>>=◌}
@@ -44,6 +50,14 @@ pid_at word = number_at word >>= pid_of
 
 unfoldable pub limit_at : List ℕ → Option Limit
 limit_at word = cond (same_name word (codes "max")) (Some Max) (option_map At (number_at word))
+
+unfoldable pub text_value_at : List ℕ → Option FileText
+text_value_at text = cond (is_line_value text) (Some text) None
+
+-- a limit file beyond `LimitFile` that lines of the vocabulary name
+abbrev pub other_known_as : Vocabulary → List ℕ → Option OtherFile
+other_known_as Format2 name = None
+other_known_as Format4 name = other_named name
 
 abbrev pub octal_at : ℕ → Option ℕ
 octal_at b = cond (nat_le 48 b && nat_le b 55) (Some (b - 48)) None
@@ -114,8 +128,23 @@ mkdir_at text = path_at text >>= λ path. Some (Mkdir path)
 unfoldable pub rmdir_at : List ℕ → Option Op
 rmdir_at text = path_at text >>= λ path. Some (Rmdir path)
 
-unfoldable pub set_at : List ℕ → Option Op
-set_at text = three_words path_at file_named limit_at Set text
+-- a limit file, found by its name or not, and what is set of it
+abbrev pub set_from : Vocabulary → Names → List ℕ → List ℕ → Option LimitFile → Option Op
+set_from vocabulary at name text (Some file) = limit_at text >>= λ value. Some (Set at file value)
+set_from vocabulary at name text None = do
+  file ← other_known_as vocabulary name
+  value ← text_value_at text
+  Some (SetOther at file value)
+
+unfoldable pub setting_at : Vocabulary → Names → List ℕ → List ℕ → Option Op
+setting_at vocabulary at name text = set_from vocabulary at name text (file_named name)
+
+unfoldable pub set_at : Vocabulary → List ℕ → Option Op
+set_at vocabulary text = do
+  words ← cut text
+  others ← cut words.1
+  at ← path_at words.0
+  setting_at vocabulary at others.0 others.1
 
 unfoldable pub fork_at : List ℕ → Option Op
 fork_at text = two_words pid_at pid_at Fork text
@@ -123,8 +152,8 @@ fork_at text = two_words pid_at pid_at Fork text
 unfoldable pub exit_at : List ℕ → Option Op
 exit_at text = pid_at text >>= λ pid. Some (Exit pid)
 
-unfoldable pub chmod_at : List ℕ → Option Op
-chmod_at text = three_words path_at entry_named mode_at Chmod text
+unfoldable pub chmod_at : Vocabulary → List ℕ → Option Op
+chmod_at vocabulary text = three_words path_at (entry_known_as vocabulary) mode_at Chmod text
 
 unfoldable pub operation_named : Vocabulary → List ℕ → List ℕ → Option Op
 operation_named vocabulary name text =
@@ -132,12 +161,12 @@ operation_named vocabulary name text =
     (cond (same_name name (codes "control")) (control_at vocabulary text)
     (cond (same_name name (codes "mkdir")) (mkdir_at text)
     (cond (same_name name (codes "rmdir")) (rmdir_at text)
-    (cond (same_name name (codes "set")) (set_at text)
+    (cond (same_name name (codes "set")) (set_at vocabulary text)
     (cond (same_name name (codes "fork")) (fork_at text)
     (cond (same_name name (codes "exit")) (exit_at text)
-    (cond (same_name name (codes "chmod")) (chmod_at text) None)))))))
+    (cond (same_name name (codes "chmod")) (chmod_at vocabulary text) None)))))))
 
--- the operation of a line, which names controllers of a vocabulary
+-- the operation of a line, which names controllers and entries of a vocabulary
 unfoldable pub operation_at : Vocabulary → List ℕ → Option Op
 operation_at vocabulary line = do
   words ← cut line

@@ -1,16 +1,20 @@
--- Operation lines: the words of each operation, with one space between them. Own.
-use Rattle.std.specs.Prelude.{◌≡◌, ℕ, ◌+◌, ◌/◌, ◌%◌, ◌^◌, ◌<◌, ◌≤◌, Bool, true, cond, List, [], ◌∷◌, length, map, codes}
-use Rattle.std.specs.List.{AllByRecursion, list_all, join_with_byte}
+-- Operation lines: the words of each operation, with one space between them; of a limit file beyond `LimitFile` the value, which may have
+-- spaces of its own. Own.
+use Rattle.std.specs.Prelude.{◌≡◌, ℕ, ◌+◌, ◌/◌, ◌%◌, ◌^◌, ◌<◌, ◌≤◌, ◌==◌, ◌&&◌, Bool, true, not, nat_lt, nat_le, cond, List, [], ◌∷◌, length, map, codes}
+use Rattle.std.specs.List.{AllByRecursion, list_all, join_with_byte, slice_split}
 use Rattle.std.specs.Fmt.{decimal}
 use Rattle.cg_cgroup.specs.Paths.{path_text, IsPath}
 use Rattle.cg_cgroup.specs.Numbers.{is_pid, is_mode}
-use Rattle.cg_cgroup.specs.Files.{controller_name, is_known, file_name, entry_text}
+use Rattle.cg_cgroup.specs.Files.{controller_name, is_known, file_name, other_name, entry_text, is_beyond}
 use Rattle.cg_cgroup.specs.declared.files.Limit.{Limit}
 use Rattle.cg_cgroup.specs.declared.files.Limit.TheVariants.{Max, At}
+use Rattle.cg_cgroup.specs.declared.files.EntryName.{EntryName}
+use Rattle.cg_cgroup.specs.declared.files.EntryName.TheVariants.{Other}
 use Rattle.cg_cgroup.specs.declared.files.Vocabulary.{Vocabulary}
+use Rattle.cg_cgroup.specs.declared.files.Vocabulary.TheVariants.{Format2, Format4}
 use Rattle.cg_model.specs.declared.changes.Change.{Change}
 use Rattle.cg_model.specs.declared.operation.Op.{Op}
-use Rattle.cg_model.specs.declared.operation.Op.TheVariants.{Move, Control, Mkdir, Rmdir, Set, Fork, Exit, Chmod}
+use Rattle.cg_model.specs.declared.operation.Op.TheVariants.{Move, Control, Mkdir, Rmdir, Set, SetOther, Fork, Exit, Chmod}
 
 -- A plus or a minus sign and the controller. Enabling and Disabling.
 abbrev pub change_word : Change → List ℕ
@@ -31,6 +35,7 @@ words (Control at changes) = codes "control" ∷ path_text at ∷ map change_wor
 words (Mkdir path) = codes "mkdir" ∷ path_text path ∷ []
 words (Rmdir path) = codes "rmdir" ∷ path_text path ∷ []
 words (Set at file value) = codes "set" ∷ path_text at ∷ file_name file ∷ limit_word value ∷ []
+words (SetOther at file value) = codes "set" ∷ path_text at ∷ other_name file ∷ value ∷ []
 words (Fork parent child) = codes "fork" ∷ decimal parent ∷ decimal child ∷ []
 words (Exit pid) = codes "exit" ∷ decimal pid ∷ []
 words (Chmod at entry mode) = codes "chmod" ∷ path_text at ∷ entry_text entry ∷ mode_word mode ∷ []
@@ -43,16 +48,35 @@ abbrev pub IsLimitInRange : Limit → Type 0
 IsLimitInRange Max = Unit {0}
 IsLimitInRange (At value) = value < 2 ^ 64
 
+-- a printable byte other than a space
+abbrev pub is_graphic : ℕ → Bool
+is_graphic b = nat_lt 32 b && nat_lt b 127
+
+abbrev pub is_value_word : List ℕ → Bool
+is_value_word word = nat_lt 0 (length word) && list_all is_graphic word
+
+-- A value that a line can hold: printable words with one space between them, 1 to 3800 bytes.
+unfoldable pub is_line_value : List ℕ → Bool
+is_line_value value = nat_le (length value) 3800 && list_all is_value_word (slice_split (λ b. b == 32) value)
+
+-- an entry that lines of the vocabulary name
+abbrev pub is_entry_of : Vocabulary → EntryName → Bool
+is_entry_of Format2 entry = not (is_beyond entry)
+is_entry_of Format4 entry = true
+
 -- the controllers are those that lines of the vocabulary name
 abbrev pub are_known : Vocabulary → List Change → Bool
 are_known vocabulary changes = list_all (λ change. is_known vocabulary change.controller) changes
 
-abbrev pub HasKnownControllers : Vocabulary → Op → Type 0
-HasKnownControllers vocabulary (Control at changes) = are_known vocabulary changes ≡ true
-HasKnownControllers vocabulary op = Unit {0}
+-- the controllers and entries are those that lines of the vocabulary name, and a value is one that a line can hold
+abbrev pub HasKnownWords : Vocabulary → Op → Type 0
+HasKnownWords vocabulary (Control at changes) = are_known vocabulary changes ≡ true
+HasKnownWords vocabulary (SetOther at file value) = (is_entry_of vocabulary (Other file) ≡ true) × (is_line_value value ≡ true)
+HasKnownWords vocabulary (Chmod at entry mode) = is_entry_of vocabulary entry ≡ true
+HasKnownWords vocabulary op = Unit {0}
 
--- What an operation of a line can hold: controllers of the vocabulary, paths that are paths, PIDs and modes in their ranges, values
--- below 2 ^ 64.
+-- What an operation of a line can hold: controllers and entries of the vocabulary, paths that are paths, PIDs and modes in their ranges,
+-- values below 2 ^ 64, and those that a line can hold.
 abbrev pub IsInRange : Vocabulary → Op → Type 0
 IsInRange vocabulary (Move pid to) = (is_pid pid ≡ true) × IsPath to
 IsInRange vocabulary (Control at changes) = IsPath at × (are_known vocabulary changes ≡ true)
@@ -61,7 +85,8 @@ IsInRange vocabulary (Rmdir path) = IsPath path
 IsInRange vocabulary (Set at file value) = IsPath at × IsLimitInRange value
 IsInRange vocabulary (Fork parent child) = (is_pid parent ≡ true) × (is_pid child ≡ true)
 IsInRange vocabulary (Exit pid) = is_pid pid ≡ true
-IsInRange vocabulary (Chmod at entry mode) = IsPath at × (is_mode mode ≡ true)
+IsInRange vocabulary (SetOther at file value) = IsPath at × (is_entry_of vocabulary (Other file) ≡ true) × (is_line_value value ≡ true)
+IsInRange vocabulary (Chmod at entry mode) = IsPath at × (is_mode mode ≡ true) × (is_entry_of vocabulary entry ≡ true)
 
 -- The operation can be held, and its line isn't too long to be read again.
 abbrev pub HasLine : Vocabulary → Op → Type 0

@@ -10,4 +10,5 @@ mod write;
 pub use fault::LineFault;
 pub use read::{LONGEST_LINE, read_op, read_op_in};
 pub use short::has_short_line;
+pub use words::{LONGEST_VALUE, is_line_value};
 pub use write::op_text;

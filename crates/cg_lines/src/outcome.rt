@@ -56,7 +56,9 @@ fn refusal_text(alloc: Global, op: &Op, refusal: &Refusal) -> Result<String, All
         Refusal::RootCgroup => String::from_str(alloc, "root-cgroup"),
         Refusal::HasChildren => format!(in alloc; "has-children {whole}"),
         Refusal::HasProcesses => format!(in alloc; "has-processes {whole}"),
-        Refusal::NoSuchFile { file } => format!(in alloc; "no-such-file {whole} {}", file.name()),
+        Refusal::NoSuchFile { entry } => {
+            format!(in alloc; "no-such-file {whole} {}", entry.name())
+        }
         Refusal::BadValue { file } => format!(in alloc; "bad-value {}", file.name()),
         Refusal::NotYours { pid } => format!(in alloc; "not-yours {}", pid.get()),
         Refusal::PidUsed { pid } => format!(in alloc; "pid-used {}", pid.get()),
@@ -112,6 +114,11 @@ fn path_of(op: &Op) -> Option<&Path>
         | Op::Mkdir { path }
         | Op::Rmdir { path }
         | Op::Set {
+            at: path,
+            file: _,
+            value: _,
+        }
+        | Op::SetOther {
             at: path,
             file: _,
             value: _,

@@ -4,7 +4,7 @@ use Rattle.std.specs.FinMap as finite
 use Rattle.cg_cgroup.specs.Paths.{Names, path_cmp, is_root, parent}
 use Rattle.cg_cgroup.specs.Files.{no_controllers, enables_nothing, is_within}
 use Rattle.cg_model.specs.States.{State, row_at}
-use Rattle.cg_model.specs.WellFormed.{has_row, enabled_at, enabled_above, may_hold, IsFormedRow, IsWellFormed}
+use Rattle.cg_model.specs.WellFormed.{has_row, enabled_at, enabled_above, may_hold, IsFormedRow, IsFormedTold, IsWellFormed}
 use Rattle.cg_cgroup.specs.declared.controllers.ControllerSet.{ControllerSet}
 use Rattle.cg_cgroup.specs.declared.cgroup.Cgroup.{Cgroup}
 use Rattle.cg_cgroup.proofs.Options.{mapped_from, is_some-mapped}
@@ -48,6 +48,9 @@ module _ (st : State) (m : finite.FinMap path_cmp Cgroup) (f : Names → Cgroup 
         let old = mapped_from (f q) (row_at st q) row (sym (rows q) ∙ is) in
         subst (λ set. IsFormedRow set row) (sym (same_above no_controllers q))
         (subst (IsFormedRow (enabled_above st q)) old.2 (keeps (enabled_above st q) q old.0 (formed.rows q old.0 old.1)));
+    told = λ q files is.
+        let old = formed.told q files is in
+        (same_row q ∙ old.0, subst (λ set. IsFormedTold set files) (sym (same_above no_controllers q)) old.1);
     places = λ pid process is. same_hold process.place (formed.places pid process is);
     used = formed.used;
   }

@@ -6,7 +6,10 @@ use Rattle.cg_cgroup.specs.Identity.{Identity}
 use Rattle.cg_cgroup.specs.Files.{no_controllers, is_within}
 use Rattle.cg_cgroup.specs.Cgroups.{cgroup_made_by}
 use Rattle.cg_model.specs.States.{State, row_at, has_child, has_live, with_row, without_row}
-use Rattle.cg_model.specs.WellFormed.{has_row, enabled_at, enabled_above, available_at, IsFormedRow, IsWellFormed}
+use Rattle.cg_model.specs.WellFormed.{has_row, enabled_at, enabled_above, available_at, IsFormedRow, IsFormedTold, IsWellFormed}
+use Rattle.std.specs.FinMap as finite
+use Rattle.cg_cgroup.specs.declared.told.ToldFiles.{ToldFiles}
+use Rattle.cg_model.proofs.StateTold.{get-told-without_row}
 use Rattle.cg_cgroup.specs.declared.controllers.ControllerSet.{ControllerSet}
 use Rattle.cg_cgroup.specs.declared.cgroup.Cgroup.{Cgroup}
 use Rattle.cg_cgroup.proofs.Options.{some_value}
@@ -86,6 +89,10 @@ module _ (st : State) (path : Names) (row : Cgroup) (new_row : IsNewRow st path 
     rows = one_row (λ q r. IsFormedRow (enabled_above (with_row st path row) q) r)
         (subst (λ set. IsFormedRow set row) (sym (above_new no_controllers)) new_row.formed)
         (λ q r is. subst (λ set. IsFormedRow set r) (sym (above_kept no_controllers q r is)) (whole.rows q r is));
+    told = λ q files is.
+        let old = whole.told q files is in
+        let row = some_value (row_at st q) old.0 in
+        (there_still q old.0, subst (λ set. IsFormedTold set files) (sym (above_kept no_controllers q row.0 row.1)) old.1);
     places = λ pid process is.
         let held = may_hold-row st process.place (whole.places pid process is) in
         row-may_hold (with_row st path row) process.place held.0 (kept_row process.place (ap is_some held.1) ∙ held.1) held.2;
@@ -135,6 +142,16 @@ module _ (st : State) (path : Names) (not_root : is_root path ≡ false) (no_chi
   root_other q root =
       false_from_ne_true (same_path path q) (λ same. true≢false (sym root ∙ ap is_root (sym (same_path-is path q same)) ∙ not_root))
 
+  left_told : (q : Names) (files : ToldFiles) → finite.get (without_row st path).told q ≡ Some files
+      → (same_path path q ≡ false) × (finite.get st.told q ≡ Some files)
+  left_told q files is =
+      elim (same_path path q) as
+      (λ b. same_path path q ≡ b → cond b None (finite.get st.told q) ≡ Some files
+      → (same_path path q ≡ false) × (finite.get st.told q ≡ Some files)) [
+        | true ↦ λ _ none. absurd (true≢false (sym (ap is_some none)))
+        | false ↦ λ other is. (other, is)
+      ] refl (sym (get-told-without_row st path q) ∙ is)
+
   pub formed-without_row : IsWellFormed (without_row st path)
   formed-without_row = record {
     root = ap is_some (row_at-without_row-other path st [] (root_other [] refl)) ∙ whole.root;
@@ -152,6 +169,13 @@ module _ (st : State) (path : Names) (not_root : is_root path ≡ false) (no_chi
     rows =
         λ q r is. let left =
         left_row q r is in subst (λ set. IsFormedRow set r) (sym (above_left no_controllers q r left.1)) (whole.rows q r left.1);
+    told = λ q files is.
+        let left = left_told q files is in
+        let old = whole.told q files left.1 in
+        let row = some_value (row_at st q) old.0 in (
+          ap is_some (row_at-without_row-other path st q left.0) ∙ old.0,
+          subst (λ set. IsFormedTold set files) (sym (above_left no_controllers q row.0 row.1)) old.1,
+        );
     places = λ pid process is.
         let held = may_hold-row st process.place (whole.places pid process is) in
         let other =

@@ -17,7 +17,7 @@ use Rattle.cg_cgroup.proofs.PathOrder.{path_cmp_total, path_cmp-IsAntisymmetric,
 use Rattle.cg_model.proofs.MapLaws.{get-changed, get-change_value}
 
 -- the key that is asked for and the one that was changed, tested the other way round
-path_tie : (p q : Names) → eq_by_cmp path_cmp q p ≡ same_path p q
+pub path_tie : (p q : Names) → eq_by_cmp path_cmp q p ≡ same_path p q
 path_tie p q = (eq_by_cmp_equiv path_cmp_total).symm q p ∙ sym (same_path-ties p q)
 
 pid_tie : (p q : ℕ) → eq_by_cmp nat_cmp q p ≡ nat_eq p q

@@ -5,20 +5,21 @@ use Rattle.cg_cgroup.specs.Identity.{Identity}
 use Rattle.cg_cgroup.specs.Users.{writes, owns}
 use Rattle.cg_cgroup.specs.Files.{all_controllers, enables, enables_nothing, is_within, accepts}
 use Rattle.cg_cgroup.specs.Cgroups.{file_of}
-use Rattle.cg_model.specs.States.{State, row_at, place_at, owner_at, file_at, entry_at, is_used, has_child, has_live, child_enables, count_below}
+use Rattle.cg_model.specs.States.{State, row_at, place_at, owner_at, file_at, file_told, entry_at, is_used, has_child, has_live, child_enables, count_below}
 use Rattle.cg_model.specs.WellFormed.{available_at}
 use Rattle.cg_model.specs.Limits.{is_under}
 use Rattle.cg_cgroup.specs.declared.files.Controller.{Controller}
 use Rattle.cg_cgroup.specs.declared.files.LimitFile.{LimitFile}
 use Rattle.cg_cgroup.specs.declared.files.Limit.{Limit}
 use Rattle.cg_cgroup.specs.declared.files.EntryName.{EntryName}
-use Rattle.cg_cgroup.specs.declared.files.EntryName.TheVariants.{Dir, Procs, SubtreeControl, File}
+use Rattle.cg_cgroup.specs.declared.files.EntryName.TheVariants.{Dir, Procs, SubtreeControl, File, Other}
+use Rattle.cg_cgroup.specs.declared.other_file.OtherFile.{OtherFile}
 use Rattle.cg_cgroup.specs.declared.cgroup.Cgroup.{Cgroup}
 use Rattle.cg_model.specs.Clauses.{unless, absent, present}
 use Rattle.cg_model.specs.Changes.{effective, enabled_after}
 use Rattle.cg_model.specs.declared.changes.Change.{Change}
 use Rattle.cg_model.specs.declared.operation.Op.{Op}
-use Rattle.cg_model.specs.declared.operation.Op.TheVariants.{Move, Control, Mkdir, Rmdir, Set, Fork, Exit, Chmod}
+use Rattle.cg_model.specs.declared.operation.Op.TheVariants.{Move, Control, Mkdir, Rmdir, Set, SetOther, Fork, Exit, Chmod}
 use Rattle.cg_model.specs.declared.outcome.Refusal.{Refusal}
 use Rattle.cg_model.specs.declared.outcome.Refusal.TheVariants.{NoSuchCgroup, NoAccess, NoSuchProcess, InternalProcess, NotAvailable, ChildUses, Exists, DescendantLimit, DepthLimit, RootCgroup, HasChildren, HasProcesses, NoSuchFile, BadValue, NotYours, PidUsed, NotOwner}
 
@@ -110,9 +111,18 @@ rmdir_bars st user path =
 abbrev pub set_bars : State → Identity → Names → LimitFile → Limit → List Refusal
 set_bars st user at file value =
     absent (row_at st at) (NoSuchCgroup (length at))
-    ++ present (row_at st at) (λ row. absent (file_of row file) (NoSuchFile file))
+    ++ present (row_at st at) (λ row. absent (file_of row file) (NoSuchFile (File file)))
     ++ present (file_at st at file) (λ held. unless (writes user held.entry) (NoAccess (length at) (File file)))
     ++ present (file_at st at file) (λ held. unless (accepts file value) (BadValue file))
+
+-- ---- set of a limit file beyond `LimitFile`
+
+-- Model of Delegation: write access to the file. Own: it takes any value.
+abbrev pub set_other_bars : State → Identity → Names → OtherFile → List Refusal
+set_other_bars st user at file =
+    absent (row_at st at) (NoSuchCgroup (length at))
+    ++ present (row_at st at) (λ row. absent (file_told st at file) (NoSuchFile (Other file)))
+    ++ present (file_told st at file) (λ told. unless (writes user told.entry) (NoAccess (length at) (Other file)))
 
 -- ---- fork and exit
 
@@ -129,15 +139,16 @@ fork_bars st user parent child = exit_bars st user parent ++ unless (not (is_use
 -- ---- chmod
 
 -- only a limit file may be missing from a cgroup
-abbrev pub missing_bars : Cgroup → EntryName → List Refusal
-missing_bars row (File file) = absent (file_of row file) (NoSuchFile file)
-missing_bars row name = []
+abbrev pub missing_bars : State → Names → Cgroup → EntryName → List Refusal
+missing_bars st at row (File file) = absent (file_of row file) (NoSuchFile (File file))
+missing_bars st at row (Other file) = absent (file_told st at file) (NoSuchFile (Other file))
+missing_bars st at row name = []
 
 -- Own: the owner of an entry may set its mode, whatever its bits are.
 abbrev pub chmod_bars : State → Identity → Names → EntryName → List Refusal
 chmod_bars st user at name =
     absent (row_at st at) (NoSuchCgroup (length at))
-    ++ present (row_at st at) (λ row. missing_bars row name)
+    ++ present (row_at st at) (λ row. missing_bars st at row name)
     ++ present (entry_at st at name) (λ entry. unless (owns user entry) (NotOwner name))
 
 abbrev pub bars : State → Identity → Op → List Refusal
@@ -149,3 +160,4 @@ bars st user (Set at file value) = set_bars st user at file value
 bars st user (Fork parent child) = fork_bars st user parent child
 bars st user (Exit pid) = exit_bars st user pid
 bars st user (Chmod at name mode) = chmod_bars st user at name
+bars st user (SetOther at file value) = set_other_bars st user at file

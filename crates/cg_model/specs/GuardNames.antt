@@ -5,7 +5,7 @@ use Rattle.cg_model.specs.declared.guard.Guard.TheVariants.{CommonAncestor, Limi
 
 abbrev pub guard_name : Guard → List ℕ
 guard_name CommonAncestor = codes "common-ancestor"
-guard_name (LimitFile file) = codes "limit-file"
+guard_name (LimitFile name) = codes "limit-file"
 guard_name ParentControl = codes "parent-control"
 guard_name ParentDir = codes "parent-dir"
 guard_name AlreadyOver = codes "already-over"

@@ -10,10 +10,14 @@ use Rattle.cg_cgroup.specs.declared.user.Entry.{Entry}
 use Rattle.cg_cgroup.specs.declared.files.Limit.TheVariants.{At}
 use Rattle.cg_cgroup.specs.declared.files.LimitFile.TheVariants.{MaxDescendants, MaxDepth}
 use Rattle.cg_cgroup.specs.declared.files.EntryName.{EntryName}
-use Rattle.cg_cgroup.specs.declared.files.EntryName.TheVariants.{Dir, Procs, SubtreeControl, File}
+use Rattle.cg_cgroup.specs.declared.files.EntryName.TheVariants.{Dir, Procs, SubtreeControl, File, Other}
+use Rattle.cg_cgroup.specs.declared.told.ToldFile.{ToldFile}
+use Rattle.cg_cgroup.specs.declared.told.ToldFiles.{ToldFiles}
+use Rattle.std.specs.FinMap.{FinMap}
+use Rattle.cg_cgroup.specs.Paths.{path_cmp}
 use Rattle.cg_cgroup.specs.declared.cgroup.LimitEntry.{LimitEntry}
 use Rattle.cg_cgroup.specs.declared.cgroup.Cgroup.{Cgroup}
-use Rattle.cg_model.specs.States.{State, count_below, depth_below, change_at, with_mode, with_value}
+use Rattle.cg_model.specs.States.{State, count_below, depth_below, change_at, telling_at, with_mode, with_value}
 use Rattle.cg_model.specs.Clauses.{unless, present}
 use Rattle.cg_model.specs.Once.{once}
 use Rattle.cg_model.specs.Limits.{fits_descendants, fits_depth}
@@ -135,9 +139,17 @@ with_owner_in Dir uid gid row = record row { dir = owned_by uid gid row.dir }
 with_owner_in Procs uid gid row = record row { procs = owned_by uid gid row.procs }
 with_owner_in SubtreeControl uid gid row = record row { subtree_control = owned_by uid gid row.subtree_control }
 with_owner_in (File file) uid gid row = with_file file (with_file_owned_by uid gid) row
+with_owner_in (Other file) uid gid row = row
+
+abbrev pub told_owned_by : ℕ → ℕ → ToldFile → ToldFile
+told_owned_by uid gid told = record told { entry = owned_by uid gid told.entry }
+
+abbrev pub told_with_owner : State → Names → EntryName → ℕ → ℕ → FinMap path_cmp ToldFiles
+told_with_owner st path (Other file) uid gid = telling_at st path file (told_owned_by uid gid)
+told_with_owner st path name uid gid = st.told
 
 abbrev pub with_owner : State → Names → EntryName → ℕ → ℕ → State
-with_owner st path name uid gid = change_at path (with_owner_in name uid gid) st
+with_owner st path name uid gid = record (change_at path (with_owner_in name uid gid) st) { told = told_with_owner st path name uid gid }
 
 abbrev pub made_one : Names → Mend → State → State
 made_one subtree (Chown len name uid gid) st = with_owner st (take len subtree) name uid gid

@@ -1,22 +1,25 @@
 -- The tries: lists of operations among which one that breaks a subtree is looked for. Own.
-use Rattle.std.specs.Prelude.{ℕ, zero, suc, ◌+◌, Bool, true, false, cond, not, ◌&&◌, ◌||◌, nat_eq, nat_le, List, [], ◌∷◌, ◌++◌, map, filter, find, length, take, Option, Some, None, codes}
+use Rattle.std.specs.Prelude.{ℕ, zero, suc, ◌+◌, Bool, true, false, cond, not, ◌&&◌, ◌||◌, nat_eq, nat_le, List, [], ◌∷◌, ◌++◌, map, filter, find, length, take, unwrap_or, Option, Some, None, codes}
 use Rattle.std.specs.List.{flat_map}
 use Rattle.std.specs.Fmt.{decimal}
 use Rattle.cg_cgroup.specs.Paths.{Names, inside, parent, path_text}
 use Rattle.cg_cgroup.specs.Identity.{Identity}
 use Rattle.cg_cgroup.specs.Users.{writes, owns, opened}
-use Rattle.cg_cgroup.specs.Files.{all_files, all_controllers, is_in_format_2, enables}
+use Rattle.cg_cgroup.specs.Files.{all_files, all_others, other_kind, all_controllers, is_in_format_2, enables}
 use Rattle.cg_cgroup.specs.declared.files.Limit.{Limit}
 use Rattle.cg_cgroup.specs.declared.files.Limit.TheVariants.{Max, At}
 use Rattle.cg_cgroup.specs.declared.files.LimitFile.{LimitFile}
 use Rattle.cg_cgroup.specs.declared.files.LimitFile.TheVariants.{CpuWeight}
 use Rattle.cg_cgroup.specs.declared.files.Controller.{Controller}
-use Rattle.cg_model.specs.States.{State, place_at, paths_of, pids_of, value_at}
+use Rattle.cg_model.specs.States.{State, place_at, paths_of, pids_of, value_at, file_told}
 use Rattle.cg_model.specs.WellFormed.{has_row}
+use Rattle.cg_model.specs.Limits.{same_text}
+use Rattle.cg_cgroup.specs.declared.other_file.OtherFile.{OtherFile}
+use Rattle.cg_cgroup.specs.declared.told.FileText.{FileText}
 use Rattle.cg_model.specs.Clauses.{present}
 use Rattle.cg_model.specs.declared.changes.Change.{Change}
 use Rattle.cg_model.specs.declared.operation.Op.{Op}
-use Rattle.cg_model.specs.declared.operation.Op.TheVariants.{Move, Control, Mkdir, Rmdir, Set, Chmod}
+use Rattle.cg_model.specs.declared.operation.Op.TheVariants.{Move, Control, Mkdir, Rmdir, Set, SetOther, Chmod}
 use Rattle.cg_model.specs.Guards.{Guarded, guarded_entries, guarded_entry}
 
 -- another value that the file accepts
@@ -26,10 +29,16 @@ other_value CpuWeight Max = At 100
 other_value file (At value) = Max
 other_value file Max = At 0
 
+-- another text than the file's, one that loosens it where there is one
+abbrev pub other_text : OtherFile → Option FileText → FileText
+other_text file had =
+    unwrap_or (find (λ text. not (same_text (Some text) had)) ((other_kind file).loose ∷ codes "max" ∷ [])) (codes "0")
+
 -- each limit of the subtree to another value
 abbrev pub set_tries : State → Names → List (List Op)
 set_tries st subtree =
     flat_map (λ file. present (value_at st subtree file) (λ value. (Set subtree file (other_value file value) ∷ []) ∷ [])) all_files
+    ++ flat_map (λ file. present (file_told st subtree file) (λ told. (SetOther subtree file (other_text file told.value) ∷ []) ∷ [])) all_others
 
 abbrev pub change_of : Bool → Controller → Change
 change_of on controller = record { on = on; controller = controller }

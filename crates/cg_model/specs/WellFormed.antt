@@ -1,7 +1,12 @@
 -- What holds of every tree.
 use Rattle.std.specs.Prelude.{◌≡◌, ℕ, ◌≤◌, Bool, true, false, ◌||◌, not, cond, [], Some, None, is_some}
 use Rattle.cg_cgroup.specs.Paths.{Names, is_root, parent}
-use Rattle.cg_cgroup.specs.Files.{enables, no_controllers, stands_under, accepts, enables_nothing, is_within}
+use Rattle.std.specs.FinMap as map
+use Rattle.cg_cgroup.specs.Told.{told_in}
+use Rattle.cg_cgroup.specs.declared.other_file.OtherFile.{OtherFile}
+use Rattle.cg_cgroup.specs.declared.told.ToldFile.{ToldFile}
+use Rattle.cg_cgroup.specs.declared.told.ToldFiles.{ToldFiles}
+use Rattle.cg_cgroup.specs.Files.{stands_by, brought_by, enables, no_controllers, stands_under, accepts, enables_nothing, is_within}
 use Rattle.cg_cgroup.specs.Cgroups.{file_of, other_in, entry_in}
 use Rattle.cg_model.specs.States.{State, row_at, process_at, is_used, has_live, child_enables}
 use Rattle.cg_cgroup.specs.declared.user.Entry.{Entry}
@@ -49,6 +54,11 @@ pub record IsFormedRow (above : ControllerSet) (row : Cgroup) : Type 0 where
   -- Own: modes are permission bits, at most 0o777
   pub modes : (name : EntryName) (entry : Entry) → entry_in row name ≡ Some entry → entry.mode ≤ 511
 
+-- What is told of the files of a cgroup under one that enables these: they stand, and modes are permission bits. Own.
+pub record IsFormedTold (above : ControllerSet) (files : ToldFiles) : Type 0 where
+  pub stand : (file : OtherFile) (told : ToldFile) → told_in files file ≡ Some told → stands_by above (brought_by file) ≡ true
+  pub modes : (file : OtherFile) (told : ToldFile) → told_in files file ≡ Some told → told.entry.mode ≤ 511
+
 pub record IsWellFormed (st : State) : Type 0 where
   -- Organizing Processes: one tree, in which each cgroup but the root is a directory of another
   pub root : has_row st [] ≡ true
@@ -56,6 +66,9 @@ pub record IsWellFormed (st : State) : Type 0 where
   -- Top-down Constraint
   pub top_down : (path : Names) (row : Cgroup) → row_at st path ≡ Some row → is_within row.enabled (available_at st path) ≡ true
   pub rows : (path : Names) (row : Cgroup) → row_at st path ≡ Some row → IsFormedRow (enabled_above st path) row
+  -- Own: it is told of the files of cgroups that are there
+  pub told : (path : Names) (files : ToldFiles) → map.get st.told path ≡ Some files
+      → (has_row st path ≡ true) × IsFormedTold (enabled_above st path) files
   -- No Internal Process Constraint. Organizing Processes: each live process is in one cgroup.
   pub places : (pid : ℕ) (process : Process) → process_at st pid ≡ Some process → may_hold st process.place ≡ true
   -- Own: a PID is used once, so each live one counts as used

@@ -2,7 +2,7 @@
 ghost use Rattle.std.specs.Prelude.{◌≡◌};
 ghost use Rattle.cg_model.specs.GuardNames.{guard_name};
 
-use cg_cgroup::files::{EntryName, LimitFile};
+use cg_cgroup::files::EntryName;
 use cg_cgroup::user::Entry;
 
 /// What containment of a subtree against a user stands on, in the order in which it is asked.
@@ -11,7 +11,7 @@ pub enum Guard {
     /// The user neither writes nor owns the `cgroup.procs` of a proper ancestor of the subtree, the nearest first.
     CommonAncestor,
     /// The user neither writes nor owns a limit file that stands at the subtree.
-    LimitFile(LimitFile),
+    LimitFile(EntryName),
     /// The user neither writes nor owns the `cgroup.subtree_control` of the subtree's parent.
     ParentControl,
     /// The user neither writes nor owns the directory of the subtree's parent.

@@ -1,16 +1,19 @@
 //! `Hierarchy`: a tree of cgroups with its processes, however it is kept.
 ghost use Rattle.std.specs.Prelude.{◌≡◌, ◌≤◌, true, false, length, take, OnOk, OnErr, IfOk, MatchOption, option_copied, is_some};
-ghost use Rattle.cg_model.specs.States.{State, row_at, process_at, place_at, owner_at, is_used, has_child, has_live, child_enables, count_below, depth_below, paths_of, pids_of, file_at, entry_at, with_row, without_row, with_value, with_mode, with_enabled, with_place, with_process, without_process};
+ghost use Rattle.cg_model.specs.States.{State, row_at, process_at, place_at, owner_at, is_used, has_child, has_live, child_enables, count_below, depth_below, paths_of, pids_of, file_at, entry_at, telling_of, with_row, without_row, with_value, with_mode, with_enabled, with_place, with_process, without_process};
 ghost use Rattle.cg_model.specs.WellFormed.{IsWellFormed, has_row, may_hold, MayEnable};
 ghost use Rattle.cg_model.specs.NearestFull.{NoneIsFull, IsNearestFull};
 ghost use Rattle.cg_cgroup.specs.Paths.{is_root};
-ghost use Rattle.cg_cgroup.specs.Files.{accepts};
+ghost use Rattle.std.specs.FinMap as map;
+ghost use Rattle.cg_cgroup.specs.Files.{accepts, is_beyond};
 
 use cg_cgroup::cgroup::Cgroup;
 use cg_cgroup::files::{Controller, ControllerSet, EntryName, Limit, LimitFile};
 use cg_cgroup::memory::NoMemory;
+use cg_cgroup::other_file::OtherFile;
 use cg_cgroup::path::Path;
 use cg_cgroup::process::Pid;
+use cg_cgroup::told::{ToldFile, ToldFiles};
 use cg_cgroup::user::{Mode, User};
 use std::alloc::Global;
 
@@ -25,6 +28,12 @@ pub trait Hierarchy {
     fn get(&self, path: &Path, len: usize) -> Option<&Cgroup>
         requires { len ≤ length path.now }
         ensures row { option_copied result ≡ row_at (state self.now) (take len path.now) }
+        ensures formed { IsWellFormed (state self.now) };
+
+    /// What is told of the limit files beyond `LimitFile` of the cgroup of the first `len` names of `path`.
+    fn told(&self, path: &Path, len: usize) -> Option<&ToldFiles>
+        requires { len ≤ length path.now }
+        ensures told { option_copied result ≡ map.get (state self.now).told (take len path.now) }
         ensures formed { IsWellFormed (state self.now) };
 
     /// Where a live process is.
@@ -97,9 +106,10 @@ pub trait Hierarchy {
         requires keeps { MayEnable (state self.old) path.now enabled }
         ensures { state self.new ≡ with_enabled (state self.old) path.now enabled user.now };
 
-    /// Sets the mode of an entry that is there.
+    /// Sets the mode of an entry that is there and no limit file beyond `LimitFile`.
     fn set_mode(&mut self, path: &Path, name: EntryName, mode: Mode)
-        requires { is_some (entry_at (state self.old) path.now name) ≡ true }
+        requires there { is_some (entry_at (state self.old) path.now name) ≡ true }
+        requires listed { is_beyond name ≡ false }
         ensures { state self.new ≡ with_mode (state self.old) path.now name mode };
 
     /// Removes a cgroup that isn't the root and has no child and no live process.
@@ -132,6 +142,18 @@ pub trait Hierarchy {
         requires absent { has_row (state self.old) path.now ≡ false }
         requires keeps { IsWellFormed (with_row (state self.old) path.now cgroup) }
         ensures ok { OnOk result (state self.new ≡ with_row (state self.old) path.now cgroup) }
+        ensures err { OnErr result (state self.new ≡ state self.old) };
+
+    /// Tells of a limit file beyond `LimitFile` of a cgroup that is there.
+    fn tell(
+        &mut self,
+        alloc: Global,
+        path: &Path,
+        file: OtherFile,
+        told: ToldFile,
+    ) -> Result<(), NoMemory>
+        requires { IsWellFormed (telling_of (state self.old) path.now file told) }
+        ensures ok { OnOk result (state self.new ≡ telling_of (state self.old) path.now file told) }
         ensures err { OnErr result (state self.new ≡ state self.old) };
 
     /// Moves a live process to a cgroup that may hold processes.

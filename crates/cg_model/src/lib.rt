@@ -5,6 +5,7 @@
 pub mod answer;
 pub mod changes;
 pub mod fault;
+pub mod files;
 pub mod guard;
 pub mod hierarchy;
 pub mod laws;

@@ -30,7 +30,7 @@ pub enum Refusal {
     /// 12: a live process is in the cgroup.
     HasProcesses,
     /// 13: the limit file doesn't stand at the cgroup.
-    NoSuchFile { file: LimitFile },
+    NoSuchFile { entry: EntryName },
     /// 14: the limit file doesn't accept the value.
     BadValue { file: LimitFile },
     /// 15: the process isn't the user's.

@@ -1,3 +1,4 @@
 pub mod LevelBars
 mod FirstOfMapped
 mod ChangesLeft
+pub mod Tellings

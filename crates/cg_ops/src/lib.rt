@@ -12,6 +12,7 @@ mod limits;
 mod make_remove;
 mod modes;
 pub mod moves;
+mod other_limits;
 mod process_events;
 mod procs_rule;
 mod subtree_control;
@@ -33,6 +34,7 @@ pub fn refusal<H: Hierarchy>(tree: &H, user: &User, op: &Op) -> Option<Refusal>
         Op::Mkdir { path } => make_remove::mkdir_refusal(tree, user, path),
         Op::Rmdir { path } => make_remove::rmdir_refusal(tree, user, path),
         Op::Set { at, file, value } => limits::refusal(tree, user, at, *file, *value),
+        Op::SetOther { at, file, .. } => other_limits::refusal(tree, user, at, *file),
         Op::Fork { parent, child } => process_events::fork_refusal(tree, user, *parent, *child),
         Op::Exit { pid } => process_events::exit_refusal(tree, user, *pid),
         Op::Chmod { at, entry, .. } => modes::refusal(tree, user, at, *entry),
@@ -40,7 +42,8 @@ pub fn refusal<H: Hierarchy>(tree: &H, user: &User, op: &Op) -> Option<Refusal>
 }
 
 /// Carries out an operation of a user where nothing refuses it. Where something does, or where it answers `NoMemory`,
-/// nothing has changed. Out of memory comes after all refusals, and only a move, a mkdir and a fork can meet it.
+/// nothing has changed. Out of memory comes after all refusals, and only a move, a mkdir, a fork and what is done to a
+/// limit file beyond `LimitFile` can meet it.
 pub fn apply<H: Hierarchy>(
     alloc: Global,
     tree: &mut H,
@@ -65,9 +68,10 @@ pub fn apply<H: Hierarchy>(
         Op::Mkdir { path } => make_remove::mkdir(alloc, tree, user, path)?,
         Op::Rmdir { path } => tree.remove(path),
         Op::Set { at, file, value } => tree.set_limit(at, *file, *value),
+        Op::SetOther { at, file, value } => other_limits::set(alloc, tree, user, at, *file, value)?,
         Op::Fork { parent, child } => process_events::fork(alloc, tree, user, *parent, *child)?,
         Op::Exit { pid } => tree.end_process(*pid),
-        Op::Chmod { at, entry, mode } => tree.set_mode(at, *entry, *mode),
+        Op::Chmod { at, entry, mode } => modes::set_mode(alloc, tree, user, at, *entry, *mode)?,
     }
     Ok(Outcome::Done)
 }

@@ -24,7 +24,9 @@ pub fn refusal<H: Hierarchy>(
         return Some(Refusal::NoSuchCgroup { len });
     };
     let Some(held) = cgroup.file(file) else {
-        return Some(Refusal::NoSuchFile { file });
+        return Some(Refusal::NoSuchFile {
+            entry: EntryName::File(file),
+        });
     };
     if !user.may_write(&held.entry) {
         return Some(Refusal::NoAccess {

@@ -1,13 +1,19 @@
 //! Setting the mode of a directory or a file.
-ghost use Rattle.std.specs.Prelude.{◌≡◌};
+ghost use Rattle.std.specs.Prelude.{◌≡◌, true, [], OnOk, OnErr};
+ghost use Rattle.cg_cgroup.specs.Files.{is_beyond};
+ghost use Rattle.cg_model.specs.States.{with_mode};
 ghost use Rattle.cg_model.specs.Clauses.{first};
 ghost use Rattle.cg_model.specs.Bars.{chmod_bars};
 
+use crate::other_limits;
 use cg_cgroup::files::EntryName;
+use cg_cgroup::memory::NoMemory;
 use cg_cgroup::path::Path;
-use cg_cgroup::user::User;
+use cg_cgroup::user::{Mode, User};
+use cg_model::files::entry_at;
 use cg_model::hierarchy::Hierarchy;
 use cg_model::outcome::Refusal;
+use std::alloc::Global;
 
 /// The first refusal that a change of an entry's mode meets.
 pub fn refusal<H: Hierarchy>(tree: &H, user: &User, at: &Path, name: EntryName) -> Option<Refusal>
@@ -17,15 +23,36 @@ pub fn refusal<H: Hierarchy>(tree: &H, user: &User, at: &Path, name: EntryName) 
     let Some(cgroup) = tree.get(at, len) else {
         return Some(Refusal::NoSuchCgroup { len });
     };
-    if let EntryName::File(file) = name
-        && cgroup.file(file).is_none()
-    {
-        return Some(Refusal::NoSuchFile { file });
-    }
-    if let Some(entry) = cgroup.entry(name)
-        && !user.owns(&entry)
-    {
+    let held = match name {
+        EntryName::Other(_) => entry_at(tree, at, len, name),
+        _ => cgroup.entry(name),
+    };
+    let Some(entry) = held else {
+        return Some(Refusal::NoSuchFile { entry: name });
+    };
+    if !user.owns(&entry) {
         return Some(Refusal::NotOwner { entry: name });
     }
     None
+}
+
+/// Sets a mode, which nothing refuses. Nothing has changed where memory is wanted.
+pub fn set_mode<H: Hierarchy>(
+    alloc: Global,
+    tree: &mut H,
+    user: &User,
+    at: &Path,
+    name: EntryName,
+    mode: Mode,
+) -> Result<(), NoMemory>
+    requires { chmod_bars (H.state tree.old) user.now at.now name ≡ [] }
+    ensures ok { OnOk result (H.state tree.new ≡ with_mode (H.state tree.old) at.now name mode) }
+    ensures err { OnErr result (H.state tree.new ≡ H.state tree.old) }
+    ensures memory { OnErr result (is_beyond name ≡ true) }
+{
+    if let EntryName::Other(file) = name {
+        return other_limits::set_mode(alloc, tree, user, at, file, mode);
+    }
+    tree.set_mode(at, name, mode);
+    Ok(())
 }

@@ -110,7 +110,10 @@ fn chmod<H: Hierarchy>(
 fn path_of(op: &Op) -> Option<&Path> {
     match op {
         Op::Move { to, .. } => Some(to),
-        Op::Control { at, .. } | Op::Set { at, .. } | Op::Chmod { at, .. } => Some(at),
+        Op::Control { at, .. }
+        | Op::Set { at, .. }
+        | Op::SetOther { at, .. }
+        | Op::Chmod { at, .. } => Some(at),
         Op::Mkdir { path } | Op::Rmdir { path } => Some(path),
         Op::Fork { .. } | Op::Exit { .. } => None,
     }

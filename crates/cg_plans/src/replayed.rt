@@ -12,6 +12,7 @@ use cg_cgroup::memory::NoMemory;
 use cg_cgroup::path::Path;
 use cg_cgroup::user::User;
 use cg_lines::lines::has_short_line;
+use cg_model::fault::CheckFault;
 use cg_model::hierarchy::Hierarchy;
 use cg_model::operation::Op;
 use cg_model::operations::Operations;
@@ -31,8 +32,10 @@ pub fn replayed<H: Hierarchy + Drop>(
 ) -> Result<Option<Operations>, NoMemory>
     ensures { IfOk result (λ found. IfSome found (Breaks (H.state tree.now) user.now subtree.now)) }
 {
-    let Ok(mut replay) = Replay::start(tree.try_clone(alloc)?, subtree.try_clone(alloc)?) else {
-        return Ok(None);
+    let mut replay = match Replay::start(alloc, tree.try_clone(alloc)?, subtree.try_clone(alloc)?) {
+        Ok(replay) => replay,
+        Err(CheckFault::NoMemory) => return Err(NoMemory),
+        Err(_) => return Ok(None),
     };
     let vocabulary = Vocabulary::of(tree.controllers());
     let mut kept = Operations::new(alloc);

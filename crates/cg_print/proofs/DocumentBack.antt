@@ -189,6 +189,7 @@ module _ (vocabulary : Vocabulary) (st : State) (kept : IsKept st) where
         format = written_in vocabulary;
         form = in_form carried;
         controllers = controllers_back vocabulary st carried.controllers;
+        told = carried.told;
         cgroups = subst (AllByRecursion (IsRowOf (written_in vocabulary) st)) (sym rows_are) (all_written row_written (IsRowOf
             (written_in vocabulary) st) cgroups rows);
         paths = λ path. ap (count_by (has_path path)) rows_are

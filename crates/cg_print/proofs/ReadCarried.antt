@@ -1,5 +1,5 @@
 -- What a text says can be carried by a text: it has no more cgroups and processes than the text has tables.
-use Rattle.std.proofs.Common.{◌≡◌, ℕ, ◌+◌, ◌≤◌, Bool, true, false, cond, List, [], ◌∷◌, length, Ordering, codes, Option, Some, None, is_some, option_and_then, refl, sym, ap, subst, ◌∙◌, arith}
+use Rattle.std.proofs.Common.{◌≡◌, ℕ, ◌+◌, ◌≤◌, Bool, true, false, cond, List, [], ◌∷◌, length, Ordering, codes, Option, Some, None, is_some, option_and_then, refl, sym, ap, ◌∙◌, arith}
 use Rattle.std.specs.Prelude.{◌||◌, count_by, filter_map}
 use Rattle.std.specs.List.{cons_option, AllByRecursion, list_any}
 use Rattle.std.specs.Ordering.{eq_by_cmp}
@@ -9,21 +9,17 @@ use Rattle.std.specs.FinMap.{FinMap, IsAntisymmetric, get, entries, find, nat_cm
 use Rattle.toml.specs.Data.{Data, Members, as_table}
 use Rattle.std.specs.Option.{option_map_or}
 use Rattle.cg_cgroup.specs.declared.files.Vocabulary.TheVariants.{Format2}
-use Rattle.cg_cgroup.specs.Paths.{Names}
-use Rattle.cg_cgroup.specs.declared.cgroup.Cgroup.{Cgroup}
-use Rattle.cg_cgroup.proofs.Options.{same_some}
 use Rattle.cg_cgroup.proofs.PathOrder.{path_cmp_total, path_cmp-IsAntisymmetric}
-use Rattle.cg_model.specs.States.{State, row_at}
-use Rattle.cg_model.specs.WellFormed.{has_row}
+use Rattle.cg_model.specs.States.{State}
 use Rattle.cg_model.proofs.Lists.{all-each}
 use Rattle.cg_format.specs.Form.{most_rows}
 use Rattle.cg_format.specs.Said.{vocabulary, elements_at, tables_at, has_path, format_said}
 use Rattle.cg_format.specs.Readings.{format_in, vocabulary_in}
-use Rattle.cg_format.specs.TextOf.{OthersAreRoots, IsRowOf, IsProcessOf, has_pid, IsDocumentOf, IsTextOf}
+use Rattle.cg_format.specs.TextOf.{IsRowOf, IsProcessOf, has_pid, IsTextOf}
 use Rattle.cg_format.specs.declared.format.Format.{Format}
 use Rattle.cg_format.specs.declared.format.Format.TheVariants.{One, Two, Four}
 use Rattle.cg_format.proofs.Cuts.{any_counted}
-use Rattle.cg_format.proofs.OneState.{one_passes, path_is}
+use Rattle.cg_format.proofs.OneState.{others_read}
 use Rattle.cg_format.proofs.ReadingLaws.{known_controllers}
 use Rattle.cg_print.specs.Carried.{IsCarried, written_in}
 use Rattle.cg_print.proofs.DocumentBack.{path_ties, pid_ties}
@@ -124,14 +120,6 @@ rows_in text st is =
 
 -- ---- the whole
 
-others_read : (st : State) (document : Members) → IsDocumentOf st document → (path : Names) (row : Cgroup) → row_at st path ≡ Some row
-    → OthersAreRoots row
-others_read st document is path row there =
-    let found = one_passes (IsRowOf is.format st) (has_path path) (tables_at (codes "cgroup") document) (has_row st path) is.cgroups
-    (is.paths path) (ap is_some there) in
-    let named : path ≡ found.1.path = path_is path found.1.path found.0 found.1.named found.2 in
-    subst OthersAreRoots (same_some found.1.cgroup row (sym (ap (row_at st) named ∙ found.1.there) ∙ there)) found.1.others
-
 pub read_carried : (text : List ℕ) (st : State) → IsTextOf st text → IsCarried (vocabulary_in text) st
 read_carried text st is =
     let rows : List Members = tables_at (codes "cgroup") is.document in
@@ -145,6 +133,7 @@ read_carried text st is =
       cgroups = omega (arith, most, is.says.form.few_cgroups, tables_at_most (elements_at (codes "cgroup") is.document), cgroups);
       processes = omega (arith, most, is.says.form.few_processes, tables_at_most (elements_at (codes "process") is.document), processes);
       controllers = known_controllers text st is;
+      told = is.says.told;
       others = others_read st is.document is.says;
       used = is.says.used;
     }

@@ -1,12 +1,12 @@
 -- The tables of a tree's document say what they were written of.
-use Rattle.std.proofs.Common.{◌≡◌, ℕ, ◌≤◌, pos, true, cond, le-leb, List, [], ◌∷◌, map as map_list, codes, Option, Some, None, is_some, option_map, option_and_then, unwrap_or, refl, sym, ap, ◌∙◌}
+use Rattle.std.proofs.Common.{true≢false, false, ◌≡◌, ℕ, ◌≤◌, pos, true, cond, le-leb, List, [], ◌∷◌, map as map_list, codes, Option, Some, None, is_some, option_map, option_and_then, unwrap_or, refl, sym, ap, ◌∙◌}
 use Rattle.std.specs.Prelude.{◌&&◌, filter_map}
 use Rattle.toml.specs.Data.{Data, string, Members, no_members, as_str, as_table}
 use Rattle.toml.specs.View.{items_of}
 use Rattle.cg_cgroup.specs.Options.{◌>>=◌}
 use Rattle.cg_cgroup.specs.Paths.{Names, IsPath}
 use Rattle.cg_cgroup.specs.Texts as texts
-use Rattle.cg_cgroup.specs.Files.{accepts, is_of}
+use Rattle.cg_cgroup.specs.Files.{is_beyond, accepts, is_of}
 use Rattle.cg_cgroup.specs.Cgroups.{file_of, entry_in}
 use Rattle.cg_cgroup.specs.declared.user.Entry.{Entry}
 use Rattle.cg_cgroup.specs.declared.files.Limit.{Limit}
@@ -16,7 +16,7 @@ use Rattle.cg_cgroup.specs.declared.files.LimitFile.{LimitFile}
 use Rattle.cg_cgroup.specs.declared.files.Vocabulary.{Vocabulary}
 use Rattle.cg_cgroup.specs.declared.files.Vocabulary.TheVariants.{Format2, Format4}
 use Rattle.cg_cgroup.specs.declared.files.EntryName.{EntryName}
-use Rattle.cg_cgroup.specs.declared.files.EntryName.TheVariants.{Dir, Procs, SubtreeControl, File}
+use Rattle.cg_cgroup.specs.declared.files.EntryName.TheVariants.{Dir, Procs, SubtreeControl, File, Other}
 use Rattle.cg_cgroup.specs.declared.cgroup.LimitEntry.{LimitEntry}
 use Rattle.cg_cgroup.specs.declared.cgroup.Cgroup.{Cgroup}
 use Rattle.cg_cgroup.specs.declared.process.Process.{Process}
@@ -100,24 +100,27 @@ table_written row Dir = Some (entry_table row.dir)
 table_written row Procs = Some (entry_table row.procs)
 table_written row SubtreeControl = Some (entry_table row.subtree_control)
 table_written row (File file) = option_map limit_table (file_of row file)
+table_written row (Other file) = None
 
 of_file : (found : Option LimitEntry) → option_and_then as_table (table_of_file found) ≡ option_map limit_table found
 of_file None = refl
 of_file (Some held) = refl
 
-table_again : (vocabulary : Vocabulary) (path : Names) (row : Cgroup) (name : EntryName)
+table_again : (vocabulary : Vocabulary) (path : Names) (row : Cgroup) (name : EntryName) → is_beyond name ≡ false
     → table_of name (cgroup_table vocabulary path row) ≡ table_written row name
 unfolding cgroup_table with_key
-table_again vocabulary path row Dir = refl
-table_again vocabulary path row Procs = ap (option_and_then as_table) (at_key row texts.cgroup_procs)
-table_again vocabulary path row SubtreeControl = ap (option_and_then as_table) (at_key row texts.cgroup_subtree_control)
-table_again vocabulary path row (File file) = ap (option_and_then as_table) (at_file row file) ∙ of_file (file_of row file)
+table_again vocabulary path row Dir within = refl
+table_again vocabulary path row Procs within = ap (option_and_then as_table) (at_key row texts.cgroup_procs)
+table_again vocabulary path row SubtreeControl within = ap (option_and_then as_table) (at_key row texts.cgroup_subtree_control)
+table_again vocabulary path row (Other file) within = absurd (true≢false within)
+table_again vocabulary path row (File file) within = ap (option_and_then as_table) (at_file row file) ∙ of_file (file_of row file)
 
-named_again : (row : Cgroup) (name : EntryName) → is_some (table_written row name) ≡ is_some (entry_in row name)
-named_again row Dir = refl
-named_again row Procs = refl
-named_again row SubtreeControl = refl
-named_again row (File file) =
+named_again : (row : Cgroup) (name : EntryName) → is_beyond name ≡ false → is_some (table_written row name) ≡ is_some (entry_in row name)
+named_again row Dir within = refl
+named_again row Procs within = refl
+named_again row SubtreeControl within = refl
+named_again row (Other file) within = absurd (true≢false within)
+named_again row (File file) within =
     is_some-mapped limit_table (file_of row file) ∙ sym (is_some-mapped (λ (f : LimitEntry). f.entry) (file_of row file))
 
 -- ---- a cgroup
@@ -140,39 +143,41 @@ said_written Format4 table name = refl
 
 module _ (vocabulary : Vocabulary) (path : Names) (row : Cgroup) (above : ControllerSet) (at : IsNamedRow path row)
     (formed : IsFormedRow above row) where
-  owner_again : (name : EntryName) (entry : Entry) → entry_in row name ≡ Some entry
+  owner_again : (name : EntryName) (entry : Entry) → is_beyond name ≡ false → entry_in row name ≡ Some entry
       → owner_said Two (mode_missing name) (entry_table entry) ≡ Some entry
-  owner_again name entry is = entry_again (mode_missing name) entry (at.ids name entry is) (formed.modes name entry is)
+  owner_again name entry within is = entry_again (mode_missing name) entry (at.ids name entry within is) (formed.modes name entry is)
 
-  written_again : (name : EntryName) (entry : Entry) → entry_in row name ≡ Some entry
+  written_again : (name : EntryName) (entry : Entry) → is_beyond name ≡ false → entry_in row name ≡ Some entry
       → owner_said Two (mode_missing name) (unwrap_or (table_written row name) no_members) ≡ Some entry
-  written_again Dir entry is = owner_again Dir row.dir refl ∙ is
-  written_again Procs entry is = owner_again Procs row.procs refl ∙ is
-  written_again SubtreeControl entry is = owner_again SubtreeControl row.subtree_control refl ∙ is
-  written_again (File file) entry is =
+  written_again Dir entry within is = owner_again Dir row.dir refl refl ∙ is
+  written_again Procs entry within is = owner_again Procs row.procs refl refl ∙ is
+  written_again SubtreeControl entry within is = owner_again SubtreeControl row.subtree_control refl refl ∙ is
+  written_again (Other file) entry within is = absurd (true≢false within)
+  written_again (File file) entry within is =
       let held = mapped_from (λ (f : LimitEntry). f.entry) (file_of row file) entry is in
       let owner : Entry = held.0.entry in
       let there = ap (option_map (λ (f : LimitEntry). f.entry)) held.1 in
       ap (λ found. owner_said Two 420 (unwrap_or (option_map limit_table found) no_members)) held.1
-      ∙ limit_entry_again 420 owner (at.ids (File file) owner there) (formed.modes (File file) owner there) held.0.value
+      ∙ limit_entry_again 420 owner (at.ids (File file) owner refl there) (formed.modes (File file) owner there) held.0.value
       ∙ ap Some held.2
 
-  pub entry_back : (name : EntryName) (entry : Entry) → entry_in row name ≡ Some entry
+  pub entry_back : (name : EntryName) (entry : Entry) → is_beyond name ≡ false → entry_in row name ≡ Some entry
       → entry_said (written_in vocabulary) (cgroup_table vocabulary path row) name ≡ Some entry
-  entry_back name entry is =
+  entry_back name entry within is =
       said_written vocabulary (cgroup_table vocabulary path row) name
-      ∙ ap (λ found. owner_said Two (mode_missing name) (unwrap_or found no_members)) (table_again vocabulary path row name)
-      ∙ written_again name entry is
+      ∙ ap (λ found. owner_said Two (mode_missing name) (unwrap_or found no_members)) (table_again vocabulary path row name within)
+      ∙ written_again name entry within is
 
   pub value_back : (file : LimitFile) (held : LimitEntry) → file_of row file ≡ Some held
       → value_said (cgroup_table vocabulary path row) file ≡ Some held.value
   value_back file held is =
-      ap (λ found. limit_said file (unwrap_or found no_members)) (table_again vocabulary path row (File file)
+      ap (λ found. limit_said file (unwrap_or found no_members)) (table_again vocabulary path row (File file) refl
       ∙ ap (option_map limit_table) is)
       ∙ value_again file held (formed.values file held is)
 
-  pub files_back : (name : EntryName) → is_named name (cgroup_table vocabulary path row) ≡ true → is_some (entry_in row name) ≡ true
-  files_back name is = sym (ap is_some (table_again vocabulary path row name) ∙ named_again row name) ∙ is
+  pub files_back : (name : EntryName) → is_beyond name ≡ false → is_named name (cgroup_table vocabulary path row) ≡ true
+      → is_some (entry_in row name) ≡ true
+  files_back name within is = sym (ap is_some (table_again vocabulary path row name within) ∙ named_again row name within) ∙ is
 
 -- ---- a process
 

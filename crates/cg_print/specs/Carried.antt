@@ -1,10 +1,10 @@
 -- What a tree text can carry. Own.
-use Rattle.std.specs.Prelude.{◌≡◌, ℕ, ◌≤◌, ◌<◌, true, List, length, Some, is_some}
+use Rattle.std.specs.Prelude.{◌≡◌, ℕ, ◌≤◌, ◌<◌, true, false, List, length, Some, is_some}
 use Rattle.std.specs.List.{AllByRecursion}
 use Rattle.std.specs.FinMap as map
 use Rattle.cg_cgroup.specs.Paths.{Names, IsPath}
 use Rattle.cg_cgroup.specs.Numbers.{is_pid}
-use Rattle.cg_cgroup.specs.Files.{is_of}
+use Rattle.cg_cgroup.specs.Files.{is_of, is_beyond}
 use Rattle.cg_cgroup.specs.Cgroups.{file_of, entry_in}
 use Rattle.cg_cgroup.specs.declared.user.Entry.{Entry}
 use Rattle.cg_cgroup.specs.declared.files.EntryName.{EntryName}
@@ -34,9 +34,9 @@ HasIds entry = IsId entry.uid × IsId entry.gid
 abbrev pub FileHasIds : Cgroup → LimitFile → Type 0
 FileHasIds row file = (held : LimitEntry) → file_of row file ≡ Some held → HasIds held.entry
 
--- all owners and groups of a cgroup
+-- all owners and groups of a cgroup that texts name
 abbrev pub HasIdsOnly : Cgroup → Type 0
-HasIdsOnly row = (name : EntryName) (entry : Entry) → entry_in row name ≡ Some entry → HasIds entry
+HasIdsOnly row = (name : EntryName) (entry : Entry) → is_beyond name ≡ false → entry_in row name ≡ Some entry → HasIds entry
 
 -- a cgroup at a path, whose owners and groups are numbers of 32 bits
 pub record IsNamedRow (place : Names) (row : Cgroup) : Type 0 where
@@ -64,12 +64,13 @@ abbrev pub written_in : Vocabulary → Format
 written_in Format2 = Two
 written_in Format4 = Four
 
--- Few enough cgroups and processes; no controller without a name there; limit files that texts don't name are root's; and a PID
--- that isn't live was never used, as a text has no word for it.
+-- Few enough cgroups and processes; no controller without a name there; limit files that texts don't name are root's, and
+-- nothing is told of them; and a PID that isn't live was never used, as a text has no word for it.
 pub record IsCarried (vocabulary : Vocabulary) (st : State) : Type 0 where
   pub cgroups : length (map.entries st.rows) ≤ most_rows (written_in vocabulary)
   pub processes : length (map.entries st.live) ≤ most_rows (written_in vocabulary)
   pub controllers : is_of vocabulary st.controllers ≡ true
+  pub told : st.told ≡ map.empty
   pub others : (path : Names) (row : Cgroup) → row_at st path ≡ Some row → OthersAreRoots row
   pub used : (pid : ℕ) → is_used st pid ≡ is_some (process_at st pid)
 

@@ -21,8 +21,8 @@ pub fn texts_are_of_their_trees()
 {}
 
 /// What a text says can be carried by a text that is written in its vocabulary: no more cgroups and processes than that may have,
-/// no controller of the root that it doesn't name, limit files that texts don't name are root's with mode 0o644, and no PID was
-/// used but those of its processes.
+/// no controller of the root that it doesn't name, limit files that texts don't name are root's with mode 0o644, nothing is told of
+/// these, and no PID was used but those of its processes.
 pub fn read_trees_are_carried()
     ensures { (text : List ℕ) (st : State) → IsTextOf st text → IsCarried (vocabulary_in text) st }
 {}

@@ -60,7 +60,7 @@ fn document_of<H: Hierarchy>(
 /// - it isn't longer than a text that begins so may be,
 /// - the tree has at most 4096 cgroups and 4096 processes, in format 4 at most 65536 of each,
 /// - the root has no controller but those of the vocabulary,
-/// - the limit files that texts don't name are root's with mode 0o644, and
+/// - the limit files that texts don't name are root's with mode 0o644, and nothing is told of them, and
 /// - no PID was used but those of the live processes.
 pub fn tree_text<H: Hierarchy>(
     alloc: Global,

@@ -4,13 +4,14 @@ use Rattle.std.specs.List.{AllByRecursion}
 use Rattle.cg_cgroup.specs.Paths.{Names}
 use Rattle.cg_cgroup.specs.Identity.{Identity}
 use Rattle.cg_cgroup.specs.Users.{reaches}
-use Rattle.cg_cgroup.specs.Files.{all_files}
+use Rattle.cg_cgroup.specs.Files.{all_files, all_others}
 use Rattle.cg_cgroup.specs.declared.user.Entry.{Entry}
-use Rattle.cg_cgroup.specs.declared.files.LimitFile.{LimitFile as File}
+use Rattle.cg_cgroup.specs.declared.files.EntryName.{EntryName}
+use Rattle.cg_cgroup.specs.declared.files.EntryName.TheVariants.{File, Other}
 use Rattle.cg_model.specs.States.{State}
 use Rattle.cg_model.specs.Clauses.{unless, present, first}
 use Rattle.cg_model.specs.declared.operation.Op.{Op}
-use Rattle.cg_model.specs.Guards.{Guarded, ancestors, limit_files, guarded_entries, guarded_entry, entry_failures, over_failures, failures}
+use Rattle.cg_model.specs.Guards.{Guarded, ancestors, limit_file, limit_files, guarded_entries, guarded_entry, entry_failures, over_failures, failures}
 use Rattle.cg_model.specs.declared.guard.Failed.{Failed}
 use Rattle.cg_model.specs.Escapes.{first_escape}
 use Rattle.cg_model.specs.declared.answer.Answer.{Answer}
@@ -39,20 +40,16 @@ ancestors_within : (len many : ℕ) → many ≤ len → AllByRecursion (Within 
 ancestors_within len zero le = tt
 ancestors_within len (suc many) le = (omega (arith, le), ancestors_within len many (omega (arith, le)))
 
-files_within : (len : ℕ) (files : List File) → AllByRecursion (Within len)
-    (map (λ file. record {
-      guard = Rattle.cg_model.specs.declared.guard.Guard.TheVariants.LimitFile file;
-      len = len;
-      name = Rattle.cg_cgroup.specs.declared.files.EntryName.TheVariants.File file;
-    }) files)
+files_within : (len : ℕ) (names : List EntryName) → AllByRecursion (Within len) (map (limit_file len) names)
 files_within len [] = tt
-files_within len (file ∷ files) = (omega arith, files_within len files)
+files_within len (name ∷ names) = (omega arith, files_within len names)
 
 guarded_within : (subtree : Names) → AllByRecursion (Within (length subtree)) (guarded_entries subtree)
 guarded_within subtree =
     all-append (Within (length subtree)) (ancestors (length subtree) ++ limit_files (length subtree)) _
     (all-append (Within (length subtree)) (ancestors (length subtree)) (limit_files (length subtree))
-    (ancestors_within (length subtree) (length subtree) (omega arith)) (files_within (length subtree) all_files))
+    (ancestors_within (length subtree) (length subtree) (omega arith))
+    (files_within (length subtree) (map File all_files ++ map Other all_others)))
     (omega arith, (omega arith, tt))
 
 entry_fails_within : (st : State) (user : Identity) (subtree : Names) (guarded : Guarded) → Within (length subtree) guarded

@@ -2,7 +2,7 @@
 use Rattle.std.specs.Prelude.{ℕ, ◌≤◌, List, [], ◌∷◌, ◌++◌, length, take, codes}
 use Rattle.std.specs.List.{flat_map}
 use Rattle.cg_cgroup.specs.Paths.{Names, path_text}
-use Rattle.cg_cgroup.specs.Files.{file_name}
+use Rattle.cg_cgroup.specs.Files.{entry_text}
 use Rattle.cg_lines.specs.Outcomes.{spaced}
 use Rattle.cg_lines.specs.OperationLines.{spelling}
 use Rattle.cg_model.specs.declared.operation.Op.{Op}
@@ -15,7 +15,7 @@ use Rattle.cg_model.specs.declared.answer.Answer.TheVariants.{Contained, Escapes
 -- a guard that fails, and the cgroup at which it does; and the limit file, where it is one's
 abbrev pub guard_text : Guard → List ℕ → List ℕ
 guard_text CommonAncestor place = codes "common-ancestor " ++ place
-guard_text (LimitFile file) place = codes "limit-file " ++ spaced place (file_name file)
+guard_text (LimitFile entry) place = codes "limit-file " ++ spaced place (entry_text entry)
 guard_text ParentControl place = codes "parent-control " ++ place
 guard_text ParentDir place = codes "parent-dir " ++ place
 guard_text AlreadyOver place = codes "already-over " ++ place

@@ -54,7 +54,7 @@ pub fn failed_text(alloc: Global, subtree: &Path, failed: &Failed) -> Result<Str
     let place = subtree.prefix(failed.len);
     match failed.guard {
         Guard::CommonAncestor => format!(in alloc; "common-ancestor {place}"),
-        Guard::LimitFile(file) => format!(in alloc; "limit-file {place} {}", file.name()),
+        Guard::LimitFile(entry) => format!(in alloc; "limit-file {place} {}", entry.name()),
         Guard::ParentControl => format!(in alloc; "parent-control {place}"),
         Guard::ParentDir => format!(in alloc; "parent-dir {place}"),
         Guard::AlreadyOver => format!(in alloc; "already-over {place}"),

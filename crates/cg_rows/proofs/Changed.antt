@@ -12,7 +12,6 @@ use Rattle.std.specs.FinMap.{is_sorted}
 use Rattle.std.specs.FinMap.Entries.{below_all}
 use Rattle.cg_cgroup.specs.Paths.{Names, path_cmp}
 use Rattle.cg_model.specs.States.{change_each}
-use Rattle.cg_cgroup.specs.declared.cgroup.Cgroup.{Cgroup}
 use Rattle.cg_cgroup.proofs.PathOrder.{path_cmp_total}
 use Rattle.cg_model.proofs.MapLaws.{entries-changed}
 use Rattle.cg_rows.proofs.Sorted.{shown_entries, holds_true}
@@ -41,7 +40,7 @@ module _ {X : Type 0} (f : X → X) where
 
 -- ---- the table of the changed entries
 
-module _ (f : Names → Cgroup → Cgroup) {m : map.FinMap path_cmp Cgroup} (es gs : List (Names × Cgroup)) (shows : map.from_sorted es ≡ m)
+module _ {X : Type 0} (f : Names → X → X) {m : map.FinMap path_cmp X} (es gs : List (Names × X)) (shows : map.from_sorted es ≡ m)
     (sorted : is_sorted path_cmp es ≡ true) (new : gs ≡ map_list (λ e. (e.0, f e.0 e.1)) es) where
   new_entries : gs ≡ map_list (λ e. (e.0, f e.0 e.1)) (map.entries m)
   new_entries = new ∙ ap (map_list (λ e. (e.0, f e.0 e.1))) (shown_entries path_cmp_total es es shows sorted refl)

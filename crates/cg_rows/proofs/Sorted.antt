@@ -9,7 +9,7 @@ use Rattle.std.specs.List.Sorted.{IsNonDecreasingBy, IsPartitionPoint, IsSearchI
 use Rattle.std.specs.declared.cmp.Ordering.{Ordering}
 use Rattle.std.specs.declared.cmp.Ordering.TheVariants.{Less, Equal, Greater}
 use Rattle.std.specs.Ordering.{is_eq, is_lt, eq_by_cmp, ordering_index, ordering_reverse}
-use Rattle.std.specs.Cmp.{IsTotalOrder, alike_right, tied_back, eq_by_cmp_equiv}
+use Rattle.std.specs.Cmp.{IsTotalOrder, Equal-is, alike_right, tied_back, eq_by_cmp_equiv}
 use Rattle.std.specs.FinMap as map
 use Rattle.cg_rows.specs.Places.{IsPlace, IsGap}
 use Rattle.std.specs.FinMap.Entries.{by_order, find, put, is_sorted, below_all, where_key, is_sorted-put, is_sorted-where_key, find-where_key}
@@ -251,6 +251,16 @@ module _ {K X : Type 0} {R : K → K → Ordering} (o : IsTotalOrder R) where
       → is_sorted R es ≡ true → fs ≡ es → IsPlace R q fs i → gs ≡ remove es i → map.from_sorted gs ≡ map.remove m q
   removed anti q es fs gs i shows s same at new =
       ap map.from_sorted new ∙ remove_place anti q es i s (fits_place es fs same at) ∙ ap (λ m. map.remove m q) shows
+
+  -- to remove what isn't there changes nothing
+  pub removed_none : {m : map.FinMap R X} → map.IsAntisymmetric R → (q : K) (es fs : List (K × X)) (i : ℕ) → map.from_sorted es ≡ m
+      → is_sorted R es ≡ true → fs ≡ es → IsGap R q fs i → m ≡ map.remove m q
+  removed_none {m} anti q es fs i shows s same gap =
+      map.same_map o anti m (map.remove m q) (λ x.
+      elim (eq_by_cmp R x q) as (λ b. eq_by_cmp R x q ≡ b → map.get m x ≡ cond b None (map.get m x)) [
+        | true ↦ λ t. ap (map.get m) (anti x q ((Equal-is (R x q)).0 t)) ∙ sym (read_gap q es fs i shows s same gap)
+        | false ↦ λ t. refl
+      ] refl ∙ sym (map.get-remove o m q x))
 
   pub shown_entries : {m : map.FinMap R X} (es fs : List (K × X)) → map.from_sorted es ≡ m → is_sorted R es ≡ true → fs ≡ es
       → fs ≡ map.entries m

@@ -1,18 +1,22 @@
 -- The state that the tables of `Rows` show: after a changed row, and the tree of a root alone.
-use Rattle.std.proofs.Common.{◌≡◌, ℕ, true, false, List, [], ◌∷◌, Option, Some, None, is_some, sym, ap, subst, ◌∙◌}
+use Rattle.std.proofs.Common.{◌≡◌, ℕ, true, false, List, [], ◌∷◌, Option, Some, None, is_some, refl, sym, ap, subst, ◌∙◌}
 use Rattle.std.proofs.lemmas.Bool.{true≢false}
 use Rattle.std.proofs.lemmas.Option.{none-some, same_Some}
 use Rattle.std.specs.Ordering.{nat_cmp}
 use Rattle.std.specs.FinMap as map
 use Rattle.cg_cgroup.specs.Paths.{Names, path_cmp, parent}
-use Rattle.cg_cgroup.specs.Files.{no_controllers, is_within}
-use Rattle.cg_model.specs.States.{State, row_at, process_at, change_at}
+use Rattle.cg_cgroup.specs.Files.{no_controllers, is_within, is_beyond}
+use Rattle.cg_cgroup.specs.Cgroups.{with_mode_in}
+use Rattle.cg_model.specs.States.{State, row_at, process_at, change_at, with_mode}
 use Rattle.cg_model.specs.WellFormed.{IsWellFormed, IsFormedRow, has_row, available_at, enabled_above}
 use Rattle.cg_rows.specs.Processes.{LiveAndUsed, no_processes}
 use Rattle.cg_rows.specs.RowsForm.{state_of_tables, state_of_root, IsRoot}
 use Rattle.cg_cgroup.specs.declared.controllers.ControllerSet.{ControllerSet}
 use Rattle.cg_cgroup.specs.declared.cgroup.Cgroup.{Cgroup}
+use Rattle.cg_cgroup.specs.declared.files.EntryName.{EntryName}
+use Rattle.cg_cgroup.specs.declared.files.EntryName.TheVariants.{Other, Dir}
 use Rattle.cg_cgroup.specs.declared.process.Process.{Process}
+use Rattle.cg_cgroup.specs.declared.told.ToldFiles.{ToldFiles}
 use Rattle.cg_cgroup.proofs.PathOrder.{path_cmp_total}
 
 -- ---- the state after a changed row
@@ -21,16 +25,23 @@ changed_by : Names → (Cgroup → Cgroup) → map.FinMap path_cmp Cgroup → Op
 changed_by path f rows None = rows
 changed_by path f rows (Some row) = map.insert rows path (f row)
 
-pub tables_changed : (st : State) (rows rows' : map.FinMap path_cmp Cgroup) (processes : LiveAndUsed) (controllers : ControllerSet)
-    (path sought : Names) (f : Cgroup → Cgroup) (row row' : Cgroup)
-    → state_of_tables rows processes controllers ≡ st → Some row ≡ map.get rows sought → sought ≡ path → row' ≡ f row
+pub tables_changed : (st : State) (rows rows' : map.FinMap path_cmp Cgroup) (processes : LiveAndUsed)
+    (told : map.FinMap path_cmp ToldFiles) (controllers : ControllerSet) (path sought : Names) (f : Cgroup → Cgroup) (row row' : Cgroup)
+    → state_of_tables rows processes told controllers ≡ st → Some row ≡ map.get rows sought → sought ≡ path → row' ≡ f row
     → rows' ≡ map.insert rows path row'
-    → state_of_tables rows' processes controllers ≡ change_at path f st
+    → state_of_tables rows' processes told controllers ≡ change_at path f st
 unfolding changed_by
-tables_changed st rows rows' processes controllers path sought f row row' shows there same new inserted =
-    ap (λ k. state_of_tables k processes controllers)
+tables_changed st rows rows' processes told controllers path sought f row row' shows there same new inserted =
+    ap (λ k. state_of_tables k processes told controllers)
     (inserted ∙ ap (map.insert rows path) new ∙ ap (changed_by path f rows) (there ∙ ap (map.get rows) same))
     ∙ ap (change_at path f) shows
+
+-- a mode of an entry of the row changes nothing that is told
+pub row_with_mode : (st : State) (path : Names) (name : EntryName) (mode : ℕ) → is_beyond name ≡ false
+    → change_at path (with_mode_in name mode) st ≡ with_mode st path name mode
+row_with_mode st path (Other file) mode listed = absurd (true≢false listed)
+row_with_mode st path Dir mode listed = refl
+row_with_mode st path name mode listed = refl
 
 -- ---- the tree of a root alone
 
@@ -73,15 +84,17 @@ module _ (controllers : ControllerSet) (row : Cgroup) where
       parents = parents_of;
       top_down = top_down_of;
       rows = row_of;
+      told = λ path files e. absurd (none-some files (sym (map.get-empty path_cmp path) ∙ e));
       places = λ pid process e. no_process pid process e;
       used = λ pid process e. no_process pid process e;
     }
 
-  pub tables_of_root : (rows : map.FinMap path_cmp Cgroup) (processes : LiveAndUsed) (start : map.FinMap path_cmp Cgroup) (path : Names)
-      → start ≡ map.empty → path ≡ [] → rows ≡ map.insert start path row → processes ≡ no_processes
-      → state_of_tables rows processes controllers ≡ alone
-  tables_of_root rows processes start path s p r none =
-      λ i. state_of_tables ((r ∙ (λ j. map.insert (s j) (p j) row)) i) (none i) controllers
+  pub tables_of_root : (rows : map.FinMap path_cmp Cgroup) (processes : LiveAndUsed) (told : map.FinMap path_cmp ToldFiles)
+      (start : map.FinMap path_cmp Cgroup) (path : Names)
+      → start ≡ map.empty → path ≡ [] → rows ≡ map.insert start path row → processes ≡ no_processes → told ≡ map.empty
+      → state_of_tables rows processes told controllers ≡ alone
+  tables_of_root rows processes told start path s p r none nothing =
+      λ i. state_of_tables ((r ∙ (λ j. map.insert (s j) (p j) row)) i) (none i) (nothing i) controllers
 
 pub no_keys : (m : map.FinMap path_cmp Cgroup) (path : Names) → m ≡ map.empty → map.contains_key m path ≡ false
 no_keys m path e = ap (λ k. map.contains_key k path) e ∙ ap is_some (map.get-empty path_cmp path)

@@ -15,8 +15,10 @@ use crate::tables::path_table::PathTable;
 use cg_cgroup::cgroup::Cgroup;
 use cg_cgroup::files::{Controller, ControllerSet, EntryName, Limit, LimitFile};
 use cg_cgroup::memory::NoMemory;
+use cg_cgroup::other_file::OtherFile;
 use cg_cgroup::path::Path;
 use cg_cgroup::process::{Pid, Process};
+use cg_cgroup::told::{ToldFile, ToldFiles};
 use cg_cgroup::user::{Mode, User};
 use cg_model::hierarchy::Hierarchy;
 use cg_model::limits::bars_child;
@@ -31,6 +33,8 @@ use std::marker::Model;
 pub struct Rows {
     rows: PathTable<Cgroup>,
     processes: Processes,
+    /// What is told of limit files beyond `LimitFile`, by cgroup.
+    told: PathTable<ToldFiles>,
     controllers: ControllerSet,
 }
 
@@ -39,9 +43,9 @@ impl Model for Rows {
 
     ghost coded = { Prim.hlevel (codes, map.code, set.code) };
 
-    ghost view = { λ t. state_of_tables t.rows t.processes t.controllers };
+    ghost view = { λ t. state_of_tables t.rows t.processes t.told t.controllers };
 
-    ghost invariant = { λ t. IsWellFormed (state_of_tables t.rows t.processes t.controllers) };
+    ghost invariant = { λ t. IsWellFormed (state_of_tables t.rows t.processes t.told t.controllers) };
 }
 
 impl Rows {
@@ -55,22 +59,26 @@ impl Rows {
         Ok(Rows {
             rows,
             processes: Processes::new(alloc),
+            told: PathTable::new(alloc),
             controllers,
         })
     }
 
-    /// The tree of these cgroups and processes, where the root has the controllers that are available.
+    /// The tree of these cgroups and processes, and of what is told of limit files beyond `LimitFile`, where the root
+    /// has the controllers that are available.
     pub fn from_tables(
         rows: PathTable<Cgroup>,
         processes: Processes,
+        told: PathTable<ToldFiles>,
         available: ControllerSet,
     ) -> Rows
-        requires { IsWellFormed (state_of_tables rows processes available) }
-        ensures { result ≡ state_of_tables rows processes available }
+        requires { IsWellFormed (state_of_tables rows processes told available) }
+        ensures { result ≡ state_of_tables rows processes told available }
     {
         Rows {
             rows,
             processes,
+            told,
             controllers: available,
         }
     }
@@ -83,12 +91,13 @@ impl Rows {
         &self.processes
     }
 
-    /// The processes, of a tree that is done with.
-    pub fn into_processes(self) -> Processes
-        ensures live { result.live ≡ self.live }
-        ensures used { result.used ≡ self.used }
+    /// The processes, and what is told of limit files beyond `LimitFile`, of a tree that is done with.
+    pub fn into_parts(self) -> (Processes, PathTable<ToldFiles>)
+        ensures live { result.0.live ≡ self.live }
+        ensures used { result.0.used ≡ self.used }
+        ensures told { result.1 ≡ self.told }
     {
-        self.processes
+        (self.processes, self.told)
     }
 
     /// The cgroups, in the order of their paths.
@@ -121,6 +130,10 @@ impl Hierarchy for Rows {
 
     fn get(&self, path: &Path, len: usize) -> Option<&Cgroup> {
         self.rows.get(path, len)
+    }
+
+    fn told(&self, path: &Path, len: usize) -> Option<&ToldFiles> {
+        self.told.get(path, len)
     }
 
     fn place(&self, pid: Pid) -> Option<&Path> {
@@ -182,6 +195,7 @@ impl Hierarchy for Rows {
 
     fn set_enabled(&mut self, path: &Path, enabled: ControllerSet, user: &User) {
         self.rows.enable(path, enabled, user);
+        self.told.keep(path, enabled);
     }
 
     fn set_mode(&mut self, path: &Path, name: EntryName, mode: Mode) {
@@ -197,6 +211,7 @@ impl Hierarchy for Rows {
 
     fn remove(&mut self, path: &Path) {
         self.rows.remove(path);
+        self.told.forget(path);
     }
 
     fn end_process(&mut self, pid: Pid) {
@@ -219,6 +234,7 @@ impl Hierarchy for Rows {
         Ok(Rows {
             rows: self.rows.try_clone(alloc)?,
             processes: self.processes.try_clone(alloc)?,
+            told: self.told.try_clone(alloc)?,
             controllers: self.controllers,
         })
     }
@@ -226,6 +242,16 @@ impl Hierarchy for Rows {
     fn add(&mut self, alloc: Global, path: &Path, cgroup: Cgroup) -> Result<(), NoMemory> {
         let path = path.try_clone(alloc)?;
         self.rows.insert(path, cgroup)
+    }
+
+    fn tell(
+        &mut self,
+        alloc: Global,
+        path: &Path,
+        file: OtherFile,
+        told: ToldFile,
+    ) -> Result<(), NoMemory> {
+        self.told.tell(alloc, path, file, told)
     }
 
     fn set_place(&mut self, alloc: Global, pid: Pid, path: &Path) -> Result<(), NoMemory> {

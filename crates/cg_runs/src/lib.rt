@@ -5,3 +5,4 @@ mod broken;
 pub mod fault;
 pub mod laws;
 pub mod replay;
+mod told;

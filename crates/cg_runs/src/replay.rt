@@ -11,8 +11,10 @@ ghost use Rattle.cg_runs.specs.Faults.{IsFaultOf};
 
 use crate::broken::{broken_at_start, broken_by, may_break, moves_over, verdict_by};
 use crate::fault::StepFault;
+use crate::told::told_of;
 use cg_cgroup::cgroup::Cgroup;
 use cg_cgroup::path::Path;
+use cg_cgroup::told::ToldFiles;
 use cg_cgroup::user::User;
 use cg_model::fault::CheckFault;
 use cg_model::hierarchy::Hierarchy;
@@ -34,6 +36,7 @@ pub struct Replay<H: Hierarchy> {
     tree: H,
     subtree: Path,
     original: Cgroup,
+    told: Option<ToldFiles>,
     steps: usize,
     verdict: Verdict,
 }
@@ -49,14 +52,15 @@ impl<H: Hierarchy> Model for Replay<H> {
 
     ghost coded = { Prim.hlevel (codes, map.code, set.code) };
 
-    ghost view = { λ r. record { subtree = r.subtree; original = r.original; state = H.state r.tree; steps = r.steps; verdict = r.verdict } };
+    ghost view = { λ r. record { subtree = r.subtree; original = r.original; told = r.told; state = H.state r.tree; steps = r.steps; verdict = r.verdict } };
 
-    ghost invariant = { λ r. IsReplay (record { subtree = r.subtree; original = r.original; state = H.state r.tree; steps = r.steps; verdict = r.verdict }) };
+    ghost invariant = { λ r. IsReplay (record { subtree = r.subtree; original = r.original; told = r.told; state = H.state r.tree; steps = r.steps; verdict = r.verdict }) };
 }
 
 impl<H: Hierarchy + Drop> Replay<H> {
-    /// A replay that begins with this tree, in which the subtree is there and isn't the root.
-    pub fn start(tree: H, subtree: Path) -> Result<Replay<H>, CheckFault>
+    /// A replay that begins with this tree, in which the subtree is there and isn't the root. It takes memory only where
+    /// something is told of the subtree's limit files.
+    pub fn start(alloc: Global, tree: H, subtree: Path) -> Result<Replay<H>, CheckFault>
         ensures ok { IfOk result (λ replay. IsRunOf replay (H.state tree) []) }
         ensures of { IfOk result (λ replay. replay.subtree ≡ subtree) }
         ensures asked { OnOk result (IsSubtree (H.state tree) subtree) }
@@ -70,11 +74,15 @@ impl<H: Hierarchy + Drop> Replay<H> {
             return Err(CheckFault::NoSuchSubtree);
         };
         let original = *cgroup;
+        let Ok(told) = told_of(alloc, &tree, &subtree) else {
+            return Err(CheckFault::NoMemory);
+        };
         let broken = broken_at_start(&tree, &subtree, &original);
         Ok(Replay {
             tree,
             subtree,
             original,
+            told,
             steps: 0,
             verdict: verdict_by(broken, 0),
         })
@@ -100,7 +108,14 @@ impl<H: Hierarchy> Replay<H> {
         let outcome = apply(alloc, &mut self.tree, user, op)?;
         self.steps += 1;
         if may_break(self.verdict, &outcome) {
-            let broken = broken_by(&self.tree, &self.subtree, &self.original, op, moves);
+            let broken = broken_by(
+                &self.tree,
+                &self.subtree,
+                &self.original,
+                self.told.as_ref(),
+                op,
+                moves,
+            );
             self.verdict = verdict_by(broken, self.steps);
         }
         Ok(outcome)

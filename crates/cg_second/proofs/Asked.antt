@@ -9,13 +9,14 @@ use Rattle.cg_cgroup.specs.Files.{enables_nothing}
 use Rattle.cg_cgroup.specs.Cgroups.{file_of, entry_in}
 use Rattle.cg_cgroup.specs.declared.files.Limit.{Limit}
 use Rattle.cg_cgroup.specs.declared.files.LimitFile.{LimitFile}
-use Rattle.cg_cgroup.specs.declared.files.EntryName.TheVariants.{Dir, Procs, SubtreeControl, File}
+use Rattle.cg_cgroup.specs.declared.other_file.OtherFile.{OtherFile}
+use Rattle.cg_cgroup.specs.declared.files.EntryName.TheVariants.{Dir, Procs, SubtreeControl, File, Other}
 use Rattle.cg_cgroup.specs.declared.cgroup.Cgroup.{Cgroup}
 use Rattle.cg_cgroup.proofs.Options.{some_value}
-use Rattle.cg_model.specs.States.{State, row_at, file_at, place_at}
+use Rattle.cg_model.specs.States.{State, row_at, file_at, file_told, place_at}
 use Rattle.cg_model.specs.WellFormed.{has_row}
 use Rattle.cg_model.specs.Clauses.{unless, absent}
-use Rattle.cg_model.specs.Bars.{move_bars, changes_bars, control_bars, writes_above, mkdir_bars, rmdir_bars, set_bars}
+use Rattle.cg_model.specs.Bars.{move_bars, changes_bars, control_bars, writes_above, mkdir_bars, rmdir_bars, set_bars, set_other_bars}
 use Rattle.cg_model.specs.declared.changes.Change.{Change}
 use Rattle.cg_model.specs.declared.outcome.Refusal.TheVariants.{NoSuchFile, NoAccess}
 use Rattle.cg_model.proofs.Allowed.{allowed_mkdir, allowed_rmdir}
@@ -76,7 +77,8 @@ module _ (st : State) (users : List Identity) (user : Identity) (named : Contain
       let names = no_parts _ _ access.0 in
       let row = some_value (row_at st at) (no_absent (row_at st at) _ names.0) in
       let stands =
-      no_absent (file_of row.0 file) _ (no_present (row_at st at) (λ r. absent (file_of r file) (NoSuchFile file)) names.1 row.0 row.1) in
+      no_absent (file_of row.0 file) _
+      (no_present (row_at st at) (λ r. absent (file_of r file) (NoSuchFile (File file))) names.1 row.0 row.1) in
       let held = some_value (file_of row.0 file) stands in
       let is : file_at st at file ≡ Some held.0 = ap (option_and_then (λ r. file_of r file)) row.1 ∙ held.1 in
       let can =
@@ -84,6 +86,21 @@ module _ (st : State) (users : List Identity) (user : Identity) (named : Contain
       held.0 is) in
       reached st users user named at (File file) held.0.entry (entry_at-file st at file ∙ ap (option_map (λ f. f.entry)) is)
       (or_left _ _ can)
+
+  pub set_other-reaches : (at : Names) (file : OtherFile) → set_other_bars st user at file ≡ []
+      → is_reached st users at (Other file) ≡ true
+  set_other-reaches at file free =
+      let access = no_parts _ _ free in
+      let names = no_parts _ _ access.0 in
+      let row = some_value (row_at st at) (no_absent (row_at st at) _ names.0) in
+      let stands =
+      no_absent (file_told st at file) _
+      (no_present (row_at st at) (λ r. absent (file_told st at file) (NoSuchFile (Other file))) names.1 row.0 row.1) in
+      let held = some_value (file_told st at file) stands in
+      let can =
+      no_unless _ _ (no_present (file_told st at file) (λ told. unless (writes user told.entry) (NoAccess (length at) (Other file)))
+      access.1 held.0 held.1) in
+      reached st users user named at (Other file) held.0.entry (ap (option_map (λ told. told.entry)) held.1) (or_left _ _ can)
 
   -- ---- a move
 

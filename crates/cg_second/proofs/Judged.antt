@@ -4,13 +4,14 @@ use Rattle.std.specs.List.{list_all, list_any}
 use Rattle.std.proofs.lemmas.Bool.{and_parts, and_cases, and_from, or_left, or_right, or_cases, not-true, not_from_false, true_from_ne_false, cases_lt}
 use Rattle.cg_cgroup.specs.Paths.{Names, same_path, parent, inside, below, is_child, common}
 use Rattle.cg_cgroup.specs.Identity.{Identity}
-use Rattle.cg_cgroup.specs.Files.{all_files}
+use Rattle.cg_cgroup.specs.Files.{all_files, all_others}
 use Rattle.cg_cgroup.specs.declared.files.Controller.{Controller}
 use Rattle.cg_cgroup.specs.declared.files.Controller.TheVariants.{Memory}
 use Rattle.cg_cgroup.specs.declared.files.Limit.{Limit}
 use Rattle.cg_cgroup.specs.declared.files.Limit.TheVariants.{Max, At}
-use Rattle.cg_cgroup.specs.declared.files.EntryName.TheVariants.{Procs, File}
+use Rattle.cg_cgroup.specs.declared.files.EntryName.TheVariants.{Procs, File, Other}
 use Rattle.cg_cgroup.proofs.AllFiles.{each_passes, all_pass}
+use Rattle.cg_cgroup.proofs.AllOthers.{each_other, others_pass}
 use Rattle.cg_cgroup.proofs.ControllerLaws.{each_controller, all_controllers_pass}
 use Rattle.cg_cgroup.proofs.PathOrder.{same_path-is, same_path_refl}
 use Rattle.cg_cgroup.proofs.PathParents.{inside-is, inside-take}
@@ -157,6 +158,7 @@ module _ (st : State) (users : List Identity) (lasting : Lasting)
       let stay = and_parts _ _ h in
       let control = and_parts _ _ stay.1 in
       let files = and_parts _ _ control.1 in
+      let spared = and_parts _ _ files.0 in
       let edge = and_parts _ _ files.1 in
       let fits = and_parts _ _ edge.1 in
       record {
@@ -164,7 +166,8 @@ module _ (st : State) (users : List Identity) (lasting : Lasting)
         stays = stay.0;
         control = λ controller. ⊎_elim inl inr (or_cases _ _ (each_controller
             (λ c. lasting.on (parent subtree) c || lasting.off (parent subtree) c) control.0 controller));
-        files = λ file. not-true _ (each_passes (λ f. not (is_reached st users subtree (File f))) files.0 file);
+        files = λ file. not-true _ (each_passes (λ f. not (is_reached st users subtree (File f))) spared.0 file);
+        beyond = λ file. not-true _ (each_other (λ f. not (is_reached st users subtree (Other f))) spared.1 file);
         edge = λ top lower.
             let parts = and_parts _ _ lower in
             shut-at subtree top (ap (is_closed_at st users lasting subtree) (sym (inside-is top subtree parts.0))
@@ -206,7 +209,9 @@ module _ (st : State) (users : List Identity) (lasting : Lasting)
     by-fast =
         and_from _ _ fast.stays
         (and_from _ _ (all_controllers_pass _ (λ controller. ⊎_elim (or_left _ _) (or_right _ _) (fast.control controller)))
+        (and_from _ _
         (and_from _ _ (all_pass _ (λ file. not_from_false _ (fast.files file)) all_files)
+        (others_pass _ (λ file. not_from_false _ (fast.beyond file)) all_others))
         (and_from _ _ (to-closed (length subtree) (omega arith)) (and_from _ _ fast.descendants fast.depth))))
 
 pub judged : (st : State) (users : List Identity) (subtree : Names)

@@ -41,6 +41,7 @@ module _ (st : State) (users : List Identity) (subtree : Names) (lasting : Lasti
     stays = fast.stays;
     control = fast.control;
     files = fast.files;
+    beyond = fast.beyond;
     edge = fast.edge;
     descendants = fast.descendants;
     depth = fast.depth;
@@ -69,9 +70,9 @@ module _ (st : State) (users : List Identity) (subtree : Names) (lasting : Lasti
       record { sound = sound-after st user op firm.sound; is = (rest.0, firm.is.1); stand = rest.1; others = rest.2; fast = rest.3 }
 
 -- the second row goes by the cgroups and the root's controllers
-pub row-no_process : (st new : State) (users : List Identity) (subtree : Names) → new.rows ≡ st.rows → new.controllers ≡ st.controllers
-    → SecondRowHolds st users subtree → SecondRowHolds new users subtree
-row-no_process st new users subtree rows controllers (lasting, fast) =
+pub row-no_process : (st new : State) (users : List Identity) (subtree : Names) → new.rows ≡ st.rows → new.told ≡ st.told
+    → new.controllers ≡ st.controllers → SecondRowHolds st users subtree → SecondRowHolds new users subtree
+row-no_process st new users subtree rows told controllers (lasting, fast) =
     let same : with_processes st new.live new.used ≡ new = λ i.
-    record { rows = sym rows i; live = new.live; used = new.used; controllers = sym controllers i } in
+    record { rows = sym rows i; told = sym told i; live = new.live; used = new.used; controllers = sym controllers i } in
     (lasting, subst (λ s. IsHeldFast s users subtree lasting) same (fast-with_processes st users subtree lasting new.live new.used fast))

@@ -1,15 +1,13 @@
 -- The second row of one subtree, of what is asked of its files and of its limits, and of what is asked of the rest.
-use Rattle.std.proofs.Common.{◌≡◌, Bool, true, false, not, ◌&&◌, ◌||◌, List, length, refl, sym, ap, ◌∙◌}
+use Rattle.std.proofs.Common.{◌≡◌, Bool, true, false, ◌&&◌, ◌||◌, List, length, refl, sym, ap, ◌∙◌}
 use Rattle.std.specs.List.{list_all}
 use Rattle.cg_cgroup.specs.Paths.{Names, parent}
 use Rattle.cg_cgroup.specs.Identity.{Identity}
-use Rattle.cg_cgroup.specs.Files.{all_controllers, all_files}
-use Rattle.cg_cgroup.specs.declared.files.EntryName.TheVariants.{File}
+use Rattle.cg_cgroup.specs.Files.{all_controllers}
 use Rattle.cg_model.specs.States.{State}
 use Rattle.cg_model.specs.Limits.{fits_descendants, fits_depth}
-use Rattle.cg_second.specs.Lasting.{is_reached}
 use Rattle.cg_second.specs.Greatest.{greatest}
-use Rattle.cg_second.specs.Judged.{second_row, is_closed_to}
+use Rattle.cg_second.specs.Judged.{second_row, is_closed_to, spares_files}
 use Rattle.cg_second.specs.Exposed.{keeps_limits, is_shut_in}
 
 -- (stays, control, files, closed, fits)
@@ -32,7 +30,7 @@ module _ (st : State) (users : List Identity) (subtree : Names) where
       let last = greatest st users in
       turned (last.stays subtree)
       (list_all (λ controller. last.on (parent subtree) controller || last.off (parent subtree) controller) all_controllers)
-      (list_all (λ file. not (is_reached st users subtree (File file))) all_files) (is_closed_to st users last subtree (length subtree))
+      (spares_files st users subtree) (is_closed_to st users last subtree (length subtree))
       (fits_descendants st subtree && fits_depth st subtree)
 
   pub row-fails : (keeps : Bool) → keeps ≡ keeps_limits st users subtree → keeps ≡ false → false ≡ second_row st users subtree

@@ -3,16 +3,16 @@ use Rattle.std.specs.Prelude.{ℕ, zero, suc, ◌-◌, Bool, false, ◌&&◌, �
 use Rattle.std.specs.List.{list_all}
 use Rattle.cg_cgroup.specs.Paths.{Names, parent, inside, common}
 use Rattle.cg_cgroup.specs.Identity.{Identity}
-use Rattle.cg_cgroup.specs.Files.{all_controllers, all_files, enables}
+use Rattle.cg_cgroup.specs.Files.{all_controllers, enables}
 use Rattle.cg_cgroup.specs.declared.files.Controller.{Controller}
 use Rattle.cg_cgroup.specs.declared.files.LimitFile.TheVariants.{MaxDescendants, MaxDepth}
-use Rattle.cg_cgroup.specs.declared.files.EntryName.TheVariants.{Procs, SubtreeControl, File}
+use Rattle.cg_cgroup.specs.declared.files.EntryName.TheVariants.{Procs, SubtreeControl}
 use Rattle.cg_model.specs.States.{State}
 use Rattle.cg_model.specs.WellFormed.{enabled_at}
 use Rattle.cg_model.specs.Limits.{fits_descendants, fits_depth}
 use Rattle.cg_second.specs.Lasting.{is_reached, lasting_below}
 use Rattle.cg_second.specs.Greatest.{greatest}
-use Rattle.cg_second.specs.Judged.{is_bound, takes_none, grows_none, is_closed_to}
+use Rattle.cg_second.specs.Judged.{is_bound, takes_none, grows_none, spares_files, is_closed_to}
 
 -- a move may pass one of the first so many cgroups of a path
 abbrev pub is_passed_to : State → List Identity → Names → ℕ → Bool
@@ -50,7 +50,7 @@ is_shut_or_apart st users subtree path =
 -- none of the users reaches a limit file of a subtree that is within its own limits
 abbrev pub keeps_limits : State → List Identity → Names → Bool
 keeps_limits st users subtree =
-    list_all (λ file. not (is_reached st users subtree (File file))) all_files && (fits_descendants st subtree && fits_depth st subtree)
+    spares_files st users subtree && (fits_descendants st subtree && fits_depth st subtree)
 
 -- a subtree stays, with what its parent enables, and nothing gets over its edge
 abbrev pub is_shut_in : State → List Identity → Names → Bool

@@ -3,14 +3,14 @@ use Rattle.std.specs.Prelude.{ℕ, zero, suc, ◌-◌, Bool, true, false, ◌&&�
 use Rattle.std.specs.List.{list_all}
 use Rattle.cg_cgroup.specs.Paths.{Names, is_root, same_path, parent, inside, common}
 use Rattle.cg_cgroup.specs.Identity.{Identity}
-use Rattle.cg_cgroup.specs.Files.{all_controllers, all_files, enables}
+use Rattle.cg_cgroup.specs.Files.{all_controllers, all_files, all_others, enables}
 use Rattle.cg_cgroup.specs.declared.files.Controller.{Controller}
 use Rattle.cg_cgroup.specs.declared.files.Controller.TheVariants.{Memory}
 use Rattle.cg_cgroup.specs.declared.files.Limit.{Limit}
 use Rattle.cg_cgroup.specs.declared.files.Limit.TheVariants.{At}
 use Rattle.cg_cgroup.specs.declared.files.LimitFile.{LimitFile}
 use Rattle.cg_cgroup.specs.declared.files.LimitFile.TheVariants.{MaxDescendants, MaxDepth}
-use Rattle.cg_cgroup.specs.declared.files.EntryName.TheVariants.{Dir, Procs, SubtreeControl, File}
+use Rattle.cg_cgroup.specs.declared.files.EntryName.TheVariants.{Dir, Procs, SubtreeControl, File, Other}
 use Rattle.cg_model.specs.States.{State, value_at, paths_of}
 use Rattle.cg_model.specs.WellFormed.{enabled_at}
 use Rattle.cg_model.specs.Limits.{fits_descendants, fits_depth}
@@ -61,11 +61,17 @@ is_closed_to st users lasting subtree zero = true
 is_closed_to st users lasting subtree (suc len) =
     is_closed_at st users lasting subtree (take len subtree) && is_closed_to st users lasting subtree len
 
+-- none of the users reaches a limit file of a cgroup
+abbrev pub spares_files : State → List Identity → Names → Bool
+spares_files st users path =
+    list_all (λ file. not (is_reached st users path (File file))) all_files
+    && list_all (λ file. not (is_reached st users path (Other file))) all_others
+
 abbrev pub is_held_fast : State → List Identity → Lasting → Names → Bool
 is_held_fast st users lasting subtree =
     lasting.stays subtree
     && (list_all (λ controller. lasting.on (parent subtree) controller || lasting.off (parent subtree) controller) all_controllers
-    && (list_all (λ file. not (is_reached st users subtree (File file))) all_files
+    && (spares_files st users subtree
     && (is_closed_to st users lasting subtree (length subtree) && (fits_descendants st subtree && fits_depth st subtree))))
 
 abbrev pub second_row : State → List Identity → Names → Bool

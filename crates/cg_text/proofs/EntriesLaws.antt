@@ -11,14 +11,14 @@ use Rattle.std.specs.List.Sorted.{IsStableByKey}
 use Rattle.std.proofs.lemmas.List.Sorted.{ranks_by, sorted_far}
 use Rattle.toml.specs.Data.{Members}
 use Rattle.cg_cgroup.specs.Paths.{Names, path_cmp, same_path}
-use Rattle.cg_cgroup.specs.Files.{enables, no_controllers, stands_under}
+use Rattle.cg_cgroup.specs.Files.{enables, no_controllers, stands_under, is_beyond}
 use Rattle.cg_cgroup.specs.Cgroups.{file_of, entry_in, value_in, root_file}
 use Rattle.cg_cgroup.proofs.CgroupLaws.{stands-under, entry-under}
 use Rattle.cg_cgroup.specs.declared.user.Entry.{Entry}
 use Rattle.cg_cgroup.specs.declared.files.Limit.{Limit}
 use Rattle.cg_cgroup.specs.declared.controllers.ControllerSet.{ControllerSet}
 use Rattle.cg_cgroup.specs.declared.files.EntryName.{EntryName}
-use Rattle.cg_cgroup.specs.declared.files.EntryName.TheVariants.{Dir, Procs, SubtreeControl, File}
+use Rattle.cg_cgroup.specs.declared.files.EntryName.TheVariants.{Dir, Procs, SubtreeControl, File, Other}
 use Rattle.cg_cgroup.specs.declared.files.LimitFile.{LimitFile}
 use Rattle.cg_cgroup.specs.declared.files.LimitFile.TheVariants.{MaxDescendants, MaxDepth}
 use Rattle.cg_cgroup.specs.declared.cgroup.LimitEntry.{LimitEntry}
@@ -94,12 +94,13 @@ file_of-fitted_to above cgroup file = refl
 was_there : {A B : Type 0} (g : A → B) (b : Bool) (o : Option A) (y : B) → option_map g (cond b o None) ≡ Some y → option_map g o ≡ Some y
 was_there g b o y is = grind arith
 
-entry_was : (above : ControllerSet) (cgroup : Cgroup) (name : EntryName) (entry : Entry)
+entry_was : (above : ControllerSet) (cgroup : Cgroup) (name : EntryName) (entry : Entry) → is_beyond name ≡ false
     → entry_in (fitted_to above cgroup) name ≡ Some entry → entry_in cgroup name ≡ Some entry
-entry_was above cgroup Dir entry is = is
-entry_was above cgroup Procs entry is = is
-entry_was above cgroup SubtreeControl entry is = is
-entry_was above cgroup (File file) entry is =
+entry_was above cgroup Dir entry within is = is
+entry_was above cgroup Procs entry within is = is
+entry_was above cgroup SubtreeControl entry within is = is
+entry_was above cgroup (Other file) entry within is = absurd (true≢false within)
+entry_was above cgroup (File file) entry within is =
     let entry_at : LimitEntry → Entry = λ held. held.entry in
     was_there entry_at (stands_under above file) (file_of cgroup file) entry
     (ap (option_map entry_at) (sym (file_of-fitted_to above cgroup file)) ∙ is)
@@ -120,7 +121,7 @@ read_entry : (format : Format) (tables : List Members) (number : ℕ) (table : M
     → IsEntryOf format tables table (fitted_to above row.cgroup)
 read_entry format tables number table row read above same = record {
   enabled = read.enabled;
-  entries = λ name entry is. read.entries name ∙ entry_was above row.cgroup name entry is;
+  entries = λ name entry within is. read.entries name within ∙ entry_was above row.cgroup name entry within is;
   values = λ file held is. read.values file ∙ value_was above row.cgroup file held is;
   files = λ path other said is file.
       let own : path ≡ row.path = same_some path row.path (sym said ∙ read.path) in

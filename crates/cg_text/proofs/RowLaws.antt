@@ -7,14 +7,14 @@ use Rattle.std.specs.Result.{IsErr, IsErrAnd}
 use Rattle.std.specs.List.{list_all}
 use Rattle.std.proofs.lemmas.Bool.{false_from_ne_true, and_parts, and_from}
 use Rattle.cg_cgroup.proofs.AllFiles.{each_passes, each_brought, held_as}
-use Rattle.cg_format.proofs.TablesSay.{all_so, each_entry}
+use Rattle.cg_format.proofs.TablesSay.{all_so, each_within, each_entry}
 use Rattle.std.proofs.lemmas.List.{length-take-le}
 use Rattle.std.proofs.lemmas.List.Folds.{list_all_at}
 use Rattle.toml.specs.Data.{Members, no_members, as_table}
 use Rattle.toml.specs.View.{view, table_view}
 use Rattle.toml.specs.declared.value.Value.{Value}
 use Rattle.cg_cgroup.specs.Paths.{Names}
-use Rattle.cg_cgroup.specs.Files.{all_files, brought_files, all_entries, entry_text}
+use Rattle.cg_cgroup.specs.Files.{all_files, brought_files, format_2_entries, entry_text, is_beyond}
 use Rattle.cg_cgroup.specs.Cgroups.{file_of, entry_in, value_in as value_at, root_file}
 use Rattle.cg_cgroup.proofs.Options.{some_value, mapped_from, is_some-mapped}
 use Rattle.cg_cgroup.specs.declared.user.Entry.{Entry}
@@ -23,7 +23,7 @@ use Rattle.cg_cgroup.specs.declared.controllers.ControllerSet.{ControllerSet}
 use Rattle.cg_cgroup.specs.declared.files.LimitFile.{LimitFile}
 use Rattle.cg_cgroup.specs.declared.files.LimitFile.TheVariants.{MaxDescendants, MaxDepth}
 use Rattle.cg_cgroup.specs.declared.files.EntryName.{EntryName}
-use Rattle.cg_cgroup.specs.declared.files.EntryName.TheVariants.{Dir, Procs, SubtreeControl, File}
+use Rattle.cg_cgroup.specs.declared.files.EntryName.TheVariants.{Dir, Procs, SubtreeControl, File, Other}
 use Rattle.cg_cgroup.specs.declared.cgroup.LimitEntry.{LimitEntry}
 use Rattle.cg_cgroup.specs.declared.cgroup.Cgroup.{Cgroup}
 use Rattle.cg_model.specs.Clauses.{first, unless, absent}
@@ -65,21 +65,27 @@ passed_on P fault (Err other) found is expected = λ memory. rw is.1 (expected (
 file_failed : (p : LimitFile → Bool) (file : LimitFile) → p file ≡ false → list_all p all_files ≡ false
 file_failed p file is = false_from_ne_true (list_all p all_files) (λ all. true≢false (sym (each_passes p all file) ∙ is))
 
-entry_failed : (p : EntryName → Bool) (name : EntryName) → p name ≡ false → list_all p all_entries ≡ false
-entry_failed p name is = false_from_ne_true (list_all p all_entries) (λ all. true≢false (sym (each_entry p all name) ∙ is))
+entry_failed : (p : EntryName → Bool) (name : EntryName) → is_beyond name ≡ false → p name ≡ false → list_all p format_2_entries ≡ false
+entry_failed p name within is =
+    false_from_ne_true (list_all p format_2_entries) (λ all. true≢false (sym (each_entry p all name within) ∙ is))
 
 pub by_entry : (P : EntryName → Type 0) → P Dir → P Procs → P SubtreeControl → ((file : LimitFile) → P (File file))
-    → (name : EntryName) → P name
-by_entry P dir procs control files Dir = dir
-by_entry P dir procs control files Procs = procs
-by_entry P dir procs control files SubtreeControl = control
-by_entry P dir procs control files (File file) = files file
+    → (name : EntryName) → is_beyond name ≡ false → P name
+by_entry P dir procs control files Dir within = dir
+by_entry P dir procs control files Procs within = procs
+by_entry P dir procs control files SubtreeControl within = control
+by_entry P dir procs control files (File file) within = files file
+by_entry P dir procs control files (Other file) within = absurd (true≢false within)
 
 -- ---- a cgroup of entries
 
 module _ (said : Entries) where
   abbrev owned : EntryName → Bool
   owned name = is_some (owner_in said name)
+
+  -- each entry that texts name
+  abbrev AreOwned : Type 0
+  AreOwned = (name : EntryName) → is_beyond name ≡ false → is_some (owner_in said name) ≡ true
 
   abbrev valued : LimitFile → Bool
   valued file = is_some (limit_in said file)
@@ -100,19 +106,20 @@ module _ (said : Entries) where
   pub has_owner : (name : EntryName) (entry : Entry) → HasOwner name entry → is_some (owner_in said name) ≡ true
   has_owner name entry is = ap is_some (owner_is name entry is)
 
-  pub no_owner : (name : EntryName) {X : Type 0} (P : X → Type 0) (answer : Result X TreeFault) (found : TreeFault) → Returns answer found
-      → Err found ≡ or_fault (owner_in said name) (BadEntry said.place) → Passes P (first (entry_faults said)) answer
-  no_owner name P answer found returns is =
+  pub no_owner : (name : EntryName) → is_beyond name ≡ false → {X : Type 0} (P : X → Type 0) (answer : Result X TreeFault)
+      (found : TreeFault) → Returns answer found → Err found ≡ or_fault (owner_in said name) (BadEntry said.place)
+      → Passes P (first (entry_faults said)) answer
+  no_owner name within P answer found returns is =
       let missing = err_of (owner_in said name) (BadEntry said.place) found is in
       passed_on P (first (entry_faults said)) answer found returns
       (λ _.
-      ap (λ b. first (unless b (BadEntry said.place) ++ value_faults)) (entry_failed owned name (ap is_some missing.0))
+      ap (λ b. first (unless b (BadEntry said.place) ++ value_faults)) (entry_failed owned name within (ap is_some missing.0))
       ∙ ap (λ fault. Some fault) missing.1)
 
-  no_entry_fault : ((name : EntryName) → is_some (owner_in said name) ≡ true) → first (entry_faults said) ≡ first value_faults
-  no_entry_fault are = ap (λ b. first (unless b (BadEntry said.place) ++ value_faults)) (all_so owned are all_entries)
+  no_entry_fault : AreOwned → first (entry_faults said) ≡ first value_faults
+  no_entry_fault are = ap (λ b. first (unless b (BadEntry said.place) ++ value_faults)) (each_within owned are)
 
-  pub no_value : ((name : EntryName) → is_some (owner_in said name) ≡ true) → (file : LimitFile) (entry : Entry)
+  pub no_value : AreOwned → (file : LimitFile) (entry : Entry)
       {X : Type 0} (P : X → Type 0) (answer : Result X TreeFault) (found : TreeFault) → Returns answer found
       → Err found ≡ or_fault (option_map (entry_with entry) (limit_in said file)) (BadValue said.place)
       → Passes P (first (entry_faults said)) answer
@@ -208,7 +215,7 @@ module _ (said : Entries) where
 
   pub each_owned : (dir procs control descendants depth : Entry) → HasOwner Dir dir → HasOwner Procs procs → HasOwner SubtreeControl control
       → HasOwner (File MaxDescendants) descendants → HasOwner (File MaxDepth) depth → list_all has_owner_at brought_files ≡ true
-      → (name : EntryName) → is_some (owner_in said name) ≡ true
+      → AreOwned
   each_owned dir procs control descendants depth d p c a b brought =
       by_entry (λ name. is_some (owner_in said name) ≡ true) (has_owner Dir dir d) (has_owner Procs procs p)
       (has_owner SubtreeControl control c) of_file
@@ -221,16 +228,16 @@ module _ (said : Entries) where
   -- where an owner or a value isn't so, it isn't so of all
   pub none_owned : list_all has_owner_at brought_files ≡ false → first (entry_faults said) ≡ Some (BadEntry said.place)
   none_owned is =
-      let some = false_from_ne_true (list_all owned all_entries)
-      (λ all. true≢false (sym (all_so has_owner_at (λ file. each_entry owned all (File file)) brought_files) ∙ is)) in
+      let some = false_from_ne_true (list_all owned format_2_entries)
+      (λ all. true≢false (sym (all_so has_owner_at (λ file. each_entry owned all (File file) refl) brought_files) ∙ is)) in
       ap (λ b. first (unless b (BadEntry said.place) ++ value_faults)) some
 
-  pub none_valued : ((name : EntryName) → is_some (owner_in said name) ≡ true) → (files : List (Option LimitEntry))
+  pub none_valued : AreOwned → (files : List (Option LimitEntry))
       → files ≡ map (file_in said) brought_files → list_all is_some files ≡ false
       → first (entry_faults said) ≡ Some (BadValue said.place)
   none_valued are files read is =
       let some = false_from_ne_true (list_all valued all_files) (λ all.
-      true≢false (sym (all_there brought_files (all_so has_owner_at (λ file. are (File file)) brought_files)
+      true≢false (sym (all_there brought_files (all_so has_owner_at (λ file. are (File file) refl) brought_files)
       (all_so valued (each_passes valued all) brought_files)) ∙ sym (ap (list_all is_some) read) ∙ is)) in
       no_entry_fault are ∙ ap (λ b. first (unless b (BadValue said.place))) some
 
@@ -242,11 +249,11 @@ module _ (said : Entries) where
       λ file. (files file).value ∙ sym (ap (option_map (λ (f : LimitEntry). f.value)) (files file).stands) in
       let owners : (file : LimitFile) → owner_in said (File file) ≡ entry_in cgroup (File file) =
       λ file. (files file).owner ∙ sym (ap (option_map (λ (f : LimitEntry). f.entry)) (files file).stands) in
-      let entries : (name : EntryName) → owner_in said name ≡ entry_in cgroup name =
+      let entries : (name : EntryName) → is_beyond name ≡ false → owner_in said name ≡ entry_in cgroup name =
       by_entry (λ name. owner_in said name ≡ entry_in cgroup name)
       (owner_is Dir cgroup.dir dir) (owner_is Procs cgroup.procs procs)
       (owner_is SubtreeControl cgroup.subtree_control control) owners in
-      let are : (name : EntryName) → is_some (owner_in said name) ≡ true =
+      let are : AreOwned =
       by_entry (λ name. is_some (owner_in said name) ≡ true)
       (has_owner Dir cgroup.dir dir) (has_owner Procs cgroup.procs procs)
       (has_owner SubtreeControl cgroup.subtree_control control)
@@ -255,7 +262,7 @@ module _ (said : Entries) where
             ∙ ap (λ b. first (unless b (BadValue said.place))) (all_so valued (λ file. ap is_some (files file).value) all_files),
         record {
           enabled = enabled;
-          entries = λ name. sym (entries name);
+          entries = λ name within. sym (entries name within);
           values = λ file. sym (values file);
           files = λ file. ap is_some (files file).stands;
           freeze = freeze;
@@ -284,7 +291,7 @@ module _ (said : Entries) (row : Members) (dir : option_map (λ table. table_vie
       → known_said said.format (codes "enabled") row ≡ Some enabled → first (row_faults said.format said.place row)
       ≡ first (entry_faults said)
   faults_behind path enabled has_path has_enabled =
-      let entries = unless (list_all (λ name. is_some (entry_said said.format row name)) all_entries) (BadEntry said.place) in
+      let entries = unless (list_all (λ name. is_some (entry_said said.format row name)) format_2_entries) (BadEntry said.place) in
       let values = unless (list_all (λ file. is_some (value_said row file)) all_files) (BadValue said.place) in
       let controllers = absent (known_said said.format (codes "enabled") row) (BadController said.place) in
       ap (λ o. first (absent o (BadPath said.place) ++ controllers ++ entries ++ values)) has_path
@@ -292,7 +299,7 @@ module _ (said : Entries) (row : Members) (dir : option_map (λ table. table_vie
       ∙ sym
       (λ i.
       first
-      (unless (list_all (λ name. is_some (entry_is name i)) all_entries) (BadEntry said.place)
+      (unless (list_all (λ name. is_some (entry_is name i)) format_2_entries) (BadEntry said.place)
       ++ unless (list_all (λ file. is_some (value_is file i)) all_files) (BadValue said.place)))
 
   pub row_read : (i : ℕ) (enabled : ControllerSet) (made : Row) → made.number ≡ i → path_said (codes "path") row ≡ Some made.path
@@ -302,7 +309,7 @@ module _ (said : Entries) (row : Members) (dir : option_map (λ table. table_vie
     number = number;
     path = path;
     enabled = has_enabled ∙ ap (λ (set : ControllerSet). Some set) (sym is.enabled);
-    entries = λ name. sym (entry_is name) ∙ sym (is.entries name);
+    entries = λ name within. sym (entry_is name) ∙ sym (is.entries name within);
     values = λ file. sym (value_is file) ∙ sym (is.values file);
     needed = needed ∙ (λ i. needed_where (λ file. named_is file i));
     files = is.files;

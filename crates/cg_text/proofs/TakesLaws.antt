@@ -16,11 +16,12 @@ use Rattle.toml.proofs.Views.{view-lookup, view-Table}
 use Rattle.toml.specs.declared.value.Value.TheVariants.{Table}
 use Rattle.cg_cgroup.proofs.Options.{is_some-mapped}
 use Rattle.cg_cgroup.specs.Paths.{same_name}
-use Rattle.cg_cgroup.specs.Files.{all_files, file_name, file_named, entry_text, entry_named}
+use Rattle.cg_cgroup.specs.Files.{all_files, file_name, file_named, entry_text, entry_known_as}
 use Rattle.cg_cgroup.specs.Texts as texts
 use Rattle.cg_cgroup.specs.declared.files.LimitFile.{LimitFile}
 use Rattle.cg_cgroup.specs.declared.files.EntryName.{EntryName}
-use Rattle.cg_cgroup.specs.declared.files.EntryName.TheVariants.{Dir, Procs, SubtreeControl, File}
+use Rattle.cg_cgroup.specs.declared.files.Vocabulary.TheVariants.{Format2}
+use Rattle.cg_cgroup.specs.declared.files.EntryName.TheVariants.{Dir, Procs, SubtreeControl, File, Other}
 use Rattle.cg_format.specs.Form.{Key, must_have, may_have, are_among, fits_at, is_table, owner_keys, limit_keys, file_keys_of, row_keys, is_text}
 use Rattle.cg_text.specs.Keys.{flat_keys, takes, takes_all, allows_at, allows, allows_table}
 use Rattle.cg_format.specs.declared.format.Format.{Format}
@@ -234,6 +235,7 @@ find_map test f (x ∷ xs) =
 abbrev pub takes_entry : Format → Option EntryName → Data → Bool
 takes_entry format None held = false
 takes_entry format (Some Dir) held = false
+takes_entry format (Some (Other file)) held = false
 takes_entry format (Some (File file)) held = is_table (limit_keys format) held
 takes_entry format (Some name) held = is_table (owner_keys format) held
 
@@ -264,7 +266,7 @@ module _ (format : Format) (text : List ℕ) (held : Data) where
   owned_taken false false = files_taken
 
   -- a value at the name of an entry
-  file_taken : takes (file_keys_of format) text held ≡ takes_entry format (entry_named text) held
+  file_taken : takes (file_keys_of format) text held ≡ takes_entry format (entry_known_as Format2 text) held
   file_taken =
       elim (same_name text (codes "dir")) as (λ b. same_name text (codes "dir") ≡ b
       → takes (file_keys_of format) text held
@@ -276,7 +278,7 @@ module _ (format : Format) (text : List ℕ) (held : Data) where
       ] refl
 
   -- a value at the name of this entry
-  pub entry_taken : (name : EntryName) (found : Option EntryName) (taken : Bool) → found ≡ entry_named text → found ≡ Some name
+  pub entry_taken : (name : EntryName) (found : Option EntryName) (taken : Bool) → found ≡ entry_known_as Format2 text → found ≡ Some name
       → taken ≡ takes_entry format (Some name) held → taken ≡ takes (file_keys_of format) text held
   entry_taken name found taken is some told =
       told ∙ sym (file_taken ∙ ap (λ found. takes_entry format found held) (sym is ∙ some))

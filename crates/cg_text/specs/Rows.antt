@@ -9,7 +9,7 @@ use Rattle.std.specs.declared.alloc.Global.{Global}
 use Rattle.toml.specs.Data.{Members, no_members}
 use Rattle.toml.specs.View.{table_view}
 use Rattle.toml.specs.declared.value.Value.{Value}
-use Rattle.cg_cgroup.specs.Files.{all_files, all_entries, entry_text, controller_of, same_controller, set_by}
+use Rattle.cg_cgroup.specs.Files.{all_files, format_2_entries, entry_text, is_beyond, controller_of, same_controller, set_by}
 use Rattle.cg_cgroup.specs.Cgroups.{file_of, entry_in, value_in as value_at, root_file}
 use Rattle.cg_cgroup.specs.declared.user.Entry.{Entry}
 use Rattle.cg_cgroup.specs.declared.files.Limit.{Limit}
@@ -72,13 +72,13 @@ file_in entries file = option_and_then (λ entry. option_map (entry_with entry) 
 -- the clauses on entries and values, which are the last of a row's own
 abbrev pub entry_faults : Entries → List TreeFault
 entry_faults entries =
-    unless (list_all (λ name. is_some (owner_in entries name)) all_entries) (BadEntry entries.place)
+    unless (list_all (λ name. is_some (owner_in entries name)) format_2_entries) (BadEntry entries.place)
     ++ unless (list_all (λ file. is_some (limit_in entries file)) all_files) (BadValue entries.place)
 
 -- a cgroup with all files, as these tables and the defaults say
 pub record IsCgroupOf (said : Entries) (controllers : ControllerSet) (cgroup : Cgroup) : Type 0 where
   pub enabled : cgroup.enabled ≡ controllers
-  pub entries : (name : EntryName) → entry_in cgroup name ≡ owner_in said name
+  pub entries : (name : EntryName) → is_beyond name ≡ false → entry_in cgroup name ≡ owner_in said name
   pub values : (file : LimitFile) → value_at cgroup file ≡ limit_in said file
   pub files : (file : LimitFile) → is_some (file_of cgroup file) ≡ true
   pub freeze : cgroup.freeze ≡ root_file
@@ -88,7 +88,7 @@ pub record IsReadAs (format : Format) (i : ℕ) (table : Members) (row : Row) : 
   pub number : row.number ≡ i
   pub path : path_said (codes "path") table ≡ Some row.path
   pub enabled : known_said format (codes "enabled") table ≡ Some row.cgroup.enabled
-  pub entries : (name : EntryName) → entry_said format table name ≡ entry_in row.cgroup name
+  pub entries : (name : EntryName) → is_beyond name ≡ false → entry_said format table name ≡ entry_in row.cgroup name
   pub values : (file : LimitFile) → value_said table file ≡ value_at row.cgroup file
   pub needed : row.needed ≡ needed_where (λ file. is_named (File file) table)
   pub files : (file : LimitFile) → is_some (file_of row.cgroup file) ≡ true

@@ -67,7 +67,8 @@ fn tree_of(alloc: Global, mut document: Table) -> Result<Rows, TreeFault>
     let rows = rows_of(alloc, format, take_elements(alloc, &mut document, "cgroup"))?;
     let cgroups = PathTable::from_sorted(walked(alloc, rows, controllers)?);
     let processes = processes_of(alloc, &cgroups, elements_at(&document, "process"))?;
-    Ok(Rows::from_tables(cgroups, processes, controllers))
+    // no text tells of further limit files
+    Ok(Rows::from_tables(cgroups, processes, PathTable::new(alloc), controllers))
 }
 
 /// What a text says, or the text's first fault. `NoMemory` where an allocation was refused.

@@ -1,20 +1,24 @@
 -- A change of one controller at the parent breaks where it is allowed and changes what the parent enables.
-use Rattle.std.proofs.Common.{◌≡◌, Bool, true, false, cond, not, ◌&&◌, List, [], ◌∷◌, Some, None, unwrap_or, is_some, option_map, option_and_then, refl, sym, ap, ◌∙◌, true≢false}
+use Rattle.std.proofs.Common.{◌≡◌, Bool, true, false, cond, not, ◌&&◌, List, [], ◌∷◌, Option, Some, None, unwrap_or, is_some, option_map, option_and_then, refl, sym, ap, ◌∙◌, true≢false}
 use Rattle.std.specs.List.{AllByRecursion}
-use Rattle.cg_cgroup.specs.Paths.{Names, parent, is_root}
+use Rattle.cg_cgroup.specs.Paths.{Names, parent, is_root, is_child}
 use Rattle.cg_cgroup.specs.Identity.{Identity}
-use Rattle.cg_cgroup.specs.Files.{all_controllers, enables, same_controller, stands_under, no_controllers}
+use Rattle.cg_cgroup.specs.Files.{all_controllers, enables, same_controller, stands_by, stands_under, no_controllers, brought_by}
 use Rattle.cg_cgroup.specs.Cgroups.{file_of, other_in}
 use Rattle.cg_cgroup.specs.declared.files.Controller.{Controller}
 use Rattle.cg_cgroup.specs.declared.files.Controller.TheVariants.{Cpu}
 use Rattle.cg_cgroup.specs.declared.controllers.ControllerSet.{ControllerSet}
 use Rattle.cg_cgroup.specs.declared.files.LimitFile.{LimitFile}
+use Rattle.cg_cgroup.specs.declared.other_file.OtherFile.{OtherFile}
+use Rattle.cg_cgroup.specs.declared.told.ToldFile.{ToldFile}
 use Rattle.cg_cgroup.proofs.Options.{some_value}
 use Rattle.cg_cgroup.proofs.ControllerLaws.{same_set, same_controller-true}
-use Rattle.cg_model.specs.States.{State, row_at, file_at, other_at, value_at}
+use Rattle.cg_model.specs.States.{State, row_at, file_at, other_at, value_at, told_at, untold_at, told_text, with_enabled}
 use Rattle.cg_model.specs.WellFormed.{IsWellFormed, has_row, enabled_at}
 use Rattle.cg_model.proofs.StateCounts.{paths_of-with_enabled, count_below-same_paths, depth_below-same_paths}
 use Rattle.cg_model.proofs.StateEntries.{value_at-file, file_at-with_enabled-same, other_at-with_enabled-same}
+use Rattle.cg_model.proofs.StateTold.{or_untold, told_at-with_enabled}
+use Rattle.cg_model.proofs.FormedTold.{stands as file-stands}
 use Rattle.cg_model.proofs.FormedEnabled.{has_row-with_enabled, enabled_at-with_enabled-same}
 use Rattle.cg_model.specs.Bars.{bars}
 use Rattle.cg_model.specs.Changes.{enabled_after}
@@ -51,6 +55,31 @@ other_stands st path controller formed there not_root =
     ap (λ r. is_some (option_and_then (λ row. other_in row controller) r)) row.1
     ∙ (formed.rows path row.0 row.1).others controller
     ∙ ap (λ b. enables (cond b no_controllers (enabled_at st (parent path))) controller) not_root
+
+-- what is told stays where as much is enabled
+texts_kept : (st : State) (user : Identity) (subtree : Names) (enabled : ControllerSet) → IsWellFormed st → is_root subtree ≡ false
+    → enabled ≡ enabled_at st (parent subtree) → (file : OtherFile)
+    → told_text (with_enabled st (parent subtree) enabled user) subtree file ≡ told_text st subtree file
+texts_kept st user subtree enabled formed not_root same file =
+    ap (option_and_then (λ told. told.value))
+    (told_at-with_enabled st (parent subtree) enabled user subtree file
+    ∙ elim (is_child (parent subtree) subtree) as (λ b.
+    cond b (cond (stands_by enabled (brought_by file)) (told_at st subtree file) None) (told_at st subtree file)
+    ≡ told_at st subtree file) [
+      | false ↦ refl
+      | true ↦ elim (told_at st subtree file) as
+          (λ known. told_at st subtree file ≡ known → cond (stands_by enabled (brought_by file)) known None ≡ known) [
+            | None ↦ λ _. elim (stands_by enabled (brought_by file)) as (λ b. cond {A = Option ToldFile} b None None ≡ None)
+                [ true ↦ refl | false ↦ refl ]
+            | Some told ↦ λ is. ap (λ b. cond b (Some told) None) (brought told is)
+          ] refl
+    ])
+  where
+    brought : (told : ToldFile) → told_at st subtree file ≡ Some told → stands_by enabled (brought_by file) ≡ true
+    brought told is =
+        ap (λ (e : ControllerSet). stands_by e (brought_by file)) same
+        ∙ sym (ap (λ b. stands_by (cond b no_controllers (enabled_at st (parent subtree))) (brought_by file)) not_root)
+        ∙ (file-stands st formed subtree file told (ap (λ known. or_untold known (untold_at st subtree file)) is)).brought
 
 -- ---- changes
 
@@ -134,8 +163,9 @@ module _ (st : State) (user : Identity) (subtree : Names) (on : Bool) (controlle
       other_at-with_enabled-same st (parent subtree) enabled user subtree other (λ _.
       other_stands st subtree other formed there.0 there.1
       ∙ ap (λ (e : ControllerSet). enables e other) (sym (same_enabled on controller above same))) in
+      let texts = texts_kept st user subtree enabled formed there.1 (same_enabled on controller above same) in
       λ i. record {
-        limits = record { values = λ file. files file i; others = λ other. is_some (others other i) };
+        limits = record { values = λ file. files file i; others = λ other. is_some (others other i); told = λ file. texts file i };
         count = count_below-same_paths st new paths subtree i;
         depth = depth_below-same_paths st new paths subtree i;
         pids = (seen st subtree).pids;

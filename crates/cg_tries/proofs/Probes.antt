@@ -17,7 +17,7 @@ use Rattle.cg_cgroup.proofs.PathLaws.{inside-length}
 use Rattle.cg_cgroup.proofs.PathOrder.{same_path-not, same_path_refl}
 use Rattle.cg_cgroup.proofs.PathParents.{inside-is}
 use Rattle.cg_cgroup.proofs.UserLaws.{writes-made_by}
-use Rattle.cg_model.specs.States.{State, row_at, place_at, with_row, count_below, depth_below, value_at, other_at}
+use Rattle.cg_model.specs.States.{State, row_at, place_at, with_row, count_below, depth_below, value_at, other_at, told_text}
 use Rattle.cg_model.specs.WellFormed.{IsWellFormed, has_row, enabled_at}
 use Rattle.cg_model.proofs.StateLaws.{row_at-with_row}
 use Rattle.cg_model.proofs.StateCounts.{count_below-with_row, depth_below-with_row}
@@ -103,7 +103,11 @@ module _ (st : State) (user : Identity) (subtree : Names) (len : ℕ) (name : Na
       depth_below-with_row st path row free subtree
       ∙ ap (λ b. cond b (max (depth_below st subtree) (length path - length subtree)) (depth_below st subtree)) no_child_of in
       λ i. record {
-        limits = record { values = λ file. files file i; others = λ controller. is_some (others controller i) };
+        limits = record {
+          values = λ file. files file i;
+          others = λ controller. is_some (others controller i);
+          told = told_text st subtree;
+        };
         count = count i;
         depth = depth i;
         pids = (seen st subtree).pids;

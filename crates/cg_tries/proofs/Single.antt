@@ -9,10 +9,20 @@ use Rattle.cg_cgroup.specs.declared.files.Limit.TheVariants.{Max, At}
 use Rattle.cg_cgroup.specs.declared.files.Controller.{Controller}
 use Rattle.cg_cgroup.specs.declared.files.LimitFile.{LimitFile}
 use Rattle.cg_cgroup.specs.declared.files.LimitFile.TheVariants.{CpuWeight}
+use Rattle.std.specs.Prelude.{Option, codes, unwrap_or, option_and_then}
+use Rattle.std.specs.Cmp.Lexicographic.{bytes_decides}
+use Rattle.cg_cgroup.specs.Paths.{same_name}
+use Rattle.cg_cgroup.specs.Files.{other_kind}
+use Rattle.cg_cgroup.specs.Told.{file_untold, with_value_told}
+use Rattle.cg_cgroup.specs.declared.other_file.OtherFile.{OtherFile}
+use Rattle.cg_cgroup.specs.declared.told.FileText.{FileText}
+use Rattle.cg_cgroup.specs.declared.told.ToldFile.{ToldFile}
+use Rattle.cg_cgroup.specs.declared.user.Entry.{Entry}
+use Rattle.cg_model.proofs.StateTold.{told_at-telling}
 use Rattle.cg_cgroup.proofs.Options.{mapped_from, same_some}
 use Rattle.cg_cgroup.proofs.PathOrder.{same_path_refl}
-use Rattle.cg_cgroup.proofs.CgroupLaws.{same_file-refl}
-use Rattle.cg_model.specs.States.{State, row_at, process_at, place_at, with_value, with_place, placed_at, without_row, value_at, other_at}
+use Rattle.cg_cgroup.proofs.CgroupLaws.{same_file-refl, same_other-refl}
+use Rattle.cg_model.specs.States.{State, row_at, process_at, place_at, with_value, with_place, placed_at, without_row, value_at, other_at, told_at, untold_at, file_told, told_text, with_text}
 use Rattle.cg_model.specs.WellFormed.{has_row}
 use Rattle.cg_model.proofs.StateLaws.{row_at-without_row, process_at-with_place-same}
 use Rattle.cg_model.proofs.StateEntries.{value_at-with_value}
@@ -22,7 +32,7 @@ use Rattle.cg_model.proofs.ClauseLaws.{no_parts, no_unless}
 use Rattle.cg_model.specs.Bars.{bars}
 use Rattle.cg_model.specs.Next.{next}
 use Rattle.cg_model.specs.declared.operation.Op.{Op}
-use Rattle.cg_model.specs.declared.operation.Op.TheVariants.{Move, Rmdir, Set}
+use Rattle.cg_model.specs.declared.operation.Op.TheVariants.{Move, Rmdir, Set, SetOther}
 use Rattle.cg_model.specs.Limits.{Limits as LimitMap, limits, same_limits}
 use Rattle.cg_model.specs.Edge.{is_crossed}
 use Rattle.cg_model.proofs.Edges.{crosses-some}
@@ -31,7 +41,7 @@ use Rattle.cg_model.specs.declared.verdict.Clause.{Clause}
 use Rattle.cg_model.specs.declared.verdict.Clause.TheVariants.{Gone, Limits}
 use Rattle.cg_model.proofs.LimitLaws.{same_limits-is}
 use Rattle.cg_model.proofs.BrokenLaws.{broken-whole}
-use Rattle.cg_model.specs.Tries.{other_value}
+use Rattle.cg_model.specs.Tries.{other_value, other_text}
 use Rattle.cg_model.specs.Escapes.{breaks}
 use Rattle.cg_tries.specs.Escapes.{IsUnbroken}
 use Rattle.cg_tries.specs.Finding.{allowed}
@@ -110,6 +120,14 @@ others_stay start st new subtree none controller =
     in
     ap (λ (these : LimitMap). these.others controller) (same_limits-is (limits start subtree) (limits new subtree) same)
 
+texts_stay : (start st new : State) (subtree : Names) → broken start st new subtree ≡ [] → (file : OtherFile)
+    → told_text start subtree file ≡ told_text new subtree file
+texts_stay start st new subtree none file =
+    let same =
+    no_unless (same_limits (limits start subtree) (limits new subtree)) Limits (no_parts _ _ (no_parts _ _ (no_parts _ _ none).0).0).1
+    in
+    ap (λ (these : LimitMap). these.told file) (same_limits-is (limits start subtree) (limits new subtree) same)
+
 pub other_differs : (file : LimitFile) (value : Limit) → other_value file value ≢ value
 other_differs CpuWeight Max h = cc
 other_differs CpuWeight (At value) h = elim (nat_eq value 100) as (λ b. nat_eq value 100 ≡ b → cond b (At 1) (At 100) ≢ At value) [
@@ -133,6 +151,55 @@ pub set_try : (st : State) (user : Identity) (subtree : Names) (file : LimitFile
 set_try st user subtree file value whole is = where_allowed st user subtree (Set subtree file (other_value file value)) whole (λ free none.
     let same = limits_stay st st (with_value st subtree file (other_value file value)) subtree none file in
     other_differs file value (same_some _ _ (sym (value_set st subtree file value (other_value file value) is) ∙ sym same ∙ is)))
+
+-- ---- set of a limit file beyond `LimitFile`
+
+-- of two texts the first that isn't the file's
+pub text_differs : (file : OtherFile) (had : Option FileText) → had ≢ Some (other_text file had)
+text_differs file None is = cc
+text_differs file (Some text) is =
+    elim (same_name (other_kind file).loose text) as (λ b. same_name (other_kind file).loose text ≡ b
+    → Some text ≢ Some (unwrap_or (cond (not b) (Some (other_kind file).loose)
+    (cond (not (same_name (codes "max") text)) (Some (codes "max")) None)) (codes "0"))) [
+      | false ↦ λ apart is.
+          true≢false (sym ((bytes_decides (other_kind file).loose text).1 (sym (same_some text (other_kind file).loose is))) ∙ apart)
+      | true ↦ λ _ is.
+          elim (same_name (codes "max") text) as (λ b. same_name (codes "max") text ≡ b
+          → Some text ≢ Some (unwrap_or (cond (not b) (Some (codes "max")) None) (codes "0"))) [
+            | false ↦ λ apart is. true≢false (sym ((bytes_decides (codes "max") text).1 (sym (same_some text (codes "max") is))) ∙ apart)
+            | true ↦ λ same is.
+                true≢false (sym ((bytes_decides (codes "max") (codes "0")).1
+                ((bytes_decides (codes "max") text).0 same ∙ same_some text (codes "0") is)) ∙ refl)
+          ] refl is
+    ] refl is
+
+text_set : (st : State) (subtree : Names) (file : OtherFile) (told : ToldFile) (value : FileText) → file_told st subtree file ≡ Some told
+    → told_text (with_text st subtree file value) subtree file ≡ Some value
+text_set st subtree file told value is =
+    ap (option_and_then (λ (told : ToldFile). told.value))
+    (told_at-telling st subtree file (with_value_told value) subtree file (with_text st subtree file value) refl
+    ∙ ap (λ b. cond b (option_map (with_value_told value) (file_told st subtree file)) (told_at st subtree file))
+    (and_from _ _ (same_path_refl subtree) (same_other-refl file))
+    ∙ ap (option_map (with_value_told value)) is)
+
+-- the value that is told of one that stands
+text_known : (told : Option ToldFile) (untold : Option Entry)
+    → option_and_then (λ (told : ToldFile). told.value) (elim told [ None ↦ option_map file_untold untold | Some told ↦ Some told ])
+    ≡ option_and_then (λ (told : ToldFile). told.value) told
+text_known None None = refl
+text_known None (Some entry) = refl
+text_known (Some told) untold = refl
+
+pub other_set_try : (st : State) (user : Identity) (subtree : Names) (file : OtherFile) (told : ToldFile) → IsUnbroken st subtree
+    → file_told st subtree file ≡ Some told
+    → breaks st user subtree (SetOther subtree file (other_text file told.value) ∷ [])
+    ≡ allowed st user (SetOther subtree file (other_text file told.value))
+other_set_try st user subtree file told whole is =
+    where_allowed st user subtree (SetOther subtree file (other_text file told.value)) whole (λ free none.
+    let same = texts_stay st st (with_text st subtree file (other_text file told.value)) subtree none file in
+    text_differs file told.value
+    (sym (ap (option_and_then (λ (told : ToldFile). told.value)) is) ∙ text_known (told_at st subtree file) (untold_at st subtree file)
+    ∙ same ∙ text_set st subtree file told (other_text file told.value) is))
 
 -- ---- move
 

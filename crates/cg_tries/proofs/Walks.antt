@@ -18,6 +18,10 @@ pub given_past : {A B : Type 0} (f : A → Option B) (xs : List A) (i : ℕ) (d 
     → first_given f (drop (i + 1) xs) ≡ first_given f (drop i xs)
 given_past f xs i d h none = sym (given_next f xs i d h ∙ ap (λ o. option_or o (first_given f (drop (i + 1) xs))) none)
 
+pub given-none : {A B : Type 0} (f : A → Option B) (xs : List A) → ((x : A) → f x ≡ None) → first_given f xs ≡ None
+given-none f [] none = refl
+given-none f (x ∷ xs) none = ap (λ o. option_or o (first_given f xs)) (none x) ∙ given-none f xs none
+
 -- the first of those that pass
 pub given-filter : {A B : Type 0} (f : A → Option B) (test : A → Bool) (xs : List A)
     → first_given f (filter test xs) ≡ first_given (λ x. cond (test x) (f x) None) xs

@@ -1,23 +1,28 @@
 -- How an answer is found: nobody has to believe it.
 -- How the first plain try that breaks is found without carrying tries out. Nothing in it has to be believed.
 use Rattle.std.specs.Prelude.{ℕ, zero, suc, ◌+◌, ◌-◌, min, Bool, true, false, cond, not, ◌&&◌, ◌||◌, nat_le, List, [], ◌∷◌, length, take, find, Option, Some, None, is_some, option_and_then}
+use Rattle.std.specs.List.{list_any}
 use Rattle.std.specs.Option.{option_map, option_or}
 use Rattle.cg_cgroup.specs.Paths.{Names, inside, is_root, parent, path_text}
 use Rattle.cg_cgroup.specs.Identity.{Identity}
 use Rattle.cg_cgroup.specs.Users.{writes}
-use Rattle.cg_cgroup.specs.Files.{all_files, enables, enables_nothing}
+use Rattle.cg_cgroup.specs.Files.{all_files, all_others, enables, enables_nothing}
 use Rattle.cg_cgroup.specs.declared.files.Limit.{Limit}
 use Rattle.cg_cgroup.specs.declared.files.Limit.TheVariants.{Max, At}
 use Rattle.cg_cgroup.specs.declared.files.LimitFile.{LimitFile}
 use Rattle.cg_cgroup.specs.declared.files.Controller.{Controller}
-use Rattle.cg_model.specs.States.{State, row_at, place_at, paths_of, pids_of, count_below, value_at}
+use Rattle.cg_cgroup.specs.declared.other_file.OtherFile.{OtherFile}
+use Rattle.cg_cgroup.specs.declared.told.FileText.{FileText}
+use Rattle.cg_cgroup.specs.declared.user.Entry.{Entry}
+use Rattle.cg_cgroup.specs.declared.cgroup.Cgroup.{Cgroup}
+use Rattle.cg_model.specs.States.{State, row_at, place_at, paths_of, pids_of, count_below, value_at, file_told}
 use Rattle.cg_model.specs.WellFormed.{enabled_at}
 use Rattle.cg_model.specs.Clauses.{first}
 use Rattle.cg_model.specs.Bars.{bars, passes}
 use Rattle.cg_model.specs.Limits.{is_under}
 use Rattle.cg_model.specs.declared.operation.Op.{Op}
-use Rattle.cg_model.specs.declared.operation.Op.TheVariants.{Move, Control, Mkdir, Rmdir, Set}
-use Rattle.cg_model.specs.Tries.{other_value, is_told, told_controllers, change_of, probe, free_probe, is_inside}
+use Rattle.cg_model.specs.declared.operation.Op.TheVariants.{Move, Control, Mkdir, Rmdir, Set, SetOther}
+use Rattle.cg_model.specs.Tries.{other_value, other_text, is_told, told_controllers, change_of, probe, free_probe, is_inside}
 
 -- nothing bars the operation
 abbrev pub allowed : State → Identity → Op → Bool
@@ -37,8 +42,30 @@ first_given f (x ∷ xs) = option_or (f x) (first_given f xs)
 abbrev pub set_of : State → Identity → Names → LimitFile → Option (List Op)
 set_of st user subtree file = option_and_then (λ value. if_allowed st user (Set subtree file (other_value file value))) (value_at st subtree file)
 
+abbrev pub first_listed_set : State → Identity → Names → Option (List Op)
+first_listed_set st user subtree = first_given (set_of st user subtree) all_files
+
+-- of a limit file beyond `LimitFile`
+abbrev pub other_set_of : State → Identity → Names → OtherFile → Option (List Op)
+other_set_of st user subtree file =
+    option_and_then (λ told. if_allowed st user (SetOther subtree file (other_text file told.value))) (file_told st subtree file)
+
+-- the same of its entry and of what is told of its value
+abbrev pub other_set_from : Identity → Names → OtherFile → Entry → Option FileText → Option (List Op)
+other_set_from user subtree file entry had = cond (writes user entry) (Some (SetOther subtree file (other_text file had) ∷ [])) None
+
+abbrev pub writes_some : Identity → Option Entry → Bool
+writes_some user entry = elim entry [ None ↦ false | Some entry ↦ writes user entry ]
+
+-- the user writes one of those files where nothing is told of them
+abbrev pub writes_untold : Identity → Cgroup → Bool
+writes_untold user row = writes user row.freeze || list_any (writes_some user) row.others.entries
+
+abbrev pub first_other_set : State → Identity → Names → Option (List Op)
+first_other_set st user subtree = first_given (other_set_of st user subtree) all_others
+
 abbrev pub first_set : State → Identity → Names → Option (List Op)
-first_set st user subtree = first_given (set_of st user subtree) all_files
+first_set st user subtree = option_or (first_listed_set st user subtree) (first_other_set st user subtree)
 
 -- the one change of the controller that has an effect
 abbrev pub control_of : State → Identity → Names → Controller → Option (List Op)

@@ -1,16 +1,22 @@
 //! Tries of one write: the limits of a subtree, what its parent enables, its removal.
-ghost use Rattle.std.specs.Prelude.{◌≡◌, false, IfOk, cond, ◌∷◌, [], Some, None};
+ghost use Rattle.std.specs.Prelude.{◌≡◌, false, IfOk, Some, option_copied};
+ghost use Rattle.std.specs.List.{list_any};
+ghost use Rattle.std.specs.FinMap as map;
 ghost use Rattle.cg_cgroup.specs.Paths.{is_root, parent};
 ghost use Rattle.cg_cgroup.specs.Files.{enables};
 ghost use Rattle.cg_model.specs.States.{row_at};
 ghost use Rattle.cg_model.specs.WellFormed.{enabled_at};
-ghost use Rattle.cg_model.specs.Tries.{other_value};
-ghost use Rattle.cg_tries.specs.Finding.{if_allowed, set_of, first_set, control_of, told_control_of, first_control, first_write};
+ghost use Rattle.cg_model.specs.Limits.{same_text};
+ghost use Rattle.cg_model.specs.Tries.{other_value, other_text};
+ghost use Rattle.cg_tries.specs.Finding.{if_allowed, set_of, first_listed_set, other_set_from, other_set_of, writes_some, writes_untold, first_other_set, first_set, control_of, told_control_of, first_control, first_write};
 
 use crate::asker::Asker;
 use cg_cgroup::cgroup::Cgroup;
 use cg_cgroup::files::{Controller, Limit, LimitFile};
 use cg_cgroup::memory::NoMemory;
+use cg_cgroup::other_file::OtherFile;
+use cg_cgroup::told::{FileText, ToldFiles};
+use cg_cgroup::user::{Entry, User};
 use cg_model::changes::{Change, Changes};
 use cg_model::hierarchy::Hierarchy;
 use cg_model::operation::Op;
@@ -57,6 +63,132 @@ fn set_of<H: Hierarchy>(
     if_allowed(asker, Op::Set { at, file, value })
 }
 
+/// The first file of `LimitFile` of the subtree that the user may set to another value.
+fn first_listed_set<H: Hierarchy>(
+    asker: &Asker<H>,
+    cgroup: &Cgroup,
+) -> Result<Option<Operations>, NoMemory>
+    requires { row_at (H.state asker.now.tree.now) asker.now.subtree.now ≡ Some cgroup.now }
+    ensures { IfOk result (λ found. found ≡ first_listed_set (H.state asker.now.tree.now) asker.now.user.now asker.now.subtree.now) }
+{
+    for file in LimitFile::ALL {
+        if let Some(found) = set_of(asker, cgroup, file)? {
+            return Ok(Some(found));
+        }
+    }
+    Ok(None)
+}
+
+/// Whether a file has this text, as far as its value is told.
+fn has_text(had: Option<&FileText>, text: &str) -> bool
+    ensures { result ≡ same_text (Some text.now) (option_copied had.entry) }
+{
+    match had {
+        Some(value) => text == value.text.as_str(),
+        None => false,
+    }
+}
+
+/// Another text than the file's, one that loosens it where there is one.
+fn other_text(file: OtherFile, had: Option<&FileText>) -> &'static str
+    ensures { result.now ≡ other_text file (option_copied had.entry) }
+{
+    if !has_text(had, file.loose()) {
+        return file.loose();
+    }
+    if !has_text(had, "max") {
+        return "max";
+    }
+    "0"
+}
+
+/// A limit file of the subtree beyond `LimitFile` to another text than it had, where the user writes it.
+fn set_from<H: Hierarchy>(
+    asker: &Asker<H>,
+    file: OtherFile,
+    entry: &Entry,
+    had: Option<&FileText>,
+) -> Result<Option<Operations>, NoMemory>
+    ensures { IfOk result (λ found. found
+        ≡ other_set_from asker.now.user.now asker.now.subtree.now file entry.now (option_copied had.entry)) }
+{
+    if !asker.user.may_write(entry) {
+        return Ok(None);
+    }
+    let at = asker.subtree.try_clone(asker.alloc)?;
+    let text = String::from_str(asker.alloc, other_text(file, had))?;
+    let value = FileText { text };
+    Ok(Some(Operations::only(asker.alloc, Op::SetOther { at, file, value })?))
+}
+
+/// The same where it stands, if these are told.
+#[tactic(auto, using(crate::proofs::OtherSets::set_told))]
+fn other_set_of<H: Hierarchy>(
+    asker: &Asker<H>,
+    cgroup: &Cgroup,
+    files: Option<&ToldFiles>,
+    file: OtherFile,
+) -> Result<Option<Operations>, NoMemory>
+    requires row { row_at (H.state asker.now.tree.now) asker.now.subtree.now ≡ Some cgroup.now }
+    requires told { option_copied files ≡ map.get (H.state asker.now.tree.now).told asker.now.subtree.now }
+    ensures { IfOk result (λ found. found ≡ other_set_of (H.state asker.now.tree.now) asker.now.user.now asker.now.subtree.now file) }
+{
+    if let Some(files) = files {
+        if let Some(told) = files.get(file) {
+            return set_from(asker, file, &told.entry, told.value.as_ref());
+        }
+    }
+    match cgroup.untold(file) {
+        Some(entry) => set_from(asker, file, &entry, None),
+        None => Ok(None),
+    }
+}
+
+/// Whether the user writes an entry, where it is there.
+fn writes_some(user: &User, entry: &Option<Entry>) -> bool
+    ensures { result ≡ writes_some user.now entry.now }
+{
+    match entry {
+        Some(entry) => user.may_write(entry),
+        None => false,
+    }
+}
+
+/// Whether the user writes one of these entries.
+fn writes_any(user: &User, entries: &[Option<Entry>]) -> bool
+    ensures { result ≡ list_any (writes_some user.now) entries.now }
+{
+    entries.iter().any(|entry| writes_some(user, entry))
+}
+
+/// Whether the user writes a limit file of a cgroup beyond `LimitFile`, where nothing is told of these: all that a
+/// controller brings at once.
+fn writes_untold(user: &User, cgroup: &Cgroup) -> bool
+    ensures { result ≡ writes_untold user.now cgroup.now }
+{
+    user.may_write(&cgroup.freeze) || writes_any(user, &cgroup.others.entries)
+}
+
+/// The first file beyond `LimitFile` of the subtree that the user may set to another text.
+fn first_other_set<H: Hierarchy>(
+    asker: &Asker<H>,
+    cgroup: &Cgroup,
+) -> Result<Option<Operations>, NoMemory>
+    requires { row_at (H.state asker.now.tree.now) asker.now.subtree.now ≡ Some cgroup.now }
+    ensures { IfOk result (λ found. found ≡ first_other_set (H.state asker.now.tree.now) asker.now.user.now asker.now.subtree.now) }
+{
+    let files = asker.tree.told(asker.subtree, asker.subtree.depth());
+    if files.is_none() && !writes_untold(asker.user, cgroup) {
+        return Ok(None);
+    }
+    for file in OtherFile::ALL {
+        if let Some(found) = other_set_of(asker, cgroup, files, file)? {
+            return Ok(Some(found));
+        }
+    }
+    Ok(None)
+}
+
 /// The first limit of the subtree that the user may set to another value.
 fn first_set<H: Hierarchy>(
     asker: &Asker<H>,
@@ -65,12 +197,10 @@ fn first_set<H: Hierarchy>(
     requires { row_at (H.state asker.now.tree.now) asker.now.subtree.now ≡ Some cgroup.now }
     ensures { IfOk result (λ found. found ≡ first_set (H.state asker.now.tree.now) asker.now.user.now asker.now.subtree.now) }
 {
-    for file in LimitFile::ALL {
-        if let Some(found) = set_of(asker, cgroup, file)? {
-            return Ok(Some(found));
-        }
+    match first_listed_set(asker, cgroup)? {
+        Some(set) => Ok(Some(set)),
+        None => first_other_set(asker, cgroup),
     }
-    Ok(None)
 }
 
 /// Whether the subtree's parent enables a controller.

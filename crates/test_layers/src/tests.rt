@@ -6,6 +6,7 @@ mod guards;
 mod indexed;
 mod operations;
 mod ops;
+mod others;
 mod paths;
 mod processes;
 mod runs;

@@ -1,13 +1,15 @@
 //! The whole answer of a check, and the plain one: the table of guards walked, and each try carried out.
-use crate::judge::{breaks, is_over, plain_tries};
-use crate::random::Trees;
+use crate::judge::{breaks, breaks_from, is_over, plain_tries};
+use crate::random::{Trees, step};
 use cg_cgroup::files::{EntryName, LimitFile};
 use cg_cgroup::memory::NoMemory;
+use cg_cgroup::other_file::OtherFile;
 use cg_cgroup::path::{Path, PathFault};
 use cg_cgroup::user::{Entry, Mode, User};
 use cg_check::check;
 use cg_model::answer::Answer;
 use cg_model::fault::CheckFault;
+use cg_model::files::entry_at;
 use cg_model::guard::{Failed, Guard};
 use cg_model::hierarchy::Hierarchy;
 use cg_model::operation::Op;
@@ -31,8 +33,8 @@ struct Judged {
     escape: Option<Vec<Op>>,
 }
 
-/// The entries of the table of guards, in its order.
-fn table(alloc: Global, subtree: &Path) -> Result<Vec<Guarded>, NoMemory> {
+/// The entries of the table of guards, in its order; of limit files beyond `LimitFile` those that stand.
+fn table(alloc: Global, tree: &Rows, subtree: &Path) -> Result<Vec<Guarded>, NoMemory> {
     let mut entries = Vec::new(alloc);
     for len in (0..subtree.depth()).rev() {
         entries.push(Guarded {
@@ -43,10 +45,20 @@ fn table(alloc: Global, subtree: &Path) -> Result<Vec<Guarded>, NoMemory> {
     }
     for file in LimitFile::ALL {
         entries.push(Guarded {
-            guard: Guard::LimitFile(file),
+            guard: Guard::LimitFile(EntryName::File(file)),
             at: subtree.try_clone(alloc)?,
             name: EntryName::File(file),
         })?;
+    }
+    for file in OtherFile::ALL {
+        let name = EntryName::Other(file);
+        if entry_at(tree, subtree, subtree.depth(), name).is_some() {
+            entries.push(Guarded {
+                guard: Guard::LimitFile(name),
+                at: subtree.try_clone(alloc)?,
+                name,
+            })?;
+        }
     }
     entries.push(Guarded {
         guard: Guard::ParentControl,
@@ -67,8 +79,7 @@ fn parent(alloc: Global, subtree: &Path) -> Result<Path, NoMemory> {
 
 /// What stands in the tree of an entry of the table.
 fn entry(tree: &Rows, guarded: &Guarded) -> Option<Entry> {
-    tree.get(&guarded.at, guarded.at.depth())?
-        .entry(guarded.name)
+    entry_at(tree, &guarded.at, guarded.at.depth(), guarded.name)
 }
 
 /// The first guard that fails: on an entry that the user writes or owns, or on the counts.
@@ -120,32 +131,52 @@ fn opening(
     Ok(chmods)
 }
 
-/// A try as it is, or else with the opening before it, where that breaks the subtree.
-fn broken_by(
+/// The tree that the opening leaves, and whether the subtree is broken on the way there.
+#[derive(Drop)]
+struct Opened {
+    tree: Rows,
+    is_broken: bool,
+}
+
+/// Carries the opening out; none where it is empty.
+fn carried_out(
     alloc: Global,
     tree: &Rows,
     user: &User,
     subtree: &Path,
-    entries: &[Guarded],
-    ops: Vec<Op>,
-) -> Result<Option<Vec<Op>>, NoMemory> {
-    if breaks(alloc, tree, user, subtree, ops.as_slice())? {
-        return Ok(Some(ops));
-    }
-    let mut opened = opening(alloc, tree, user, entries)?;
-    if opened.is_empty() {
+    chmods: &[Op],
+) -> Result<Option<Opened>, NoMemory> {
+    if chmods.is_empty() {
         return Ok(None);
     }
-    for op in ops {
-        opened.push(op)?;
+    let mut now = tree.try_clone(alloc)?;
+    for op in chmods {
+        step(alloc, &mut now, user, op)?;
     }
-    if breaks(alloc, tree, user, subtree, opened.as_slice())? {
-        return Ok(Some(opened));
-    }
-    Ok(None)
+    Ok(Some(Opened {
+        tree: now,
+        is_broken: breaks(alloc, tree, user, subtree, chmods)?,
+    }))
 }
 
-/// The first of the tries that breaks the subtree.
+/// Whether a try breaks the subtree behind the opening.
+fn breaks_opened(
+    alloc: Global,
+    tree: &Rows,
+    opened: Option<&Opened>,
+    user: &User,
+    subtree: &Path,
+    ops: &[Op],
+) -> Result<bool, NoMemory> {
+    match opened {
+        Some(opened) => Ok(
+            opened.is_broken || breaks_from(alloc, tree, &opened.tree, user, subtree, ops)?,
+        ),
+        None => Ok(false),
+    }
+}
+
+/// The first of the tries that breaks the subtree: each as it is, or else with the opening before it.
 fn first_escape(
     alloc: Global,
     tree: &Rows,
@@ -153,10 +184,17 @@ fn first_escape(
     subtree: &Path,
     entries: &[Guarded],
 ) -> Result<Option<Vec<Op>>, PathFault> {
+    let mut chmods = opening(alloc, tree, user, entries)?;
+    let opened = carried_out(alloc, tree, user, subtree, chmods.as_slice())?;
     for ops in plain_tries(alloc, tree, subtree)? {
-        let broken = broken_by(alloc, tree, user, subtree, entries, ops)?;
-        if broken.is_some() {
-            return Ok(broken);
+        if breaks(alloc, tree, user, subtree, ops.as_slice())? {
+            return Ok(Some(ops));
+        }
+        if breaks_opened(alloc, tree, opened.as_ref(), user, subtree, ops.as_slice())? {
+            for op in ops {
+                chmods.push(op)?;
+            }
+            return Ok(Some(chmods));
         }
     }
     Ok(None)
@@ -164,7 +202,7 @@ fn first_escape(
 
 /// What the plain way says of a subtree that is there and isn't the root.
 fn judge(alloc: Global, tree: &Rows, user: &User, subtree: &Path) -> Result<Judged, PathFault> {
-    let entries = table(alloc, subtree)?;
+    let entries = table(alloc, tree, subtree)?;
     let failed = first_failed(alloc, tree, user, subtree, entries.as_slice())?;
     let escape = first_escape(alloc, tree, user, subtree, entries.as_slice())?;
     Ok(Judged { failed, escape })
@@ -272,7 +310,7 @@ fn answers_are_the_judges(rt: HostRuntime) -> Result<(), Fail> {
         kinds: [0; 6],
         guards: [0; 6],
     };
-    for _tree in 0..8000 {
+    for _tree in 0..1000 {
         ask_all(&rt, alloc, &mut trees, &mut counts)?;
     }
     for count in counts.kinds {

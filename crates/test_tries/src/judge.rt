@@ -2,12 +2,15 @@
 ghost use Rattle.std.specs.Prelude.{◌≤◌, length};
 
 use crate::random::step;
-use cg_cgroup::files::{Controller, Limit, LimitFile};
+use cg_cgroup::files::{Controller, EntryName, Limit, LimitFile};
 use cg_cgroup::memory::NoMemory;
+use cg_cgroup::other_file::OtherFile;
 use cg_cgroup::path::{Path, PathFault};
 use cg_cgroup::process::Pid;
+use cg_cgroup::told::{FileText, ToldFiles};
 use cg_cgroup::user::User;
 use cg_model::changes::{Change, Changes};
+use cg_model::files::entry_at;
 use cg_model::hierarchy::Hierarchy;
 use cg_model::operation::Op;
 use cg_rows::rows::Rows;
@@ -39,30 +42,34 @@ pub fn breaks(
     if is_over(tree, subtree, tree.paths(alloc)?.as_slice()) {
         return Ok(true);
     }
+    breaks_from(alloc, tree, tree, user, subtree, ops)
+}
+
+/// Whether these operations, in turn, break the subtree in a run that began at `start` and has come to another tree.
+pub fn breaks_from(
+    alloc: Global,
+    start: &Rows,
+    tree: &Rows,
+    user: &User,
+    subtree: &Path,
+    ops: &[Op],
+) -> Result<bool, NoMemory> {
     let mut now = tree.try_clone(alloc)?;
+    let mut before = sides(alloc, &now, subtree)?;
     for op in ops {
-        let before = now.try_clone(alloc)?;
         step(alloc, &mut now, user, op)?;
-        if is_broken(alloc, tree, &before, &now, subtree)? {
+        let after = sides(alloc, &now, subtree)?;
+        if is_broken(alloc, start, &now, subtree)? || is_crossed(&before, &after) {
             return Ok(true);
         }
+        before = after;
     }
     Ok(false)
 }
 
-/// Whether the step from one tree to another breaks the subtree, in a run that began at `start`.
-fn is_broken(
-    alloc: Global,
-    start: &Rows,
-    before: &Rows,
-    now: &Rows,
-    subtree: &Path,
-) -> Result<bool, NoMemory> {
-    Ok(
-        is_changed(start, now, subtree)
-            || is_crossed(before, now, subtree, before.pids(alloc)?.as_slice())
-            || is_over(now, subtree, now.paths(alloc)?.as_slice()),
-    )
+/// Whether the subtree is gone, changed or over its limits, in a run that began at `start`.
+fn is_broken(alloc: Global, start: &Rows, now: &Rows, subtree: &Path) -> Result<bool, NoMemory> {
+    Ok(is_changed(start, now, subtree) || is_over(now, subtree, now.paths(alloc)?.as_slice()))
 }
 
 /// Whether the subtree is gone, one of its limits is another, or files of a controller came to stand there or stand no more.
@@ -83,17 +90,46 @@ fn is_changed(start: &Rows, now: &Rows, subtree: &Path) -> bool {
             return true;
         }
     }
+    is_retold(start, now, subtree)
+}
+
+/// What is told as the value of a limit file beyond `LimitFile`.
+fn text<'a>(told: Option<&'a ToldFiles>, file: OtherFile) -> Option<&'a FileText> {
+    told?.get(file)?.value.as_ref()
+}
+
+/// Whether another value is told of one of the subtree's.
+fn is_retold(start: &Rows, now: &Rows, subtree: &Path) -> bool {
+    let old = start.told(subtree, subtree.depth());
+    let new = now.told(subtree, subtree.depth());
+    if old.is_none() && new.is_none() {
+        return false;
+    }
+    for file in OtherFile::ALL {
+        if text(old, file) != text(new, file) {
+            return true;
+        }
+    }
     false
 }
 
-/// Whether one of these processes is inside on one side of the step alone.
-fn is_crossed(before: &Rows, now: &Rows, subtree: &Path, pids: &[Pid]) -> bool {
-    for pid in pids {
-        if let Some(from) = before.place(*pid) {
-            if let Some(to) = now.place(*pid) {
-                if subtree.is_prefix_of(from) != subtree.is_prefix_of(to) {
-                    return true;
-                }
+/// Each live process, and whether it is inside the subtree.
+fn sides(alloc: Global, tree: &Rows, subtree: &Path) -> Result<Vec<(Pid, bool)>, NoMemory> {
+    let mut sides = Vec::new(alloc);
+    for pid in tree.pids(alloc)? {
+        if let Some(place) = tree.place(pid) {
+            sides.push((pid, subtree.is_prefix_of(place)))?;
+        }
+    }
+    Ok(sides)
+}
+
+/// Whether a process is inside before a step or after it alone.
+fn is_crossed(before: &[(Pid, bool)], after: &[(Pid, bool)]) -> bool {
+    for (pid, was_inside) in before {
+        for (other, is_inside) in after {
+            if pid == other && was_inside != is_inside {
+                return true;
             }
         }
     }
@@ -167,6 +203,36 @@ fn other_value(file: LimitFile, value: Limit) -> Limit {
     }
 }
 
+/// Another text than that of a file, one that loosens it where there is one.
+fn other_text(file: OtherFile, had: Option<&FileText>) -> &'static str {
+    let Some(had) = had else {
+        return file.loose();
+    };
+    for text in [file.loose(), "max"] {
+        if text != had.text.as_str() {
+            return text;
+        }
+    }
+    "0"
+}
+
+/// The sets of the subtree's limit files beyond `LimitFile`.
+fn other_sets(alloc: Global, tree: &Rows, subtree: &Path) -> Result<Vec<Vec<Op>>, NoMemory> {
+    let mut tries = Vec::new(alloc);
+    let told = tree.told(subtree, subtree.depth());
+    for file in OtherFile::ALL {
+        if entry_at(tree, subtree, subtree.depth(), EntryName::Other(file)).is_some() {
+            let at = subtree.try_clone(alloc)?;
+            let text = other_text(file, text(told, file));
+            let value = FileText {
+                text: String::from_str(alloc, text)?,
+            };
+            tries.push(only(alloc, Op::SetOther { at, file, value })?)?;
+        }
+    }
+    Ok(tries)
+}
+
 /// The sets of the subtree's limits, and the controls at its parent of what is told of.
 fn writes(alloc: Global, tree: &Rows, subtree: &Path) -> Result<Vec<Vec<Op>>, NoMemory> {
     let mut tries = Vec::new(alloc);
@@ -180,6 +246,7 @@ fn writes(alloc: Global, tree: &Rows, subtree: &Path) -> Result<Vec<Vec<Op>>, No
             tries.push(only(alloc, Op::Set { at, file, value })?)?;
         }
     }
+    add(&mut tries, other_sets(alloc, tree, subtree)?)?;
     for controller in Controller::ALL {
         if is_told(tree, controller) {
             for on in [false, true] {

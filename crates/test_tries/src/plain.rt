@@ -83,12 +83,12 @@ fn judge_agrees(rt: HostRuntime) -> Result<(), Fail> {
     let alloc = rt.alloc();
     let mut trees = Trees::new(20231123).ok_or("users")?;
     let mut kinds = [0_u64; 7];
-    for _tree in 0..1000 {
+    for _tree in 0..200 {
         let tree = trees.tree(alloc)?;
         ask_all(&rt, alloc, &tree, &trees.users, &mut kinds)?;
     }
     for count in kinds {
-        assert!(rt; count > 20, "{kinds:?}");
+        assert!(rt; count > 4, "{kinds:?}");
     }
     Ok(())
 }

@@ -2,8 +2,10 @@
 use cg_cgroup::cgroup::Cgroup;
 use cg_cgroup::files::{Controller, ControllerSet, EntryName, Limit, LimitFile};
 use cg_cgroup::memory::NoMemory;
+use cg_cgroup::other_file::OtherFile;
 use cg_cgroup::path::{Path, PathFault};
 use cg_cgroup::process::Pid;
+use cg_cgroup::told::FileText;
 use cg_cgroup::user::{Mode, User};
 use cg_model::changes::{Change, Changes};
 use cg_model::hierarchy::Hierarchy;
@@ -40,7 +42,8 @@ fn chmod(alloc: Global, random: &mut Random, tree: &Rows) -> Result<Op, NoMemory
     let file = random.one_of(&LimitFile::ALL, LimitFile::MaxDepth);
     let entries = [EntryName::Dir, EntryName::Procs, EntryName::SubtreeControl];
     let control = random.one_of(&entries, EntryName::Dir);
-    let entry = random.one_of(&[control, control, EntryName::File(file)], control);
+    let other = EntryName::Other(random.one_of(&OtherFile::ALL, OtherFile::CpuMax));
+    let entry = random.one_of(&[control, control, EntryName::File(file), other], control);
     let mode = Mode::new(random.one_of(&MODES, 0o600)).unwrap_or(Mode::FILE);
     Ok(Op::Chmod { at, entry, mode })
 }
@@ -58,6 +61,17 @@ fn set(alloc: Global, random: &mut Random, tree: &Rows) -> Result<Op, NoMemory> 
     ];
     let value = random.one_of(&values, Limit::Max);
     Ok(Op::Set { at, file, value })
+}
+
+/// Another text for a random limit beyond `LimitFile`, among them those that tries set.
+fn set_other(alloc: Global, random: &mut Random, tree: &Rows) -> Result<Op, NoMemory> {
+    let at = path_of(alloc, random, tree)?;
+    let file = random.one_of(&OtherFile::ALL, OtherFile::CpuMax);
+    let text = random.one_of(&[file.loose(), "max", "0"], "max");
+    let value = FileText {
+        text: String::from_str(alloc, text)?,
+    };
+    Ok(Op::SetOther { at, file, value })
 }
 
 /// A change of a random controller at a random cgroup.
@@ -83,11 +97,12 @@ fn movement(alloc: Global, random: &mut Random, tree: &Rows) -> Result<Op, NoMem
 
 /// A random operation.
 fn operation(alloc: Global, random: &mut Random, tree: &Rows) -> Result<Op, PathFault> {
-    match random.below(10) {
+    match random.below(11) {
         0..=2 => child(alloc, random, tree),
         3..=5 => Ok(chmod(alloc, random, tree)?),
         6 => Ok(set(alloc, random, tree)?),
-        7 => Ok(control(alloc, random, tree)?),
+        7 => Ok(set_other(alloc, random, tree)?),
+        8 => Ok(control(alloc, random, tree)?),
         _ => Ok(movement(alloc, random, tree)?),
     }
 }

@@ -25,8 +25,8 @@ pub fn asked<H: Hierarchy + Drop, T: Debug + Drop, E: Debug + Drop + PartialEq>(
     answer_said(trial.alloc, wanted, kept, &answer)
 }
 
-/// Whether two trees read alike: their paths, the cgroups there, their live PIDs, and of the first hundred PIDs and the live
-/// ones the places, owners and whether they were used.
+/// Whether two trees read alike: their paths, the cgroups there and what is told of their files, their live PIDs, and of the
+/// first hundred PIDs and the live ones the places, owners and whether they were used.
 pub fn reads_alike<H: Hierarchy>(alloc: Global, tree: &H, other: &H) -> Result<bool, NoMemory> {
     let paths = other.paths(alloc)?;
     let pids = other.pids(alloc)?;
@@ -42,7 +42,11 @@ pub fn reads_alike<H: Hierarchy>(alloc: Global, tree: &H, other: &H) -> Result<b
 
 fn have_same_rows<H: Hierarchy>(tree: &H, other: &H, paths: &[Path]) -> bool {
     for path in paths {
-        if tree.get(path, path.depth()).copied() != other.get(path, path.depth()).copied() {
+        let len = path.depth();
+        if tree.get(path, len).copied() != other.get(path, len).copied() {
+            return false;
+        }
+        if tree.told(path, len) != other.told(path, len) {
             return false;
         }
     }

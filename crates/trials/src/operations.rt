@@ -7,6 +7,7 @@ use cg_cgroup::files::Vocabulary;
 use cg_cgroup::path::Path;
 use cg_cgroup::user::User;
 use cg_lines::lines::read_op_in;
+use cg_model::fault::CheckFault;
 use cg_model::hierarchy::Hierarchy;
 use cg_model::operation::Op;
 use cg_model::outcome::Outcome;
@@ -90,7 +91,7 @@ fn outcome_shown(alloc: Global, outcome: Outcome) -> Result<String, Stopped> {
 pub fn stepped<H: Hierarchy + Drop>(tree: H, trial: &mut Trial<'_>) -> Ended {
     let alloc = trial.alloc;
     let user = trial.words.user()?;
-    let mut replay = Replay::start(tree, trial.words.path(alloc)?)?;
+    let mut replay = Replay::start(alloc, tree, trial.words.path(alloc)?)?;
     let op = last_of(alloc, trial.words.rest(), |op| {
         let _ = replay.step(alloc, &user, op)?;
         Ok(())
@@ -109,16 +110,22 @@ pub fn stepped<H: Hierarchy + Drop>(tree: H, trial: &mut Trial<'_>) -> Ended {
     Ok(text_said(wanted, kept, format!(in alloc; "{shown} {verdict:?}")?))
 }
 
-/// `start SUBTREE`
-pub fn started<H: Hierarchy + Drop>(tree: H, trial: &mut Trial<'_>) -> Ended {
+/// `start UID SUBTREE LINE ..`, behind the operations of all lines
+pub fn started<H: Hierarchy + Drop>(mut tree: H, trial: &mut Trial<'_>) -> Ended {
     let alloc = trial.alloc;
+    let user = trial.words.user()?;
     let subtree: Path = trial.words.path(alloc)?;
+    for line in trial.words.rest() {
+        let _ = apply(alloc, &mut tree, &user, &operation(alloc, line.as_str())?)?;
+    }
+    let (copy, again) = (tree.try_clone(alloc)?, subtree.try_clone(alloc)?);
     trial.begin()?;
-    match Replay::start(tree, subtree) {
-        Ok(replay) => {
-            let verdict = replay.verdict();
-            answer_said(alloc, false, true, &verdict)
-        }
-        Err(fault) => answer_said(alloc, false, true, &fault),
+    let (wanted, begun) = match Replay::start(alloc, tree, subtree) {
+        Err(CheckFault::NoMemory) => (true, Replay::start(alloc, copy, again)),
+        begun => (false, begun),
+    };
+    match begun {
+        Ok(replay) => answer_said(alloc, wanted, true, &replay.verdict()),
+        Err(fault) => answer_said(alloc, wanted, true, &fault),
     }
 }

@@ -148,7 +148,7 @@ pub fn answer_written(tree: &[u8], trial: &mut Trial<'_>) -> Ended {
 pub fn verdict_written(tree: &[u8], trial: &mut Trial<'_>) -> Ended {
     let alloc = trial.alloc;
     let user = trial.words.user()?;
-    let mut replay = Replay::start(read_tree(alloc, tree)?, trial.words.path(alloc)?)?;
+    let mut replay = Replay::start(alloc, read_tree(alloc, tree)?, trial.words.path(alloc)?)?;
     for line in trial.words.rest() {
         let _ = replay.step(alloc, &user, &operation(alloc, line.as_str())?)?;
     }

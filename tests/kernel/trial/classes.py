@@ -137,12 +137,18 @@ RULES = {
     "effects of limits": effect_of_limits,
 }
 VALUES = {"range of values": value_kept}
+NO_FURTHER = "no case names a further limit file"
 LEFT_OUT = {
     "weight of the idle": "no case writes cpu.idle before its weights are compared",
     "long writes": "no line of a case is as long",
     "zombies": "the init waits for what has ended",
     "setgid directories": "no case has a mode past 0777",
     "no identity": "the cases have 4294967294 in its place",
+    "any value": NO_FURTHER,
+    "read back": NO_FURTHER,
+    "one line of several": NO_FURTHER,
+    "file that turns another": NO_FURTHER,
+    "unknown file": NO_FURTHER,
 }
 
 

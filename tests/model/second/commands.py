@@ -8,6 +8,7 @@ import re
 from . import explained, rules, settled
 from .controllers import controllers_in
 from .documents import Fault
+from .further import FURTHER_FILES, is_value
 from .rules import text_of
 from .texts import LAST_ID, tree_of
 
@@ -33,15 +34,18 @@ OPTIONS = {
 def operation_of(line, form=2):
     """The operation of a line without its newline, of a tree of a format, or None."""
     try:
-        words = line.decode("ascii").split(" ")
+        kind, *rest = line.decode("ascii").split(" ")
     except UnicodeDecodeError:
         return None
-    kind, rest = words[0], words[1:]
     if kind == "control" and rest:
         read = [rules.path_of(rest[0]), tuple(change_word(word, form) for word in rest[1:])]
         return None if read[0] is None or None in read[1] else (kind, *read)
+    value = value_word
+    if kind == "set" and further_word("".join(rest[1:2]), form):
+        rest, value = [*rest[:2], " ".join(rest[2:])], text_word
     forms = {"move": (pid_word, rules.path_of), "mkdir": (rules.path_of,), "rmdir": (rules.path_of,), "fork": (pid_word, pid_word),
-             "set": (rules.path_of, limit_word, value_word), "exit": (pid_word,), "chmod": (rules.path_of, entry_word, mode_word)}
+             "set": (rules.path_of, lambda word: limit_word(word, form), value), "exit": (pid_word,),
+             "chmod": (rules.path_of, lambda word: entry_word(word, form), mode_word)}
     if len(forms.get(kind, ())) != len(rest) or kind not in forms:
         return None
     read = [each(word) for each, word in zip(forms[kind], rest)]
@@ -57,8 +61,18 @@ def change_word(word, form):
     return (word[0], word[1:]) if word[:1] in ("+", "-") and word[1:] in controllers_in(form) else None
 
 
-def limit_word(word):
-    return word if word in rules.LIMIT_FILES else None
+def further_word(word, form):
+    """A further limit file's name, which lines for a tree of format 4 have."""
+    return word if form == 4 and word in FURTHER_FILES else None
+
+
+def limit_word(word, form):
+    return word if word in rules.LIMIT_FILES else further_word(word, form)
+
+
+def text_word(word):
+    """The value of a further limit file, which is the rest of its line."""
+    return word if is_value(word) else None
 
 
 def value_word(word):
@@ -67,8 +81,8 @@ def value_word(word):
     return int(word) if re.fullmatch(NUMBER, word) and int(word) < 2 ** 64 else None
 
 
-def entry_word(word):
-    return word if word in rules.STANDING or word in rules.LIMIT_FILES else None
+def entry_word(word, form):
+    return word if word in rules.STANDING else limit_word(word, form)
 
 
 def mode_word(word):

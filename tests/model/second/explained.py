@@ -31,7 +31,7 @@ def second_row(state, users, top):
     for controller in rules.controllers_of(state):
         by = control_by(state, users, found, top[:-1], controller)
         lines.append(line_of(by != "turned", "control", text_of(top[:-1]), controller, by))
-    reached = any(lasting.is_reached(state, users, top, file) for file in rules.LIMIT_FILES)
+    reached = any(lasting.is_reached(state, users, top, file) for file in rules.ALL_FILES)
     lines.append(line_of(not reached, "files", text_of(top), "reached" if reached else "spared"))
     for path in led_to(state, users, top):
         takes, grows = takes_by(state, users, found, path), grows_by(state, users, found, path)

@@ -80,7 +80,7 @@ def second_row_holds(state, users, top):
         return False
     if any((top[:-1], controller) not in lasting.on | lasting.off for controller in rules.controllers_of(state)):
         return False
-    if any(is_reached(state, users, top, file) for file in rules.LIMIT_FILES):
+    if any(is_reached(state, users, top, file) for file in rules.ALL_FILES):
         return False
     edges = [above for above in rules.upwards(top)[1:] if is_reached(state, users, above, PROCS)]
     closed = [path for path in state.cgroups if edges and rules.inside(path, top) or rules.common(path, top) in edges]

@@ -6,13 +6,14 @@ the code's mistakes. It is plain and slow: each count is taken anew from all pat
 A path is a tuple of names. A user is (uid, gids). A state and what it holds are never changed: a step makes another state.
 """
 import itertools
-from dataclasses import dataclass, replace
+from dataclasses import dataclass, field, replace
 
 from .controllers import ALL_CONTROLLERS, CONTROLLERS
+from .further import FURTHER_FILES
 
 MOST = 2 ** 63 - 1
 MAX = "max"
-# each limit file, in the order used everywhere: its controller, default, least and greatest number, whether it takes `max`
+# each of the eight limit files, in the order used everywhere: its controller, default, least and greatest number, whether it takes `max`
 LIMIT_FILES = {
     "cgroup.max.descendants": (None, MAX, 0, MOST, True),
     "cgroup.max.depth": (None, MAX, 0, MOST, True),
@@ -26,6 +27,7 @@ LIMIT_FILES = {
 DESCENDANTS, DEPTH = "cgroup.max.descendants", "cgroup.max.depth"
 DIR, PROCS, CONTROL = "dir", "cgroup.procs", "cgroup.subtree_control"
 STANDING = (DIR, PROCS, CONTROL)
+ALL_FILES = (*LIMIT_FILES, *FURTHER_FILES)
 RESERVED = {"cgroup.controllers", PROCS, CONTROL, *LIMIT_FILES}
 LONGEST_PATH, LONGEST_NAME = 4095, 255
 LAST_PID = 4194303
@@ -41,10 +43,13 @@ class Entry:
 
 @dataclass(frozen=True)
 class Cgroup:
-    """`entries` and `values` by name: the directory, the control files and the limit files that stand, and their values."""
+    """`entries` by name: the directory, the control files, the eight limit files that stand and the further ones that are told of;
+    `values` of the eight, and the texts of further ones that aren't as they are. `untold` by the controller that brings them, or None: the
+    entry of further ones of which nothing is told, where it isn't root's."""
     entries: dict
     values: dict
     enabled: frozenset = frozenset()
+    untold: dict = field(default_factory=dict)
 
 
 @dataclass(frozen=True)
@@ -143,8 +148,28 @@ def controllers_of(state):
 
 
 def files_at(state, path):
-    """The limit files that belong at a path, in their order."""
+    """Those of the eight limit files that belong at a path, in their order."""
     return [file for file, (controller, *_) in LIMIT_FILES.items() if controller is None or controller in brought(state, path)]
+
+
+def further_at(state, path):
+    """The further limit files that belong at a path, in their order: at the root those that no controller brings."""
+    return [file for file, (controller, _) in FURTHER_FILES.items() if controller is None or controller in brought(state, path)]
+
+
+def told_at(state, path):
+    """The further limit files of a path that are told of, in their order."""
+    return [file for file in FURTHER_FILES if file in state.cgroups[path].entries]
+
+
+def stands(state, path, name):
+    return name in state.cgroups[path].entries or name in further_at(state, path)
+
+
+def entry_of(state, path, name):
+    """An entry that stands, which may be a further limit file of which nothing is told."""
+    cgroup = state.cgroups[path]
+    return cgroup.entries[name] if name in cgroup.entries else cgroup.untold.get(FURTHER_FILES[name][0], Entry())
 
 
 def default_of(file):
@@ -152,6 +177,9 @@ def default_of(file):
 
 
 def accepts(file, value):
+    """A further limit file accepts any text."""
+    if file in FURTHER_FILES:
+        return True
     _, _, least, greatest, takes_max = LIMIT_FILES[file]
     return takes_max if value == MAX else least <= value <= greatest
 
@@ -166,11 +194,12 @@ def lives_at(state, path):
 
 
 # Operations: ("move", pid, path), ("control", path, ((sign, controller), ..)), ("mkdir", path), ("rmdir", path),
-# ("set", path, file, value), ("fork", parent, child), ("exit", pid), ("chmod", path, entry, mode).
+# ("set", path, file, value), where the value of a further limit file is a text, ("fork", parent, child), ("exit", pid),
+# ("chmod", path, entry, mode).
 
 
 def entry_bar(state, user, path, name):
-    return [] if writes(user, state.cgroups[path].entries[name]) else [f"no-access {text_of(path)} {name}"]
+    return [] if writes(user, entry_of(state, path, name)) else [f"no-access {text_of(path)} {name}"]
 
 
 def bars(state, user, operation):
@@ -256,7 +285,7 @@ def rmdir_bars(state, user, path):
 
 def set_bars(state, user, path, file, value):
     found = missing(state, path)
-    if not found and file not in state.cgroups[path].values:
+    if not found and not stands(state, path, file):
         found.append(f"no-such-file {text_of(path)} {file}")
     elif not found:
         found += entry_bar(state, user, path, file)
@@ -276,9 +305,9 @@ def exit_bars(state, user, pid):
 def chmod_bars(state, user, path, name, _mode):
     if path not in state.cgroups:
         return missing(state, path)
-    if name not in state.cgroups[path].entries:
+    if not stands(state, path, name):
         return [f"no-such-file {text_of(path)} {name}"]
-    return [] if owns(user, state.cgroups[path].entries[name]) else [f"not-owner {text_of(path)} {name}"]
+    return [] if owns(user, entry_of(state, path, name)) else [f"not-owner {text_of(path)} {name}"]
 
 
 BARS = {"move": move_bars, "control": control_bars, "mkdir": mkdir_bars, "rmdir": rmdir_bars, "set": set_bars,
@@ -298,28 +327,32 @@ def after_move(state, _user, pid, to):
     return replace(state, live={**state.live, pid: (state.live[pid][0], to)})
 
 
-def refitted(state, user, path):
-    """A cgroup with the limit files that belong at it: one that stands is kept, one that comes is the user's."""
+def refitted(state, user, path, came):
+    """A cgroup with the limit files that belong at it: one that stands is kept, one that comes is the user's, and of a further one that
+    goes all is forgotten. `came` has what brings further ones that weren't there."""
     old = state.cgroups[path]
-    entries = {name: old.entries[name] for name in STANDING}
-    values = {}
+    told = [file for file in told_at(state, path) if file in further_at(state, path)]
+    entries = {name: old.entries[name] for name in (*STANDING, *told)}
+    values = {file: old.values[file] for file in told if file in old.values}
     for file in files_at(state, path):
         entries[file] = old.entries.get(file, made_by(user, FILE_MODE))
         values[file] = old.values.get(file, default_of(file))
-    return replace(old, entries=entries, values=values)
+    kept = {one: entry for one, entry in old.untold.items() if one is None or one in brought(state, path)}
+    return replace(old, entries=entries, values=values, untold={**kept, **{one: made_by(user, FILE_MODE) for one in came}})
 
 
 def after_control(state, user, path, changes):
-    state = with_cgroup(state, path, replace(state.cgroups[path], enabled=enabled_after(state, path, changes)))
+    old, enabled = state.cgroups[path], enabled_after(state, path, changes)
+    state = with_cgroup(state, path, replace(old, enabled=enabled))
     for child in children(state, path):
-        state = with_cgroup(state, child, refitted(state, user, child))
+        state = with_cgroup(state, child, refitted(state, user, child, enabled - old.enabled))
     return state
 
 
 def after_mkdir(state, user, path):
     entries = {DIR: made_by(user, DIR_MODE), PROCS: made_by(user, FILE_MODE), CONTROL: made_by(user, FILE_MODE)}
     state = with_cgroup(state, path, Cgroup(entries, {}))
-    return with_cgroup(state, path, refitted(state, user, path))
+    return with_cgroup(state, path, refitted(state, user, path, {None, *brought(state, path)}))
 
 
 def after_rmdir(state, _user, path):
@@ -327,8 +360,10 @@ def after_rmdir(state, _user, path):
 
 
 def after_set(state, _user, path, file, value):
+    """A further limit file is told of from then on."""
     old = state.cgroups[path]
-    return with_cgroup(state, path, replace(old, values={**old.values, file: value}))
+    entries = {**old.entries, file: entry_of(state, path, file)}
+    return with_cgroup(state, path, replace(old, entries=entries, values={**old.values, file: value}))
 
 
 def after_fork(state, _user, parent, child):
@@ -340,8 +375,9 @@ def after_exit(state, _user, pid):
 
 
 def after_chmod(state, _user, path, name, mode):
-    old = state.cgroups[path]
-    return with_cgroup(state, path, replace(old, entries={**old.entries, name: replace(old.entries[name], mode=mode)}))
+    """A further limit file is told of from then on, and its value is what it was."""
+    old, entry = state.cgroups[path], replace(entry_of(state, path, name), mode=mode)
+    return with_cgroup(state, path, replace(old, entries={**old.entries, name: entry}))
 
 
 NEXT = {"move": after_move, "control": after_control, "mkdir": after_mkdir, "rmdir": after_rmdir, "set": after_set,
@@ -371,7 +407,7 @@ def over(state, top):
 
 
 def limits_of(state, top):
-    """The values of the limit files that stand at a cgroup, and the controllers whose other files stand there."""
+    """The values of limit files of a cgroup, but of further ones that are as they are, and the controllers whose files stand there."""
     return state.cgroups[top].values, brought(state, top)
 
 
@@ -403,9 +439,10 @@ def verdict(states, top):
 
 
 def guarded(state, top):
-    """The guarded entries in order: each guard with the cgroup and the name of its entry."""
+    """The guarded entries in order: each guard with the cgroup and the name of its entry. Of further limit files those that are told of:
+    in a tree that was read, and of no other a command asks, all others are root's."""
     found = [("common-ancestor", path, PROCS) for path in upwards(top)[1:]]
-    found += [("limit-file", top, file) for file in LIMIT_FILES if file in state.cgroups[top].values]
+    found += [("limit-file", top, file) for file in ALL_FILES if file in state.cgroups[top].entries]
     return found + [("parent-control", top[:-1], CONTROL), ("parent-dir", top[:-1], DIR)]
 
 
@@ -416,6 +453,9 @@ def failures(state, user, top):
 
 
 def other_value(file, value):
+    """Another value of a file, which is None where it is as it is."""
+    if file in FURTHER_FILES:
+        return next(text for text in (FURTHER_FILES[file][1], MAX, "0") if text != value)
     if file == "cpu.weight":
         return 1 if value == 100 else 100
     return 0 if value == MAX else MAX
@@ -423,8 +463,8 @@ def other_value(file, value):
 
 def plain_tries(state, top):
     yield []
-    for file in files_at(state, top):
-        yield [("set", top, file, other_value(file, state.cgroups[top].values[file]))]
+    for file in files_at(state, top) + told_at(state, top):
+        yield [("set", top, file, other_value(file, state.cgroups[top].values.get(file)))]
     for controller, sign in itertools.product(controllers_of(state), "-+"):
         yield [("control", top[:-1], ((sign, controller),))]
     yield [("rmdir", top)]

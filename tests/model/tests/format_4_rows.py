@@ -189,6 +189,57 @@ OUTCOMES = [
     ("control /s +io", "refused internal-process /s"),
     ("control /s -io", "ok"),
 ]
+# the same on further limit files
+OUTCOMES_OF_FURTHER = [
+    ("set /x cpu.max max", "refused no-such-cgroup /x"),
+    ("set / cpu.max max 100000", "refused no-such-file / cpu.max"),
+    ("set / cgroup.freeze 0", "refused no-access / cgroup.freeze"),
+    ("set /s cpu.max max 100000", "refused no-access /s cpu.max"),
+    ("set /s cgroup.freeze 0", "refused no-access /s cgroup.freeze"),
+    ("set /s rdma.max max", "refused no-such-file /s rdma.max"),
+    ("set /s hugetlb.2MB.rsvd.max max", "refused no-such-file /s hugetlb.2MB.rsvd.max"),
+    ("set /s memory.swap.max no value at all", "refused no-access /s memory.swap.max"),
+    ("set /s/a cpu.max 1", "refused no-such-file /s/a cpu.max"),
+    ("set /s/a cgroup.freeze 1", "refused no-access /s/a cgroup.freeze"),
+    ("chmod /x io.max 644", "refused no-such-cgroup /x"),
+    ("chmod / io.max 600", "refused no-such-file / io.max"),
+    ("chmod / cgroup.freeze 600", "refused not-owner / cgroup.freeze"),
+    ("chmod /s misc.max 600", "refused no-such-file /s misc.max"),
+    ("chmod /s io.weight 666", "refused not-owner /s io.weight"),
+    ("control /s +memory +io", "ok"),
+    ("set /s/a io.max 8:0 rbps=1048576 wiops=120", "ok"),
+    ("set /s/a io.max 8:0 rbps=1048576 wiops=120", "ok"),
+    ("set /s/a memory.zswap.writeback -1", "ok"),
+    ("chmod /s/a io.weight 400", "ok"),
+    ("set /s/a io.weight default 60", "refused no-access /s/a io.weight"),
+    ("set /s/a io.latency max", "ok"),
+    ("control /s +io +memory", "ok"),
+    ("set /s/a io.weight default 60", "refused no-access /s/a io.weight"),
+    ("set /s/a cgroup.freeze 1", "refused no-access /s/a cgroup.freeze"),
+    ("control /s -memory", "ok"),
+    ("set /s/a memory.swap.max 0", "refused no-such-file /s/a memory.swap.max"),
+    ("chmod /s/a memory.swap.max 600", "refused no-such-file /s/a memory.swap.max"),
+    ("set /s/a io.weight default 60", "refused no-access /s/a io.weight"),
+    ("chmod /s/a io.weight 200", "ok"),
+    ("set /s/a io.weight default 60", "ok"),
+    ("chmod /s/a io.weight 000", "ok"),
+    ("control /s -io +io", "ok"),
+    ("set /s/a io.weight default 60", "refused no-access /s/a io.weight"),
+    ("control /s -io", "ok"),
+    ("set /s/a io.weight default 60", "refused no-such-file /s/a io.weight"),
+    ("control /s +io", "ok"),
+    ("set /s/a io.weight default 60", "ok"),
+    ("mkdir /s/b", "ok"),
+    ("set /s/b io.bfq.weight 500", "ok"),
+    ("set /s/b cgroup.freeze 1", "ok"),
+    ("chmod /s/b cgroup.freeze 444", "ok"),
+    ("set /s/b cgroup.freeze 0", "refused no-access /s/b cgroup.freeze"),
+    ("set /s/b cpuset.cpus 0-3", "refused no-such-file /s/b cpuset.cpus"),
+    ("rmdir /s/b", "ok"),
+    ("set /s/b cgroup.freeze 0", "refused no-such-cgroup /s/b"),
+    ("mkdir /s/b", "ok"),
+    ("set /s/b cgroup.freeze 0", "ok"),
+]
 # of H with a change operations, and what is printed by AS_ONE
 VERDICTS = [
     ([OWN_CONTROL], ["control / -cpuset +cpuset", "control / -pids", "control / -cpuset"], ["ok", "ok", "ok", "broken 3 limits"]),
@@ -197,6 +248,8 @@ VERDICTS = [
     (controlled("rdma"), ["control / +rdma"], ["ok", "broken 1 limits"]),
     (controlled("rdma", "misc"), ["control / -misc", "control / +misc +rdma -misc -rdma", "control / +misc"], ["ok", "ok", "ok", "broken 3 limits"]),
     ([], ["control /s +io", "control /s -io", "control /s +cpuset"], ["ok", "ok", "ok", "kept"]),
+    ([], ["control /s +io", "set /s/a io.max max", "chmod /s/a io.max 600", "control /s -io"], ["ok", "ok", "ok", "ok", "kept"]),
+    ([OWN_CONTROL], ["control / -io", "control / +io", "set /s io.max max"], ["ok", "ok", "ok", "broken 1 limits"]),
 ]
 # how a text begins, and whether it is read where it goes on past 16777216 bytes
 BEGINNINGS = [
@@ -253,11 +306,23 @@ BAD_WORDS = [
     (4, "control /s io"),
     (4, "control /s +io "),
     (4, "control /s +cpuset.cpus"),
-    (4, "set /s io.max max"),
-    (4, "set /s cpu.max max"),
-    (4, "set /s cgroup.freeze 1"),
-    (4, "chmod /s io.max 644"),
-    (4, "chmod /s cpuset.cpus 644"),
+    *((4, f"set /s {name} max") for name in (
+        "cgroup.kill", "cpu.stat", "cpu", "cpu.max.", "CPU.MAX", "io.cost.qos", "hugetlb.4MB.max", "hugetlb.2MB.current",
+        "hugetlb.2MB.rsvd", "memory.oom.group", "memory.reclaim", "pids.peak", "cpuset.cpus.effective", "memory.swap.max/", "")),
+    *((4, f"chmod /s {name} 644") for name in ("cgroup.kill", "cgroup.type", "cgroup.threads", "io.stat", "hugetlb.max")),
+    *((4, f"set /s io.max{value}") for value in (
+        "", " ", " 1 ", "  1", " 1  2", " 1\t2", " 1\x1f", " \x7f", " 1\r", " 1\0", " " + 3801 * "x", " 1" + 1900 * " x")),
+    (4, "set s io.max 1"),
+    (4, "set /s/ io.max 1"),
+    (4, "set io.max 1"),
+    (4, "chmod /s io.max 0644"),
+    (4, "chmod /s io.max"),
+    (4, "chmod /s io.max 644 644"),
+    (4, "set /s memory.max max max"),
+    (4, "set /s memory.max default"),
+    (4, "control /s io.max"),
+    *((2, f"set /s {name} max") for name in ("cgroup.freeze", "cpu.max", "io.max", "memory.swap.max")),
+    *((2, f"chmod /s {name} 644") for name in ("cgroup.freeze", "cpuset.cpus")),
     *((2, f"control /s {sign}{name}") for name in ("cpuset", "io", "hugetlb", "rdma", "misc", "dmem") for sign in "+-"),
     (2, "control /s +cpu -io"),
 ]
@@ -266,6 +331,8 @@ GOOD_WORDS = [
     *((4, f"control / +{name}") for name in ("cpuset", "cpu", "io", "memory", "hugetlb", "pids", "rdma", "misc", "dmem")),
     *((2, f"control / -{name}") for name in ("cpu", "memory", "pids")),
 ]
+# values of a further limit file
+VALUES = ["0", "-20", "05", "max 100000", "8:0 rbps=1048576 wiops=120", "!", "~ ~", "# \" ' \\", "+io", 3800 * "x", "12" + 1899 * " x"]
 # a text, and what upgrade writes of it
 UPGRADED = '''format = 4
 controllers = ["dmem", "memory", "cpuset", "io", "io"]

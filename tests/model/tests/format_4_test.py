@@ -8,6 +8,7 @@ import unittest
 
 sys.path.insert(0, os.path.dirname(os.path.dirname(os.path.abspath(__file__))))
 from second import commands, documents, texts
+from second.further import FURTHER_FILES
 from trials import cases, format_4, programs, spelling, trees
 import format_4_rows as rows
 
@@ -43,8 +44,9 @@ class RowsTest(unittest.TestCase):
                 self.assertEqual(said, (lines, status), (change, words))
 
     def test_outcomes(self):
-        lines = [outcome for _, outcome in rows.OUTCOMES]
-        self.assertEqual(ask(rows.AS_ONE, rows.H.encode(), [operation for operation, _ in rows.OUTCOMES]), ([*lines, "kept"], 0))
+        for outcomes in (rows.OUTCOMES, rows.OUTCOMES_OF_FURTHER):
+            lines = [outcome for _, outcome in outcomes]
+            self.assertEqual(ask(rows.AS_ONE, rows.H.encode(), [operation for operation, _ in outcomes]), ([*lines, "kept"], 0))
 
     def test_verdicts(self):
         for change, operations, lines in rows.VERDICTS:
@@ -57,6 +59,18 @@ class RowsTest(unittest.TestCase):
         for form, line in rows.GOOD_WORDS:
             said = ask(rows.AS_ONE, (rows.H if form == 4 else rows.TWO).encode(), [line])
             self.assertEqual(said, (["refused no-access / cgroup.subtree_control", "kept"], 0), line)
+
+    def test_words_of_further_files(self):
+        for name, (controller, _) in FURTHER_FILES.items():
+            for line, bar in ((f"set / {name} max", "no-access"), (f"chmod / {name} 644", "not-owner")):
+                refusal = f"refused {'no-such-file' if controller else bar} / {name}"
+                self.assertEqual(ask(rows.AS_ONE, rows.H.encode(), [line]), ([refusal, "kept"], 0))
+                self.assertEqual(ask(rows.AS_ONE, rows.TWO.encode(), [line]), (["fault: line 1 bad-word"], 3))
+        for value in rows.VALUES:
+            line = f"set / io.max {value}"
+            self.assertEqual(ask(rows.AS_ONE, rows.H.encode(), [line]), (["refused no-such-file / io.max", "kept"], 0), line)
+            self.assertEqual(commands.operation_of(line.encode(), 4), ("set", (), "io.max", value))
+            self.assertEqual(commands.spelling(("set", (), "io.max", value)), line)
 
     def test_upgrade(self):
         for text in (rows.UPGRADED, rows.WRITTEN):

@@ -5,7 +5,7 @@ from dataclasses import dataclass, field
 from second import commands, documents, rules, texts
 from second.controllers import controllers_in
 from second.rules import text_of
-from trials import faults, format_4, small, spelling, trees
+from trials import faults, format_4, further, small, spelling, trees
 
 TREE, OPS, PAIRS = "tree.toml", "list.ops", "list.pairs"
 # the first case of format 4 that may be of a large text, or of many rows: by then most mutants are told apart, which are asked of it
@@ -60,6 +60,9 @@ def random_case(seed, number, known):
     command = rng.choices(able, [WEIGHTS[name] for name in able])[0]
     if not large and ("settle" in command and rng.random() < 0.75 or command == "explain" and rng.random() < 0.5):
         tree = trees.tree_of_state(rng, 35 if command in ("audit --settle", "advise --settle") else 9, wide)
+        data = spelling.document(rng, tree.document(rng))
+    if wide and not large and command.startswith("replay") and tree.form == 4 and tree.subtree and state_of(data) and rng.random() < 0.8:
+        further.make_room(rng, tree)
         data = spelling.document(rng, tree.document(rng))
     case = Case(MAKERS[command](rng, tree, state_of(data)))
     if command.startswith("replay"):
@@ -292,15 +295,19 @@ def operations(rng, tree, data, words, wide=False):
     user = asked_in(words)
     if state:
         lines = escape_lines(rng, state, user, tree)
-        for _ in range(rng.choice([0, 1, 3, 6, 10, 16]) if rng.random() < 0.98 else rng.choice([60, 200, 500])):
-            operation = next_operation(rng, tree, state, user, lines[-1:])
+        several = further.some_operations(rng, state, user) if wide and state.form == 4 else []
+        count = rng.choice([0, 1, 3, 6, 10, 16]) if rng.random() < 0.98 else rng.choice([60, 200, 500])
+        for _ in range(count + len(several)):
+            operation = next_operation(rng, tree, state, user, lines[-1:]) if not several or rng.random() < 0.1 else several.pop(0)
             state = rules.step(state, user, operation)[0]
             lines.append(commands.spelling(operation).encode("ascii"))
     if rng.random() < 0.16:
         near = format_4.bad_line(rng) if wide and rng.random() < 0.6 else bad_line(rng, lines)
         lines.insert(rng.randrange(len(lines) + 1), near)
+    if wide and tree.form == 4 and rng.random() < 0.4:
+        lines.append(further.bad_line(rng))
     if wide and tree.form != 4:
-        lines.insert(rng.randrange(len(lines) + 1), format_4.later_line(rng))
+        lines.insert(rng.randrange(len(lines) + 1), rng.choice([format_4, further]).later_line(rng))
     return b"".join(line + b"\n" for line in lines) + (rng.choice([b"exit 7", b"x", b" "]) if rng.random() < 0.04 else b"")
 
 
@@ -318,7 +325,10 @@ def escape_lines(rng, state, user, tree):
 
 
 def next_operation(rng, tree, state, user, last):
-    """A random one, or one that follows from the last: a move of a child, a fork of a PID that was used, a set of a file that came."""
+    """A random one, or one that follows from the last: a move of a child, a fork of a PID that was used, a set of a file that came; of
+    format 4 at times one of a further limit file."""
+    if state.form == 4 and rng.random() < 0.12:
+        return further.some_operation(rng, state, user)
     kind, *words = last[0].decode("ascii").split(" ") if last and rng.random() < 0.6 else [""]
     if kind in ("exit", "fork") and rng.random() < 0.4:
         return "fork", some_pid(rng, state, user), int(words[-1])
@@ -327,6 +337,8 @@ def next_operation(rng, tree, state, user, last):
     below = rules.children(state, rules.path_of(words[0])) if kind == "control" and rules.path_of(words[0]) in state.cgroups else []
     if below and words[-1][0] == "+":
         child = rng.choice(below)
+        if state.form == 4 and rng.random() < 0.5:
+            return further.some_deed(rng, state, child)
         file = rng.choice(rules.files_at(state, child))
         return rng.choice([("set", child, file, 1), ("chmod", child, file, 0o600)])
     return random_operation(rng, tree, state, user)
@@ -351,8 +363,9 @@ def some_pid(rng, state, user):
 
 
 def entry_where(rng, state, holds):
-    """A path and an entry of it for which something holds, where there is one; mostly."""
-    found = [(path, name) for path, cgroup in state.cgroups.items() for name, entry in cgroup.entries.items() if holds(entry)]
+    """A path and an entry of it for which something holds, where there is one; mostly. No further limit file."""
+    found = [(path, name) for path, cgroup in state.cgroups.items() for name, entry in cgroup.entries.items()
+             if name not in further.FURTHER_FILES and holds(entry)]
     if found and rng.random() < 0.7:
         return rng.choice(found)
     return some_path(rng, state, 0.2), rng.choice([*rules.STANDING, *rules.LIMIT_FILES])

@@ -3,6 +3,7 @@ import itertools
 
 from second import documents, rules
 from second.controllers import ALL_CONTROLLERS, CONTROLLERS
+from second.further import FURTHER_FILES
 from trials import spelling
 from trials.spelling import Raw
 
@@ -12,7 +13,7 @@ TREE = b'format = 4\ncontrollers = ["dmem"]\n[[cgroup]]\npath = "/"\n'
 FURTHER = [c for c in ALL_CONTROLLERS if c not in CONTROLLERS]
 # names of no controller, some of which are a kernel's, and of files that have no key
 NONE = ["perf_event", "net_cls", "cgroup", "", "IO", "io ", "cpuset.cpus", "freezer"]
-KEYLESS = ["cpu.max", "io.max", "io.weight", "cpuset.cpus", "cgroup.freeze", "memory.swap.max", "hugetlb.2MB.max", "pids.peak"]
+KEYLESS = [*FURTHER_FILES, "pids.peak", "memory.oom.group", "hugetlb.4MB.max", "io.cost.qos", "cgroup.kill"]
 MANY = 4097
 # a byte order mark
 MARK = "\ufeff"
@@ -84,8 +85,7 @@ def later_line(rng):
 def bad_line(rng):
     """A line that is no operation's in format 4 either."""
     return rng.choice([f"control / +{rng.choice(NONE)}", f"control / -{rng.choice(FURTHER)}x", f"control / {rng.choice(FURTHER)}",
-                       f"control / +{rng.choice(FURTHER)},cpu", f"control / +{rng.choice(FURTHER).upper()}",
-                       f"set / {rng.choice(KEYLESS)} max", f"chmod / {rng.choice(KEYLESS)} 644"]).encode()
+                       f"control / +{rng.choice(FURTHER)},cpu", f"control / +{rng.choice(FURTHER).upper()}"]).encode()
 
 
 # Faults of a document

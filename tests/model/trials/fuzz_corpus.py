@@ -103,11 +103,18 @@ def operation_texts():
 
 
 def operation_texts_4():
-    """Of controllers that a tree of format 4 may name."""
+    """Of controllers and further limit files that lines for a tree of format 4 may name."""
     line = b"control /a +io -io\n"
     yield from cut(line)
     yield from changed(line)
     yield from changed(b"control / -dmem +hugetlb\n")
+    line = b"set /a io.max 8:0 rbps=1 wiops=max\n"
+    yield from cut(line)
+    yield from changed(line)
+    yield from changed(b"chmod /a cpuset.mems 600\n")
+    for part in (b"x", b" x", b" ", b"\t", b"\xff"):
+        for count in (1899, 1900, 3799, 3800, 3801, 8180):
+            yield b"set /a io.max 1" + part * count + b"\n"
 
 
 def large_trees(with_format_4):

@@ -3,6 +3,7 @@ import re
 
 from second import commands, documents, rules
 from second.controllers import CONTROLLERS
+from second.further import FURTHER_FILES, LONGEST_VALUE
 from trials.cases import OPS, TREE, state_of
 from trials.format_4 import FORMAT_4, FURTHER
 
@@ -34,6 +35,10 @@ WIDE = ["upgrade", "a bad word", "read past 4096 rows", "read past 16777216 byte
         "escapes by an opened control of its controllers", "its controllers in another's text", "its controllers in a line for another",
         *(f"settle: {kind}" for kind in commands.STATUS), *(f"explain: a controller of its own is {by}" for by in ("on", "off", "turned")),
         *(f"control of its controllers: {outcome}" for outcome in CLAUSES["control"]),
+        *(f"set of a further file: {outcome}" for outcome in CLAUSES["set"] if outcome != "bad-value"),
+        *(f"chmod of a further file: {outcome}" for outcome in CLAUSES["chmod"]),
+        *(f"a set or a chmod of {name}: ok" for name in FURTHER_FILES),
+        "a further file in a line for another", "a value of several words", f"a value of {LONGEST_VALUE} bytes",
         *(f"fault: tree {name}" for name in re.split(r",\s+", FAULTS_4))]
 # what is told of a guarded entry, and of the second row
 BY = ["owner", "group", "others"]
@@ -107,8 +112,9 @@ def labels_of_others(case, fault):
     if fault == "fault: tree bad-controller top" and not {*FURTHER}.isdisjoint(document_of(case)["controllers"]):
         yield "its controllers in another's text"
     where = re.fullmatch(r"fault: line ([0-9]+) bad-word", fault)
-    if where and OPS in case.files and commands.operation_of(case.files[OPS].split(b"\n")[int(where[1]) - 1], 4):
-        yield "its controllers in a line for another"
+    found = commands.operation_of(case.files[OPS].split(b"\n")[int(where[1]) - 1], 4) if where and OPS in case.files else None
+    if found:
+        yield "its controllers in a line for another" if found[0] == "control" else "a further file in a line for another"
 
 
 def wide_labels(case, lines, status, fault):
@@ -137,14 +143,29 @@ def wide_answers(case, lines):
 
 def wide_replay(case, lines, fault):
     spelled = case.files.get(OPS, b"").split(b"\n")
-    further = [commands.operation_of(line, 4) != commands.operation_of(line) for line in spelled]
-    for is_further, line in zip(further, lines):
-        if is_further:
-            yield f"control of its controllers: {outcome_of(('control',), line)}"
+    further = [None if commands.operation_of(line) else commands.operation_of(line, 4) for line in spelled]
+    for operation, line in zip(further, lines):
+        if operation:
+            yield from wide_operation(operation, outcome_of(operation, line))
     if lines and re.fullmatch("broken [1-9][0-9]* limits", lines[-1]) and further[int(lines[-1].split(" ")[1]) - 1]:
         yield "broken limits by its controllers"
     if fault.endswith("bad-word"):
         yield "a bad word"
+
+
+def wide_operation(operation, outcome):
+    """What comes up of an operation that has a line for a tree of format 4 alone."""
+    kind, *words = operation
+    if kind == "control":
+        yield f"control of its controllers: {outcome}"
+        return
+    yield f"{kind} of a further file: {outcome}"
+    if outcome == "ok":
+        yield f"a set or a chmod of {words[1]}: ok"
+    if kind == "set" and " " in words[2]:
+        yield "a value of several words"
+    if kind == "set" and len(words[2]) == LONGEST_VALUE:
+        yield f"a value of {LONGEST_VALUE} bytes"
 
 
 def replay_labels(case, lines):

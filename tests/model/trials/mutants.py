@@ -3,11 +3,11 @@ import functools
 import sys
 import types
 
-from second import commands, controllers, documents, explained, lasting, rules, settled, texts
+from second import commands, controllers, documents, explained, further, lasting, rules, settled, texts
 from trials.format_4 import FORMAT_4
 
 # in the order in which one takes from another: those before the one that is changed are the right model's own
-MODULES = {"controllers": controllers, "documents": documents, "rules": rules, "lasting": lasting, "settled": settled,
+MODULES = {"controllers": controllers, "further": further, "documents": documents, "rules": rules, "lasting": lasting, "settled": settled,
            "explained": explained, "texts": texts, "commands": commands}
 USERS = "return list(itertools.product(dict.fromkeys(call.users), dict.fromkeys(tops)))"
 MEMBER = 'return "group" if entry.gid in user[1] else "others"'
@@ -76,7 +76,7 @@ OF_RULES = {
     "of the common ancestors the parent is guarded alone": (
         'for path in upwards(top)[1:]]', 'for path in upwards(top)[1:2]]'),
     "limit files in the order of their names": (
-        "for file in LIMIT_FILES if file in state", "for file in sorted(LIMIT_FILES) if file in state"),
+        "for file in ALL_FILES if file in state", "for file in sorted(ALL_FILES) if file in state"),
     "the parent's directory is guarded first": (
         '[("parent-control", top[:-1], CONTROL), ("parent-dir", top[:-1], DIR)]',
         '[("parent-dir", top[:-1], DIR), ("parent-control", top[:-1], CONTROL)]'),
@@ -353,13 +353,69 @@ OF_COMMANDS_4 = {
         "controllers = [c for c in rules.ALL_CONTROLLERS if", "controllers = [c for c in rules.CONTROLLERS if"),
     "upgrade writes three controllers of a cgroup": ("enabled = [c for c in rules.ALL_CONTROLLERS if", "enabled = [c for c in rules.CONTROLLERS if"),
 }
+OF_FURTHER_4 = {
+    "a value of several words is none": ("all(is_word(word) for word in text.split(\" \"))", "is_word(text)"),
+    "a value's words end at the first space": ("all(is_word(word) for word in text.split(\" \"))", "is_word(text.split(\" \")[0])"),
+    "words of a value may have more than a space between them": ('word != "" and all', "all"),
+    "a value of 3800 bytes is none": ("1 <= len(text) <= LONGEST_VALUE", "1 <= len(text) < LONGEST_VALUE"),
+    "a value may have 3801 bytes": ("1 <= len(text) <= LONGEST_VALUE", "1 <= len(text) <= LONGEST_VALUE + 1"),
+    "a value has bytes past ASCII's printable ones": ("<= 0x7E", "<= 0x7F"),
+    "cgroup.freeze is no limit file": ('    "cgroup.freeze": (None, "0"),\n', ""),
+    "a huge page of 512 MB has no limit files": ('"512MB", ', ""),
+    "a huge page of 4 MB has limit files": ('"512MB", ', '"512MB", "4MB", '),
+    "what is reserved of huge pages is no limit": ('("max", "rsvd.max")', '("max",)'),
+    "memory.swap.max comes with no controller": ('"memory.swap.max": ("memory",', '"memory.swap.max": (None,'),
+    "cpuset.mems comes with cpu": ('"cpuset.mems": ("cpuset",', '"cpuset.mems": ("cpu",'),
+}
+BROUGHT = "FURTHER_FILES.items() if controller is None or controller in brought(state, path)]"
+CHMOD = "    return with_cgroup(state, path, replace(old, entries={**old.entries, name: entry}))"
+COME = "**{one: made_by(user, FILE_MODE) for one in came}"
+OF_RULES_FURTHER_4 = {
+    "a further limit file that comes is root's": (COME, ""),
+    "a further limit file that stands is theirs by a control": ("child, enabled - old.enabled)", "child, enabled)"),
+    "cgroup.freeze of a cgroup that is made is root's": ("path, {None, *brought(state, path)})", "path, brought(state, path))"),
+    "a controller's further limit files of a cgroup that is made are root's": ("path, {None, *brought(state, path)})", "path, {None})"),
+    "what is told of a further limit file outlasts it": (
+        "told = [file for file in told_at(state, path) if file in further_at(state, path)]", "told = told_at(state, path)"),
+    "what is told of a further limit file goes with any control": (
+        "told = [file for file in told_at(state, path) if file in further_at(state, path)]", "told = []"),
+    "the three controllers alone bring further limit files": (
+        BROUGHT, BROUGHT.replace("in brought(state, path)", "in brought(state, path) & {*CONTROLLERS}")),
+    "cgroup.freeze isn't at the root": (BROUGHT, BROUGHT.replace("controller is None", "path and controller is None")),
+    "further limit files are at the root": (
+        BROUGHT, BROUGHT.replace("brought(state, path)", "(brought if path else available)(state, path)")),
+    "further limit files are where the root has their controller": (
+        BROUGHT, BROUGHT.replace("brought(state, path)", "(state.controllers if path else ())")),
+    "cgroup.freeze is where a controller is": (
+        BROUGHT, BROUGHT.replace("controller is None or", "controller is None and (not path or brought(state, path)) or")),
+    "a chmod of a further limit file has no effect": (CHMOD, "    if name in FURTHER_FILES:\n        return state\n" + CHMOD),
+    "a chmod of a further limit file is of all of its controller": (
+        CHMOD, CHMOD.replace("name: entry}", "name: entry}, untold={**old.untold, **{FURTHER_FILES[one][0]: entry for one in [name] "
+                                             "if one in FURTHER_FILES}}")),
+    "a further limit file is set by whoever owns it": (
+        "found += entry_bar(state, user, path, file)",
+        "found += [] if file in FURTHER_FILES and owns(user, entry_of(state, path, file)) else entry_bar(state, user, path, file)"),
+    "a further limit file accepts max and 0 alone": ("        return True\n", "        return value in (MAX, \"0\")\n"),
+    "a further limit file that isn't there isn't written": (
+        'found.append(f"no-such-file {text_of(path)} {file}")',
+        "found.append(f\"no-{'access' if file in FURTHER_FILES else 'such-file'} {text_of(path)} {file}\")"),
+}
+OF_COMMANDS_FURTHER_4 = {
+    "lines for any format name further limit files": ("word if form == 4 and word in FURTHER_FILES", "word if word in FURTHER_FILES"),
+    "no line names a further limit file": ("word if form == 4 and word in FURTHER_FILES", "word if form > 4 and word in FURTHER_FILES"),
+    "a chmod names none of the further limit files": ("else limit_word(word, form)\n", "else limit_word(word, 2)\n"),
+    "a value of a further limit file is one word": ("rest, value = [*rest[:2], \" \".join(rest[2:])], text_word", "value = text_word"),
+    "a value of a further limit file is max or a number": (
+        "rest, value = [*rest[:2], \" \".join(rest[2:])], text_word", "value = value_word"),
+}
 # of each kind the module, and the command without which a program isn't told from what is turned there
 KINDS = [("documents", "may", OF_DOCUMENTS), ("rules", "may", OF_RULES), ("lasting", "settle", OF_LASTING),
          ("settled", "audit --settle", OF_SETTLED), ("explained", "explain", OF_EXPLAINED), ("texts", "may", OF_TEXTS),
          ("commands", "may", OF_COMMANDS), ("commands", "advise --settle", OF_SETTLED_ADVICE), ("commands", "explain", OF_EXPLAIN)]
 KINDS_4 = [("controllers", FORMAT_4, OF_CONTROLLERS_4), ("rules", FORMAT_4, OF_RULES_4), ("texts", FORMAT_4, OF_TEXTS_4),
            ("documents", FORMAT_4, OF_DOCUMENTS_4), ("commands", FORMAT_4, OF_COMMANDS_4), ("lasting", "settle", OF_LASTING_4),
-           ("explained", "explain", OF_EXPLAINED_4)]
+           ("explained", "explain", OF_EXPLAINED_4), ("further", FORMAT_4, OF_FURTHER_4), ("rules", FORMAT_4, OF_RULES_FURTHER_4),
+           ("commands", FORMAT_4, OF_COMMANDS_FURTHER_4)]
 KINDS += KINDS_4
 MUTANTS = {name: (module, *turn) for module, _, turns in KINDS for name, turn in turns.items()}
 

@@ -2,11 +2,13 @@
 ghost use Rattle.std.specs.Prelude.{◌≡◌};
 ghost use Rattle.cg_cgroup.specs.Paths.{path_at};
 ghost use Rattle.std.specs.List.{slice_split};
-ghost use Rattle.cg_lines.specs.LineReading.{ReadsAs, is_space, changes_at, move_at, control_at, mkdir_at, rmdir_at, set_at, fork_at, exit_at, chmod_at, operation_named, operation_at};
+ghost use Rattle.cg_lines.specs.LineReading.{ReadsAs, is_space, changes_at, move_at, control_at, mkdir_at, rmdir_at, setting_at, set_at, fork_at, exit_at, chmod_at, operation_named, operation_at};
 
 use crate::lines::fault::LineFault;
-use crate::lines::words::{change_of, cut, limit_of, mode_of, pid_of};
-use cg_cgroup::files::{EntryName, LimitFile, Vocabulary};
+use crate::lines::words::{
+    change_of, cut, entry_of, limit_of, mode_of, other_of, pid_of, value_of,
+};
+use cg_cgroup::files::{LimitFile, Vocabulary};
 use cg_cgroup::path::Path;
 use cg_model::changes::Changes;
 use cg_model::operation::Op;
@@ -73,15 +75,33 @@ fn rmdir_of(alloc: Global, text: &str) -> Result<Op, LineFault>
 }
 
 #[tactic(auto, unfolding(crate::specs::LineReading::set_at))]
-fn set_of(alloc: Global, text: &str) -> Result<Op, LineFault>
-    ensures { ReadsAs result (set_at text.now) }
+fn set_of(alloc: Global, vocabulary: Vocabulary, text: &str) -> Result<Op, LineFault>
+    ensures { ReadsAs result (set_at vocabulary text.now) }
 {
     let (at, rest) = cut(text).ok_or(LineFault::BadWord)?;
-    let (file, value) = cut(rest).ok_or(LineFault::BadWord)?;
+    let (name, value) = cut(rest).ok_or(LineFault::BadWord)?;
     let at = path_of(alloc, at)?;
-    let file = LimitFile::from_name(file).ok_or(LineFault::BadWord)?;
-    let value = limit_of(value).ok_or(LineFault::BadWord)?;
-    Ok(Op::Set { at, file, value })
+    setting_of(alloc, vocabulary, at, name, value)
+}
+
+/// What is set of the limit file of a name.
+#[tactic(auto, unfolding(crate::specs::LineReading::setting_at))]
+fn setting_of(
+    alloc: Global,
+    vocabulary: Vocabulary,
+    at: Path,
+    name: &str,
+    text: &str,
+) -> Result<Op, LineFault>
+    ensures { ReadsAs result (setting_at vocabulary at name.now text.now) }
+{
+    if let Some(file) = LimitFile::from_name(name) {
+        let value = limit_of(text).ok_or(LineFault::BadWord)?;
+        return Ok(Op::Set { at, file, value });
+    }
+    let file = other_of(vocabulary, name).ok_or(LineFault::BadWord)?;
+    let value = value_of(alloc, text)?;
+    Ok(Op::SetOther { at, file, value })
 }
 
 #[tactic(auto, unfolding(crate::specs::LineReading::fork_at))]
@@ -103,13 +123,13 @@ fn exit_of(text: &str) -> Result<Op, LineFault>
 }
 
 #[tactic(auto, unfolding(crate::specs::LineReading::chmod_at))]
-fn chmod_of(alloc: Global, text: &str) -> Result<Op, LineFault>
-    ensures { ReadsAs result (chmod_at text.now) }
+fn chmod_of(alloc: Global, vocabulary: Vocabulary, text: &str) -> Result<Op, LineFault>
+    ensures { ReadsAs result (chmod_at vocabulary text.now) }
 {
     let (at, rest) = cut(text).ok_or(LineFault::BadWord)?;
     let (entry, mode) = cut(rest).ok_or(LineFault::BadWord)?;
     let at = path_of(alloc, at)?;
-    let entry = EntryName::from_name(entry).ok_or(LineFault::BadWord)?;
+    let entry = entry_of(vocabulary, entry).ok_or(LineFault::BadWord)?;
     let mode = mode_of(mode).ok_or(LineFault::BadWord)?;
     Ok(Op::Chmod { at, entry, mode })
 }
@@ -128,15 +148,15 @@ fn operation_named(
         "control" => control_of(alloc, vocabulary, text),
         "mkdir" => mkdir_of(alloc, text),
         "rmdir" => rmdir_of(alloc, text),
-        "set" => set_of(alloc, text),
+        "set" => set_of(alloc, vocabulary, text),
         "fork" => fork_of(text),
         "exit" => exit_of(text),
-        "chmod" => chmod_of(alloc, text),
+        "chmod" => chmod_of(alloc, vocabulary, text),
         _ => Err(LineFault::BadWord),
     }
 }
 
-/// The operation of a line, which names controllers of a vocabulary.
+/// The operation of a line, which names controllers and entries of a vocabulary.
 #[tactic(auto, unfolding(crate::specs::LineReading::operation_at))]
 pub fn operation_of(alloc: Global, vocabulary: Vocabulary, line: &str) -> Result<Op, LineFault>
     ensures { ReadsAs result (operation_at vocabulary line.now) }

@@ -24,8 +24,8 @@ pub fn read_op(alloc: Global, line: &[u8]) -> Result<Op, LineFault>
     read_op_in(alloc, Vocabulary::Format2, line)
 }
 
-/// The operation of a line, without its newline, which names controllers of a vocabulary. `TooLong` over 8192 bytes, for which
-/// no memory is taken; `BadWord` where the line is no operation's; never `Cut`.
+/// The operation of a line, without its newline, which names controllers and entries of a vocabulary. `TooLong` over 8192 bytes,
+/// for which no memory is taken; `BadWord` where the line is no operation's; never `Cut`.
 pub fn read_op_in(alloc: Global, vocabulary: Vocabulary, line: &[u8]) -> Result<Op, LineFault>
     ensures ok { IfOk result (λ op. (line.now ≡ spelling op) × (length line.now ≤ LONGEST_LINE) × IsInRange vocabulary op) }
     ensures too_long { (result ≡ Err LineFault.TooLong) ↔ (LONGEST_LINE < length line.now) }

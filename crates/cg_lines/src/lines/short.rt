@@ -2,26 +2,33 @@
 ghost use Rattle.std.specs.Prelude.{◌≡◌, ◌↔◌, ◌&&◌, nat_le, length, true, IsTrue};
 ghost use Rattle.cg_cgroup.specs.Numbers.{is_pid, is_mode};
 ghost use Rattle.cg_cgroup.specs.Paths.{IsPath};
+ghost use Rattle.cg_cgroup.specs.declared.files.EntryName.TheVariants.{Other};
 ghost use Rattle.cg_cgroup.specs.declared.files.Vocabulary.{Vocabulary};
 ghost use Rattle.cg_lines.specs.LineLengths.{HasFewChanges, most_changes};
-ghost use Rattle.cg_lines.specs.OperationLines.{HasKnownControllers, HasLine, IsInRange, IsLimitInRange, are_known};
+ghost use Rattle.cg_lines.specs.OperationLines.{HasKnownWords, HasLine, IsInRange, IsLimitInRange, are_known, is_entry_of, is_line_value};
 
-use cg_cgroup::files::{Limit, Vocabulary};
+use crate::lines::words::is_line_value;
+use cg_cgroup::files::{EntryName, Limit, Vocabulary};
+use cg_cgroup::other_file::OtherFile;
 use cg_cgroup::path::Path;
 use cg_cgroup::process::Pid;
+use cg_cgroup::told::FileText;
 use cg_cgroup::user::Mode;
 use cg_model::changes::Change;
 use cg_model::operation::Op;
 
 /// Whether an operation has few changes, each of a controller that lines of a vocabulary name, as all have but some of
-/// `control`: at most 511 in formats 1 and 2, and 454 in format 4. Then it has a line, of at most 8192 bytes.
+/// `control`: at most 511 in formats 1 and 2, and 454 in format 4; and whether its entry is one that they name, and its
+/// value one that they can hold. Then it has a line, of at most 8192 bytes.
 pub fn has_short_line(vocabulary: Vocabulary, op: &Op) -> bool
-    ensures few { IsTrue result ↔ (HasKnownControllers vocabulary op.now × HasFewChanges vocabulary op.now) }
+    ensures few { IsTrue result ↔ (HasKnownWords vocabulary op.now × HasFewChanges vocabulary op.now) }
     ensures line { result ≡ true → HasLine vocabulary op.now }
 {
     hold(op);
     match op {
         Op::Control { changes, .. } => are_spelled(vocabulary, changes.as_slice()),
+        Op::SetOther { file, value, .. } => is_settable(vocabulary, *file, value),
+        Op::Chmod { entry, .. } => is_entry_of(vocabulary, *entry),
         _ => true,
     }
 }
@@ -31,6 +38,23 @@ fn are_spelled(vocabulary: Vocabulary, changes: &[Change]) -> bool
     ensures { result ≡ (are_known vocabulary changes.now && nat_le (length changes.now) (most_changes vocabulary)) }
 {
     are_known(vocabulary, changes) && changes.len() <= most_changes(vocabulary)
+}
+
+/// Whether lines of a vocabulary name the file and can hold the value.
+fn is_settable(vocabulary: Vocabulary, file: OtherFile, value: &FileText) -> bool
+    ensures { result ≡ (is_entry_of vocabulary (Other file) && is_line_value value.now) }
+{
+    is_entry_of(vocabulary, EntryName::Other(file)) && is_line_value(&value.text)
+}
+
+/// Whether lines of a vocabulary name an entry.
+fn is_entry_of(vocabulary: Vocabulary, entry: EntryName) -> bool
+    ensures { result ≡ is_entry_of vocabulary entry }
+{
+    match vocabulary {
+        Vocabulary::Format2 => !matches!(entry, EntryName::Other(_)),
+        Vocabulary::Format4 => true,
+    }
 }
 
 /// How many changes fit into a line behind the longest path.
@@ -51,9 +75,10 @@ fn are_known(vocabulary: Vocabulary, changes: &[Change]) -> bool
         .all(|change| vocabulary.has(change.controller))
 }
 
-/// What an operation holds is in range, as all that can be held is, where lines of a vocabulary name its controllers.
+/// What an operation holds is in range, as all that can be held is, where lines of a vocabulary name its controllers and
+/// entries, and can hold its value.
 fn hold(op: &Op)
-    ensures { (vocabulary : Vocabulary) → HasKnownControllers vocabulary op.now → IsInRange vocabulary op.now }
+    ensures { (vocabulary : Vocabulary) → HasKnownWords vocabulary op.now → IsInRange vocabulary op.now }
 {
     match op {
         Op::Move { pid, to } => {
@@ -67,6 +92,7 @@ fn hold(op: &Op)
             hold_path(at);
             hold_limit(*value);
         }
+        Op::SetOther { at, .. } => hold_path(at),
         Op::Fork { parent, child } => {
             hold_pid(*parent);
             hold_pid(*child);

@@ -1,12 +1,22 @@
 //! The words of operation lines.
 ghost use Rattle.std.specs.Prelude.{◌≡◌};
+ghost use Rattle.std.specs.List.{list_all};
 ghost use Rattle.std.specs.Option.{option_map};
-ghost use Rattle.cg_lines.specs.LineReading.{cut, number_at, pid_at, limit_at, octal_at, mode_at, change_at};
+ghost use Rattle.cg_cgroup.specs.Files.{entry_known_as};
+ghost use Rattle.cg_lines.specs.OperationLines.{is_graphic, is_value_word, is_line_value};
+ghost use Rattle.cg_lines.specs.LineReading.{ReadsAs, cut, number_at, pid_at, limit_at, text_value_at, other_known_as, octal_at, mode_at, change_at};
 
-use cg_cgroup::files::{Limit, Vocabulary};
+use crate::lines::fault::LineFault;
+use cg_cgroup::files::{EntryName, Limit, Vocabulary};
+use cg_cgroup::other_file::OtherFile;
 use cg_cgroup::process::Pid;
+use cg_cgroup::told::FileText;
 use cg_cgroup::user::Mode;
 use cg_model::changes::Change;
+use std::alloc::Global;
+
+/// The greatest number of bytes of a value of a limit file beyond `LimitFile`.
+pub const LONGEST_VALUE: usize = 3800;
 
 /// The first word of a text, and what is behind the space that ends it; `None` without a space.
 pub fn cut(text: &str) -> Option<(&str, &str)>
@@ -45,6 +55,67 @@ pub fn limit_of(word: &str) -> Option<Limit>
         return Some(Limit::Max);
     }
     number_of(word).map(Limit::At)
+}
+
+/// Whether a byte is printable and no space.
+fn is_graphic(byte: u8) -> bool
+    ensures { result ≡ is_graphic byte }
+{
+    byte.is_ascii_graphic()
+}
+
+fn are_graphic(bytes: &[u8]) -> bool
+    ensures { result ≡ list_all is_graphic bytes.now }
+{
+    bytes.iter().all(|byte| is_graphic(*byte))
+}
+
+fn is_value_word(word: &str) -> bool
+    ensures { result ≡ is_value_word word.now }
+{
+    0 < word.len() && are_graphic(word.as_bytes())
+}
+
+/// Whether a line can hold a text as a value: printable words with one space between them, 1 to 3800 bytes.
+#[tactic(auto, unfolding(crate::specs::OperationLines::is_line_value))]
+pub fn is_line_value(text: &str) -> bool
+    ensures { result ≡ is_line_value text.now }
+{
+    text.len() <= LONGEST_VALUE && text.split(' ').all(|word| is_value_word(word))
+}
+
+/// The value that a text is.
+#[tactic(auto, unfolding(crate::specs::LineReading::text_value_at))]
+pub fn value_of(alloc: Global, text: &str) -> Result<FileText, LineFault>
+    ensures { ReadsAs result (text_value_at text.now) }
+{
+    if !is_line_value(text) {
+        return Err(LineFault::BadWord);
+    }
+    let Ok(text) = String::from_str(alloc, text) else {
+        return Err(LineFault::NoMemory);
+    };
+    Ok(FileText { text })
+}
+
+/// The limit file beyond `LimitFile` of a name in lines of a vocabulary.
+pub fn other_of(vocabulary: Vocabulary, name: &str) -> Option<OtherFile>
+    ensures { result ≡ other_known_as vocabulary name.now }
+{
+    match vocabulary {
+        Vocabulary::Format2 => None,
+        Vocabulary::Format4 => OtherFile::from_name(name),
+    }
+}
+
+/// The entry of a name in lines of a vocabulary.
+pub fn entry_of(vocabulary: Vocabulary, name: &str) -> Option<EntryName>
+    ensures { result ≡ entry_known_as vocabulary name.now }
+{
+    match vocabulary {
+        Vocabulary::Format2 => EntryName::in_format_2(name),
+        Vocabulary::Format4 => EntryName::from_name(name),
+    }
 }
 
 fn octal_of(digit: u8) -> Option<u16>

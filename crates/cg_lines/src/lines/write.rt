@@ -3,14 +3,17 @@ ghost use Rattle.std.specs.Prelude.{◌≡◌, ◌++◌, true, [], ◌∷◌, If
 ghost use Rattle.std.specs.String.{string_bytes};
 ghost use Rattle.std.specs.List.{flat_map};
 ghost use Rattle.cg_cgroup.specs.Paths.{path_text, IsPath};
+ghost use Rattle.cg_cgroup.specs.declared.files.EntryName.TheVariants.{Other};
 ghost use Rattle.cg_cgroup.specs.declared.files.Vocabulary.{Vocabulary};
-ghost use Rattle.cg_model.specs.declared.operation.Op.TheVariants.{Move, Control, Mkdir, Rmdir, Set, Fork, Exit, Chmod};
-ghost use Rattle.cg_lines.specs.OperationLines.{change_word, limit_word, mode_word, spelling, are_known, HasKnownControllers, IsInRange};
+ghost use Rattle.cg_model.specs.declared.operation.Op.TheVariants.{Move, Control, Mkdir, Rmdir, Set, SetOther, Fork, Exit, Chmod};
+ghost use Rattle.cg_lines.specs.OperationLines.{change_word, limit_word, mode_word, spelling, are_known, is_entry_of, is_line_value, HasKnownWords, IsInRange};
 
 use cg_cgroup::files::{EntryName, Limit, LimitFile};
 use cg_cgroup::memory::NoMemory;
+use cg_cgroup::other_file::OtherFile;
 use cg_cgroup::path::Path;
 use cg_cgroup::process::Pid;
+use cg_cgroup::told::FileText;
 use cg_cgroup::user::Mode;
 use cg_model::changes::{Change, Changes};
 use cg_model::operation::Op;
@@ -87,6 +90,21 @@ fn set_line(alloc: Global, at: &Path, file: LimitFile, value: Limit) -> Result<S
     }
 }
 
+fn set_other_line(
+    alloc: Global,
+    at: &Path,
+    file: OtherFile,
+    value: &FileText,
+) -> Result<String, NoMemory>
+    ensures text { IfOk result (λ line. string_bytes line ≡ spelling (SetOther at.now file value.now) ++ 10 ∷ []) }
+    ensures held { (vocabulary : Vocabulary) → is_entry_of vocabulary (Other file) ≡ true → is_line_value value.now ≡ true
+        → IsInRange vocabulary (SetOther at.now file value.now) }
+{
+    let (at, file) = (whole(at), file.name());
+    let value = &value.text;
+    Ok(format!(in alloc; "set {at} {file} {value}\n")?)
+}
+
 fn fork_line(alloc: Global, parent: Pid, child: Pid) -> Result<String, NoMemory>
     ensures text { IfOk result (λ line. string_bytes line ≡ spelling (Fork parent child) ++ 10 ∷ []) }
     ensures held { (vocabulary : Vocabulary) → IsInRange vocabulary (Fork parent child) }
@@ -106,7 +124,7 @@ fn exit_line(alloc: Global, pid: Pid) -> Result<String, NoMemory>
 
 fn chmod_line(alloc: Global, at: &Path, entry: EntryName, mode: Mode) -> Result<String, NoMemory>
     ensures text { IfOk result (λ line. string_bytes line ≡ spelling (Chmod at.now entry mode) ++ 10 ∷ []) }
-    ensures held { (vocabulary : Vocabulary) → IsInRange vocabulary (Chmod at.now entry mode) }
+    ensures held { (vocabulary : Vocabulary) → is_entry_of vocabulary entry ≡ true → IsInRange vocabulary (Chmod at.now entry mode) }
 {
     let at = whole(at);
     let entry = entry.name();
@@ -119,7 +137,7 @@ fn chmod_line(alloc: Global, at: &Path, entry: EntryName, mode: Mode) -> Result<
 
 fn line_of(alloc: Global, op: &Op) -> Result<String, NoMemory>
     ensures text { IfOk result (λ line. string_bytes line ≡ spelling op.now ++ 10 ∷ []) }
-    ensures held { (vocabulary : Vocabulary) → HasKnownControllers vocabulary op.now → IsInRange vocabulary op.now }
+    ensures held { (vocabulary : Vocabulary) → HasKnownWords vocabulary op.now → IsInRange vocabulary op.now }
 {
     match op {
         Op::Move { pid, to } => move_line(alloc, *pid, to),
@@ -127,6 +145,7 @@ fn line_of(alloc: Global, op: &Op) -> Result<String, NoMemory>
         Op::Mkdir { path } => mkdir_line(alloc, path),
         Op::Rmdir { path } => rmdir_line(alloc, path),
         Op::Set { at, file, value } => set_line(alloc, at, *file, *value),
+        Op::SetOther { at, file, value } => set_other_line(alloc, at, *file, value),
         Op::Fork { parent, child } => fork_line(alloc, *parent, *child),
         Op::Exit { pid } => exit_line(alloc, *pid),
         Op::Chmod { at, entry, mode } => chmod_line(alloc, at, *entry, *mode),
@@ -134,10 +153,10 @@ fn line_of(alloc: Global, op: &Op) -> Result<String, NoMemory>
 }
 
 /// The line of an operation, and a newline. `read_op_in` of the line gives the operation back, where it has at most 8192
-/// bytes and names controllers of the vocabulary alone.
+/// bytes, names controllers and entries of the vocabulary alone, and holds a value that a line can.
 pub fn op_text(alloc: Global, op: &Op) -> Result<Vec<u8>, NoMemory>
     ensures text { IfOk result (λ text. text.items ≡ spelling op.now ++ 10 ∷ []) }
-    ensures held { (vocabulary : Vocabulary) → HasKnownControllers vocabulary op.now → IsInRange vocabulary op.now }
+    ensures held { (vocabulary : Vocabulary) → HasKnownWords vocabulary op.now → IsInRange vocabulary op.now }
 {
     Ok(line_of(alloc, op)?.into_bytes())
 }

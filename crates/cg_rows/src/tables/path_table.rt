@@ -7,6 +7,7 @@ ghost use Rattle.cg_cgroup.specs.Paths.{path_cmp, below};
 ghost use Rattle.cg_rows.specs.Places.{IsPlace, IsGap};
 
 pub mod enable;
+pub mod tell;
 
 use crate::tables::{TryClone, entries_of};
 use cg_cgroup::memory::NoMemory;
@@ -142,6 +143,15 @@ impl<V: Drop> PathTable<V> {
             unreachable!()
         };
         let _ = self.entries.remove(at);
+    }
+
+    /// Removes a path where it is in the table.
+    pub fn forget(&mut self, path: &Path)
+        ensures { self.new ≡ map.remove self.old path.now }
+    {
+        if let Ok(at) = search(&self.entries, path) {
+            let _ = self.entries.remove(at);
+        }
     }
 }
 

@@ -98,8 +98,8 @@ fn is_entry(kind: FlatTable, value: &Value) -> bool
 fn takes_file(format: Format, key: &str, value: &Value) -> bool
     ensures { result ≡ takes (file_keys_of format) key.now (view value.now) }
 {
-    match EntryName::from_name(key) {
-        None | Some(EntryName::Dir) => false,
+    match EntryName::in_format_2(key) {
+        None | Some(EntryName::Dir | EntryName::Other(_)) => false,
         Some(EntryName::Procs) => is_entry(FlatTable::Owner(format), value),
         Some(EntryName::SubtreeControl) => is_entry(FlatTable::Owner(format), value),
         Some(EntryName::File(_)) => is_entry(FlatTable::Limit(format), value),

@@ -34,7 +34,7 @@ fn is_contained(alloc: Global) -> Result<bool, Fail> {
 
 fn watched(alloc: Global) -> Result<Replay<Rows>, Fail> {
     let tree = read_tree(alloc, PARENT_DIRECTORY)?;
-    Ok(Replay::start(tree, Path::parse(alloc, "/c0")?)?)
+    Ok(Replay::start(alloc, tree, Path::parse(alloc, "/c0")?)?)
 }
 
 /// Whether a user removes `/c0`.

@@ -1,5 +1,6 @@
 //! Controllers, limit files and the names of entries.
 use cg_cgroup::files::{Controller, ControllerSet, EntryName, Limit, LimitFile, Vocabulary};
+use cg_cgroup::other_file::OtherFile;
 
 /// The limit files in their order, by the names that the kernel gives them.
 pub const NAMED: [(LimitFile, &str); 8] = [
@@ -38,6 +39,22 @@ fn names_are_the_kernels(rt: HostRuntime) {
         Some(EntryName::Procs)
     );
     assert_eq!(rt; LimitFile::from_name("cgroup.procs"), None);
+}
+
+/// Each has the name of its controller before the first dot, and they stand in the order of their names.
+#[test]
+fn files_beyond_are_named_by_their_controllers(rt: HostRuntime) {
+    let mut before = "";
+    for file in OtherFile::ALL {
+        let name = file.name();
+        assert!(rt; before < name, "{before} {name}");
+        before = name;
+        let first = name.split('.').next();
+        let controller = file.controller().map(|controller| controller.name());
+        assert_eq!(rt; first, Some(controller.unwrap_or("cgroup")), "{name}");
+        assert_eq!(rt; EntryName::from_name(name), Some(EntryName::Other(file)));
+        assert_eq!(rt; LimitFile::from_name(name), None);
+    }
 }
 
 #[test]

@@ -3,4 +3,4 @@ mod each_alone;
 mod first_guard;
 mod identities;
 mod premises;
-mod trees;
+pub mod trees;

@@ -1,5 +1,5 @@
 //! The two ways to keep a tree: whatever is done to both, they answer alike.
-mod alike;
+pub mod alike;
 mod counts;
 mod random;
 mod runs;

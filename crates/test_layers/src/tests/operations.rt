@@ -83,7 +83,9 @@ fn the_last_change_is_effective(rt: HostRuntime) -> Result<(), Fail> {
     t.refused(
         &rt,
         set(a, "/c0/c00", file, Limit::At(0)),
-        Refusal::NoSuchFile { file },
+        Refusal::NoSuchFile {
+            entry: EntryName::File(file),
+        },
     )
 }
 
@@ -261,7 +263,7 @@ fn owners_set_modes(rt: HostRuntime) -> Result<(), Fail> {
     t.refused(
         &rt,
         chmod(a, "/c0/c00", memory, 0o644),
-        Refusal::NoSuchFile { file },
+        Refusal::NoSuchFile { entry: memory },
     )?;
     t.refused(
         &rt,

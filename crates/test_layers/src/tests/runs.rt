@@ -1,4 +1,4 @@
 //! Runs: what each clause of a verdict is broken by, and what a replay counts.
 mod clauses;
 mod counted;
-mod trees;
+pub mod trees;

@@ -1,6 +1,6 @@
 use Rattle.std.proofs.Common.{ap, sym, ◌∙◌, map, length, arith}
 use Rattle.cg_advice.specs.Thinned.{table_path, is_table_of}
-use Rattle.cg_advice.proofs.Thinning.{is_table_at, named_again, pushed_at, named_pushed}
+use Rattle.cg_advice.proofs.Thinning.{is_table_at, named_again, pushed_at, formed_pushed, named_pushed}
 use Rattle.cg_advice.proofs.table.place_of.Goals as goal
 
 pub returns-then-is_table_of-clause-place : goal.returns-then-is_table_of-clause-place
@@ -29,6 +29,11 @@ pub returns-clause-place : goal.returns-clause-place
 returns-clause-place g c =
     pushed_at c.args.tables.now.items c.push.new.self.items _ c.len-place.result
     (omega (arith, c.len-place.ensures, c.as_slice.ensures.len, ap length c.as_slice.ensures.value)) c.in_ok-push.ensures.items
+
+pub returns-clause-tables : goal.returns-clause-tables
+returns-clause-tables g c =
+    formed_pushed (g.H.Hierarchy.state c.args.tree.now) c.args.tables.now.items c.push.new.self.items _ c.in_ok-push.ensures.items
+    c.requires c.in_ok-stands.ensures.spots c.in_ok-stands.ensures.ways
 
 pub returns-clause-named : goal.returns-clause-named
 returns-clause-named g c = λ paths named.

@@ -19,7 +19,7 @@ returns-in_err-replay-clause-read c = λ read is.
     let found = c.in_ok-text.ensures.read read is in
     let tree : read ≡ Ok c.in_ok-from_rows.field-0 = found ∙ ap Ok (sym c.in_ok-from_rows.ensures) in
     rw (p.1, p.2)
-    (λ other. start_fault c.args.subtree.now c.in_ok-subtree.subtree read c.in_ok-subtree.ensures _ c.in_err-replay.field-0.0 tree
+    (start_fault c.args.subtree.now c.in_ok-subtree.subtree read c.in_ok-subtree.ensures _ c.in_err-replay.field-0.0 tree
     c.in_err-replay.ensures.err)
 
 pub returns-clause-read : goal.returns-clause-read

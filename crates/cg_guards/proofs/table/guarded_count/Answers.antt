@@ -1,5 +1,5 @@
-use Rattle.std.proofs.Common.{◌+◌, length, sym, ap, ◌∙◌, arith}
-use Rattle.cg_cgroup.specs.Files.{all_files}
+use Rattle.std.proofs.Common.{◌≡◌, ◌+◌, length, arith}
+use Rattle.cg_model.specs.Guards.{guarded_entries}
 use Rattle.cg_guards.proofs.TableWalk.{few_names, guarded_length}
 use Rattle.cg_guards.proofs.table.guarded_count.Goals as goal
 
@@ -9,5 +9,10 @@ overflow_add-result c = omega (arith, few_names c.args.subtree.now c.depth.ensur
 pub overflow_add-result-2 : goal.overflow_add-result-2
 overflow_add-result-2 c = omega (arith, few_names c.args.subtree.now c.depth.ensures.path, c.depth.ensures.depth)
 
+pub overflow_add-result-3 : goal.overflow_add-result-3
+overflow_add-result-3 c = omega (arith, few_names c.args.subtree.now c.depth.ensures.path, c.depth.ensures.depth)
+
 pub returns : goal.returns
-returns c = ap (λ n. n + length all_files + 2) c.depth.ensures.depth ∙ sym (guarded_length c.args.subtree.now)
+returns c =
+    let e : length (guarded_entries c.args.subtree.now) ≡ length c.args.subtree.now + 51 + 2 = guarded_length c.args.subtree.now in
+    omega (arith, c.depth.ensures.depth, e)

@@ -8,7 +8,8 @@ returns-then-place-depth-clause-entry c =
 
 pub returns-then-below-files-clause-entry : goal.returns-then-below-files-clause-entry
 returns-then-below-files-clause-entry c =
-    file_at c.args.subtree.now c.args.place c.depth-depth.result c.depth-depth.ensures.depth _ c.if-place-depth.false c.if-below-files.true
+    file_at c.args.subtree.now c.args.place c.depth-depth.result c.depth-depth.ensures.depth c.guarded_file-name.result
+    c.if-place-depth.false c.if-below-files.true c.guarded_file-name.ensures
 
 pub returns-clause-entry : goal.returns-clause-entry
 returns-clause-entry c =

@@ -4,6 +4,7 @@ use Rattle.std.specs.List.{list_all}
 use Rattle.toml.specs.Data.{as_table}
 use Rattle.toml.specs.View.{view, table_view}
 use Rattle.cg_model.specs.Clauses.{first}
+use Rattle.cg_model.specs.WellFormed.{IsWellFormed}
 use Rattle.cg_format.specs.Form.{row_keys, live_keys, is_table}
 use Rattle.cg_format.specs.Said.{elements_at, tables_at, known_said}
 use Rattle.cg_format.specs.TextFaults.{each_cgroup, row_faults, cgroup_faults}
@@ -11,7 +12,7 @@ use Rattle.cg_format.specs.TextOf.{IsDocumentOf}
 use Rattle.cg_format.specs.Tables.{AreEntriesOf}
 use Rattle.cg_format.specs.declared.fault.Place.TheVariants.{Top}
 use Rattle.cg_format.specs.declared.fault.TreeFault.TheVariants.{BadController}
-use Rattle.cg_format.proofs.DocumentOfLaws.{among_these, document_is_of}
+use Rattle.cg_format.proofs.DocumentOfLaws.{state_with, among_these, document_is_of}
 use Rattle.cg_text.proofs.DocumentInTurn.{form_fault, controllers_fault, row_fault, cgroup_fault, process_fault, missing_is, all_tables}
 use Rattle.cg_text.proofs.TakenLaws.{elements_stay}
 use Rattle.cg_text.proofs.tree.tree_of.Goals as goal
@@ -106,6 +107,8 @@ from_tables-requires c =
     let document = table_view c.args.document in
     let among = among_these c.in_ok-format.format document c.in_ok-controllers.controllers c.in_ok-walked.field-0.items read entries _
     c.from_sorted-cgroups.ensures in
+    subst (λ told. IsWellFormed (record (state_with c.from_sorted-cgroups.result c.in_ok-processes.processes.live
+    c.in_ok-processes.processes.used c.in_ok-controllers.controllers) { told = told })) (sym c.new.ensures)
     (document_is_of c.in_ok-format.format document c.in_ok-controllers.controllers c.in_ok-walked.field-0.items read entries
     c.in_ok-processes.processes.live c.in_ok-processes.processes.used
     (rw (lives (goal.at.from_tables-requires c).After-elements_at) at (c.in_ok-processes.ensures _ among)) _
@@ -120,8 +123,10 @@ returns c =
     let among = among_these c.in_ok-format.format document c.in_ok-controllers.controllers c.in_ok-walked.field-0.items read entries _
     c.from_sorted-cgroups.ensures in
     subst (λ rows. IsDocumentOf rows document) (sym c.from_tables.ensures)
+    (subst (λ told. IsDocumentOf (record (state_with c.from_sorted-cgroups.result c.in_ok-processes.processes.live
+    c.in_ok-processes.processes.used c.in_ok-controllers.controllers) { told = told }) document) (sym c.new.ensures)
     (document_is_of c.in_ok-format.format document c.in_ok-controllers.controllers c.in_ok-walked.field-0.items read entries
     c.in_ok-processes.processes.live c.in_ok-processes.processes.used
     (rw (lives (goal.at.returns c).After-elements_at) at (c.in_ok-processes.ensures _ among)) _
     c.from_sorted-cgroups.ensures c.in_ok-format.ensures.1
-    (named (goal.at.returns c).In_ok-controllers))
+    (named (goal.at.returns c).In_ok-controllers)))

@@ -34,7 +34,7 @@ impl Kind {
 
     /// The kind of the table at a name of `files`.
     pub fn of_file(name: &str) -> Kind {
-        match EntryName::from_name(name) {
+        match EntryName::in_format_2(name) {
             Some(EntryName::Procs | EntryName::SubtreeControl) => Kind::ControlFile,
             _ => Kind::LimitFile,
         }
@@ -95,7 +95,7 @@ fn row_takes(key: &str) -> Option<Takes> {
 
 /// What a key of `files` takes.
 fn file_takes(key: &str) -> Option<Takes> {
-    match EntryName::from_name(key) {
+    match EntryName::in_format_2(key) {
         None | Some(EntryName::Dir) => None,
         Some(_) => Some(Takes::Table),
     }

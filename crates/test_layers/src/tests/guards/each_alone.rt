@@ -1,6 +1,7 @@
 //! Each entry on which a guard of `/a/b` stands, as the only one that user 1000 reaches: by writing, and by owning.
 use crate::tests::files::NAMED;
 use crate::tests::guards::trees::first_failed;
+use cg_cgroup::files::EntryName;
 use cg_cgroup::user::User;
 use cg_model::guard::{Failed, Guard};
 use cg_rows::rows::Rows;
@@ -26,7 +27,7 @@ const BEHIND_FILES: [(Guard, Named); 2] = [
 fn guarded(alloc: Global) -> Result<Vec<(Guard, Named)>, AllocError> {
     let mut entries = BEFORE_FILES.to_vec(alloc)?;
     for (file, name) in NAMED {
-        entries.push((Guard::LimitFile(file), (2, name)))?;
+        entries.push((Guard::LimitFile(EntryName::File(file)), (2, name)))?;
     }
     entries.extend_from_slice(&BEHIND_FILES)?;
     Ok(entries)

@@ -3,7 +3,7 @@ use crate::tests::guards::trees::{
     MEMORY_MAX_OWNED, ROOM_FOR_ONE, ROOT, ROOT_CONTROL_OWNED, ROOT_DIR_OWNED, ROOT_PROCS_OPEN,
     first_failed, tree_with,
 };
-use cg_cgroup::files::LimitFile;
+use cg_cgroup::files::{EntryName, LimitFile};
 use cg_cgroup::user::User;
 use cg_model::guard::{Failed, Guard};
 use std::alloc::Global;
@@ -48,7 +48,8 @@ const ROOT_DIR_OWNED_ALONE: (&str, &str) = (
 
 #[test]
 fn the_delegation_example(rt: HostRuntime) -> Result<(), Fail> {
-    let memory_max = Some((Guard::LimitFile(LimitFile::MemoryMax), 1));
+    let memory_max = EntryName::File(LimitFile::MemoryMax);
+    let memory_max = Some((Guard::LimitFile(memory_max), 1));
     let over = Some((Guard::AlreadyOver, 1));
     let not_written = (
         "\"memory.max\" = {",

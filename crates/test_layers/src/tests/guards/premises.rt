@@ -4,7 +4,7 @@ use crate::tests::guards::trees::{
     MEMORY_MAX_OWNED, ROOM_FOR_ONE, ROOT_CONTROL_OWNED, ROOT_DIR_OWNED, ROOT_PROCS_OPEN,
     first_failed, tree_with,
 };
-use cg_cgroup::files::{Controller, Limit, LimitFile};
+use cg_cgroup::files::{Controller, EntryName, Limit, LimitFile};
 use cg_cgroup::path::{Path, PathFault};
 use cg_cgroup::process::Pid;
 use cg_cgroup::user::User;
@@ -73,7 +73,7 @@ fn a_limit_is_set(rt: HostRuntime) -> Result<(), Fail> {
         file,
         value: Limit::Max,
     };
-    let failed = (Guard::LimitFile(file), 1);
+    let failed = (Guard::LimitFile(EntryName::File(file)), 1);
     let tree = after(&rt, alloc, DELEGATION, MEMORY_MAX_OWNED, failed, &op)?;
     assert_eq!(rt; limit_of_c0(alloc, &tree, file)?, Some(Limit::Max));
     Ok(())

@@ -55,12 +55,17 @@ fn owner<H: Hierarchy>(tree: &H, number: u32) -> Option<(Option<u32>, bool)> {
     Some((tree.owner(pid), tree.is_used(pid)))
 }
 
-/// Fails where two trees answer otherwise about a cgroup of the first names of a path.
+/// Fails where two trees answer otherwise about a cgroup of the first names of a path, or about its files.
 fn hold_paths<A: Hierarchy, B: Hierarchy>(rt: &impl Abort, one: &A, other: &B, path: &Path) {
     for len in 0..=path.depth() {
         assert_eq!(rt;
             answers_on(one, path, len),
             answers_on(other, path, len),
+            "{path:?} {len}"
+        );
+        assert_eq!(rt;
+            one.told(path, len),
+            other.told(path, len),
             "{path:?} {len}"
         );
     }

@@ -1,7 +1,10 @@
 //! Random operations on few paths and PIDs, the same ones each time.
 use cg_cgroup::files::{Controller, EntryName, Limit, LimitFile};
+use cg_cgroup::memory::NoMemory;
+use cg_cgroup::other_file::OtherFile;
 use cg_cgroup::path::{Path, PathFault};
 use cg_cgroup::process::Pid;
+use cg_cgroup::told::FileText;
 use cg_cgroup::user::Mode;
 use cg_model::changes::{Change, Changes};
 use cg_model::operation::Op;
@@ -61,6 +64,25 @@ fn file(random: &mut Random) -> LimitFile {
     random.one_of(&LimitFile::ALL, LimitFile::MaxDepth)
 }
 
+/// One of the limit files beyond `LimitFile`: of the core, and of the controllers that are enabled.
+fn other_file(random: &mut Random) -> OtherFile {
+    let files = [
+        OtherFile::Freeze,
+        OtherFile::CpuMax,
+        OtherFile::CpuWeightNice,
+        OtherFile::MemorySwapMax,
+    ];
+    random.one_of(&files, OtherFile::Freeze)
+}
+
+/// A value for such a file, which takes any.
+fn set_other(alloc: Global, at: Path, random: &mut Random) -> Result<Op, NoMemory> {
+    let file = other_file(random);
+    let text = String::from_str(alloc, random.one_of(&["0", "1", "max"], "0"))?;
+    let value = FileText { text };
+    Ok(Op::SetOther { at, file, value })
+}
+
 /// Another mode for a random entry: each class of users loses and gains the right to write.
 fn chmod(at: Path, random: &mut Random) -> Op {
     let of_file = EntryName::File(file(random));
@@ -69,6 +91,7 @@ fn chmod(at: Path, random: &mut Random) -> Op {
         EntryName::Procs,
         EntryName::SubtreeControl,
         of_file,
+        EntryName::Other(other_file(random)),
     ];
     let entry = random.one_of(&entries, of_file);
     let mode = random.one_of(&[0o644, 0o664, 0o646, 0o666, 0o755], 0o644);
@@ -101,7 +124,7 @@ fn control(alloc: Global, at: Path, random: &mut Random) -> Result<Op, PathFault
 /// A random operation.
 pub fn operation(alloc: Global, random: &mut Random) -> Result<Op, Fail> {
     let path = path(alloc, random)?;
-    Ok(match random.below(16) {
+    Ok(match random.below(18) {
         0..=3 => Op::Mkdir { path },
         4..=5 => Op::Rmdir { path },
         6..=7 => Op::Move {
@@ -115,6 +138,7 @@ pub fn operation(alloc: Global, random: &mut Random) -> Result<Op, Fail> {
             child: pid(random)?,
         },
         14 => Op::Exit { pid: pid(random)? },
+        15..=16 => set_other(alloc, path, random)?,
         _ => chmod(path, random),
     })
 }

@@ -110,7 +110,7 @@ fn below_io(alloc: Global) -> Result<Replay<Rows>, Fail> {
     if !add(alloc, &mut tree, &subtree, Owners::KEPT)? {
         return Err("/s isn't added".into());
     }
-    Ok(Replay::start(tree, subtree)?)
+    Ok(Replay::start(alloc, tree, subtree)?)
 }
 
 #[test]

@@ -30,7 +30,7 @@ fn what_does_not_start(rt: HostRuntime) -> Result<(), Fail> {
         ("/s", CheckFault::NoSuchSubtree),
     ] {
         let tree = read_tree(alloc, ROOT.as_bytes())?;
-        let Err(found) = Replay::start(tree, Path::parse(alloc, path)?) else {
+        let Err(found) = Replay::start(alloc, tree, Path::parse(alloc, path)?) else {
             return Err("it starts".into());
         };
         assert_eq!(rt; found, fault);

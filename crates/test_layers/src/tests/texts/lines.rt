@@ -43,7 +43,7 @@ fn long_control(alloc: Global, count: usize, word: &str) -> Result<String, Alloc
 }
 
 /// Lines of no operation, for their words, their numbers and their spaces.
-const OF_NONE: [&str; 42] = [
+const OF_NONE: [&str; 46] = [
     "",
     "move",
     "move 10",
@@ -59,6 +59,10 @@ const OF_NONE: [&str; 42] = [
     "mkdir /é",
     "rmdir c0",
     "set /c0 cgroup.procs 1",
+    "set /c0 io.max",
+    "set /c0 io.max 8:0  rbps=1",
+    "set /c0 io.max max ",
+    "set /c0 io.stat max",
     "set /c0 pids.max Max",
     "fork 11",
     "exit /c0",
@@ -106,13 +110,17 @@ const OF_OPERATIONS: [&str; 15] = [
     "chmod /c0 memory.max 640",
 ];
 
-/// Lines of operations where all controllers are named, and else of none.
-const OF_FORMAT_4: [&str; 5] = [
+/// Lines of operations where all controllers and limit files are named, and else of none.
+const OF_FORMAT_4: [&str; 9] = [
     "control /c0 +io",
     "control / -cpuset",
     "control /c0 +cpu +dmem",
     "control /c0 -dmem +misc -rdma +pids -hugetlb +memory -io +cpu -cpuset",
     "control /c0/io -hugetlb +hugetlb -hugetlb",
+    "set /c0 io.max 8:0 rbps=1 wiops=max",
+    "set / cgroup.freeze 1",
+    "set /c0 hugetlb.16GB.rsvd.max abc",
+    "chmod /c0 memory.zswap.writeback 640",
 ];
 
 #[test]

@@ -5,8 +5,10 @@ ghost use Rattle.cg_lines.specs.Outcomes.{CanShow};
 
 use cg_cgroup::files::{Controller, EntryName, Limit, LimitFile};
 use cg_cgroup::memory::NoMemory;
+use cg_cgroup::other_file::OtherFile;
 use cg_cgroup::path::Path;
 use cg_cgroup::process::Pid;
+use cg_cgroup::told::FileText;
 use cg_cgroup::user::Mode;
 use cg_lines::outcome::outcome_text;
 use cg_model::changes::Changes;
@@ -102,7 +104,7 @@ fn refusals_at_files(rt: HostRuntime) -> Result<(), Fail> {
     let at = place(alloc).ok_or("a path")?;
     expect_lines!(rt, alloc, Op::Set { at, file, value };
         Refusal::NoSuchCgroup { len: 2 } => "refused no-such-cgroup /c0/c01\n",
-        Refusal::NoSuchFile { file } => "refused no-such-file /c0/c01 cpu.weight\n",
+        Refusal::NoSuchFile { entry: EntryName::File(file) } => "refused no-such-file /c0/c01 cpu.weight\n",
         Refusal::NoAccess { len: 2, entry: EntryName::File(file) } => "refused no-access /c0/c01 cpu.weight\n",
         Refusal::BadValue { file } => "refused bad-value cpu.weight\n",
     );
@@ -111,8 +113,29 @@ fn refusals_at_files(rt: HostRuntime) -> Result<(), Fail> {
     let at = place(alloc).ok_or("a path")?;
     expect_lines!(rt, alloc, Op::Chmod { at, entry, mode };
         Refusal::NoSuchCgroup { len: 2 } => "refused no-such-cgroup /c0/c01\n",
-        Refusal::NoSuchFile { file } => "refused no-such-file /c0/c01 memory.max\n",
+        Refusal::NoSuchFile { entry } => "refused no-such-file /c0/c01 memory.max\n",
         Refusal::NotOwner { entry } => "refused not-owner /c0/c01 memory.max\n",
+    );
+    Ok(())
+}
+
+#[test]
+fn refusals_at_files_beyond(rt: HostRuntime) -> Result<(), Fail> {
+    let alloc = rt.alloc();
+    let file = OtherFile::IoMax;
+    let text = String::from_str(alloc, "max")?;
+    let (entry, value) = (EntryName::Other(file), FileText { text });
+    let at = place(alloc).ok_or("a path")?;
+    expect_lines!(rt, alloc, Op::SetOther { at, file, value };
+        Refusal::NoSuchCgroup { len: 2 } => "refused no-such-cgroup /c0/c01\n",
+        Refusal::NoSuchFile { entry } => "refused no-such-file /c0/c01 io.max\n",
+        Refusal::NoAccess { len: 2, entry } => "refused no-access /c0/c01 io.max\n",
+    );
+    let mode = Mode::new(0o640).ok_or("a mode")?;
+    let at = place(alloc).ok_or("a path")?;
+    expect_lines!(rt, alloc, Op::Chmod { at, entry, mode };
+        Refusal::NoSuchFile { entry } => "refused no-such-file /c0/c01 io.max\n",
+        Refusal::NotOwner { entry } => "refused not-owner /c0/c01 io.max\n",
     );
     Ok(())
 }

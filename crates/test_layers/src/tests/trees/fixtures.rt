@@ -1,6 +1,6 @@
 //! Changes of any tree, each tested for what it requires, and the trees that are built by them.
 ghost use Rattle.std.specs.Prelude.{◌≡◌, true, not, ◌||◌, [], cond, map, Some, None, IfOk};
-ghost use Rattle.cg_cgroup.specs.Files.{brought_files, enables, stands_under};
+ghost use Rattle.cg_cgroup.specs.Files.{brought_files, enables, is_beyond, stands_under};
 ghost use Rattle.cg_cgroup.specs.Cgroups.{file_made_by, entry_made_by, cgroup_made_by};
 ghost use Rattle.cg_model.specs.States.{child_enables};
 ghost use Rattle.cg_rows.specs.RowsForm.{IsRoot, state_of_root};
@@ -161,12 +161,19 @@ pub fn set_limit<H: Hierarchy>(tree: &mut H, path: &Path, file: LimitFile, value
     true
 }
 
-/// Sets a mode. False where the entry isn't there.
+/// Whether an entry is a limit file beyond `LimitFile`.
+fn is_beyond(name: EntryName) -> bool
+    ensures { result ≡ is_beyond name }
+{
+    matches!(name, EntryName::Other(_))
+}
+
+/// Sets a mode. False where the entry isn't there, or is a limit file beyond `LimitFile`.
 pub fn set_mode<H: Hierarchy>(tree: &mut H, path: &Path, name: EntryName, mode: Mode) -> bool {
     let Some(cgroup) = tree.get(path, path.depth()) else {
         return false;
     };
-    if cgroup.entry(name).is_none() {
+    if is_beyond(name) || cgroup.entry(name).is_none() {
         return false;
     }
     tree.set_mode(path, name, mode);
@@ -358,7 +365,12 @@ pub fn of_tables(alloc: Global, controllers: ControllerSet, root: Cgroup) -> Res
     let mut cgroups = BTreeMap::new(alloc);
     cgroups.insert(Path::root(alloc), root)?;
     let cgroups = PathTable::from_map(alloc, cgroups)?;
-    Ok(Rows::from_tables(cgroups, Processes::new(alloc), controllers))
+    Ok(Rows::from_tables(
+        cgroups,
+        Processes::new(alloc),
+        PathTable::new(alloc),
+        controllers,
+    ))
 }
 
 /// Hands `/c0` and `/c1` over, with two levels and four cgroups allowed below `/c0`, and fills them with cgroups of user

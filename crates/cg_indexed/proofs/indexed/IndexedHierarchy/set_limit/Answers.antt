@@ -18,14 +18,14 @@ set-requires c =
 
 pub invariant_of-self : goal.invariant_of-self
 invariant_of-self c =
-    put_indexed c.self.inside.cgroups c.self.inside.processes c.self.inside.controllers c.args.self.now c.self.view_is c.args.path.now
-    (with_value_in c.args.file c.args.value) c.cgroup.result.now c.set_value.new.self c.cgroup.ensures c.set_value.ensures c.set.new.self
-    c.set.ensures c.self.invariant
+    put_indexed c.self.inside.cgroups c.self.inside.processes c.self.inside.told c.self.inside.controllers c.args.self.now c.self.view_is
+    c.args.path.now (with_value_in c.args.file c.args.value) c.cgroup.result.now c.set_value.new.self c.cgroup.ensures c.set_value.ensures
+    c.set.new.self c.set.ensures c.self.invariant
     (formed-with_value c.args.self.now c.args.path.now c.args.file c.args.value c.requires.accepted
     (subst IsWellFormed c.self.view_is c.self.invariant.formed))
 
 pub returns : goal.returns
 returns c =
-    put_shows c.self.inside.cgroups c.self.inside.processes c.self.inside.controllers c.args.self.now c.self.view_is c.args.path.now
-    (with_value_in c.args.file c.args.value) c.cgroup.result.now c.set_value.new.self c.cgroup.ensures c.set_value.ensures c.set.new.self
-    c.set.ensures
+    put_shows c.self.inside.cgroups c.self.inside.processes c.self.inside.told c.self.inside.controllers c.args.self.now c.self.view_is
+    c.args.path.now (with_value_in c.args.file c.args.value) c.cgroup.result.now c.set_value.new.self c.cgroup.ensures c.set_value.ensures
+    c.set.new.self c.set.ensures

@@ -1,12 +1,18 @@
 use Rattle.std.proofs.Common.{◌≡◌, sym, subst}
 use Rattle.cg_cgroup.specs.declared.files.Vocabulary.{Vocabulary}
 use Rattle.cg_model.specs.declared.operation.Op.{Op}
-use Rattle.cg_lines.specs.OperationLines.{HasKnownControllers, IsInRange}
+use Rattle.cg_lines.specs.OperationLines.{HasKnownWords, IsInRange}
 use Rattle.cg_lines.proofs.lines.write.line_of.Goals as goal
 
--- an operation that names no controllers
+-- an operation that lines of the vocabulary can hold
+held_where : (op made : Op) → op ≡ made → ((vocabulary : Vocabulary) → HasKnownWords vocabulary made → IsInRange vocabulary made)
+    → (vocabulary : Vocabulary) → HasKnownWords vocabulary op → IsInRange vocabulary op
+held_where op made is held vocabulary =
+    subst (λ op. HasKnownWords vocabulary op → IsInRange vocabulary op) (sym is) (held vocabulary)
+
+-- one that each vocabulary's can
 held_as : (op made : Op) → op ≡ made → ((vocabulary : Vocabulary) → IsInRange vocabulary made) → (vocabulary : Vocabulary)
-    → HasKnownControllers vocabulary op → IsInRange vocabulary op
+    → HasKnownWords vocabulary op → IsInRange vocabulary op
 held_as op made is held vocabulary _ = subst (IsInRange vocabulary) (sym is) (held vocabulary)
 
 pub returns-in-Move-clause-held : goal.returns-in-Move-clause-held
@@ -27,5 +33,9 @@ returns-in-Fork-clause-held c = held_as _ _ c.in-Fork.is c.fork_line.ensures.hel
 pub returns-in-Exit-clause-held : goal.returns-in-Exit-clause-held
 returns-in-Exit-clause-held c = held_as _ _ c.in-Exit.is c.exit_line.ensures.held
 
+pub returns-in-SetOther-clause-held : goal.returns-in-SetOther-clause-held
+returns-in-SetOther-clause-held c =
+    held_where _ _ c.in-SetOther.is (λ vocabulary known. c.set_other_line.ensures.held vocabulary known.0 known.1)
+
 pub returns-in-Chmod-clause-held : goal.returns-in-Chmod-clause-held
-returns-in-Chmod-clause-held c = held_as _ _ c.in-Chmod.is c.chmod_line.ensures.held
+returns-in-Chmod-clause-held c = held_where _ _ c.in-Chmod.is c.chmod_line.ensures.held

@@ -8,6 +8,6 @@ use Rattle.cg_rows.proofs.rows.RowsHierarchy.set_limit.Goals as goal
 
 pub invariant_of-self : goal.invariant_of-self
 invariant_of-self c =
-    let next = tables_changed c.args.self.now _ _ _ _ c.args.path.now _ (with_value_in c.args.file c.args.value) _ _
+    let next = tables_changed c.args.self.now _ _ _ _ _ c.args.path.now _ (with_value_in c.args.file c.args.value) _ _
     c.self.view_is c.in-Some.ensures (take_all c.depth.result c.args.path.now (omega arith)) c.set_value.ensures c.set.ensures in
     subst IsWellFormed (sym next) (formed-with_value _ _ _ _ c.requires.accepted (subst IsWellFormed c.self.view_is c.self.invariant))

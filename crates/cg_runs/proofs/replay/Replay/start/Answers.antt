@@ -1,4 +1,4 @@
-use Rattle.std.proofs.Common.{◌≡◌, Some, is_some, ap}
+use Rattle.std.proofs.Common.{◌≡◌, Some, is_some, ap, sym}
 use Rattle.cg_model.specs.States.{row_at}
 use Rattle.cg_runs.proofs.ReplayLaws.{row-asked, not_root-asked, replay-start, run-start}
 use Rattle.cg_runs.proofs.replay.Replay.start.Given as given
@@ -12,13 +12,17 @@ there g c =
 
 pub invariant_of-result : goal.invariant_of-result
 invariant_of-result g c =
-    replay-start (g.H.Hierarchy.state c.args.tree) c.args.subtree c.in-Some.cgroup.now c.verdict_by.result c.in-Some.ensures.formed
-    (there g (goal.at.invariant_of-result g c).After-verdict_by) (c.verdict_by.ensures _ c.broken_at_start-broken.ensures)
+    replay-start (g.H.Hierarchy.state c.args.tree) c.args.subtree c.in-Some.cgroup.now c.in-Ok.told c.verdict_by.result
+    c.in-Some.ensures.formed
+    (there g (goal.at.invariant_of-result g c).After-verdict_by) (sym c.in-Ok.ensures.ok)
+    (c.verdict_by.ensures _ c.broken_at_start-broken.ensures)
 
 pub returns-clause-ok : goal.returns-clause-ok
 returns-clause-ok g c =
-    run-start (g.H.Hierarchy.state c.args.tree) c.args.subtree c.in-Some.cgroup.now c.verdict_by.result c.in-Some.ensures.formed
-    (there g (goal.at.returns-clause-ok g c).After-verdict_by) (c.verdict_by.ensures _ c.broken_at_start-broken.ensures)
+    run-start (g.H.Hierarchy.state c.args.tree) c.args.subtree c.in-Some.cgroup.now c.in-Ok.told c.verdict_by.result
+    c.in-Some.ensures.formed
+    (there g (goal.at.returns-clause-ok g c).After-verdict_by) (sym c.in-Ok.ensures.ok)
+    (c.verdict_by.ensures _ c.broken_at_start-broken.ensures)
 
 pub returns-clause-asked : goal.returns-clause-asked
 returns-clause-asked g c = (

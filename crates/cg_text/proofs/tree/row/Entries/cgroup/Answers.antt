@@ -6,22 +6,22 @@ use Rattle.cg_text.proofs.RowLaws.{no_owner, no_value, has_file, has_each, each_
 use Rattle.cg_text.proofs.tree.row.Entries.cgroup.Goals as goal
 
 pub returns-in_err-dir : goal.returns-in_err-dir
-returns-in_err-dir c = no_owner c.args.self Dir _ _ _ c.from_residual.ensures c.in_err-dir.ensures
+returns-in_err-dir c = no_owner c.args.self Dir refl _ _ _ c.from_residual.ensures c.in_err-dir.ensures
 
 pub returns-in_err-procs : goal.returns-in_err-procs
-returns-in_err-procs c = no_owner c.args.self Procs _ _ _ c.from_residual-in_err-procs.ensures c.in_err-procs.ensures
+returns-in_err-procs c = no_owner c.args.self Procs refl _ _ _ c.from_residual-in_err-procs.ensures c.in_err-procs.ensures
 
 pub returns-in_err-subtree_control : goal.returns-in_err-subtree_control
 returns-in_err-subtree_control c =
-    no_owner c.args.self SubtreeControl _ _ _ c.from_residual-in_err-subtree_control.ensures c.in_err-subtree_control.ensures
+    no_owner c.args.self SubtreeControl refl _ _ _ c.from_residual-in_err-subtree_control.ensures c.in_err-subtree_control.ensures
 
 pub returns-in_err-max_descendants : goal.returns-in_err-max_descendants
 returns-in_err-max_descendants c =
-    no_owner c.args.self (File MaxDescendants) _ _ _ c.from_residual-in_err-max_descendants.ensures c.in_err-max_descendants.ensures
+    no_owner c.args.self (File MaxDescendants) refl _ _ _ c.from_residual-in_err-max_descendants.ensures c.in_err-max_descendants.ensures
 
 pub returns-in_err-max_depth : goal.returns-in_err-max_depth
 returns-in_err-max_depth c =
-    no_owner c.args.self (File MaxDepth) _ _ _ c.from_residual-in_err-max_depth.ensures c.in_err-max_depth.ensures
+    no_owner c.args.self (File MaxDepth) refl _ _ _ c.from_residual-in_err-max_depth.ensures c.in_err-max_depth.ensures
 
 pub returns-then-not-are_owned : goal.returns-then-not-are_owned
 returns-then-not-are_owned c = λ _. none_owned c.args.self (sym c.are_owned.ensures ∙ c.if-not-are_owned.true)

@@ -3,7 +3,7 @@ use Rattle.cg_cgroup.specs.Files.{all_files}
 use Rattle.cg_cgroup.specs.declared.files.LimitFile.TheVariants.{MaxDescendants}
 use Rattle.cg_tries.specs.Finding.{set_of}
 use Rattle.cg_tries.proofs.Walks.{given_past}
-use Rattle.cg_tries.proofs.write_tries.first_set.Goals as goal
+use Rattle.cg_tries.proofs.write_tries.first_listed_set.Goals as goal
 
 pub loop-file-preserved : goal.loop-file-preserved
 loop-file-preserved g c =

@@ -1,7 +1,7 @@
 use Rattle.std.proofs.Common.{◌≡◌, drop}
 use Rattle.cg_cgroup.specs.Files.{all_files}
 use Rattle.cg_tries.specs.Finding.{first_given, set_of}
-use Rattle.cg_tries.proofs.write_tries.first_set.Given as goal
+use Rattle.cg_tries.proofs.write_tries.first_listed_set.Given as goal
 
 -- the first is among those that are still to come
 abbrev pub invariant-loop-file : goal.invariant-loop-file

@@ -1,0 +1,10 @@
+use Rattle.std.proofs.Common.{◌≡◌, drop}
+use Rattle.cg_cgroup.specs.Files.{all_others}
+use Rattle.cg_tries.specs.Finding.{first_given, other_set_of}
+use Rattle.cg_tries.proofs.write_tries.first_other_set.Given as goal
+
+-- the first is among those that are still to come
+abbrev pub invariant-loop-file : goal.invariant-loop-file
+invariant-loop-file g l =
+    let set = other_set_of (g.H.Hierarchy.state l.asker.tree.now) l.asker.user.now l.asker.subtree.now in
+    first_given set (drop l.file-index all_others) ≡ first_given set all_others

@@ -1,0 +1,5 @@
+//! Limit files beyond `LimitFile`.
+mod guards;
+mod operations;
+mod runs;
+mod trees;

@@ -1,0 +1,127 @@
+"""Tests of the second model's further limit files by docs/MODEL.md, on states that no text is of as well."""
+import os
+import sys
+import unittest
+
+sys.path.insert(0, os.path.dirname(os.path.dirname(os.path.abspath(__file__))))
+from second import commands, explained, lasting, rules, texts
+from second.further import FURTHER_FILES
+from second.rules import Entry
+import format_4_rows as rows
+
+ONE, TOP, CHILD = (1000, (7,)), ("s",), ("s", "a")
+NINE = rules.ALL_CONTROLLERS
+OF_NINE = f"format = 4\ncontrollers = {[*NINE]}\ncgroup = [{{ path = '/', enabled = {[*NINE]} }}, {{ path = '/s' }}]\n"
+
+
+def tree(text=rows.H):
+    return texts.tree_of(text.encode())
+
+
+def opened(name, mode=0o644):
+    """H with a further limit file of the subtree that is the user's, as none is that a text tells of."""
+    state = tree()
+    top = state.cgroups[TOP]
+    return rules.with_cgroup(state, TOP, rules.replace(top, entries={**top.entries, name: Entry(1000, 0, mode)}))
+
+
+def run(state, *lines, user=ONE):
+    """The states of a run, each operation of which is accepted."""
+    states = [state]
+    for line in lines:
+        after, refusal = rules.step(states[-1], user, commands.operation_of(line.encode(), 4))
+        if refusal:
+            raise ValueError(f"{line}: {refusal}")
+        states.append(after)
+    return states
+
+
+class FilesTest(unittest.TestCase):
+    def test_the_table_is_in_the_order_of_its_names(self):
+        self.assertEqual(len(FURTHER_FILES), 43)
+        self.assertEqual(list(FURTHER_FILES), sorted(FURTHER_FILES))
+        self.assertTrue(FURTHER_FILES.keys().isdisjoint(rules.LIMIT_FILES))
+        for name, (controller, _) in FURTHER_FILES.items():
+            self.assertEqual(name.partition(".")[0], controller or "cgroup")
+
+    def test_where_files_stand(self):
+        state = tree(OF_NINE)
+        self.assertEqual(rules.further_at(state, ()), ["cgroup.freeze"])
+        self.assertEqual(rules.entry_of(state, (), "cgroup.freeze"), Entry())
+        self.assertEqual(rules.further_at(state, TOP), list(FURTHER_FILES))
+        self.assertEqual(rules.further_at(tree(), CHILD), ["cgroup.freeze"])
+        for controller in NINE:
+            some = tree(OF_NINE.replace(f"enabled = {[*NINE]}", f"enabled = ['{controller}']"))
+            found = [name for name in FURTHER_FILES if name.startswith((f"{controller}.", "cgroup."))]
+            self.assertEqual(rules.further_at(some, TOP), found)
+
+    def test_a_text_tells_of_none(self):
+        for text in (rows.H, OF_NINE, rows.TWO):
+            state = tree(text)
+            for path in state.cgroups:
+                self.assertEqual(rules.told_at(state, path), [])
+                self.assertLessEqual({rules.entry_of(state, path, name) for name in rules.further_at(state, path)}, {Entry(0, 0, 0o644)})
+        self.assertFalse(any(name in line for line in explained.lines_of(tree(OF_NINE), ONE, TOP) for name in FURTHER_FILES))
+
+
+class ToldTest(unittest.TestCase):
+    def test_what_comes_is_of_whoever_brought_it(self):
+        state = run(tree(), "control /s +io", "mkdir /s/b")[-1]
+        own = Entry(1000, 7, 0o644)
+        self.assertEqual(rules.entry_of(state, CHILD, "io.max"), own)
+        self.assertEqual(rules.entry_of(state, CHILD, "cgroup.freeze"), Entry())
+        self.assertEqual({rules.entry_of(state, ("s", "b"), name) for name in rules.further_at(state, ("s", "b"))}, {own})
+        self.assertEqual(rules.entry_of(run(tree(), "control /s +io", user=(1000, ()))[-1], CHILD, "io.max"), Entry(1000, 0, 0o644))
+
+    def test_a_set_and_a_chmod_tell_of_one_file(self):
+        state = run(tree(), "control /s +io", "chmod /s/a io.max 600", "set /s/a io.weight default 5")[-1]
+        self.assertEqual(rules.told_at(state, CHILD), ["io.max", "io.weight"])
+        self.assertEqual(rules.entry_of(state, CHILD, "io.max"), Entry(1000, 7, 0o600))
+        self.assertEqual(rules.entry_of(state, CHILD, "io.latency"), Entry(1000, 7, 0o644))
+        self.assertEqual({name: value for name, value in state.cgroups[CHILD].values.items() if name in FURTHER_FILES},
+                         {"io.weight": "default 5"})
+        after = run(state, "set /s/a io.weight 7", "chmod /s/a io.weight 400")[-1]
+        self.assertEqual(after.cgroups[CHILD].values["io.weight"], "7")
+
+    def test_what_is_told_is_forgotten_with_its_file(self):
+        state = run(tree(), "control /s +io +memory", "set /s/a io.max 1", "chmod /s/a io.max 600", "set /s/a memory.swap.max 1")[-1]
+        after = run(state, "control /s -io", "control /s +io")[-1]
+        self.assertEqual(rules.told_at(after, CHILD), ["memory.swap.max"])
+        self.assertEqual(rules.entry_of(after, CHILD, "io.max"), Entry(1000, 7, 0o644))
+        self.assertNotIn("io.max", after.cgroups[CHILD].values)
+        made = run(state, "mkdir /s/b", "set /s/b io.max 1", "rmdir /s/b", "mkdir /s/b")[-1]
+        self.assertEqual(rules.told_at(made, ("s", "b")), [])
+
+
+class SubtreeTest(unittest.TestCase):
+    def test_a_set_at_the_subtree_breaks_it_once_it_is_told_of(self):
+        first, state = run(opened("io.max"), "set /s io.max max")
+        self.assertEqual(rules.verdict([first, state], TOP), "broken 1 limits")
+        self.assertEqual(rules.verdict(run(state, "set /s io.max max"), TOP), "kept")
+        self.assertEqual(rules.verdict(run(state, "chmod /s io.max 600", "set /s io.max 0"), TOP), "broken 2 limits")
+        self.assertEqual(rules.verdict(run(opened("io.max"), "chmod /s io.max 600"), TOP), "kept")
+        self.assertEqual(rules.verdict(run(tree(), "control /s +io", "set /s/a io.max max"), TOP), "kept")
+
+    def test_guards_stand_behind_the_eight(self):
+        state = opened("io.max")
+        found = [name for guard, _, name in rules.guarded(state, TOP) if guard == "limit-file"]
+        self.assertEqual(found, [*rules.files_at(state, TOP), "io.max"])
+        self.assertEqual(rules.failures(state, ONE, TOP), [("limit-file", TOP, "io.max")])
+        self.assertEqual(rules.answer(state, ONE, TOP), ("escapes", [("set", TOP, "io.max", "max")]))
+        self.assertEqual(rules.answer(opened("io.max", 0o444), ONE, TOP),
+                         ("escapes", [("chmod", TOP, "io.max", 0o644), ("set", TOP, "io.max", "max")]))
+        self.assertFalse(lasting.second_row_holds(state, [ONE], TOP))
+        self.assertTrue(lasting.second_row_holds(tree(), [ONE], TOP))
+
+    def test_another_value_is_tried(self):
+        for name, value, other in (("io.max", None, "max"), ("io.max", "1", "max"), ("io.max", "max", "0"), ("cpu.idle", None, "0"),
+                                   ("cpu.idle", "0", "max"), ("cpu.idle", "max", "0"), ("cpu.max", "max", "max 100000"),
+                                   ("cpu.max", "max 100000", "max"), ("cpuset.cpus.partition", "root", "member")):
+            self.assertEqual(rules.other_value(name, value), other, (name, value))
+        for name, (_, loose) in FURTHER_FILES.items():
+            self.assertEqual(rules.other_value(name, None), loose)
+            self.assertNotEqual(rules.other_value(name, loose), loose)
+
+
+if __name__ == "__main__":
+    unittest.main()
