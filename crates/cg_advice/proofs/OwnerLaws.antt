@@ -145,7 +145,7 @@ module _ (st : State) (p : Names) (uid gid : ℕ) (q : Names) where
   other_owner : (name : EntryName) (file : OtherFile) → told_with_owner st p name uid gid ≡ st.told → same_entry name (Other file) ≡ false
       → entry_at (with_owner st p name uid gid) q (Other file)
       ≡ cond (same_path p q && same_entry name (Other file)) (option_map (owned_by uid gid) (entry_at st q (Other file)))
-        (entry_at st q (Other file))
+      (entry_at st q (Other file))
   other_owner name file told apart =
       ap (option_map (λ told. told.entry))
       (file_told-same st (with_owner st p name uid gid) q file
@@ -157,7 +157,7 @@ module _ (st : State) (p : Names) (uid gid : ℕ) (q : Names) where
   beyond-with_owner : (name : EntryName) (file : OtherFile)
       → entry_at (with_owner st p name uid gid) q (Other file)
       ≡ cond (same_path p q && same_entry name (Other file)) (option_map (owned_by uid gid) (entry_at st q (Other file)))
-        (entry_at st q (Other file))
+      (entry_at st q (Other file))
   beyond-with_owner (Other changed) file =
       ap (option_map (λ told. told.entry))
       (file_told-telling st p changed (told_owned_by uid gid) q file (with_owner st p (Other changed) uid gid) refl
