@@ -1,5 +1,5 @@
 -- Controllers and limit files: how they are found by their names, where they stand, and the values that they take.
-use Rattle.std.specs.Prelude.{◌≡◌, ℕ, Bool, true, false, ◌&&◌, ◌||◌, not, nat_eq, nat_le, cond, get_or, map, List, ◌∷◌, ◌++◌, Option, Some, None, codes}
+use Rattle.std.specs.Prelude.{◌≡◌, ℕ, Bool, true, false, ◌&&◌, ◌||◌, not, nat_eq, nat_le, cond, get_or, map, List, [], ◌∷◌, ◌++◌, Option, Some, None, codes}
 use Rattle.std.specs.List.{find, list_all, list_any}
 use Rattle.std.proofs.Common.{refl}
 use Rattle.cg_cgroup.specs.Paths.{same_name}
@@ -116,6 +116,11 @@ entry_text (Other file) = other_name file
 -- the entry of a name
 abbrev pub entry_named : List ℕ → Option EntryName
 entry_named text = find (λ name. same_name text (entry_text name)) all_entries
+
+-- the limit files beyond `LimitFile` that texts and operation lines of a vocabulary name
+abbrev pub known_others : Vocabulary → List OtherFile
+known_others Format2 = []
+known_others Format4 = all_others
 
 -- an entry that texts and operation lines of a vocabulary name, and the one that a name means there
 abbrev pub known_entries : Vocabulary → List EntryName

@@ -6,6 +6,7 @@ pub mod Numbers
 pub mod Identity
 pub mod Users
 pub mod OtherKinds
+pub mod Values
 pub mod Files
 pub mod Cgroups
 pub mod Told

@@ -17,61 +17,62 @@ all_others =
     HugetlbOf512MbMax ∷ HugetlbOf512MbReservedMax ∷ HugetlbOf64KbMax ∷ HugetlbOf64KbReservedMax ∷ IoBfqWeight ∷ IoLatency ∷ IoMax ∷
     IoPrioClass ∷ IoWeight ∷ MemorySwapHigh ∷ MemorySwapMax ∷ MemoryZswapMax ∷ MemoryZswapWriteback ∷ MiscMax ∷ RdmaMax ∷ []
 
--- Such a file: its number in that order, its name, the controller that brings it, and a value that holds nothing, or little.
+-- Such a file: its number in that order, its name, the controller that brings it, and two values of which the first holds nothing, or little.
 pub record OtherKind : Type 0 where
   pub number : ℕ
   pub name : List ℕ
   pub controller : Option Controller
   pub loose : List ℕ
+  pub other : List ℕ
 
-abbrev row : ℕ → List ℕ → Option Controller → List ℕ → OtherKind
-row number name controller loose = record { number = number; name = name; controller = controller; loose = loose }
+abbrev row : ℕ → List ℕ → Option Controller → List ℕ → List ℕ → OtherKind
+row number name controller loose other = record { number = number; name = name; controller = controller; loose = loose; other = other }
 
 -- Core Interface Files; CPU, Memory, IO, Cpuset, HugeTLB, RDMA, Misc, Device memory.
 abbrev pub other_kind : OtherFile → OtherKind
-other_kind Freeze = row 0 (codes "cgroup.freeze") None (codes "0")
-other_kind CpuIdle = row 1 (codes "cpu.idle") (Some Cpu) (codes "0")
-other_kind CpuMax = row 2 (codes "cpu.max") (Some Cpu) (codes "max 100000")
-other_kind CpuMaxBurst = row 3 (codes "cpu.max.burst") (Some Cpu) (codes "0")
-other_kind CpuUclampMax = row 4 (codes "cpu.uclamp.max") (Some Cpu) (codes "max")
-other_kind CpuUclampMin = row 5 (codes "cpu.uclamp.min") (Some Cpu) (codes "max")
-other_kind CpuWeightNice = row 6 (codes "cpu.weight.nice") (Some Cpu) (codes "-20")
-other_kind CpusetCpus = row 7 (codes "cpuset.cpus") (Some Cpuset) (codes "max")
-other_kind CpusetCpusExclusive = row 8 (codes "cpuset.cpus.exclusive") (Some Cpuset) (codes "max")
-other_kind CpusetCpusPartition = row 9 (codes "cpuset.cpus.partition") (Some Cpuset) (codes "member")
-other_kind CpusetMems = row 10 (codes "cpuset.mems") (Some Cpuset) (codes "max")
-other_kind DmemLow = row 11 (codes "dmem.low") (Some Dmem) (codes "max")
-other_kind DmemMax = row 12 (codes "dmem.max") (Some Dmem) (codes "max")
-other_kind DmemMin = row 13 (codes "dmem.min") (Some Dmem) (codes "max")
-other_kind HugetlbOf16GbMax = row 14 (codes "hugetlb.16GB.max") (Some Hugetlb) (codes "max")
-other_kind HugetlbOf16GbReservedMax = row 15 (codes "hugetlb.16GB.rsvd.max") (Some Hugetlb) (codes "max")
-other_kind HugetlbOf16MbMax = row 16 (codes "hugetlb.16MB.max") (Some Hugetlb) (codes "max")
-other_kind HugetlbOf16MbReservedMax = row 17 (codes "hugetlb.16MB.rsvd.max") (Some Hugetlb) (codes "max")
-other_kind HugetlbOf1GbMax = row 18 (codes "hugetlb.1GB.max") (Some Hugetlb) (codes "max")
-other_kind HugetlbOf1GbReservedMax = row 19 (codes "hugetlb.1GB.rsvd.max") (Some Hugetlb) (codes "max")
-other_kind HugetlbOf1MbMax = row 20 (codes "hugetlb.1MB.max") (Some Hugetlb) (codes "max")
-other_kind HugetlbOf1MbReservedMax = row 21 (codes "hugetlb.1MB.rsvd.max") (Some Hugetlb) (codes "max")
-other_kind HugetlbOf2GbMax = row 22 (codes "hugetlb.2GB.max") (Some Hugetlb) (codes "max")
-other_kind HugetlbOf2GbReservedMax = row 23 (codes "hugetlb.2GB.rsvd.max") (Some Hugetlb) (codes "max")
-other_kind HugetlbOf2MbMax = row 24 (codes "hugetlb.2MB.max") (Some Hugetlb) (codes "max")
-other_kind HugetlbOf2MbReservedMax = row 25 (codes "hugetlb.2MB.rsvd.max") (Some Hugetlb) (codes "max")
-other_kind HugetlbOf32MbMax = row 26 (codes "hugetlb.32MB.max") (Some Hugetlb) (codes "max")
-other_kind HugetlbOf32MbReservedMax = row 27 (codes "hugetlb.32MB.rsvd.max") (Some Hugetlb) (codes "max")
-other_kind HugetlbOf512MbMax = row 28 (codes "hugetlb.512MB.max") (Some Hugetlb) (codes "max")
-other_kind HugetlbOf512MbReservedMax = row 29 (codes "hugetlb.512MB.rsvd.max") (Some Hugetlb) (codes "max")
-other_kind HugetlbOf64KbMax = row 30 (codes "hugetlb.64KB.max") (Some Hugetlb) (codes "max")
-other_kind HugetlbOf64KbReservedMax = row 31 (codes "hugetlb.64KB.rsvd.max") (Some Hugetlb) (codes "max")
-other_kind IoBfqWeight = row 32 (codes "io.bfq.weight") (Some Io) (codes "1000")
-other_kind IoLatency = row 33 (codes "io.latency") (Some Io) (codes "max")
-other_kind IoMax = row 34 (codes "io.max") (Some Io) (codes "max")
-other_kind IoPrioClass = row 35 (codes "io.prio.class") (Some Io) (codes "no-change")
-other_kind IoWeight = row 36 (codes "io.weight") (Some Io) (codes "default 10000")
-other_kind MemorySwapHigh = row 37 (codes "memory.swap.high") (Some Memory) (codes "max")
-other_kind MemorySwapMax = row 38 (codes "memory.swap.max") (Some Memory) (codes "max")
-other_kind MemoryZswapMax = row 39 (codes "memory.zswap.max") (Some Memory) (codes "max")
-other_kind MemoryZswapWriteback = row 40 (codes "memory.zswap.writeback") (Some Memory) (codes "1")
-other_kind MiscMax = row 41 (codes "misc.max") (Some Misc) (codes "max")
-other_kind RdmaMax = row 42 (codes "rdma.max") (Some Rdma) (codes "max")
+other_kind Freeze = row 0 (codes "cgroup.freeze") None (codes "0") (codes "1")
+other_kind CpuIdle = row 1 (codes "cpu.idle") (Some Cpu) (codes "0") (codes "1")
+other_kind CpuMax = row 2 (codes "cpu.max") (Some Cpu) (codes "max 100000") (codes "max 50000")
+other_kind CpuMaxBurst = row 3 (codes "cpu.max.burst") (Some Cpu) (codes "0") (codes "1")
+other_kind CpuUclampMax = row 4 (codes "cpu.uclamp.max") (Some Cpu) (codes "max") (codes "50")
+other_kind CpuUclampMin = row 5 (codes "cpu.uclamp.min") (Some Cpu) (codes "max") (codes "0")
+other_kind CpuWeightNice = row 6 (codes "cpu.weight.nice") (Some Cpu) (codes "-20") (codes "-19")
+other_kind CpusetCpus = row 7 (codes "cpuset.cpus") (Some Cpuset) (codes "0-1") (codes "0")
+other_kind CpusetCpusExclusive = row 8 (codes "cpuset.cpus.exclusive") (Some Cpuset) (codes "0-1") (codes "0")
+other_kind CpusetCpusPartition = row 9 (codes "cpuset.cpus.partition") (Some Cpuset) (codes "member") (codes "root")
+other_kind CpusetMems = row 10 (codes "cpuset.mems") (Some Cpuset) (codes "0-1") (codes "0")
+other_kind DmemLow = row 11 (codes "dmem.low") (Some Dmem) (codes "max") (codes "0")
+other_kind DmemMax = row 12 (codes "dmem.max") (Some Dmem) (codes "max") (codes "0")
+other_kind DmemMin = row 13 (codes "dmem.min") (Some Dmem) (codes "max") (codes "0")
+other_kind HugetlbOf16GbMax = row 14 (codes "hugetlb.16GB.max") (Some Hugetlb) (codes "max") (codes "0")
+other_kind HugetlbOf16GbReservedMax = row 15 (codes "hugetlb.16GB.rsvd.max") (Some Hugetlb) (codes "max") (codes "0")
+other_kind HugetlbOf16MbMax = row 16 (codes "hugetlb.16MB.max") (Some Hugetlb) (codes "max") (codes "0")
+other_kind HugetlbOf16MbReservedMax = row 17 (codes "hugetlb.16MB.rsvd.max") (Some Hugetlb) (codes "max") (codes "0")
+other_kind HugetlbOf1GbMax = row 18 (codes "hugetlb.1GB.max") (Some Hugetlb) (codes "max") (codes "0")
+other_kind HugetlbOf1GbReservedMax = row 19 (codes "hugetlb.1GB.rsvd.max") (Some Hugetlb) (codes "max") (codes "0")
+other_kind HugetlbOf1MbMax = row 20 (codes "hugetlb.1MB.max") (Some Hugetlb) (codes "max") (codes "0")
+other_kind HugetlbOf1MbReservedMax = row 21 (codes "hugetlb.1MB.rsvd.max") (Some Hugetlb) (codes "max") (codes "0")
+other_kind HugetlbOf2GbMax = row 22 (codes "hugetlb.2GB.max") (Some Hugetlb) (codes "max") (codes "0")
+other_kind HugetlbOf2GbReservedMax = row 23 (codes "hugetlb.2GB.rsvd.max") (Some Hugetlb) (codes "max") (codes "0")
+other_kind HugetlbOf2MbMax = row 24 (codes "hugetlb.2MB.max") (Some Hugetlb) (codes "max") (codes "0")
+other_kind HugetlbOf2MbReservedMax = row 25 (codes "hugetlb.2MB.rsvd.max") (Some Hugetlb) (codes "max") (codes "0")
+other_kind HugetlbOf32MbMax = row 26 (codes "hugetlb.32MB.max") (Some Hugetlb) (codes "max") (codes "0")
+other_kind HugetlbOf32MbReservedMax = row 27 (codes "hugetlb.32MB.rsvd.max") (Some Hugetlb) (codes "max") (codes "0")
+other_kind HugetlbOf512MbMax = row 28 (codes "hugetlb.512MB.max") (Some Hugetlb) (codes "max") (codes "0")
+other_kind HugetlbOf512MbReservedMax = row 29 (codes "hugetlb.512MB.rsvd.max") (Some Hugetlb) (codes "max") (codes "0")
+other_kind HugetlbOf64KbMax = row 30 (codes "hugetlb.64KB.max") (Some Hugetlb) (codes "max") (codes "0")
+other_kind HugetlbOf64KbReservedMax = row 31 (codes "hugetlb.64KB.rsvd.max") (Some Hugetlb) (codes "max") (codes "0")
+other_kind IoBfqWeight = row 32 (codes "io.bfq.weight") (Some Io) (codes "1000") (codes "999")
+other_kind IoLatency = row 33 (codes "io.latency") (Some Io) (codes "max") (codes "0")
+other_kind IoMax = row 34 (codes "io.max") (Some Io) (codes "max") (codes "0")
+other_kind IoPrioClass = row 35 (codes "io.prio.class") (Some Io) (codes "no-change") (codes "none-to-rt")
+other_kind IoWeight = row 36 (codes "io.weight") (Some Io) (codes "default 10000") (codes "default 9999")
+other_kind MemorySwapHigh = row 37 (codes "memory.swap.high") (Some Memory) (codes "max") (codes "0")
+other_kind MemorySwapMax = row 38 (codes "memory.swap.max") (Some Memory) (codes "max") (codes "0")
+other_kind MemoryZswapMax = row 39 (codes "memory.zswap.max") (Some Memory) (codes "max") (codes "0")
+other_kind MemoryZswapWriteback = row 40 (codes "memory.zswap.writeback") (Some Memory) (codes "1") (codes "0")
+other_kind MiscMax = row 41 (codes "misc.max") (Some Misc) (codes "max") (codes "0")
+other_kind RdmaMax = row 42 (codes "rdma.max") (Some Rdma) (codes "max") (codes "0")
 
 abbrev pub other_name : OtherFile → List ℕ
 other_name file = (other_kind file).name

@@ -12,3 +12,4 @@ pub mod path;
 pub mod process;
 pub mod told;
 pub mod user;
+pub mod value;

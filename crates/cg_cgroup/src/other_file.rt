@@ -127,18 +127,18 @@ impl OtherFile {
             OtherFile::CpuUclampMax => ("cpu.uclamp.max", Some(Controller::Cpu), "max"),
             OtherFile::CpuUclampMin => ("cpu.uclamp.min", Some(Controller::Cpu), "max"),
             OtherFile::CpuWeightNice => ("cpu.weight.nice", Some(Controller::Cpu), "-20"),
-            OtherFile::CpusetCpus => ("cpuset.cpus", Some(Controller::Cpuset), "max"),
+            OtherFile::CpusetCpus => ("cpuset.cpus", Some(Controller::Cpuset), "0-1"),
             OtherFile::CpusetCpusExclusive => (
                 "cpuset.cpus.exclusive",
                 Some(Controller::Cpuset),
-                "max",
+                "0-1",
             ),
             OtherFile::CpusetCpusPartition => (
                 "cpuset.cpus.partition",
                 Some(Controller::Cpuset),
                 "member",
             ),
-            OtherFile::CpusetMems => ("cpuset.mems", Some(Controller::Cpuset), "max"),
+            OtherFile::CpusetMems => ("cpuset.mems", Some(Controller::Cpuset), "0-1"),
             OtherFile::DmemLow => ("dmem.low", Some(Controller::Dmem), "max"),
             OtherFile::DmemMax => ("dmem.max", Some(Controller::Dmem), "max"),
             OtherFile::DmemMin => ("dmem.min", Some(Controller::Dmem), "max"),
@@ -256,5 +256,22 @@ impl OtherFile {
         ensures { result.now ≡ (other_kind self).loose }
     {
         self.kind().loose
+    }
+
+    /// Another value than that, for a file that has it already.
+    pub fn other(self) -> &'static str
+        ensures { result.now ≡ (other_kind self).other }
+    {
+        match self {
+            OtherFile::Freeze | OtherFile::CpuIdle | OtherFile::CpuMaxBurst => "1",
+            OtherFile::CpuMax => "max 50000",
+            OtherFile::CpuUclampMax => "50",
+            OtherFile::CpuWeightNice => "-19",
+            OtherFile::CpusetCpusPartition => "root",
+            OtherFile::IoBfqWeight => "999",
+            OtherFile::IoPrioClass => "none-to-rt",
+            OtherFile::IoWeight => "default 9999",
+            _ => "0",
+        }
     }
 }

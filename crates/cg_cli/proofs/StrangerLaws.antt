@@ -15,6 +15,7 @@ use Rattle.cg_cgroup.specs.Paths.{Names}
 use Rattle.cg_cgroup.specs.Files.{all_files}
 use Rattle.cg_cgroup.specs.Users.{owns, in_group, has_bit}
 use Rattle.cg_cgroup.specs.declared.cgroup.Cgroup.{Cgroup}
+use Rattle.cg_cgroup.specs.declared.told.ToldFiles.{ToldFiles}
 use Rattle.cg_cgroup.specs.declared.user.Entry.{Entry}
 use Rattle.cg_model.specs.Once.{once}
 use Rattle.cg_model.specs.States.{State}
@@ -25,7 +26,7 @@ use Rattle.cg_cli.specs.Audits.{read_before, users_read, paths_read}
 use Rattle.cg_cli.specs.Known.{AreOfEntries, AreAdded, speaks_of}
 use Rattle.cg_cli.specs.May.{tree_read}
 use Rattle.cg_cli.specs.Once.{same_user}
-use Rattle.cg_cli.specs.Strangers.{file_entries, entries_of, tree_entries, all_owners, has_uid, has_gid, first_stranger, IsFirstStranger}
+use Rattle.cg_cli.specs.Strangers.{file_entries, entries_of, told_entry, told_entries, tree_entries, all_owners, has_uid, has_gid, first_stranger, IsFirstStranger}
 use Rattle.cg_cli.specs.declared.strangers.Known.{Known}
 use Rattle.cg_cli.proofs.ReportLaws.{same_Ok}
 use Rattle.cg_faults.specs.declared.fault.CliFault.{CliFault}
@@ -248,13 +249,27 @@ in_entries user (entry ∷ entries) =
     ∙ paired (owns user entry) (has_bit entry.mode 16 && in_group user entry.gid) owned (list_any (has_gid entries) user.gids)
     ∙ ap (λ groups. (owns user entry || owned) || groups) (sym (gids_more entry entries user.gids))
 
+-- what is told of a cgroup's limit files beyond `LimitFile`
+pub in_told : (files : ToldFiles) (user : Identity)
+    → list_any (λ told. list_any (speaks_of user) (told_entry told)) files.entries ≡ list_any (speaks_of user) (told_entries files)
+in_told files user = sym (any_flat (speaks_of user) told_entry files.entries)
+
+-- the entries of a tree are those of its cgroups, and those of what is told
+pub in_all : (st : State) (user : Identity)
+    → list_any (λ row. list_any (speaks_of user) (entries_of row.1)) (finmap.entries st.rows)
+    || list_any (λ row. list_any (speaks_of user) (told_entries row.1)) (finmap.entries st.told)
+    ≡ list_any (speaks_of user) (tree_entries st)
+in_all st user =
+    (λ i. sym (any_flat (speaks_of user) (λ row. entries_of row.1) (finmap.entries st.rows)) i
+    || sym (any_flat (speaks_of user) (λ row. told_entries row.1) (finmap.entries st.told)) i)
+    ∙ sym (list_any-append (speaks_of user) (flat_map (λ row. entries_of row.1) (finmap.entries st.rows))
+    (flat_map (λ row. told_entries row.1) (finmap.entries st.told)))
+
 -- A tree says something of a user where one of its entries or one of its processes does.
 pub in_tree : (st : State) (user : Identity)
-    → list_any (λ row. list_any (speaks_of user) (entries_of row.1)) (finmap.entries st.rows)
-    || list_any (λ row. nat_eq row.1.uid user.uid) (finmap.entries st.live)
+    → list_any (speaks_of user) (tree_entries st) || list_any (λ row. nat_eq row.1.uid user.uid) (finmap.entries st.live)
     ≡ has_uid (tree_entries st) (all_owners st) user.uid || list_any (has_gid (tree_entries st)) user.gids
 in_tree st user =
-    (λ i. (sym (any_flat (speaks_of user) (λ row. entries_of row.1) (finmap.entries st.rows)) ∙ in_entries user (tree_entries st)) i
-    || any_owner (λ row. row.1.uid) (finmap.entries st.live) user.uid i)
+    (λ i. in_entries user (tree_entries st) i || any_owner (λ row. row.1.uid) (finmap.entries st.live) user.uid i)
     ∙ last_second (list_any (λ entry. nat_eq entry.uid user.uid) (tree_entries st)) (list_any (has_gid (tree_entries st)) user.gids)
     (list_any (λ owner. nat_eq owner user.uid) (all_owners st))

@@ -1,5 +1,5 @@
 -- Users of whom a tree says nothing, as of one who was named by mistake. Own.
-use Rattle.std.specs.Prelude.{ℕ, Bool, ◌≡◌, ◌||◌, ◌&&◌, not, nat_eq, map, List, [], ◌∷◌, Option, Result, Ok, IfOk}
+use Rattle.std.specs.Prelude.{ℕ, Bool, ◌≡◌, ◌||◌, ◌&&◌, not, nat_eq, map, List, [], ◌∷◌, ◌++◌, Option, Result, Ok, IfOk}
 use Rattle.std.specs.List.{list_any, flat_map, find}
 use Rattle.std.specs.Option.{option_map, option_map_or}
 use Rattle.std.specs.FinMap as finmap
@@ -9,6 +9,8 @@ use Rattle.cg_cgroup.specs.Files.{all_files}
 use Rattle.cg_cgroup.specs.Cgroups.{file_of}
 use Rattle.cg_cgroup.specs.declared.cgroup.Cgroup.{Cgroup}
 use Rattle.cg_cgroup.specs.declared.files.LimitFile.{LimitFile}
+use Rattle.cg_cgroup.specs.declared.told.ToldFile.{ToldFile}
+use Rattle.cg_cgroup.specs.declared.told.ToldFiles.{ToldFiles}
 use Rattle.cg_cgroup.specs.declared.user.Entry.{Entry}
 use Rattle.cg_model.specs.Once.{once}
 use Rattle.cg_model.specs.States.{State}
@@ -25,9 +27,18 @@ file_entries cgroup file = option_map_or (λ held. held.entry ∷ []) (file_of c
 abbrev pub entries_of : Cgroup → List Entry
 entries_of cgroup = cgroup.dir ∷ cgroup.procs ∷ cgroup.subtree_control ∷ flat_map (file_entries cgroup) all_files
 
+-- that of a limit file beyond `LimitFile`, where something is told of it
+abbrev pub told_entry : Option ToldFile → List Entry
+told_entry told = option_map_or (λ held. held.entry ∷ []) told []
+
+-- those of what is told of a cgroup's
+abbrev pub told_entries : ToldFiles → List Entry
+told_entries files = flat_map told_entry files.entries
+
 -- those of a tree
 abbrev pub tree_entries : State → List Entry
-tree_entries st = flat_map (λ row. entries_of row.1) (finmap.entries st.rows)
+tree_entries st =
+    flat_map (λ row. entries_of row.1) (finmap.entries st.rows) ++ flat_map (λ row. told_entries row.1) (finmap.entries st.told)
 
 -- the owners of a tree's processes
 abbrev pub all_owners : State → List ℕ

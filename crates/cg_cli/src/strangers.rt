@@ -6,13 +6,14 @@ ghost use Rattle.std.specs.List.{flat_map, find, list_any};
 ghost use Rattle.std.specs.Option.{option_map};
 ghost use Rattle.std.specs.Ordering.{nat_cmp};
 ghost use Rattle.cg_cgroup.specs.Files.{all_files};
-ghost use Rattle.cg_cli.specs.Strangers.{file_entries, entries_of, tree_entries, all_owners, is_stranger, first_stranger};
+ghost use Rattle.cg_cli.specs.Strangers.{file_entries, entries_of, told_entry, told_entries, tree_entries, all_owners, is_stranger, first_stranger};
 ghost use Rattle.cg_cli.specs.Known.{AreOfEntries, AreAdded, speaks_of};
 
 use cg_cgroup::cgroup::Cgroup;
 use cg_cgroup::files::LimitFile;
 use cg_cgroup::memory::NoMemory;
 use cg_cgroup::path::Path;
+use cg_cgroup::told::{ToldFile, ToldFiles};
 use cg_cgroup::user::{Entry, User};
 use cg_rows::processes::Processes;
 use cg_rows::rows::Rows;
@@ -42,6 +43,17 @@ impl Known {
     fn of_entries(alloc: Global, tree: &Rows) -> Result<Known, NoMemory>
         ensures { IfOk result (λ known. AreOfEntries known (tree_entries tree.now) []) }
     {
+        let mut known = Known::of_cgroups(alloc, tree)?;
+        for (_, files) in tree.told_entries() {
+            known.add_told(files)?;
+        }
+        Ok(known)
+    }
+
+    /// Those of the entries of a tree's cgroups.
+    fn of_cgroups(alloc: Global, tree: &Rows) -> Result<Known, NoMemory>
+        ensures { IfOk result (λ known. AreOfEntries known (flat_map (λ row. entries_of row.1) (finmap.entries tree.now.rows)) []) }
+    {
         let mut known = Known {
             uids: BTreeSet::new(alloc),
             gids: BTreeSet::new(alloc),
@@ -50,6 +62,26 @@ impl Known {
             known.add_cgroup(cgroup)?;
         }
         Ok(known)
+    }
+
+    /// Adds those of what is told of a cgroup's limit files beyond `LimitFile`.
+    fn add_told(&mut self, files: &ToldFiles) -> Result<(), NoMemory>
+        ensures { OnOk result (AreAdded self.old self.new (told_entries files.now)) }
+    {
+        for told in &files.entries {
+            self.add_told_file(told)?;
+        }
+        Ok(())
+    }
+
+    /// Adds those of such a file, where something is told of it.
+    fn add_told_file(&mut self, told: &Option<ToldFile>) -> Result<(), NoMemory>
+        ensures { OnOk result (AreAdded self.old self.new (told_entry told.now)) }
+    {
+        match told {
+            Some(told) => self.add(&told.entry),
+            None => Ok(()),
+        }
     }
 
     /// Adds those of a cgroup's entries.
@@ -143,7 +175,7 @@ pub(crate) fn if_stranger(tree: &Rows, user: &User) -> Option<u32>
 fn is_known(tree: &Rows, user: &User) -> bool
     ensures { not result ≡ is_stranger tree.now user.now }
 {
-    any_cgroup_speaks(tree.entries(), user) || any_process_of(tree.processes(), user.uid())
+    any_entry_speaks(tree, user) || any_process_of(tree.processes(), user.uid())
 }
 
 /// Whether one of some processes is a uid's.
@@ -153,7 +185,45 @@ fn any_process_of(processes: &Processes, uid: u32) -> bool
     processes.iter().any(|(_, process)| process.uid == uid)
 }
 
-/// Whether an entry of one of some cgroups speaks of a user.
+/// Whether an entry of a tree speaks of a user.
+fn any_entry_speaks(tree: &Rows, user: &User) -> bool
+    ensures { result ≡ list_any (speaks_of user.now) (tree_entries tree.now) }
+{
+    any_cgroup_speaks(tree.entries(), user) || any_told_speaks(tree.told_entries(), user)
+}
+
+/// Whether what is told of one of some cgroups' limit files beyond `LimitFile` does.
+fn any_told_speaks(told: &[(Path, ToldFiles)], user: &User) -> bool
+    ensures { result ≡ list_any (λ row. list_any (speaks_of user.now) (told_entries row.1)) told.now }
+{
+    told.iter().any(|row| told_speaks(&row.1, user))
+}
+
+/// Whether what is told of a cgroup's does.
+fn told_speaks(files: &ToldFiles, user: &User) -> bool
+    ensures { result ≡ list_any (speaks_of user.now) (told_entries files.now) }
+{
+    any_told_file_speaks(&files.entries, user)
+}
+
+/// Whether one of some such files does.
+fn any_told_file_speaks(files: &[Option<ToldFile>], user: &User) -> bool
+    ensures { result ≡ list_any (λ told. list_any (speaks_of user.now) (told_entry told)) files.now }
+{
+    files.iter().any(|told| told_file_speaks(told, user))
+}
+
+/// Whether such a file does, where something is told of it.
+fn told_file_speaks(told: &Option<ToldFile>, user: &User) -> bool
+    ensures { result ≡ list_any (speaks_of user.now) (told_entry told.now) }
+{
+    match told {
+        Some(told) => speaks_of(&told.entry, user),
+        None => false,
+    }
+}
+
+/// Whether an entry of one of some cgroups does.
 fn any_cgroup_speaks(rows: &[(Path, Cgroup)], user: &User) -> bool
     ensures { result ≡ list_any (λ row. list_any (speaks_of user.now) (entries_of row.1)) rows.now }
 {

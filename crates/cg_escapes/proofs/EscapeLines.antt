@@ -143,18 +143,17 @@ loose_value : (file : OtherFile) → is_line_value (other_kind file).loose ≡ t
 unfolding is_line_value
 loose_value = each_other (λ file. is_line_value (other_kind file).loose) refl
 
+second_value : (file : OtherFile) → is_line_value (other_kind file).other ≡ true
+unfolding is_line_value
+second_value = each_other (λ file. is_line_value (other_kind file).other) refl
+
 text_value : (file : OtherFile) (had : Option FileText) → is_line_value (other_text file had) ≡ true
 unfolding is_line_value
 text_value file had =
-    elim (not (same_text (Some (other_kind file).loose) had)) as (λ first. is_line_value
-    (unwrap_or (cond first (Some (other_kind file).loose) (cond (not (same_text (Some (codes "max")) had)) (Some (codes "max")) None))
-    (codes "0"))
-    ≡ true) [
-      | true ↦ loose_value file
-      | false ↦
-          elim (not (same_text (Some (codes "max")) had)) as
-          (λ second. is_line_value (unwrap_or (cond second (Some (codes "max")) None) (codes "0")) ≡ true)
-          [ true ↦ refl | false ↦ refl ]
+    elim (same_text (Some (other_kind file).loose) had) as
+    (λ b. is_line_value (cond b (other_kind file).other (other_kind file).loose) ≡ true) [
+      | true ↦ second_value file
+      | false ↦ loose_value file
     ]
 
 -- a chmod of an entry that lines name

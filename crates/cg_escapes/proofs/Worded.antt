@@ -1,8 +1,9 @@
--- In what a text is read as, a user reaches no entry that lines of its vocabulary don't name.
+-- In what a text is read as, a user reaches no entry that lines of its vocabulary don't name: in formats 1 and 2 the further limit
+-- files are root's.
 use Rattle.std.proofs.Common.{◌≡◌, ℕ, true, false, cond, not, ◌||◌, nat_eq, nat_lt, List, Option, Some, None, option_map, option_and_then, refl, sym, ap, ◌∙◌, true≢false, arith}
 use Rattle.std.proofs.lemmas.Bool.{and_parts}
 use Rattle.std.specs.FinMap as finite
-use Rattle.cg_cgroup.specs.Paths.{Names, path_cmp}
+use Rattle.cg_cgroup.specs.Paths.{Names}
 use Rattle.cg_cgroup.specs.Identity.{Identity}
 use Rattle.cg_cgroup.specs.Users.{is_user, in_group, has_bit, writes, reaches}
 use Rattle.cg_cgroup.specs.Files.{brought_by, is_beyond}
@@ -22,7 +23,7 @@ use Rattle.cg_lines.specs.OperationLines.{is_entry_of}
 use Rattle.cg_format.specs.Readings.{vocabulary_in}
 use Rattle.cg_format.specs.TextOf.{OthersAreRoots, IsTextOf}
 use Rattle.cg_format.proofs.OneState.{others_read, and_then_from}
-use Rattle.cg_format.proofs.ReadingLaws.{known_controllers}
+use Rattle.cg_format.proofs.ReadingLaws.{known_controllers, none_told}
 use Rattle.cg_escapes.specs.EscapeLines.{IsWorded}
 
 -- ---- what is root's
@@ -45,7 +46,7 @@ untold_root row roots None entry is = sym (same_some row.freeze entry is) ∙ ro
 untold_root row roots (Some controller) entry is = roots.others controller entry is
 
 -- what nothing is told of has the entry of its row
-entry_untold : (st : State) (path : Names) (file : OtherFile) → st.told ≡ finite.empty
+entry_untold : (st : State) (path : Names) (file : OtherFile) → finite.get st.told path ≡ None
     → entry_at st path (Other file) ≡ option_map (λ told. told.entry) (option_map file_untold (untold_at st path file))
 entry_untold st path file none =
     ap
@@ -53,13 +54,14 @@ entry_untold st path file none =
       | None ↦ option_map file_untold (untold_at st path file)
       | Some told ↦ Some told
     ]))
-    (ap (λ told. finite.get told path) none ∙ finite.get-empty path_cmp path)
+    none
 
 module _ (text : List ℕ) (st : State) (says : IsTextOf st text) where
-  further_is_roots : (path : Names) (file : OtherFile) (entry : Entry) → entry_at st path (Other file) ≡ Some entry → entry ≡ root_file
-  further_is_roots path file entry is =
+  further_is_roots : vocabulary_in text ≡ Format2 → (path : Names) (file : OtherFile) (entry : Entry)
+      → entry_at st path (Other file) ≡ Some entry → entry ≡ root_file
+  further_is_roots two path file entry is =
       let told = mapped_from (λ told. told.entry) (option_map file_untold (untold_at st path file)) entry
-      (sym (entry_untold st path file says.says.told) ∙ is) in
+      (sym (entry_untold st path file (none_told text st says two path)) ∙ is) in
       let untold = mapped_from file_untold (untold_at st path file) told.0 told.1 in
       let row = and_then_from (λ row. untold_in row file) (row_at st path) untold.0 untold.1 in
       let roots = others_read st says.document says.says path row.0 row.1 in
@@ -72,8 +74,12 @@ module _ (text : List ℕ) (st : State) (says : IsTextOf st text) where
   reached_is_named : (user : Identity) → nat_lt 0 user.uid ≡ true → (path : Names) (name : EntryName) (entry : Entry)
       → entry_at st path name ≡ Some entry → reaches user entry ≡ true → is_entry_of (vocabulary_in text) name ≡ true
   reached_is_named user some path (Other file) entry is reached =
-      let root = further_is_roots path file entry is in
-      absurd (true≢false (sym reached ∙ ap (reaches user) root ∙ unreached user some))
+      elim (vocabulary_in text) as (λ words. vocabulary_in text ≡ words → is_entry_of words (Other file) ≡ true) [
+        | Format2 ↦ λ two.
+            let root = further_is_roots two path file entry is in
+            absurd (true≢false (sym reached ∙ ap (reaches user) root ∙ unreached user some))
+        | Format4 ↦ λ _. refl
+      ] refl
   reached_is_named user some path Dir entry is reached = listed_is_named (vocabulary_in text) Dir refl
   reached_is_named user some path name entry is reached = listed_is_named (vocabulary_in text) name refl
 

@@ -1,14 +1,13 @@
 -- The clauses on the cgroups together, one by one, as `cgroup_faults` asks them.
 use Rattle.std.proofs.Common.{◌||◌, not, List, codes, Some}
-use Rattle.std.specs.List.{list_all}
 use Rattle.toml.specs.Data.{Members}
 use Rattle.cg_cgroup.specs.Paths.{is_root, parent}
-use Rattle.cg_cgroup.specs.Files.{all_files, no_controllers, is_within, stands_under}
+use Rattle.cg_cgroup.specs.Files.{no_controllers, is_within}
 use Rattle.cg_cgroup.specs.declared.controllers.ControllerSet.{ControllerSet}
-use Rattle.cg_cgroup.specs.declared.files.EntryName.TheVariants.{File}
 use Rattle.cg_model.specs.Clauses.{unless, present}
-use Rattle.cg_format.specs.Said.{path_said, controllers_said, is_named}
-use Rattle.cg_format.specs.TextFaults.{is_there, over, on_path}
+use Rattle.cg_format.specs.Said.{path_said, controllers_said}
+use Rattle.cg_format.specs.TextFaults.{is_there, over, on_path, names_standing}
+use Rattle.cg_format.specs.declared.format.Format.{Format}
 use Rattle.cg_format.specs.declared.fault.Place.{Place}
 use Rattle.cg_format.specs.declared.fault.TreeFault.{TreeFault}
 use Rattle.cg_format.specs.declared.fault.TreeFault.TheVariants.{Duplicate, NoParent, TopDown, NoSuchFile}
@@ -27,6 +26,6 @@ within_clause controllers tables = on_path (λ path place row.
     present (controllers_said (codes "enabled") row) (λ enabled. present (over (Some controllers) tables path)
     (λ available. unless (is_within enabled available) (TopDown place))))
 
-abbrev pub files_clause : List Members → CgroupClause
-files_clause tables = on_path (λ path place row. present (over (Some no_controllers) tables path) (λ above.
-    unless (list_all (λ file. not (is_named (File file) row) || stands_under above file) all_files) (NoSuchFile place)))
+abbrev pub files_clause : Format → List Members → CgroupClause
+files_clause format tables = on_path (λ path place row. present (over (Some no_controllers) tables path) (λ above.
+    unless (names_standing format path above row) (NoSuchFile place)))

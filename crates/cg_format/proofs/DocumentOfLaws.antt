@@ -2,17 +2,20 @@
 use Rattle.std.proofs.Common.{true≢false, ◌≡◌, ℕ, ◌≤◌, Bool, true, false, not, cond, ◌||◌, List, [], ◌∷◌, ◌++◌, codes, Option, Some, None, is_some, option_map, option_and_then, unwrap_or, refl, sym, ap, subst, ◌∙◌, eqb-true, eq-eqb, arith}
 use Rattle.std.specs.Prelude.{find, count_by, nat_eq}
 use Rattle.std.specs.Bool.{passes}
-use Rattle.std.specs.List.{AllByRecursion, list_any}
+use Rattle.std.proofs.lemmas.Bool.{and_parts}
+use Rattle.std.specs.List.{AllByRecursion, list_all, list_any}
 use Rattle.std.specs.Map.{lookup}
 use Rattle.std.specs.Ordering.{nat_cmp}
 use Rattle.std.specs.FinMap as map
 use Rattle.std.specs.FinSet as set
 use Rattle.toml.specs.Data.{Data, Members, no_members, get_member}
 use Rattle.cg_cgroup.specs.Paths.{Names, path_cmp, same_path, is_root, parent}
-use Rattle.cg_cgroup.specs.Files.{is_beyond, brought_by, no_controllers, default_value, accepts, is_within, stands_under}
+use Rattle.cg_cgroup.specs.Files.{all_others, is_beyond, brought_by, no_controllers, default_value, accepts, is_within, stands_by, stands_under}
+use Rattle.cg_cgroup.specs.Told.{told_in, told_by}
 use Rattle.cg_cgroup.specs.Cgroups.{other_in, file_of, entry_in}
 use Rattle.cg_cgroup.proofs.CgroupLaws.{accepts-default_value}
 use Rattle.cg_cgroup.proofs.Options.{some_value, none_value, same_some, is_some-mapped}
+use Rattle.cg_cgroup.proofs.AllOthers.{each_other}
 use Rattle.cg_cgroup.proofs.PathOrder.{same_path-is, same_path_refl, same_path-ties}
 use Rattle.cg_cgroup.proofs.PathParents.{parent-root}
 use Rattle.cg_cgroup.specs.declared.user.Entry.{Entry}
@@ -24,21 +27,25 @@ use Rattle.cg_cgroup.specs.declared.files.EntryName.{EntryName}
 use Rattle.cg_cgroup.specs.declared.files.EntryName.TheVariants.{Dir, Procs, SubtreeControl, File, Other}
 use Rattle.cg_cgroup.specs.declared.cgroup.LimitEntry.{LimitEntry}
 use Rattle.cg_cgroup.specs.declared.cgroup.Cgroup.{Cgroup}
+use Rattle.cg_cgroup.specs.declared.other_file.OtherFile.{OtherFile}
 use Rattle.cg_cgroup.specs.declared.process.Process.{Process}
 use Rattle.cg_cgroup.specs.declared.told.ToldFiles.{ToldFiles}
 use Rattle.cg_model.specs.Clauses.{first}
 use Rattle.cg_model.specs.States.{State, row_at, process_at}
-use Rattle.cg_model.specs.WellFormed.{has_row, enabled_at, enabled_above, available_at, may_hold, IsFormedRow, IsWellFormed}
+use Rattle.cg_model.specs.WellFormed.{has_row, enabled_at, enabled_above, available_at, may_hold, IsFormedRow, IsFormedTold, IsWellFormed}
 use Rattle.cg_model.proofs.ClauseLaws.{none_of_first}
 use Rattle.cg_model.proofs.FormedParts.{row-may_hold}
-use Rattle.cg_format.specs.Said.{tables_at, integer_at, path_said, controllers_said, known_said, mode_missing, limit_of, accepted, id_read, mode_read, table_of, entry_said, value_said, is_named, has_path, pid_said}
+use Rattle.cg_format.specs.Form.{row_keys}
+use Rattle.cg_format.specs.Said.{elements_at, tables_at, integer_at, path_said, controllers_said, known_said, mode_missing, limit_of, accepted, id_read, mode_read, table_of, entry_said, value_said, is_named, told_said, tells, told_row, has_path, pid_said}
 use Rattle.cg_format.specs.TextOf.{OthersAreRoots, IsInForm, IsRowOf, IsProcessOf, has_pid, IsDocumentOf}
-use Rattle.cg_format.specs.TextFaults.{each_cgroup, each_process, row_faults, is_there, enabled_there, over, cgroup_faults, process_faults}
-use Rattle.cg_format.specs.Tables.{IsEntryOf, AreEntriesOf, IsAmong, IsLive, AreProcesses}
+use Rattle.cg_format.specs.TextFaults.{each_cgroup, each_process, row_faults, is_there, enabled_there, over, tell_standing, cgroup_faults, process_faults}
+use Rattle.cg_format.specs.Tables.{IsEntryOf, AreEntriesOf, AreToldOf, IsAmong, IsLive, AreProcesses}
 use Rattle.cg_format.specs.declared.fault.Place.TheVariants.{Cgroup as AtCgroup, Process as AtProcess}
 use Rattle.cg_format.specs.declared.format.Format.{Format}
 use Rattle.cg_format.proofs.Cuts.{is_some-find}
 use Rattle.cg_format.proofs.SaidRanges.{mode_small, entry_as, accepted_is, said_of_known}
+use Rattle.cg_format.proofs.OneState.{and_then_from}
+use Rattle.cg_format.proofs.ToldSaid.{row_told, told_small, known_told, table_fits}
 use Rattle.cg_format.proofs.KeysOnce.{none_at, all_rows, found_at, IsOnce, key_had, once_found, once_counted}
 use Rattle.cg_format.proofs.TablesSay.{row_says, StandsAmong, stands_among, root_there, SaysProcess, process_says}
 
@@ -87,8 +94,9 @@ modes_small format tables row cgroup is (File file) entry there =
 -- ---- look-ups
 
 -- the state of these cgroups and processes
-abbrev pub state_with : map.FinMap path_cmp Cgroup → map.FinMap nat_cmp Process → set.FinSet nat_cmp → ControllerSet → State
-state_with rows live used controllers = record { rows = rows; told = map.empty; live = live; used = used; controllers = controllers }
+abbrev pub state_with : map.FinMap path_cmp Cgroup → map.FinMap path_cmp ToldFiles → map.FinMap nat_cmp Process → set.FinSet nat_cmp
+    → ControllerSet → State
+state_with rows told live used controllers = record { rows = rows; told = told; live = live; used = used; controllers = controllers }
 
 pub found_by_path : {X : Type 0} (path : Names) (es : List (Names × X)) → map.find path_cmp path es ≡ lookup (same_path path) es
 found_by_path path [] = refl
@@ -105,9 +113,31 @@ over_with b at_root found there is so = grind arith
 implied : (a b : Bool) → (not a || b) ≡ true → a ≡ true → b ≡ true
 implied a b h so = grind arith
 
+-- ---- what is told
+
+root_silent : (format : Format) (row : Members) (path : Names) (above : ControllerSet)
+    → tell_standing path above (told_row format row) ≡ true → is_root path ≡ true → tells format row ≡ false
+root_silent format row path above stands root =
+    elim (tells format row) as (λ b. tell_standing path above (cond b (Some (told_by (told_said format row))) None) ≡ true → b ≡ false) [
+      | true ↦ λ so. absurd (true≢false (sym (and_parts (not (is_root path)) _ so).0 ∙ ap not root))
+      | false ↦ λ _. refl
+    ] stands
+
+formed_told : (format : Format) (row : Members) (path : Names) (above : ControllerSet) (files : ToldFiles)
+    → told_row format row ≡ Some files → tell_standing path above (told_row format row) ≡ true → IsFormedTold above files
+formed_told format row path above files is stands =
+    let standing : tell_standing path above (Some files) ≡ true = ap (tell_standing path above) (sym is) ∙ stands in
+    let brought : OtherFile → Bool = λ file. not (is_some (told_in files file)) || stands_by above (brought_by file) in
+    let each = each_other brought (and_parts (not (is_root path)) (list_all brought all_others) standing).1 in
+    let said = row_told format row files is in
+    record {
+      stand = λ file told there. implied (is_some (told_in files file)) (stands_by above (brought_by file)) (each file) (ap is_some there);
+      modes = λ file told there. told_small format row file told (sym (said.each file) ∙ there);
+    }
+
 module _ (format : Format) (document : Members) (controllers : ControllerSet) (entries : List (Names × Cgroup))
     (read : first (each_cgroup (λ _. row_faults format) (tables_at (codes "cgroup") document)) ≡ None)
-    (walked : (first (cgroup_faults (Some controllers) (tables_at (codes "cgroup") document)) ≡ None)
+    (walked : (first (cgroup_faults format (Some controllers) (tables_at (codes "cgroup") document)) ≡ None)
     × AreEntriesOf format (tables_at (codes "cgroup") document) entries) where
   abbrev tables : List Members
   tables = tables_at (codes "cgroup") document
@@ -115,7 +145,7 @@ module _ (format : Format) (document : Members) (controllers : ControllerSet) (e
   alone : each_cgroup (λ _. row_faults format) tables ≡ []
   alone = none_of_first _ read
 
-  together : cgroup_faults (Some controllers) tables ≡ []
+  together : cgroup_faults format (Some controllers) tables ≡ []
   together = none_of_first _ walked.0
 
   abbrev are : AreEntriesOf format tables entries
@@ -126,7 +156,7 @@ module _ (format : Format) (document : Members) (controllers : ControllerSet) (e
 
   paths_once : IsOnce (path_said (codes "path")) same_path tables
   paths_once = record {
-    new = λ before row after is path named. (stands_among controllers tables together before row after is path named).fresh;
+    new = λ before row after is path named. (stands_among format controllers tables together before row after is path named).fresh;
   }
 
   -- ---- the look-ups
@@ -157,8 +187,9 @@ module _ (format : Format) (document : Members) (controllers : ControllerSet) (e
   record HasTable (path : Names) (cgroup : Cgroup) : Type 0 where
     before : List Members
     table : Members
+    found : find (has_path path) tables ≡ Some table
     named : path_said (codes "path") table ≡ Some path
-    stands : StandsAmong controllers tables before table path
+    stands : StandsAmong format controllers tables before table path
     entry : IsEntryOf format tables table cgroup
 
   table_at : (path : Names) (cgroup : Cgroup) → map.get cgroups path ≡ Some cgroup → HasTable path cgroup
@@ -169,14 +200,19 @@ module _ (format : Format) (document : Members) (controllers : ControllerSet) (e
       record {
         before = found.before;
         table = table.0;
+        found = table.1;
         named = named;
-        stands = stands_among controllers tables together found.before table.0 found.after found.split path named;
+        stands = stands_among format controllers tables together found.before table.0 found.after found.split path named;
         entry = are.each path cgroup table.0 (sym (get_is path) ∙ is) table.1;
       }
 
-  module _ (live : map.FinMap nat_cmp Process) (used : set.FinSet nat_cmp) where
+  module _ (told : List (Names × ToldFiles)) (telling : AreToldOf format tables told)
+      (live : map.FinMap nat_cmp Process) (used : set.FinSet nat_cmp) where
     abbrev st : State
-    st = state_with cgroups live used controllers
+    st = state_with cgroups (map.from_sorted told) live used controllers
+
+    told_is : (path : Names) → map.get st.told path ≡ option_and_then (told_row format) (find (has_path path) tables)
+    told_is path = map.get-from_sorted path_cmp told path (passes _ telling.sorted) ∙ found_by_path path told ∙ telling.each path
 
     over_is : (at_root : ControllerSet) (path : Names) → (is_root path || is_there tables (parent path)) ≡ true
         → over (Some at_root) tables path ≡ Some (cond (is_root path) at_root (enabled_at st (parent path)))
@@ -210,14 +246,28 @@ module _ (format : Format) (document : Members) (controllers : ControllerSet) (e
           modes = modes_small format tables at.table cgroup at.entry;
         }
 
+    told_formed : (path : Names) (files : ToldFiles) → map.get st.told path ≡ Some files
+        → (has_row st path ≡ true) × IsFormedTold (enabled_above st path) files
+    told_formed path files is =
+        let row = and_then_from (told_row format) (find (has_path path) tables) files (sym (told_is path) ∙ is) in
+        let cgroup = some_value (map.get cgroups path) (sym (found_is path) ∙ ap is_some row.1) in
+        let at = table_at path cgroup.0 cgroup.1 in
+        let tells : told_row format at.table ≡ Some files =
+        ap (told_row format) (same_some at.table row.0 (sym at.found ∙ row.1)) ∙ row.2 in (
+          ap is_some cgroup.1,
+          formed_told format at.table path (enabled_above st path) files tells
+              (at.stands.tells (enabled_above st path) (over_is no_controllers path at.stands.parent_there)),
+        )
+
     -- ---- the tables' rows
 
-    row_is : (before : List Members) (row : Members) (after : List Members) → before ++ row ∷ after ≡ tables → IsRowOf format st row
-    row_is before row after is =
+    row_is : IsInForm format document → (before : List Members) (row : Members) (after : List Members) → before ++ row ∷ after ≡ tables
+        → IsRowOf format st row
+    row_is form before row after is =
         let passed = none_at (λ _. row_faults format) AtCgroup tables alone before row after is in
         let said = row_says format passed.0 row passed.1 in
         let path = said.path in
-        let stands = stands_among controllers tables together before row after is path said.named in
+        let stands = stands_among format controllers tables together before row after is path said.named in
         let found : find (has_path path) tables ≡ Some row = once_found
         (path_said (codes "path")) same_path same_path-is same_path_refl tables paths_once before row after is path said.named in
         let cgroup = some_value (map.get cgroups path) (sym (found_is path) ∙ ap is_some found) in
@@ -235,6 +285,10 @@ module _ (format : Format) (document : Members) (controllers : ControllerSet) (e
           files = files_named row cgroup.0 (λ file named. entry.files path above said.named above_is file
               ∙ implied (is_named (File file) row) (stands_under above file) (stands.brought above above_is file) named);
           others = entry.roots;
+          told = told_is path ∙ ap (option_and_then (told_row format)) found;
+          told_values = known_told format row
+              (table_fits (row_keys format) (elements_at (codes "cgroup") document) form.cgroups before row after is) said.told;
+          told_below = root_silent format row path above (stands.tells above above_is);
         }
       where
         files_named : (row : Members) (cgroup : Cgroup) → ((file : LimitFile) → is_named (File file) row ≡ true
@@ -247,8 +301,8 @@ module _ (format : Format) (document : Members) (controllers : ControllerSet) (e
         files_named row cgroup each SubtreeControl within named = refl
         files_named row cgroup each (Other file) within named = absurd (true≢false within)
 
-    rows_are : AllByRecursion (IsRowOf format st) tables
-    rows_are = all_rows (IsRowOf format st) [] tables row_is
+    rows_are : IsInForm format document → AllByRecursion (IsRowOf format st) tables
+    rows_are form = all_rows (IsRowOf format st) [] tables (row_is form)
 
     paths_counted : (path : Names) → count_by (has_path path) tables ≡ cond (has_row st path) 1 0
     paths_counted path =
@@ -291,16 +345,13 @@ module _ (format : Format) (document : Members) (controllers : ControllerSet) (e
           let enabled = sym (among.enabled says.place) ∙ ap (option_map (λ (c : Cgroup). c.enabled)) cgroup.1 in
           ap (may_hold st) same ∙ row-may_hold st says.place cgroup.0 cgroup.1 (says.free cgroup.0.enabled enabled)
 
-      untold : (path : Names) (files : ToldFiles) → map.get st.told path ≡ Some files → ⊥
-      untold path files is = true≢false (sym (ap is_some is) ∙ ap is_some (map.get-empty path_cmp path))
-
       formed : IsWellFormed st
       formed = record {
-        root = among.there [] ∙ root_there controllers tables together;
+        root = among.there [] ∙ root_there format controllers tables together;
         parents = parents_there;
         top_down = rows_within;
         rows = rows_formed;
-        told = λ path files is. absurd (untold path files is);
+        told = told_formed;
         places = placed;
         used = λ pid process is. these.used pid ∙ ap is_some is;
       }
@@ -328,24 +379,25 @@ module _ (format : Format) (document : Members) (controllers : ControllerSet) (e
 
       -- ---- as the reader has them
 
-      module _ (found : map.FinMap path_cmp Cgroup) (made : found ≡ cgroups) where
-        -- the document is of these cgroups and processes
+      module _ (found : map.FinMap path_cmp Cgroup) (made : found ≡ cgroups)
+          (known : map.FinMap path_cmp ToldFiles) (made_known : known ≡ map.from_sorted told) where
+        -- the document is of these cgroups and processes, and of what is told of their files
         pub document_is_of : IsInForm format document → known_said format (codes "controllers") document ≡ Some controllers
-            → IsDocumentOf (state_with found live used controllers) document
+            → IsDocumentOf (state_with found known live used controllers) document
         document_is_of form said =
-            subst (λ cgroups. IsDocumentOf (state_with cgroups live used controllers) document) (sym made)
+            subst (λ cgroups. IsDocumentOf (state_with cgroups known live used controllers) document) (sym made)
+            (subst (λ known. IsDocumentOf (state_with cgroups known live used controllers) document) (sym made_known)
             (record {
               format = format;
               form = form;
               controllers = said;
-              told = refl;
-              cgroups = rows_are;
+              cgroups = rows_are form;
               paths = paths_counted;
               processes = processes_are;
               pids = pids_counted;
               used = these.used;
               formed = formed;
-            })
+            }))
 
   pub among_these : (found : map.FinMap path_cmp Cgroup) → found ≡ cgroups → IsAmong tables found
   among_these found made = subst (IsAmong tables) (sym made) among

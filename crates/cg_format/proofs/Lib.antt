@@ -1,9 +1,11 @@
 pub mod Cuts
 pub mod KeysOnce
 pub mod CgroupClauses
+pub mod SaidRanges
+pub mod ToldSaid
+pub mod ValueLines
 pub mod TablesSay
 pub mod FormClauses
-pub mod SaidRanges
 pub mod OneState
 pub mod NoFaults
 pub mod PairsOf

@@ -7,33 +7,35 @@ use Rattle.std.proofs.lemmas.List.{append-nil, length-append, nil_from_length}
 use Rattle.std.proofs.lemmas.List.Sums.{length-filter}
 use Rattle.toml.specs.Data.{Data, Members, no_members}
 use Rattle.cg_cgroup.specs.Paths.{Names, same_path, is_root, parent}
-use Rattle.cg_cgroup.specs.Files.{is_beyond, all_files, no_controllers, enables_nothing, stands_under}
+use Rattle.cg_cgroup.specs.Files.{all_files, all_others, known_others, known_entries, brought_by, no_controllers, enables_nothing, stands_by, stands_under}
+use Rattle.cg_cgroup.specs.Told.{told_in}
 use Rattle.cg_cgroup.specs.Cgroups.{file_of}
 use Rattle.cg_cgroup.specs.declared.user.Entry.{Entry}
 use Rattle.cg_cgroup.specs.declared.controllers.ControllerSet.{ControllerSet}
 use Rattle.cg_cgroup.specs.declared.files.LimitFile.{LimitFile}
 use Rattle.cg_cgroup.specs.declared.files.EntryName.{EntryName}
 use Rattle.cg_cgroup.specs.declared.files.EntryName.TheVariants.{Dir, Procs, SubtreeControl, File, Other}
+use Rattle.cg_cgroup.specs.declared.other_file.OtherFile.{OtherFile}
 use Rattle.cg_cgroup.specs.declared.cgroup.LimitEntry.{LimitEntry}
-use Rattle.cg_cgroup.proofs.Options.{none_value, is_some-mapped}
+use Rattle.cg_cgroup.proofs.Options.{some_value, none_value, is_some-mapped}
 use Rattle.cg_cgroup.proofs.PathOrder.{same_path_refl}
 use Rattle.cg_model.specs.Clauses.{unless, absent, present}
 use Rattle.cg_model.specs.States.{State, row_at, process_at}
 use Rattle.cg_model.specs.WellFormed.{has_row, enabled_at, enabled_above, IsWellFormed}
 use Rattle.cg_model.proofs.FormedParts.{may_hold-row}
-use Rattle.cg_format.specs.Form.{Key, most_rows, row_keys, live_keys, is_table}
-use Rattle.cg_format.specs.Said.{elements_at, tables_at, controllers_said, owner_said, limit_said, table_of, entry_said, value_said, is_named, has_path}
+use Rattle.cg_format.specs.Form.{Key, vocabulary, most_rows, row_keys, live_keys, is_table}
+use Rattle.cg_format.specs.Said.{elements_at, tables_at, controllers_said, owner_said, limit_said, table_of, entry_said, value_said, text_said, is_named, told_row, has_path}
 use Rattle.cg_format.specs.TextOf.{IsInForm, IsRowOf, IsProcessOf, has_pid, IsDocumentOf, IsTextOf}
-use Rattle.cg_format.specs.TextFaults.{each, each_cgroup, each_process, has_few, form_faults, row_faults, is_there, enabled_there, over, cgroup_faults, process_faults, said_faults, document_faults, text_faults}
+use Rattle.cg_format.specs.TextFaults.{each, each_cgroup, each_process, has_few, form_faults, has_values, row_faults, is_there, enabled_there, over, tell_standing, names_standing, cgroup_faults, process_faults, said_faults, document_faults, text_faults}
 use Rattle.cg_format.specs.TreeTexts.{longest_text}
 use Rattle.cg_format.specs.declared.fault.Place.{Place}
 use Rattle.cg_format.specs.declared.fault.Place.TheVariants.{Top, Cgroup as AtCgroup, Process as AtProcess}
 use Rattle.cg_format.specs.declared.fault.TreeFault.{TreeFault}
 use Rattle.cg_format.specs.declared.fault.TreeFault.TheVariants.{TooLong, NotToml, Shape, Format as BadFormat, TooMany, BadController, BadPath, BadEntry, BadValue, NoRoot, NoSuchFile, InternalProcess}
 use Rattle.cg_format.specs.declared.format.Format.{Format}
-use Rattle.cg_format.specs.declared.format.Format.TheVariants.{One, Two, Four}
 use Rattle.cg_format.proofs.SaidRanges.{said_of_known}
-use Rattle.cg_format.proofs.TablesSay.{all_so, each_within}
+use Rattle.cg_format.proofs.ToldSaid.{nobody, named_told-parts, row_told}
+use Rattle.cg_format.proofs.TablesSay.{all_so}
 use Rattle.cg_format.proofs.CgroupClauses.{twice_clause, orphan_clause, within_clause, files_clause}
 use Rattle.cg_format.proofs.Cuts.{head_of, is_some-find, any_filter, filter_cut}
 use Rattle.cg_format.proofs.OneState.{Passes, one_passes, path_is, enabled_in}
@@ -102,12 +104,6 @@ form_has_none document format form =
 
 -- ---- a cgroup by itself
 
--- a table that says nothing says an owner
-nobody : (format : Format) → is_some (owner_said format 420 no_members) ≡ true
-nobody One = refl
-nobody Two = refl
-nobody Four = refl
-
 module _ (format : Format) (st : State) (row : Members) (is : IsRowOf format st row) where
   unnamed : (file : LimitFile) → file_of is.cgroup file ≡ None → table_of (File file) row ≡ None
   unnamed file none =
@@ -127,20 +123,28 @@ module _ (format : Format) (st : State) (row : Members) (is : IsRowOf format st 
     ap is_some (is.values file held there),
   )
 
-  each_entry : (name : EntryName) → is_beyond name ≡ false → is_some (entry_said format row name) ≡ true
-  each_entry Dir within = ap is_some (is.entries Dir is.cgroup.dir refl refl)
-  each_entry Procs within = ap is_some (is.entries Procs is.cgroup.procs refl refl)
-  each_entry SubtreeControl within = ap is_some (is.entries SubtreeControl is.cgroup.subtree_control refl refl)
-  each_entry (File file) within = (file_said file (file_of is.cgroup file) refl).0
-  each_entry (Other file) within = absurd (true≢false within)
+  other_said : (file : OtherFile) → (is_some (entry_said format row (Other file)) ≡ true)
+      × (is_some (text_said (unwrap_or (table_of (Other file) row) no_members)) ≡ true)
+  other_said file = named_told-parts format row file (is.told_values file)
+
+  each_entry : (name : EntryName) → is_some (entry_said format row name) ≡ true
+  each_entry Dir = ap is_some (is.entries Dir is.cgroup.dir refl refl)
+  each_entry Procs = ap is_some (is.entries Procs is.cgroup.procs refl refl)
+  each_entry SubtreeControl = ap is_some (is.entries SubtreeControl is.cgroup.subtree_control refl refl)
+  each_entry (File file) = (file_said file (file_of is.cgroup file) refl).0
+  each_entry (Other file) = (other_said file).0
 
   each_value : (file : LimitFile) → is_some (value_said row file) ≡ true
   each_value file = (file_said file (file_of is.cgroup file) refl).1
 
   row_has_none : (place : Place) → row_faults format place row ≡ []
   row_has_none place =
-      let entries = each_within (λ name. is_some (entry_said format row name)) each_entry in
-      let values = all_so (λ file. is_some (value_said row file)) each_value all_files in
+      let entries = all_so (λ name. is_some (entry_said format row name)) each_entry (known_entries (vocabulary format)) in
+      let values : has_values format row ≡ true =
+      and_from (list_all (λ file. is_some (value_said row file)) all_files) _
+      (all_so (λ file. is_some (value_said row file)) each_value all_files)
+      (all_so (λ file. is_some (text_said (unwrap_or (table_of (Other file) row) no_members))) (λ file. (other_said file).1)
+      (known_others (vocabulary format))) in
       λ i. absent (is.named i) (BadPath place) ++ absent (is.enabled i) (BadController place) ++ unless (entries i) (BadEntry place)
       ++ unless (values i) (BadValue place)
 
@@ -211,15 +215,32 @@ module _ (format : Format) (st : State) (tables : List Members) (all : AllByRecu
       sym ((formed.rows is.path is.cgroup is.there).files file)
       ∙ sym (is_some-mapped (λ (f : LimitEntry). f.entry) (file_of is.cgroup file)) ∙ is.files (File file) refl named
 
-  none_misplaced : each_cgroup (files_clause tables) tables ≡ []
+  told_stands : (row : Members) (is : IsRowOf format st row) → tell_standing is.path (enabled_above st is.path) (told_row format row) ≡ true
+  told_stands row is =
+      elim (told_row format row) as (λ told. told_row format row ≡ told → tell_standing is.path (enabled_above st is.path) told ≡ true) [
+        | None ↦ λ _. refl
+        | Some files ↦ λ tells.
+            let above : ControllerSet = enabled_above st is.path in
+            let formed_told = (formed.told is.path files (is.told ∙ tells)).1 in
+            let below : is_root is.path ≡ false = false_from_ne_true (is_root is.path) (λ root.
+            true≢false (sym (row_told format row files tells).tells ∙ is.told_below root)) in
+            and_from (not (is_root is.path)) _ (ap not below)
+            (all_so (λ file. not (is_some (told_in files file)) || stands_by above (brought_by file))
+            (λ file. where_named (is_some (told_in files file)) (stands_by above (brought_by file)) (λ known.
+            let told = some_value (told_in files file) known in
+            formed_told.stand file told.0 told.1)) all_others)
+      ] refl
+
+  none_misplaced : each_cgroup (files_clause format tables) tables ≡ []
   none_misplaced =
-      none_of_each (IsRowOf format st) (files_clause tables) AtCgroup tables all (λ before row after cut is here.
+      none_of_each (IsRowOf format st) (files_clause format tables) AtCgroup tables all (λ before row after cut is here.
       let above : ControllerSet = enabled_above st is.path in
       let brought = all_so (λ file. not (is_named (File file) row) || stands_under above file)
       (λ file. where_named (is_named (File file) row) (stands_under above file) (stands row is file)) all_files in
-      rw (is.named, over_so no_controllers is.path (ap is_some is.there)) (ap (λ b. unless b (NoSuchFile here)) brought))
+      let standing : names_standing format is.path above row ≡ true = and_from _ _ brought (told_stands row is) in
+      rw (is.named, over_so no_controllers is.path (ap is_some is.there)) (ap (λ b. unless b (NoSuchFile here)) standing))
 
-  cgroups_have_none : cgroup_faults (Some st.controllers) tables ≡ []
+  cgroups_have_none : cgroup_faults format (Some st.controllers) tables ≡ []
   cgroups_have_none =
       let root = there_so [] formed.root in
       λ i. none_twice i ++ unless (root i) NoRoot ++ none_orphan i ++ none_past i ++ none_misplaced i
@@ -260,7 +281,7 @@ document_has_none document st is =
     let together = cgroups_have_none is.format st tables is.cgroups is.paths is.formed in
     let living = processes_have_none is.format st tables is.cgroups is.paths is.formed lives is.processes is.pids in
     (λ i. form i ++ present (is.form.format i) (λ format. said_faults format document))
-    ∙ (λ i. absent (is.controllers i) (BadController Top) ++ alone i ++ cgroup_faults (is.controllers i) tables ++ living i)
+    ∙ (λ i. absent (is.controllers i) (BadController Top) ++ alone i ++ cgroup_faults is.format (is.controllers i) tables ++ living i)
     ∙ append-nil _ ∙ together
 
 pub no_faults : (bytes : List ℕ) (st : State) → IsTextOf st bytes → text_faults bytes ≡ []

@@ -1,8 +1,10 @@
 -- A text is of one state at most. In it each cgroup stands at a path, and each live process has a PID.
 use Rattle.std.proofs.Common.{◌≡◌, ℕ, Bool, true, false, cond, List, codes, Option, Some, None, is_some, option_map, option_and_then, refl, sym, ap, subst, ◌∙◌, true≢false, eqb-true, arith}
-use Rattle.std.specs.Prelude.{count_by, nat_eq, find}
-use Rattle.std.specs.List.{AllByRecursion}
+use Rattle.std.specs.Prelude.{count_by, nat_eq, find, ◌==◌}
+use Rattle.std.specs.List.{AllByRecursion, list_all, slice_split}
 use Rattle.std.specs.Cmp.{nat_cmp_total}
+use Rattle.std.proofs.lemmas.Bool.{false_from_ne_true}
+use Rattle.std.specs.FinMap as map
 use Rattle.std.specs.FinMap.{nat_cmp-IsAntisymmetric, same_map}
 use Rattle.std.specs.FinSet.{same_set}
 use Rattle.cg_model.proofs.Lists.{all-both, find-all, find-passes}
@@ -16,7 +18,12 @@ use Rattle.cg_cgroup.specs.declared.controllers.ControllerSet.{ControllerSet}
 use Rattle.cg_cgroup.specs.declared.files.Controller.{Controller}
 use Rattle.cg_cgroup.specs.declared.files.LimitFile.{LimitFile}
 use Rattle.cg_cgroup.specs.declared.files.EntryName.{EntryName}
-use Rattle.cg_cgroup.specs.declared.files.EntryName.TheVariants.{Dir, Procs, SubtreeControl, File}
+use Rattle.cg_cgroup.specs.declared.files.EntryName.TheVariants.{Dir, Procs, SubtreeControl, File, Other}
+use Rattle.cg_cgroup.specs.declared.other_file.OtherFile.{OtherFile}
+use Rattle.cg_cgroup.specs.declared.told.FileText.{FileText}
+use Rattle.cg_cgroup.specs.declared.told.ToldFile.{ToldFile}
+use Rattle.cg_cgroup.specs.declared.told.ToldFiles.{ToldFiles}
+use Rattle.cg_cgroup.specs.Told.{told_in}
 use Rattle.cg_cgroup.specs.declared.cgroup.LimitEntry.{LimitEntry}
 use Rattle.cg_cgroup.specs.declared.cgroup.Cgroup.{Cgroup}
 use Rattle.cg_cgroup.proofs.Options.{some_value, none_value, same_some}
@@ -25,11 +32,13 @@ use Rattle.cg_cgroup.proofs.PathOrder.{path_cmp_total, path_cmp-IsAntisymmetric,
 use Rattle.cg_cgroup.proofs.CgroupLaws.{SameRest, same_cgroup}
 use Rattle.cg_model.specs.States.{State, row_at, process_at}
 use Rattle.cg_model.specs.WellFormed.{has_row, enabled_at, enabled_above, IsWellFormed}
-use Rattle.cg_format.specs.Said.{known_said, tables_at, text_at, integer_at, path_said, pid_said, pid_read, number_or, has_path}
+use Rattle.cg_format.specs.Said.{known_said, tables_at, text_at, integer_at, path_said, pid_said, pid_read, number_or, has_path, is_named, is_text_line, told_said, tells, told_row}
 use Rattle.cg_format.specs.TextOf.{OthersAreRoots, IsRowOf, IsProcessOf, has_pid, IsDocumentOf, IsTextOf}
 use Rattle.cg_format.specs.declared.format.Format.{Format}
 use Rattle.cg_format.proofs.Cuts.{is_some-find, any_counted}
 use Rattle.cg_format.proofs.SaidRanges.{passed}
+use Rattle.cg_format.proofs.ToldSaid.{row_told}
+use Rattle.cg_format.proofs.ValueLines.{told_lines}
 
 -- ---- what is found
 
@@ -76,6 +85,44 @@ others_read st document is path row there =
     (is.paths path) (ap is_some there) in
     let named : path ≡ found.1.path = path_is path found.1.path found.0 found.1.named found.2 in
     subst OthersAreRoots (same_some found.1.cgroup row (sym (ap (row_at st) named ∙ found.1.there) ∙ there)) found.1.others
+
+-- what a row tells that is told of a path of the state
+pub record ToldRead (format : Format) (path : Names) (files : ToldFiles) (row : Members) : Type 0 where
+  pub named : path_said (codes "path") row ≡ Some path
+  pub tells : tells format row ≡ true
+  pub said : Some files ≡ told_row format row
+  pub values : (file : OtherFile) → is_named (Other file) row ≡ true → is_some (told_said format row file) ≡ true
+  pub below : is_root path ≡ false
+
+-- what is told of a path of a document's state, one of its rows tells
+pub told_read : (st : State) (document : Members) (is : IsDocumentOf st document) (path : Names) (files : ToldFiles)
+    → map.get st.told path ≡ Some files → (row : Members) × ToldRead is.format path files row
+told_read st document is path files there =
+    let held = (is.formed.told path files there).0 in
+    let found = one_passes (IsRowOf is.format st) (has_path path) (tables_at (codes "cgroup") document) (has_row st path) is.cgroups
+    (is.paths path) held in
+    let named : path ≡ found.1.path = path_is path found.1.path found.0 found.1.named found.2 in
+    let tells : told_row is.format found.0 ≡ Some files = sym found.1.told ∙ ap (map.get st.told) (sym named) ∙ there in
+    let told = row_told is.format found.0 files tells in (
+      found.0,
+      record {
+        named = found.1.named ∙ ap Some (sym named);
+        tells = told.tells;
+        said = sym tells;
+        values = found.1.told_values;
+        below = false_from_ne_true (is_root path) (λ root.
+            true≢false (sym told.tells ∙ found.1.told_below (ap is_root (sym named) ∙ root)));
+      },
+    )
+
+-- the value of a file that is told of is lines
+pub told_value_read : (st : State) (document : Members) → IsDocumentOf st document → (path : Names) (files : ToldFiles)
+    → map.get st.told path ≡ Some files → (file : OtherFile) (told : ToldFile) (text : FileText) → told_in files file ≡ Some told
+    → told.value ≡ Some text → list_all is_text_line (slice_split (λ b. b == 10) text) ≡ true
+told_value_read st document is path files there file told text known has =
+    let read = told_read st document is path files there in
+    told_lines is.format read.0 file told text
+    (sym ((row_told is.format read.0 files (sym read.1.said)).each file) ∙ known) has
 
 pub pids_are_pids : (bytes : List ℕ) (st : State) (pid : ℕ) → IsTextOf st bytes → is_some (process_at st pid) ≡ true → is_pid pid ≡ true
 pids_are_pids bytes st pid is there =
@@ -180,7 +227,25 @@ module _ (format : Format) (st other : State) (tables : List Members)
   same_enabled_at path =
       at_each path (λ one two. enabled_in one ≡ enabled_in two) refl (λ row is also _ _. same_enabled format st other row is also)
 
+  none_told : (state : State) → IsWellFormed state → (path : Names) → has_row state path ≡ false → map.get state.told path ≡ None
+  none_told state formed path none =
+      none_value (map.get state.told path) (false_from_ne_true (is_some (map.get state.told path)) (λ some.
+      let files = some_value (map.get state.told path) some in
+      true≢false (sym (formed.told path files.0 files.1).0 ∙ none)))
+
   module _ (formed : IsWellFormed st) (formed_also : IsWellFormed other) where
+    same_told_at : (path : Names) → map.get st.told path ≡ map.get other.told path
+    same_told_at path =
+        elim (has_row st path) as (λ b. has_row st path ≡ b → map.get st.told path ≡ map.get other.told path) [
+          | true ↦ λ has.
+              let found = one_passes IsSaid (has_path path) tables (has_row st path) all_said (paths path) has in
+              let is : IsRowOf format st found.0 = found.1.0 in
+              let also : IsRowOf format other found.0 = found.1.1 in
+              ap (map.get st.told) (path_is path is.path found.0 is.named found.2) ∙ is.told ∙ sym also.told
+              ∙ sym (ap (map.get other.told) (path_is path also.path found.0 also.named found.2))
+          | false ↦ λ has. none_told st formed path has ∙ sym (none_told other formed_also path (sym (has_same path) ∙ has))
+        ] refl
+
     same_row_at : (path : Names) → row_at st path ≡ row_at other path
     same_row_at path = at_each path (λ one two. one ≡ two) refl (λ row is also named named_also.
         ap Some (one_cgroup format st other row is also (λ file.
@@ -240,7 +305,9 @@ one_of_document document st other is also =
     let controllers : st.controllers ≡ other.controllers =
     same_some st.controllers other.controllers (sym is.controllers
     ∙ sym (ap (λ format. known_said format (codes "controllers") document) one_format) ∙ also.controllers) in
-    let told : st.told ≡ other.told = is.told ∙ sym also.told in
+    let told : st.told ≡ other.told =
+    same_map path_cmp_total path_cmp-IsAntisymmetric _ _
+    (same_told_at is.format st other tables is.cgroups cgroups_also is.paths also.paths is.formed also.formed) in
     λ i. record { rows = rows i; told = told i; live = live i; used = used i; controllers = controllers i }
 
 pub one_state : (bytes : List ℕ) (st other : State) → IsTextOf st bytes → IsTextOf other bytes → st ≡ other

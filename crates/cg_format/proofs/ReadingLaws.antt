@@ -1,5 +1,5 @@
 -- A text is read as one thing: the state that it is of, or the first of its faults.
-use Rattle.std.proofs.Common.{◌≡◌, ℕ, true, codes, List, [], ◌∷◌, Option, Some, option_and_then, is_some, Ok, Err, sym, ap, ◌∙◌, true≢false, refl}
+use Rattle.std.proofs.Common.{◌≡◌, ℕ, true, false, codes, List, [], ◌∷◌, Option, Some, None, option_and_then, is_some, Ok, Err, sym, ap, ◌∙◌, true≢false, refl}
 use Rattle.cg_model.specs.Clauses.{first}
 use Rattle.cg_model.specs.States.{State}
 use Rattle.cg_cgroup.proofs.Options.{same_some}
@@ -7,13 +7,19 @@ use Rattle.cg_format.specs.Readings.{Reading, IsReading, format_in, vocabulary_i
 use Rattle.cg_format.specs.TextOf.{IsTextOf}
 use Rattle.cg_format.specs.TextFaults.{text_faults}
 use Rattle.cg_format.specs.declared.fault.TreeFault.{TreeFault}
-use Rattle.cg_format.specs.Said.{vocabulary, format_said}
+use Rattle.cg_format.specs.Form.{vocabulary}
+use Rattle.cg_format.specs.Said.{format_said, is_named, tells}
 use Rattle.cg_format.specs.declared.format.Format.{Format}
-use Rattle.cg_cgroup.specs.Files.{is_of}
+use Rattle.std.specs.List.{list_any}
+use Rattle.std.specs.FinMap as map
+use Rattle.toml.specs.Data.{Members}
+use Rattle.cg_cgroup.specs.Paths.{Names}
+use Rattle.cg_cgroup.specs.Files.{is_of, known_others}
+use Rattle.cg_cgroup.specs.declared.files.EntryName.TheVariants.{Other}
 use Rattle.cg_cgroup.specs.declared.files.Vocabulary.TheVariants.{Format2}
 use Rattle.std.specs.Option.{option_map_or}
 use Rattle.cg_format.proofs.SaidRanges.{said_of_known}
-use Rattle.cg_format.proofs.OneState.{one_state}
+use Rattle.cg_format.proofs.OneState.{one_state, told_read}
 use Rattle.cg_format.proofs.NoFaults.{no_faults}
 use Rattle.cg_format.proofs.StateOf.{state_of_text}
 
@@ -44,3 +50,20 @@ known_controllers bytes st is =
     let said : format_in bytes ≡ Some is.says.format = ap (option_and_then format_said) is.parsed ∙ is.says.form.format in
     ap (λ (found : Option Format). is_of (option_map_or vocabulary found Format2) st.controllers) said
     ∙ (said_of_known is.says.format (codes "controllers") is.document st.controllers is.says.controllers).1
+
+-- formats 1 and 2 tell of no further limit files
+tells_none : (format : Format) (row : Members) → vocabulary format ≡ Format2 → tells format row ≡ false
+tells_none format row two = ap (λ words. list_any (λ file. is_named (Other file) row) (known_others words)) two
+
+pub none_told : (bytes : List ℕ) (st : State) → IsTextOf st bytes → vocabulary_in bytes ≡ Format2 → (path : Names)
+    → map.get st.told path ≡ None
+none_told bytes st is two path =
+    let said : format_in bytes ≡ Some is.says.format = ap (option_and_then format_said) is.parsed ∙ is.says.form.format in
+    let words : vocabulary is.says.format ≡ Format2 =
+    ap (λ (found : Option Format). option_map_or vocabulary found Format2) (sym said) ∙ two in
+    elim (map.get st.told path) as (λ found. map.get st.told path ≡ found → found ≡ None) [
+      | None ↦ λ _. refl
+      | Some files ↦ λ there.
+          let read = told_read st is.document is.says path files there in
+          absurd (true≢false (sym read.1.tells ∙ tells_none is.says.format read.0 words))
+    ] refl

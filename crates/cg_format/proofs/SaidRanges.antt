@@ -12,8 +12,8 @@ use Rattle.toml.specs.Data.{Members}
 use Rattle.cg_cgroup.specs.declared.user.Entry.{Entry}
 use Rattle.cg_cgroup.specs.declared.files.Limit.{Limit}
 use Rattle.cg_cgroup.specs.declared.files.LimitFile.{LimitFile}
-use Rattle.cg_format.specs.Form.{has_groups}
-use Rattle.cg_format.specs.Said.{number_or, passing, mode_read, accepted, vocabulary, controllers_said, known_said}
+use Rattle.cg_format.specs.Form.{vocabulary, has_groups}
+use Rattle.cg_format.specs.Said.{number_or, passing, mode_read, accepted, controllers_said, known_said}
 use Rattle.cg_format.specs.declared.format.Format.{Format}
 
 pub passed : (test : ℕ → Bool) (found : Option ℕ) (number : ℕ) → passing test found ≡ Some number → test number ≡ true

@@ -1,5 +1,5 @@
 -- A text without a fault is of a state: the cgroups and the processes that its tables say.
-use Rattle.std.proofs.Common.{true≢false, ◌≡◌, ℕ, Bool, true, false, T, List, [], length, map as map_list, codes, Option, Some, is_some, option_map, unwrap_or, cond, None, arith, refl, sym, ap, subst, ◌∙◌}
+use Rattle.std.proofs.Common.{true≢false, ◌≡◌, ℕ, Bool, true, false, T, List, [], ◌∷◌, length, map as map_list, codes, Option, Some, is_some, option_and_then, option_map, unwrap_or, cond, None, arith, refl, sym, ap, subst, ◌∙◌}
 use Rattle.std.specs.Prelude.{find, nat_eq}
 use Rattle.std.specs.List.{AllByRecursion}
 use Rattle.std.specs.Map.{lookup}
@@ -17,7 +17,7 @@ use Rattle.cg_cgroup.specs.Files.{is_beyond, enables, no_controllers, stands_und
 use Rattle.cg_cgroup.specs.Cgroups.{file_of, files_by, others_under, root_file, entry_in}
 use Rattle.cg_cgroup.proofs.CgroupLaws.{stands-under, entry-under}
 use Rattle.cg_cgroup.proofs.Options.{same_some}
-use Rattle.cg_cgroup.proofs.PathOrder.{path_cmp_total, path_cmp-IsAntisymmetric, same_path-ties}
+use Rattle.cg_cgroup.proofs.PathOrder.{path_cmp_total, path_cmp-IsAntisymmetric, same_path-ties, same_path_comm}
 use Rattle.cg_cgroup.specs.declared.controllers.ControllerSet.{ControllerSet}
 use Rattle.cg_cgroup.specs.declared.files.EntryName.{EntryName}
 use Rattle.cg_cgroup.specs.declared.files.EntryName.TheVariants.{Dir, Procs, SubtreeControl, File, Other}
@@ -27,15 +27,17 @@ use Rattle.cg_cgroup.specs.declared.user.Entry.{Entry}
 use Rattle.cg_cgroup.specs.declared.files.Limit.{Limit}
 use Rattle.cg_cgroup.specs.declared.cgroup.LimitEntry.{LimitEntry}
 use Rattle.cg_cgroup.specs.declared.cgroup.Cgroup.{Cgroup}
+use Rattle.cg_cgroup.specs.declared.told.ToldFiles.{ToldFiles}
 use Rattle.cg_cgroup.specs.declared.process.Process.{Process}
 use Rattle.cg_model.specs.Clauses.{present, first}
 use Rattle.cg_model.specs.States.{State}
+use Rattle.cg_model.proofs.StateLaws.{path_tie}
 use Rattle.cg_model.proofs.ClauseLaws.{no_parts, no_unless}
-use Rattle.cg_format.specs.Said.{tables_at, path_said, format_said, entry_said, value_said, has_path, pid_said}
+use Rattle.cg_format.specs.Said.{tables_at, path_said, format_said, entry_said, value_said, told_row, has_path, pid_said}
 use Rattle.cg_format.specs.TextOf.{has_pid, IsDocumentOf, IsTextOf}
 use Rattle.cg_format.specs.TextFaults.{form_faults, said_faults, row_faults, over, cgroup_faults, process_faults, document_faults, text_faults}
 use Rattle.cg_format.specs.TreeTexts.{longest_text}
-use Rattle.cg_format.specs.Tables.{IsEntryOf, AreEntriesOf, IsLive, AreProcesses}
+use Rattle.cg_format.specs.Tables.{IsEntryOf, AreEntriesOf, AreToldOf, IsLive, AreProcesses}
 use Rattle.cg_format.specs.declared.format.Format.{Format}
 use Rattle.cg_format.specs.declared.fault.Place.TheVariants.{Cgroup as AtCgroup, Process as AtProcess}
 use Rattle.cg_format.proofs.KeysOnce.{five_none, absent_none, none_say}
@@ -166,6 +168,51 @@ module _ (format : Format) (tables : List Members) where
       each = each_is;
     }
 
+-- ---- what is told of their files
+
+-- what a row tells, over what later ones do
+abbrev with_told : map.FinMap path_cmp ToldFiles → Names → Option ToldFiles → map.FinMap path_cmp ToldFiles
+with_told known path None = map.remove known path
+with_told known path (Some files) = map.insert known path files
+
+get-with_told : (known : map.FinMap path_cmp ToldFiles) (path : Names) (told : Option ToldFiles) (other : Names)
+    → map.get (with_told known path told) other ≡ cond (same_path path other) told (map.get known other)
+get-with_told known path None other =
+    map.get-remove path_cmp_total known path other ∙ ap (λ b. cond b None (map.get known other)) (path_tie path other)
+get-with_told known path (Some files) other =
+    map.get-insert path_cmp_total known path files other ∙ ap (λ b. cond b (Some files) (map.get known other)) (path_tie path other)
+
+module _ (format : Format) where
+  abbrev told_map : (rows : List Members) → AllByRecursion (SaysCgroup format) rows → map.FinMap path_cmp ToldFiles
+  told_map [] all = map.empty
+  told_map (row ∷ rows) all = with_told (told_map rows all.1) all.0.path (told_row format row)
+
+  told_over : (b : Bool) (row : Members) (later : Option Members)
+      → cond b (told_row format row) (option_and_then (told_row format) later)
+      ≡ option_and_then (told_row format) (cond b (Some row) later)
+  told_over true row later = refl
+  told_over false row later = refl
+
+  told_found : (path : Names) (rows : List Members) (all : AllByRecursion (SaysCgroup format) rows)
+      → map.get (told_map rows all) path ≡ option_and_then (told_row format) (find (has_path path) rows)
+  told_found path [] all = map.get-empty path_cmp path
+  told_found path (row ∷ rows) all =
+      let own : has_path path row ≡ same_path all.0.path path =
+      ap (λ (o : Option Names). elim o [ None ↦ false | Some said ↦ same_path path said ]) all.0.named ∙ same_path_comm path all.0.path in
+      get-with_told (told_map rows all.1) all.0.path (told_row format row) path
+      ∙ ap (cond (same_path all.0.path path) (told_row format row)) (told_found path rows all.1)
+      ∙ told_over (same_path all.0.path path) row (find (has_path path) rows)
+      ∙ ap (λ b. option_and_then (told_row format) (cond b (Some row) (find (has_path path) rows))) (sym own)
+
+  are_told : (tables : List Members) (all : AllByRecursion (SaysCgroup format) tables)
+      → AreToldOf format tables (map.entries (told_map tables all))
+  are_told tables all = record {
+    sorted = is_so (is_sorted path_cmp (map.entries (told_map tables all))) (entries_sorted (told_map tables all));
+    each = λ path.
+        sym (found_by_path path (map.entries (told_map tables all))) ∙ sym (get-entries (told_map tables all) path)
+        ∙ told_found path tables all;
+  }
+
 -- ---- the processes
 
 module _ (tables : List Members) where
@@ -226,17 +273,19 @@ state_of_document document none =
     let format : Format = form.0 in
     let said = five_none [] _ _ _ _ (rw form.1.format at parts.1) in
     let top = absent_none _ _ said.1 in
-    let together : cgroup_faults (Some top.0) tables ≡ [] = ap (λ (set : Option ControllerSet). cgroup_faults set tables) (sym top.1)
-    ∙ said.3 in
+    let together : cgroup_faults format (Some top.0) tables ≡ [] =
+    ap (λ (set : Option ControllerSet). cgroup_faults format set tables) (sym top.1) ∙ said.3 in
     let cgroups_say = none_say (λ _. row_faults format) AtCgroup (SaysCgroup format) (λ _. row_says format) tables said.2 in
     let lives_say = none_say (process_faults tables) AtProcess (Says tables)
     (λ earlier at row none. (earlier, process_says tables earlier at row none)) rows said.4 in
     let made : List (Names × Cgroup) = entries format tables cgroups_say in
+    let known : List (Names × ToldFiles) = map.entries (told_map format tables cgroups_say) in
     let living = live tables rows lives_say in
     let pids = used tables rows lives_say in (
-      state_with (map.from_sorted made) living pids top.0,
-      document_is_of format document top.0 made (ap first said.2) (ap first together, are_entries format tables cgroups_say) living pids
-          (ap first said.4, are_processes tables rows lives_say) (map.from_sorted made) refl form.1 top.1,
+      state_with (map.from_sorted made) (map.from_sorted known) living pids top.0,
+      document_is_of format document top.0 made (ap first said.2) (ap first together, are_entries format tables cgroups_say)
+          known (are_told format tables cgroups_say) living pids (ap first said.4, are_processes tables rows lives_say)
+          (map.from_sorted made) refl (map.from_sorted known) refl form.1 top.1,
     )
 
 pub state_of_text : (bytes : List ℕ) → text_faults bytes ≡ [] → (st : State) × IsTextOf st bytes

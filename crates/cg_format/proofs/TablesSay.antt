@@ -5,9 +5,9 @@ use Rattle.std.specs.List.{list_all, list_any}
 use Rattle.std.proofs.lemmas.Bool.{and_from, not-true, and_parts}
 use Rattle.std.proofs.lemmas.List.Folds.{list_all-map}
 use Rattle.std.proofs.lemmas.List.Sums.{list_all-from_AllPass}
-use Rattle.toml.specs.Data.{Members}
+use Rattle.toml.specs.Data.{Members, no_members}
 use Rattle.cg_cgroup.specs.Paths.{Names, is_root, parent}
-use Rattle.cg_cgroup.specs.Files.{all_files, format_2_entries, no_controllers, enables_nothing, is_within, stands_under, is_beyond}
+use Rattle.cg_cgroup.specs.Files.{all_files, format_2_entries, known_others, no_controllers, enables_nothing, is_within, stands_under, is_beyond}
 use Rattle.cg_cgroup.specs.Cgroups.{root_file}
 use Rattle.cg_cgroup.proofs.AllFiles.{each_passes}
 use Rattle.cg_cgroup.proofs.Options.{some_value}
@@ -17,16 +17,19 @@ use Rattle.cg_cgroup.specs.declared.controllers.ControllerSet.{ControllerSet}
 use Rattle.cg_cgroup.specs.declared.files.EntryName.{EntryName}
 use Rattle.cg_cgroup.specs.declared.files.EntryName.TheVariants.{Dir, Procs, SubtreeControl, File, Other}
 use Rattle.cg_cgroup.specs.declared.files.LimitFile.{LimitFile}
+use Rattle.cg_cgroup.specs.declared.other_file.OtherFile.{OtherFile}
 use Rattle.cg_model.proofs.ClauseLaws.{no_unless}
-use Rattle.cg_format.specs.Said.{path_said, controllers_said, known_said, entry_said, value_said, is_named, has_path, pid_said, uid_said}
+use Rattle.cg_format.specs.Form.{vocabulary}
+use Rattle.cg_format.specs.Said.{path_said, controllers_said, known_said, table_of, entry_said, value_said, text_said, told_row, is_named, has_path, pid_said, uid_said}
 use Rattle.cg_format.specs.TextOf.{has_pid}
-use Rattle.cg_format.specs.TextFaults.{row_faults, is_there, enabled_there, over, cgroup_faults, process_faults}
+use Rattle.cg_format.specs.TextFaults.{row_faults, is_there, enabled_there, over, tell_standing, names_standing, cgroup_faults, process_faults}
 use Rattle.cg_format.specs.declared.fault.Place.{Place}
 use Rattle.cg_format.specs.declared.fault.Place.TheVariants.{Cgroup as AtCgroup}
 use Rattle.cg_format.specs.declared.format.Format.{Format}
 use Rattle.cg_format.proofs.CgroupClauses.{twice_clause, orphan_clause, within_clause, files_clause}
 use Rattle.cg_format.proofs.Cuts.{is_some-find}
 use Rattle.cg_format.proofs.KeysOnce.{five_none, absent_none, none_at}
+use Rattle.cg_format.proofs.ToldSaid.{named_told, named_told-so, all_both, known_parts}
 
 -- ---- a cgroup's table
 
@@ -40,6 +43,7 @@ pub record SaysCgroup (format : Format) (row : Members) : Type 0 where
   pub owned : (name : EntryName) → is_beyond name ≡ false → entry_said format row name ≡ Some (owner name)
   pub value : LimitFile → Limit
   pub valued : (file : LimitFile) → value_said row file ≡ Some (value file)
+  pub told : list_all (named_told format row) (known_others (vocabulary format)) ≡ true
 
 -- what all pass
 pub all_so : {A : Type 0} (p : A → Bool) → ((x : A) → p x ≡ true) → (xs : List A) → list_all p xs ≡ true
@@ -74,9 +78,14 @@ row_says format place row none =
     let parts = five_none [] _ _ _ _ none in
     let path = absent_none _ _ parts.1 in
     let enabled = absent_none _ _ parts.2 in
-    let owned = each_entry (λ name. is_some (entry_said format row name)) (no_unless _ _ parts.3) in
+    let others : List OtherFile = known_others (vocabulary format) in
+    let has_text : OtherFile → Bool = λ file. is_some (text_said (unwrap_or (table_of (Other file) row) no_members)) in
+    let owners = known_parts (λ name. is_some (entry_said format row name)) (vocabulary format) (no_unless _ _ parts.3) in
+    let values =
+    and_parts (list_all (λ file. is_some (value_said row file)) all_files) (list_all has_text others) (no_unless _ _ parts.4) in
+    let owned = each_entry (λ name. is_some (entry_said format row name)) owners.0 in
     let valued = λ (file : LimitFile). some_value (value_said row file)
-    (each_passes (λ file. is_some (value_said row file)) (no_unless _ _ parts.4) file) in
+    (each_passes (λ file. is_some (value_said row file)) values.0 file) in
     record {
       path = path.0;
       named = path.1;
@@ -86,38 +95,48 @@ row_says format place row none =
       owned = λ name within. value_or (entry_said format row name) root_file (owned name within);
       value = λ file. (valued file).0;
       valued = λ file. (valued file).1;
+      told = all_both (λ file. is_some (entry_said format row (Other file))) has_text (named_told format row)
+          (named_told-so format row) others owners.1 values.1;
     }
 
 -- ---- a cgroup among the others
 
 -- how the table of a cgroup stands to the others, behind those before it
-pub record StandsAmong (controllers : ControllerSet) (tables before : List Members) (row : Members) (path : Names) : Type 0 where
+pub record StandsAmong (format : Format) (controllers : ControllerSet) (tables before : List Members)
+    (row : Members) (path : Names) : Type 0 where
   pub fresh : is_there before path ≡ false
   pub parent_there : (is_root path || is_there tables (parent path)) ≡ true
   pub within : (enabled available : ControllerSet) → controllers_said (codes "enabled") row ≡ Some enabled
       → over (Some controllers) tables path ≡ Some available → is_within enabled available ≡ true
   pub brought : (above : ControllerSet) → over (Some no_controllers) tables path ≡ Some above → (file : LimitFile)
       → (not (is_named (File file) row) || stands_under above file) ≡ true
+  pub tells : (above : ControllerSet) → over (Some no_controllers) tables path ≡ Some above
+      → tell_standing path above (told_row format row) ≡ true
 
-pub stands_among : (controllers : ControllerSet) (tables : List Members) → cgroup_faults (Some controllers) tables ≡ []
+pub stands_among : (format : Format) (controllers : ControllerSet) (tables : List Members)
+    → cgroup_faults format (Some controllers) tables ≡ []
     → (before : List Members) (row : Members) (after : List Members) → before ++ row ∷ after ≡ tables
-    → (path : Names) → path_said (codes "path") row ≡ Some path → StandsAmong controllers tables before row path
-stands_among controllers tables none before row after is path named =
+    → (path : Names) → path_said (codes "path") row ≡ Some path → StandsAmong format controllers tables before row path
+stands_among format controllers tables none before row after is path named =
     let parts = five_none _ _ _ _ _ none in
     let twice = none_at twice_clause AtCgroup tables parts.0 before row after is in
     let orphan = none_at (orphan_clause tables) AtCgroup tables parts.2 before row after is in
     let past = none_at (within_clause controllers tables) AtCgroup tables parts.3 before row after is in
-    let unbrought = none_at (files_clause tables) AtCgroup tables parts.4 before row after is in
+    let unbrought = none_at (files_clause format tables) AtCgroup tables parts.4 before row after is in
+    let standing : (above : ControllerSet) → over (Some no_controllers) tables path ≡ Some above
+    → names_standing format path above row ≡ true =
+    λ above over_is. no_unless _ _ (rw (named, over_is) at unbrought.1) in
     record {
       fresh = not-true _ (no_unless _ _ (rw named at twice.1));
       parent_there = no_unless _ _ (rw named at orphan.1);
       within = λ enabled available enables above. no_unless _ _ (rw (named, enables, above) at past.1);
-      brought = λ above over_is. each_passes _ (no_unless _ _ (rw (named, over_is) at unbrought.1));
+      brought = λ above over_is. each_passes _ (and_parts _ (tell_standing path above (told_row format row)) (standing above over_is)).0;
+      tells = λ above over_is. (and_parts _ (tell_standing path above (told_row format row)) (standing above over_is)).1;
     }
 
-pub root_there : (controllers : ControllerSet) (tables : List Members) → cgroup_faults (Some controllers) tables ≡ []
-    → is_there tables [] ≡ true
-root_there controllers tables none = no_unless _ _ (five_none _ _ _ _ _ none).1
+pub root_there : (format : Format) (controllers : ControllerSet) (tables : List Members)
+    → cgroup_faults format (Some controllers) tables ≡ [] → is_there tables [] ≡ true
+root_there format controllers tables none = no_unless _ _ (five_none _ _ _ _ _ none).1
 
 -- ---- a process's table
 

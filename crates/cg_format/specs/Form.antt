@@ -1,12 +1,20 @@
 -- The form of a tree text's document: the keys of each table, and the types of what stands at them. Own.
-use Rattle.std.specs.Prelude.{ℕ, Bool, true, false, ◌&&◌, ◌||◌, not, List, [], ◌∷◌, map, codes, cond, Some, None, is_some}
+use Rattle.std.specs.Prelude.{ℕ, Bool, true, false, ◌&&◌, ◌||◌, not, List, [], ◌∷◌, ◌++◌, map, codes, cond, Some, None, is_some}
 use Rattle.std.specs.List.{list_any, list_all}
 use Rattle.cg_cgroup.specs.Paths.{same_name}
-use Rattle.cg_cgroup.specs.Files.{all_files, file_name}
+use Rattle.cg_cgroup.specs.Files.{all_files, file_name, other_name, known_others}
 use Rattle.cg_cgroup.specs.Texts as texts
 use Rattle.toml.specs.Data.{Data, array, table, Items, no_items, item, Members, no_members, member, get_member, as_str, as_integer, as_array}
+use Rattle.cg_cgroup.specs.declared.files.Vocabulary.{Vocabulary}
+use Rattle.cg_cgroup.specs.declared.files.Vocabulary.TheVariants.{Format2, Format4}
 use Rattle.cg_format.specs.declared.format.Format.{Format}
 use Rattle.cg_format.specs.declared.format.Format.TheVariants.{One, Two, Four}
+
+-- which controllers and files a format names
+abbrev pub vocabulary : Format → Vocabulary
+vocabulary One = Format2
+vocabulary Two = Format2
+vocabulary Four = Format4
 
 -- format 1 has no groups
 abbrev pub has_groups : Format → Bool
@@ -84,10 +92,15 @@ owner_keys format =
 abbrev pub limit_keys : Format → List Key
 limit_keys format = may_have (codes "value") (λ held. is_integer held || is_text held) ∷ owner_keys format
 
+-- of one beyond `LimitFile` its value is a line, an array of lines, or an integer
+abbrev pub text_keys : Format → List Key
+text_keys format = may_have (codes "value") (λ held. is_integer held || is_text held || are_texts held) ∷ owner_keys format
+
 abbrev pub file_keys_of : Format → List Key
 file_keys_of format =
     may_have texts.cgroup_procs (is_table (owner_keys format)) ∷ may_have texts.cgroup_subtree_control (is_table (owner_keys format))
-    ∷ map (λ file. may_have (file_name file) (is_table (limit_keys format))) all_files
+    ∷ (map (λ file. may_have (file_name file) (is_table (limit_keys format))) all_files
+    ++ map (λ file. may_have (other_name file) (is_table (text_keys format))) (known_others (vocabulary format)))
 
 abbrev pub row_keys : Format → List Key
 row_keys format =

@@ -7,7 +7,8 @@ use Rattle.cg_model.specs.States.{State}
 use Rattle.cg_model.specs.Clauses.{first}
 use Rattle.cg_format.specs.TextOf.{IsTextOf}
 use Rattle.cg_format.specs.TreeTexts.{document_of}
-use Rattle.cg_format.specs.Said.{vocabulary, format_said}
+use Rattle.cg_format.specs.Form.{vocabulary}
+use Rattle.cg_format.specs.Said.{format_said}
 use Rattle.cg_format.specs.declared.format.Format.{Format}
 use Rattle.cg_format.specs.TextFaults.{text_faults}
 use Rattle.cg_format.specs.declared.fault.TreeFault.{TreeFault}

@@ -1,29 +1,30 @@
 -- What a tree text's tables say, each by itself. Nothing is said by what isn't as it has to be. Own.
-use Rattle.std.specs.Prelude.{ℕ, ◌&&◌, ◌||◌, not, nat_le, ◌==◌, if◌then◌else◌, ℤ, pos, negsuc, Bool, true, false, cond, List, [], ◌∷◌, codes, filter_map, Option, Some, None, is_some, option_and_then, unwrap_or}
+use Rattle.std.specs.List.{list_any, list_all, join_with_byte}
+use Rattle.std.specs.Fmt.{decimal}
+use Rattle.std.specs.Option.{option_map}
+use Rattle.std.specs.Prelude.{ℕ, ◌+◌, ◌&&◌, ◌||◌, not, nat_le, ◌==◌, if◌then◌else◌, ℤ, pos, negsuc, Bool, true, false, cond, List, [], ◌∷◌, length, codes, filter_map, Option, Some, None, is_some, option_and_then, unwrap_or}
 use Rattle.cg_cgroup.specs.Options.{◌>>=◌}
 use Rattle.cg_cgroup.specs.Paths.{Names, same_name, path_at, same_path}
 use Rattle.cg_cgroup.specs.Numbers.{is_pid, is_mode}
 use Rattle.cg_cgroup.specs.Users.{has_bit}
-use Rattle.cg_cgroup.specs.Files.{controller_named, is_of, with_controller, no_controllers, default_value, accepts, entry_text}
+use Rattle.cg_cgroup.specs.Values.{is_one_line}
+use Rattle.cg_cgroup.specs.Files.{controller_named, is_of, with_controller, no_controllers, default_value, accepts, entry_text, known_others}
+use Rattle.cg_cgroup.specs.Told.{told_by}
 use Rattle.cg_cgroup.specs.declared.user.Entry.{Entry}
 use Rattle.cg_cgroup.specs.declared.files.Limit.{Limit}
 use Rattle.cg_cgroup.specs.declared.files.Limit.TheVariants.{Max as NoLimit, At}
 use Rattle.cg_cgroup.specs.declared.controllers.ControllerSet.{ControllerSet}
-use Rattle.cg_cgroup.specs.declared.files.Vocabulary.{Vocabulary}
-use Rattle.cg_cgroup.specs.declared.files.Vocabulary.TheVariants.{Format2, Format4}
 use Rattle.cg_cgroup.specs.declared.files.LimitFile.{LimitFile}
 use Rattle.cg_cgroup.specs.declared.files.EntryName.{EntryName}
-use Rattle.cg_cgroup.specs.declared.files.EntryName.TheVariants.{Dir, File}
-use Rattle.toml.specs.Data.{Data, string, integer, Members, no_members, get_member, as_str, as_integer, as_array, as_table}
-use Rattle.cg_format.specs.Form.{has_groups, elements}
+use Rattle.cg_cgroup.specs.declared.files.EntryName.TheVariants.{Dir, File, Other}
+use Rattle.cg_cgroup.specs.declared.other_file.OtherFile.{OtherFile}
+use Rattle.cg_cgroup.specs.declared.told.FileText.{FileText}
+use Rattle.cg_cgroup.specs.declared.told.ToldFile.{ToldFile}
+use Rattle.cg_cgroup.specs.declared.told.ToldFiles.{ToldFiles}
+use Rattle.toml.specs.Data.{Data, string, integer, array, Members, no_members, get_member, as_str, as_integer, as_array, as_table}
+use Rattle.cg_format.specs.Form.{vocabulary, has_groups, elements}
 use Rattle.cg_format.specs.declared.format.Format.{Format}
 use Rattle.cg_format.specs.declared.format.Format.TheVariants.{One, Two, Four}
-
--- which controllers a format names
-abbrev pub vocabulary : Format → Vocabulary
-vocabulary One = Format2
-vocabulary Two = Format2
-vocabulary Four = Format4
 
 -- ---- numbers and names
 
@@ -140,6 +141,51 @@ is_named name row = is_some (table_of name row)
 
 abbrev pub has_path : Names → Members → Bool
 has_path path row = elim (path_said (codes "path") row) [ None ↦ false | Some said ↦ same_path path said ]
+
+-- ---- the limit files beyond `LimitFile`
+
+-- one line of a value: printable words with one space between them, 1 to 4095 bytes
+abbrev pub is_text_line : List ℕ → Bool
+is_text_line line = nat_le (length line) 4095 && is_one_line line
+
+-- lines, one or more, with a newline between two
+abbrev pub lines_text : List (List ℕ) → Option FileText
+lines_text [] = None
+lines_text (line ∷ lines) = cond (list_all is_text_line (line ∷ lines)) (Some (join_with_byte 10 (line ∷ lines))) None
+
+abbrev pub integer_text : ℤ → FileText
+integer_text (pos number) = decimal number
+integer_text (negsuc number) = 45 ∷ decimal (number + 1)
+
+-- the decimal digits of an integer, a line, or several lines
+abbrev pub text_of : Data → Option FileText
+text_of (integer number) = Some (integer_text number)
+text_of (string line) = lines_text (line ∷ [])
+text_of (array items) = lines_text (filter_map as_str (elements items))
+text_of held = None
+
+-- a value that is left out stays as it is
+abbrev pub text_said : Members → Option (Option FileText)
+text_said members = elim (get_member (codes "value") members) [ None ↦ Some None | Some held ↦ option_map Some (text_of held) ]
+
+-- what the table of such a file says
+abbrev pub file_said : Format → Members → Option ToldFile
+file_said format members = do
+  entry ← owner_said format 420 members
+  value ← text_said members
+  Some (record { entry = entry; value = value })
+
+-- what a row tells of such a file; nothing where it doesn't name it
+abbrev pub told_said : Format → Members → OtherFile → Option ToldFile
+told_said format row file = option_and_then (file_said format) (table_of (Other file) row)
+
+-- whether a row names one that its format has
+abbrev pub tells : Format → Members → Bool
+tells format row = list_any (λ file. is_named (Other file) row) (known_others (vocabulary format))
+
+-- what a row tells of them all
+abbrev pub told_row : Format → Members → Option ToldFiles
+told_row format row = cond (tells format row) (Some (told_by (told_said format row))) None
 
 -- ---- a process
 

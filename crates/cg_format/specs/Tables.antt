@@ -1,6 +1,6 @@
 -- How it is read and written: nobody has to believe it.
 -- Cgroups and processes, held against what the tables of a document say.
-use Rattle.std.specs.Prelude.{◌≡◌, ℕ, true, false, List, codes, Some, is_some, find}
+use Rattle.std.specs.Prelude.{◌≡◌, ℕ, true, false, List, codes, Some, is_some, option_and_then, find}
 use Rattle.std.specs.Option.{option_map}
 use Rattle.std.specs.List.{list_any}
 use Rattle.std.specs.Map.{lookup}
@@ -19,8 +19,9 @@ use Rattle.cg_cgroup.specs.declared.files.Controller.{Controller}
 use Rattle.cg_cgroup.specs.declared.files.LimitFile.{LimitFile}
 use Rattle.cg_cgroup.specs.declared.cgroup.LimitEntry.{LimitEntry}
 use Rattle.cg_cgroup.specs.declared.cgroup.Cgroup.{Cgroup}
+use Rattle.cg_cgroup.specs.declared.told.ToldFiles.{ToldFiles}
 use Rattle.cg_cgroup.specs.declared.process.Process.{Process}
-use Rattle.cg_format.specs.Said.{path_said, known_said, entry_said, value_said, has_path, pid_said, uid_said}
+use Rattle.cg_format.specs.Said.{path_said, known_said, entry_said, value_said, told_row, has_path, pid_said, uid_said}
 use Rattle.cg_format.specs.TextOf.{OthersAreRoots, has_pid}
 use Rattle.cg_format.specs.TextFaults.{is_there, enabled_there, over}
 use Rattle.cg_format.specs.declared.format.Format.{Format}
@@ -44,6 +45,11 @@ pub record AreEntriesOf (format : Format) (tables : List Members) (entries : Lis
   pub sorted : is_sorted path_cmp entries ≡ true
   pub there : (path : Names) → is_some (lookup (same_path path) entries) ≡ is_there tables path
   pub each : (path : Names) (cgroup : Cgroup) (table : Members) → lookup (same_path path) entries ≡ Some cgroup → find (has_path path) tables ≡ Some table → IsEntryOf format tables table cgroup
+
+-- it is told of the files beyond `LimitFile` of these cgroups, by rising paths, what the tables tell
+pub record AreToldOf (format : Format) (tables : List Members) (told : List (Names × ToldFiles)) : Type 0 where
+  pub sorted : is_sorted path_cmp told ≡ true
+  pub each : (path : Names) → lookup (same_path path) told ≡ option_and_then (told_row format) (find (has_path path) tables)
 
 -- the cgroups are those of these tables, and enable what these say
 pub record IsAmong (tables : List Members) (cgroups : map.FinMap path_cmp Cgroup) : Type 0 where

@@ -1,14 +1,16 @@
 -- The faults of a tree text, in order, of which the first counts. A clause is asked only where what it speaks of is there. Own.
-use Rattle.std.specs.Prelude.{ℕ, ◌+◌, ◌&&◌, ◌||◌, not, nat_le, Bool, cond, List, [], ◌∷◌, ◌++◌, length, codes, Option, Some, is_some, option_and_then, find}
+use Rattle.std.specs.Prelude.{ℕ, ◌+◌, ◌&&◌, ◌||◌, not, nat_le, Bool, true, cond, List, [], ◌∷◌, ◌++◌, length, codes, Option, Some, None, is_some, unwrap_or, option_and_then, find}
 use Rattle.std.specs.List.{list_all, list_any}
-use Rattle.toml.specs.Data.{Members, table}
+use Rattle.toml.specs.Data.{Members, no_members, table}
 use Rattle.cg_cgroup.specs.Paths.{Names, is_root, parent}
-use Rattle.cg_cgroup.specs.Files.{all_files, format_2_entries, no_controllers, enables_nothing, is_within, stands_under}
+use Rattle.cg_cgroup.specs.Files.{all_files, all_others, known_others, known_entries, no_controllers, enables_nothing, is_within, stands_by, stands_under, brought_by}
+use Rattle.cg_cgroup.specs.Told.{told_in}
 use Rattle.cg_cgroup.specs.declared.controllers.ControllerSet.{ControllerSet}
-use Rattle.cg_cgroup.specs.declared.files.EntryName.TheVariants.{File}
+use Rattle.cg_cgroup.specs.declared.files.EntryName.TheVariants.{File, Other}
+use Rattle.cg_cgroup.specs.declared.told.ToldFiles.{ToldFiles}
 use Rattle.cg_model.specs.Clauses.{unless, absent, present}
-use Rattle.cg_format.specs.Form.{most_rows, document_keys, row_keys, live_keys, is_table}
-use Rattle.cg_format.specs.Said.{elements_at, tables_at, path_said, controllers_said, known_said, format_said, entry_said, value_said, is_named, has_path, pid_said, uid_said}
+use Rattle.cg_format.specs.Form.{vocabulary, most_rows, document_keys, row_keys, live_keys, is_table}
+use Rattle.cg_format.specs.Said.{elements_at, tables_at, path_said, controllers_said, known_said, format_said, table_of, entry_said, value_said, text_said, is_named, told_row, has_path, pid_said, uid_said}
 use Rattle.cg_format.specs.TextOf.{has_pid}
 use Rattle.cg_format.specs.TreeTexts.{longest_text, document_of}
 use Rattle.cg_format.specs.declared.format.Format.{Format}
@@ -45,13 +47,19 @@ form_faults document =
 
 -- ---- cgroups
 
+-- each limit file of a row has a value that it accepts, or none
+abbrev pub has_values : Format → Members → Bool
+has_values format row =
+    list_all (λ file. is_some (value_said row file)) all_files
+    && list_all (λ file. is_some (text_said (unwrap_or (table_of (Other file) row) no_members))) (known_others (vocabulary format))
+
 -- a cgroup by itself
 abbrev pub row_faults : Format → Place → Members → List TreeFault
 row_faults format place row =
     absent (path_said (codes "path") row) (BadPath place)
     ++ absent (known_said format (codes "enabled") row) (BadController place)
-    ++ unless (list_all (λ name. is_some (entry_said format row name)) format_2_entries) (BadEntry place)
-    ++ unless (list_all (λ file. is_some (value_said row file)) all_files) (BadValue place)
+    ++ unless (list_all (λ name. is_some (entry_said format row name)) (known_entries (vocabulary format))) (BadEntry place)
+    ++ unless (has_values format row) (BadValue place)
 
 -- whether a cgroup is there
 abbrev pub is_there : List Members → Names → Bool
@@ -69,16 +77,27 @@ over at_root rows path = cond (is_root path) at_root (enabled_there rows (parent
 abbrev pub on_path : (Names → Place → Members → List TreeFault) → List Members → Place → Members → List TreeFault
 on_path clause _ place row = present (path_said (codes "path") row) (λ path. clause path place row)
 
+-- whether what a row at a path tells of stands under a cgroup that enables these. Core Interface Files: none stands at the root.
+abbrev pub tell_standing : Names → ControllerSet → Option ToldFiles → Bool
+tell_standing path above None = true
+tell_standing path above (Some files) =
+    not (is_root path) && list_all (λ file. not (is_some (told_in files file)) || stands_by above (brought_by file)) all_others
+
+-- whether the limit files that a row at a path names stand under a cgroup that enables these
+abbrev pub names_standing : Format → Names → ControllerSet → Members → Bool
+names_standing format path above row =
+    list_all (λ file. not (is_named (File file) row) || stands_under above file) all_files && tell_standing path above (told_row format row)
+
 -- the cgroups together, with the controllers that there are
-abbrev pub cgroup_faults : Option ControllerSet → List Members → List TreeFault
-cgroup_faults controllers rows =
+abbrev pub cgroup_faults : Format → Option ControllerSet → List Members → List TreeFault
+cgroup_faults format controllers rows =
     each_cgroup (λ earlier place row. present (path_said (codes "path") row) (λ path. unless (not (is_there earlier path)) (Duplicate place))) rows
     ++ unless (is_there rows []) NoRoot
     ++ each_cgroup (on_path (λ path place row. unless (is_root path || is_there rows (parent path)) (NoParent place))) rows
     ++ each_cgroup (on_path (λ path place row.
     present (controllers_said (codes "enabled") row) (λ enabled. present (over controllers rows path) (λ available. unless (is_within enabled available) (TopDown place))))) rows
     ++ each_cgroup (on_path (λ path place row. present (over (Some no_controllers) rows path) (λ above.
-    unless (list_all (λ file. not (is_named (File file) row) || stands_under above file) all_files) (NoSuchFile place)))) rows
+    unless (names_standing format path above row) (NoSuchFile place)))) rows
 
 -- ---- processes
 
@@ -97,7 +116,7 @@ abbrev pub said_faults : Format → Members → List TreeFault
 said_faults format document =
     absent (known_said format (codes "controllers") document) (BadController Top)
     ++ each_cgroup (λ _. row_faults format) (tables_at (codes "cgroup") document)
-    ++ cgroup_faults (known_said format (codes "controllers") document) (tables_at (codes "cgroup") document)
+    ++ cgroup_faults format (known_said format (codes "controllers") document) (tables_at (codes "cgroup") document)
     ++ each_process (process_faults (tables_at (codes "cgroup") document)) (tables_at (codes "process") document)
 
 abbrev pub document_faults : Members → List TreeFault

@@ -3,20 +3,22 @@ use Rattle.std.specs.Prelude.{◌≡◌, ℕ, ◌≤◌, Bool, true, false, cond
 use Rattle.std.specs.List.{AllByRecursion, list_all}
 use Rattle.std.specs.FinMap as map
 use Rattle.toml.specs.Data.{Members, table}
-use Rattle.cg_cgroup.specs.Paths.{Names}
+use Rattle.cg_cgroup.specs.Paths.{Names, is_root}
 use Rattle.cg_cgroup.specs.Files.{is_beyond}
 use Rattle.cg_cgroup.specs.Cgroups.{file_of, other_in, entry_in, root_file}
 use Rattle.cg_cgroup.specs.declared.user.Entry.{Entry}
 use Rattle.cg_cgroup.specs.declared.files.Controller.{Controller}
 use Rattle.cg_cgroup.specs.declared.files.LimitFile.{LimitFile}
 use Rattle.cg_cgroup.specs.declared.files.EntryName.{EntryName}
+use Rattle.cg_cgroup.specs.declared.files.EntryName.TheVariants.{Other}
+use Rattle.cg_cgroup.specs.declared.other_file.OtherFile.{OtherFile}
 use Rattle.cg_cgroup.specs.declared.cgroup.LimitEntry.{LimitEntry}
 use Rattle.cg_cgroup.specs.declared.cgroup.Cgroup.{Cgroup}
 use Rattle.cg_cgroup.specs.declared.process.Process.{Process}
 use Rattle.cg_model.specs.States.{State, row_at, process_at, is_used}
 use Rattle.cg_model.specs.WellFormed.{has_row, IsWellFormed}
 use Rattle.cg_format.specs.Form.{most_rows, document_keys, row_keys, live_keys, is_table}
-use Rattle.cg_format.specs.Said.{elements_at, tables_at, path_said, known_said, format_said, entry_said, value_said, is_named, has_path, pid_said, uid_said}
+use Rattle.cg_format.specs.Said.{elements_at, tables_at, path_said, known_said, format_said, entry_said, value_said, is_named, told_said, tells, told_row, has_path, pid_said, uid_said}
 use Rattle.cg_format.specs.TreeTexts.{longest_text, document_of}
 use Rattle.cg_format.specs.declared.format.Format.{Format}
 
@@ -29,12 +31,12 @@ pub record IsInForm (kind : Format) (document : Members) : Type 0 where
   pub cgroups : list_all (is_table (row_keys kind)) (elements_at (codes "cgroup") document) ≡ true
   pub processes : list_all (is_table live_keys) (elements_at (codes "process") document) ≡ true
 
--- The limit files that no text names are root's, with mode 0o644.
+-- The limit files beyond `LimitFile` of which a text tells nothing are root's, with mode 0o644.
 pub record OthersAreRoots (cgroup : Cgroup) : Type 0 where
   pub freeze : cgroup.freeze ≡ root_file
   pub others : (controller : Controller) (entry : Entry) → other_in cgroup controller ≡ Some entry → entry ≡ root_file
 
--- A cgroup of the state is as the table says, and has each file that the table names.
+-- A cgroup of the state is as the table says, and has each file that the table names; it is told of the files beyond `LimitFile` what the table tells.
 pub record IsRowOf (format : Format) (st : State) (row : Members) : Type 0 where
   pub path : Names
   pub cgroup : Cgroup
@@ -46,6 +48,10 @@ pub record IsRowOf (format : Format) (st : State) (row : Members) : Type 0 where
   pub values : (file : LimitFile) (held : LimitEntry) → file_of cgroup file ≡ Some held → value_said row file ≡ Some held.value
   pub files : (name : EntryName) → is_beyond name ≡ false → is_named name row ≡ true → is_some (entry_in cgroup name) ≡ true
   pub others : OthersAreRoots cgroup
+  pub told : map.get st.told path ≡ told_row format row
+  pub told_values : (file : OtherFile) → is_named (Other file) row ≡ true → is_some (told_said format row file) ≡ true
+  -- Core Interface Files: none of them stands at the root
+  pub told_below : is_root path ≡ true → tells format row ≡ false
 
 -- A live process of the state is as the table says.
 pub record IsProcessOf (st : State) (row : Members) : Type 0 where
@@ -60,12 +66,10 @@ abbrev pub has_pid : ℕ → Members → Bool
 has_pid pid row = elim (pid_said row) [ None ↦ false | Some said ↦ nat_eq pid said ]
 
 -- The state is well-formed. Its cgroups are those of the tables, one for each, and so are its processes, whose PIDs are the used ones.
--- Nothing is told of the limit files that no text names.
 pub record IsDocumentOf (st : State) (document : Members) : Type 0 where
   pub format : Format
   pub form : IsInForm format document
   pub controllers : known_said format (codes "controllers") document ≡ Some st.controllers
-  pub told : st.told ≡ map.empty
   pub cgroups : AllByRecursion (IsRowOf format st) (tables_at (codes "cgroup") document)
   pub paths : (path : Names) → count_by (has_path path) (tables_at (codes "cgroup") document) ≡ cond (has_row st path) 1 0
   pub processes : AllByRecursion (IsProcessOf st) (tables_at (codes "process") document)

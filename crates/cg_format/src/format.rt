@@ -1,7 +1,6 @@
 //! The formats of tree texts.
 ghost use Rattle.std.specs.Prelude.{◌≡◌, ◌≤◌};
-ghost use Rattle.cg_format.specs.Form.{most_rows};
-ghost use Rattle.cg_format.specs.Said.{vocabulary};
+ghost use Rattle.cg_format.specs.Form.{vocabulary, most_rows};
 
 use cg_cgroup::files::Vocabulary;
 

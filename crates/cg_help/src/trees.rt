@@ -4,6 +4,7 @@ mod numbers;
 mod places;
 mod rows;
 mod syntax;
+mod texts;
 
 use crate::input::{is_blank, kind_said};
 use crate::paths::why_no_path;
@@ -15,11 +16,13 @@ use numbers::{number_said, value_said};
 use places::{RowAt, label};
 use rows::{
     again_said, controller_said, enabled_said, file_said, inner_said, nowhere_said, parent_said,
+    root_said,
 };
 use std::alloc::{AllocError, Global};
 use std::collections::BTreeSet;
 use streams::kept::MOST_BYTES;
 use syntax::syntax_said;
+use texts::{line_said, no_lines_said};
 use toml::Table;
 
 /// What is wrong with the text of a tree, which has this fault.
@@ -123,6 +126,7 @@ fn wrong_said(
     row: &RowAt<'_>,
 ) -> Result<Option<String>, AllocError> {
     let key = told.at.key.unwrap_or("");
+    let file = told.at.file.unwrap_or("");
     let why = match told.wrong {
         Wrong::NoGroups => return plainly(alloc, "in format 1 there is no key gid"),
         Wrong::NoGroupBit => return plainly(alloc, "in format 1 a mode has no bit 0o020"),
@@ -133,10 +137,13 @@ fn wrong_said(
         Wrong::NoPath => return path_said(alloc, told),
         Wrong::Again => return again_said(alloc, told),
         Wrong::NotAccepted(file) => return value_said(alloc, told, file),
+        Wrong::NoLines => no_lines_said(alloc, file)?,
+        Wrong::NotALine(line) => line_said(alloc, file, line)?,
         Wrong::NoController { text, vocabulary } => controller_said(alloc, key, text, vocabulary)?,
         Wrong::NoParent(parent) => parent_said(alloc, top, parent)?,
         Wrong::NotEnabled { controller, above } => enabled_said(alloc, controller, above)?,
         Wrong::NoFile { controller, above } => file_said(alloc, key, controller, above)?,
+        Wrong::NotAtRoot => root_said(alloc, key)?,
         Wrong::NoPid(pid) => format!(in alloc; "pid {pid} isn't one of 1 to 4194303")?,
         Wrong::Nowhere(at) => nowhere_said(alloc, top, at)?,
         Wrong::Inner(at) => inner_said(alloc, at)?,

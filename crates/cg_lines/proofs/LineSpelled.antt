@@ -33,7 +33,8 @@ use Rattle.cg_cgroup.proofs.PathEnds.{path_names, is_name-bytes}
 use Rattle.cg_cgroup.proofs.NameLaws.{again_known, name_known, known_known, entry_names}
 use Rattle.cg_model.proofs.Lists.{find-passes}
 use Rattle.cg_model.specs.declared.changes.Change.{Change}
-use Rattle.cg_lines.specs.OperationLines.{is_graphic, is_line_value, is_entry_of, change_word, are_known, limit_word, mode_word, IsLimitInRange}
+use Rattle.cg_cgroup.specs.Values.{is_graphic}
+use Rattle.cg_lines.specs.OperationLines.{is_line_value, is_entry_of, change_word, are_known, limit_word, mode_word, IsLimitInRange}
 use Rattle.cg_lines.specs.LineReading.{number_at, pid_at, limit_at, text_value_at, other_known_as, octal_at, mode_at, sign_at, change_at, changes_at}
 use Rattle.cg_cgroup.specs.Options.{◌>>=◌}
 use Rattle.cg_lines.proofs.LineWords.{is_word, are_words}

@@ -11,7 +11,8 @@ use Rattle.std.proofs.lemmas.List.Folds.{list_all-append}
 use Rattle.std.proofs.lemmas.Option.{cond_some}
 use Rattle.std.specs.Str.{IsAscii}
 use Rattle.std.proofs.lemmas.Str.Ascii.{IsAscii-nil, IsAscii-cons}
-use Rattle.cg_lines.specs.OperationLines.{is_graphic, is_value_word, is_line_value}
+use Rattle.cg_cgroup.specs.Values.{is_graphic, is_value_word}
+use Rattle.cg_lines.specs.OperationLines.{is_line_value}
 use Rattle.cg_lines.specs.LineReading.{is_space, cut}
 
 -- bytes that may stand in a word

@@ -1,10 +1,11 @@
 -- Operation lines: the words of each operation, with one space between them; of a limit file beyond `LimitFile` the value, which may have
 -- spaces of its own. Own.
 use Rattle.std.specs.Prelude.{◌≡◌, ℕ, ◌+◌, ◌/◌, ◌%◌, ◌^◌, ◌<◌, ◌≤◌, ◌==◌, ◌&&◌, Bool, true, not, nat_lt, nat_le, cond, List, [], ◌∷◌, length, map, codes}
-use Rattle.std.specs.List.{AllByRecursion, list_all, join_with_byte, slice_split}
+use Rattle.std.specs.List.{AllByRecursion, list_all, join_with_byte}
 use Rattle.std.specs.Fmt.{decimal}
 use Rattle.cg_cgroup.specs.Paths.{path_text, IsPath}
 use Rattle.cg_cgroup.specs.Numbers.{is_pid, is_mode}
+use Rattle.cg_cgroup.specs.Values.{is_one_line}
 use Rattle.cg_cgroup.specs.Files.{controller_name, is_known, file_name, other_name, entry_text, is_beyond}
 use Rattle.cg_cgroup.specs.declared.files.Limit.{Limit}
 use Rattle.cg_cgroup.specs.declared.files.Limit.TheVariants.{Max, At}
@@ -48,16 +49,9 @@ abbrev pub IsLimitInRange : Limit → Type 0
 IsLimitInRange Max = Unit {0}
 IsLimitInRange (At value) = value < 2 ^ 64
 
--- a printable byte other than a space
-abbrev pub is_graphic : ℕ → Bool
-is_graphic b = nat_lt 32 b && nat_lt b 127
-
-abbrev pub is_value_word : List ℕ → Bool
-is_value_word word = nat_lt 0 (length word) && list_all is_graphic word
-
 -- A value that a line can hold: printable words with one space between them, 1 to 3800 bytes.
 unfoldable pub is_line_value : List ℕ → Bool
-is_line_value value = nat_le (length value) 3800 && list_all is_value_word (slice_split (λ b. b == 32) value)
+is_line_value value = nat_le (length value) 3800 && is_one_line value
 
 -- an entry that lines of the vocabulary name
 abbrev pub is_entry_of : Vocabulary → EntryName → Bool

@@ -29,10 +29,9 @@ other_value CpuWeight Max = At 100
 other_value file (At value) = Max
 other_value file Max = At 0
 
--- another text than the file's, one that loosens it where there is one
+-- another text than the file's, the one that loosens it where it doesn't have that
 abbrev pub other_text : OtherFile → Option FileText → FileText
-other_text file had =
-    unwrap_or (find (λ text. not (same_text (Some text) had)) ((other_kind file).loose ∷ codes "max" ∷ [])) (codes "0")
+other_text file had = cond (same_text (Some (other_kind file).loose) had) (other_kind file).other (other_kind file).loose
 
 -- each limit of the subtree to another value
 abbrev pub set_tries : State → Names → List (List Op)

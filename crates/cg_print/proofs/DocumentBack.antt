@@ -14,6 +14,7 @@ use Rattle.toml.specs.Data.{Members, table, as_table}
 use Rattle.cg_cgroup.specs.Paths.{Names, path_cmp, same_path}
 use Rattle.cg_cgroup.specs.Files.{is_of}
 use Rattle.cg_cgroup.specs.declared.files.Vocabulary.{Vocabulary}
+use Rattle.cg_cgroup.specs.declared.told.ToldFiles.{ToldFiles}
 use Rattle.cg_cgroup.specs.declared.cgroup.Cgroup.{Cgroup}
 use Rattle.cg_cgroup.specs.declared.process.Process.{Process}
 use Rattle.cg_cgroup.proofs.ControllerLaws.{enables-known, known-each}
@@ -28,10 +29,11 @@ use Rattle.cg_format.specs.Form.{Key, is_table, row_keys, live_keys}
 use Rattle.cg_format.specs.Said.{tables_at, path_said, has_path, pid_said}
 use Rattle.cg_format.specs.TextOf.{IsInForm, IsRowOf, IsProcessOf, has_pid, IsDocumentOf, IsTextOf}
 use Rattle.cg_format.specs.TreeTexts.{longest_text, document_of}
-use Rattle.cg_print.specs.Documents.{cgroup_table, process_table, tree_document}
+use Rattle.cg_print.specs.Documents.{told_of, cgroup_table, process_table, tree_document}
 use Rattle.cg_print.specs.Carried.{IsNamedRow, IsNamedProcess, IsKept, IsCarried, written_in}
 use Rattle.cg_print.proofs.Entries.{entries_there, held_there}
 use Rattle.cg_print.proofs.FormBack.{cgroup_in_form, process_in_form, top_in_form}
+use Rattle.cg_print.proofs.ToldBack.{told_back}
 use Rattle.cg_print.proofs.SaidBack.{path_back, enabled_back, entry_back, value_back, files_back, pid_back, uid_back, place_back, format_back, controllers_back, cgroups_back, processes_back}
 
 -- ---- the tables of an array
@@ -105,7 +107,7 @@ module _ {K X : Type 0} {R : K → K → Ordering} (total : IsTotalOrder R) (wri
 
 -- ---- the whole
 
-module _ (vocabulary : Vocabulary) (st : State) (kept : IsKept st) where
+module _ (vocabulary : Vocabulary) (st : State) (kept : IsKept vocabulary st) where
   abbrev cgroups : List (Names × Cgroup)
   cgroups = entries st.rows
 
@@ -113,7 +115,10 @@ module _ (vocabulary : Vocabulary) (st : State) (kept : IsKept st) where
   live = entries st.live
 
   abbrev row_written : Names × Cgroup → Members
-  row_written e = cgroup_table vocabulary e.0 e.1
+  row_written e = cgroup_table vocabulary e.0 e.1 (told_of vocabulary st e.0)
+
+  abbrev IsNamed : Names → Cgroup → Type 0
+  IsNamed path row = IsNamedRow path row (told_of vocabulary st path)
 
   abbrev process_written : ℕ × Process → Members
   process_written e = process_table e.0 e.1
@@ -125,20 +130,25 @@ module _ (vocabulary : Vocabulary) (st : State) (kept : IsKept st) where
       known-each vocabulary row.enabled (λ controller on.
       enables-known vocabulary st.controllers known controller (root_has st kept.formed controller path row there on))
 
-  row_back : IsCarried vocabulary st → (e : Names × Cgroup) → row_at st e.0 ≡ Some e.1 → IsNamedRow e.0 e.1
+  row_back : IsCarried vocabulary st → (e : Names × Cgroup) → row_at st e.0 ≡ Some e.1 → IsNamed e.0 e.1
       → IsRowOf (written_in vocabulary) st (row_written e)
   row_back carried e there at =
       let formed = kept.formed.rows e.0 e.1 there in
+      let told : Option ToldFiles = told_of vocabulary st e.0 in
+      let back = told_back vocabulary st e.0 e.1 kept.formed carried.told at.told_ids in
       record {
         path = e.0;
         cgroup = e.1;
         there = there;
-        named = path_back vocabulary e.0 e.1 at;
-        enabled = enabled_back vocabulary e.0 e.1 (row_known carried.controllers e.0 e.1 there);
-        entries = entry_back vocabulary e.0 e.1 (enabled_above st e.0) at formed;
-        values = value_back vocabulary e.0 e.1 (enabled_above st e.0) at formed;
-        files = files_back vocabulary e.0 e.1 (enabled_above st e.0) at formed;
+        named = path_back vocabulary e.0 e.1 told at;
+        enabled = enabled_back vocabulary e.0 e.1 told (row_known carried.controllers e.0 e.1 there);
+        entries = entry_back vocabulary e.0 e.1 told (enabled_above st e.0) at formed;
+        values = value_back vocabulary e.0 e.1 told (enabled_above st e.0) at formed;
+        files = files_back vocabulary e.0 e.1 told (enabled_above st e.0) at formed;
         others = carried.others e.0 e.1 there;
+        told = back.told;
+        told_values = back.values;
+        told_below = back.below;
       }
 
   process_back : (e : ℕ × Process) → process_at st e.0 ≡ Some e.1 → IsNamedProcess e.0 e.1 → IsProcessOf st (process_written e)
@@ -150,7 +160,7 @@ module _ (vocabulary : Vocabulary) (st : State) (kept : IsKept st) where
         there = there;
         named = pid_back e.0 e.1 at;
         owner = uid_back e.0 e.1 at;
-        place = place_back e.0 e.1 at (held_there path_cmp-IsAntisymmetric IsNamedRow st.rows kept.rows e.1.place row.0 row.1).path;
+        place = place_back e.0 e.1 at (held_there path_cmp-IsAntisymmetric IsNamed st.rows kept.rows e.1.place row.0 row.1).path;
       }
 
   rows_are : tables_at (codes "cgroup") (tree_document vocabulary st) ≡ map_list row_written cgroups
@@ -172,7 +182,7 @@ module _ (vocabulary : Vocabulary) (st : State) (kept : IsKept st) where
           (process_written e)),
     );
     cgroups = ap (list_all (is_table (row_keys (written_in vocabulary)))) (cgroups_back vocabulary st)
-        ∙ all_in_form row_written (row_keys (written_in vocabulary)) (λ e. cgroup_in_form vocabulary e.0 e.1) cgroups;
+        ∙ all_in_form row_written (row_keys (written_in vocabulary)) (λ e. cgroup_in_form vocabulary st e.0 e.1) cgroups;
     processes = ap (list_all (is_table live_keys)) (processes_back vocabulary st)
         ∙ all_in_form process_written live_keys (λ e. process_in_form e.0 e.1) live;
   }
@@ -189,13 +199,12 @@ module _ (vocabulary : Vocabulary) (st : State) (kept : IsKept st) where
         format = written_in vocabulary;
         form = in_form carried;
         controllers = controllers_back vocabulary st carried.controllers;
-        told = carried.told;
         cgroups = subst (AllByRecursion (IsRowOf (written_in vocabulary) st)) (sym rows_are) (all_written row_written (IsRowOf
             (written_in vocabulary) st) cgroups rows);
         paths = λ path. ap (count_by (has_path path)) rows_are
             ∙ each_once path_cmp_total row_written (has_path path) path st.rows
             (all-each _ _ (λ (e : Names × Cgroup) at. path_ties (row_written e) e.0
-            (path_back vocabulary e.0 e.1 at) path) cgroups kept.rows);
+            (path_back vocabulary e.0 e.1 (told_of vocabulary st e.0) at) path) cgroups kept.rows);
         processes = subst (AllByRecursion (IsProcessOf st)) (sym lives_are) (all_written process_written (IsProcessOf st) live processes);
         pids = λ pid. ap (count_by (has_pid pid)) lives_are
             ∙ each_once nat_cmp_total process_written (has_pid pid) pid st.live
@@ -206,7 +215,7 @@ module _ (vocabulary : Vocabulary) (st : State) (kept : IsKept st) where
 
 -- ---- texts
 
-pub text_back : (text : List ℕ) (vocabulary : Vocabulary) (st : State) → document_of text ≡ Some (tree_document vocabulary st) → IsKept st
-    → IsCarried vocabulary st → length text ≤ longest_text text → IsTextOf st text
+pub text_back : (text : List ℕ) (vocabulary : Vocabulary) (st : State) → document_of text ≡ Some (tree_document vocabulary st)
+    → IsKept vocabulary st → IsCarried vocabulary st → length text ≤ longest_text text → IsTextOf st text
 text_back text vocabulary st parsed kept carried short =
     record { short = short; document = tree_document vocabulary st; parsed = parsed; says = document_back vocabulary st kept carried }

@@ -1,6 +1,8 @@
 -- What stands in a tree's document: no float, so that it has one spelling, and tables that nest few levels deep.
-use Rattle.std.proofs.Common.{◌≡◌, ℕ, ◌+◌, ◌≤◌, true, false, List, [], ◌∷◌, map as map_list, Option, Some, None, Ordering, Less, Equal, Greater, nat_cmp, refl, subst, arith}
-use Rattle.std.specs.Prelude.{fold}
+use Rattle.std.proofs.Common.{◌≡◌, ℕ, ◌+◌, ◌≤◌, true, false, List, [], ◌∷◌, map as map_list, codes, Option, Some, None, Ordering, Less, Equal, Greater, nat_cmp, refl, subst, arith}
+use Rattle.std.specs.Prelude.{◌==◌, fold}
+use Rattle.std.specs.List.{slice_split}
+use Rattle.std.specs.Option.{option_map}
 use Rattle.std.specs.Ordering.{match_ordering}
 use Rattle.std.specs.Cmp.Lexicographic.{slice_cmp}
 use Rattle.std.specs.FinMap as finite
@@ -8,19 +10,24 @@ use Rattle.toml.specs.Data.{Data, string, integer, float, boolean, datetime, arr
 use Rattle.toml.specs.View.{items_of}
 use Rattle.cg_cgroup.specs.Paths.{Names}
 use Rattle.cg_cgroup.specs.Texts as texts
-use Rattle.cg_cgroup.specs.Files.{all_files, file_name}
+use Rattle.cg_cgroup.specs.Files.{all_files, file_name, all_others, other_name}
 use Rattle.cg_cgroup.specs.Cgroups.{file_of}
+use Rattle.cg_cgroup.specs.Told.{told_in}
 use Rattle.cg_cgroup.specs.declared.user.Entry.{Entry}
 use Rattle.cg_cgroup.specs.declared.files.Limit.{Limit}
 use Rattle.cg_cgroup.specs.declared.files.Limit.TheVariants.{Max, At}
 use Rattle.cg_cgroup.specs.declared.files.LimitFile.{LimitFile}
 use Rattle.cg_cgroup.specs.declared.files.Vocabulary.{Vocabulary}
+use Rattle.cg_cgroup.specs.declared.other_file.OtherFile.{OtherFile}
+use Rattle.cg_cgroup.specs.declared.told.FileText.{FileText}
+use Rattle.cg_cgroup.specs.declared.told.ToldFile.{ToldFile}
+use Rattle.cg_cgroup.specs.declared.told.ToldFiles.{ToldFiles}
 use Rattle.cg_cgroup.specs.declared.cgroup.LimitEntry.{LimitEntry}
 use Rattle.cg_cgroup.specs.declared.cgroup.Cgroup.{Cgroup}
 use Rattle.cg_cgroup.specs.declared.process.Process.{Process}
 use Rattle.cg_model.specs.States.{State}
 use Rattle.cg_print.specs.Keys.{with_key, with_optional}
-use Rattle.cg_print.specs.Documents.{texts_array, names_in, entry_table, value_written, limit_table, table_of_file, with_file, files_table, cgroup_table, process_table, processes_written, cgroups_written, tree_document}
+use Rattle.cg_print.specs.Documents.{texts_array, names_in, entry_table, value_written, limit_table, table_of_file, with_file, limits_table, lines_written, text_written, told_table, table_of_told, with_told, told_of, files_table, cgroup_table, process_table, processes_written, cgroups_written, tree_document}
 use Rattle.cg_print.proofs.KeyLaws.{depth-with_key}
 
 -- ---- what has one spelling: all but floats
@@ -90,6 +97,14 @@ low_value : (value : Limit) → IsLow 0 (value_written value)
 low_value Max = (tt, omega arith)
 low_value (At n) = (tt, omega arith)
 
+low_texts : (names : List (List ℕ))
+    → ArePlain (items_of (map_list string names)) × (items_depth (items_of (map_list string names)) ≤ 0)
+low_texts [] = (tt, omega arith)
+low_texts (name ∷ names) = let rest = low_texts names in ((tt, rest.0), omega (arith, rest.1))
+
+low_names : (n : ℕ) (names : List (List ℕ)) → IsLow (n + 1) (texts_array names)
+low_names n names = let low = low_texts names in (low.0, omega (arith, low.1))
+
 low_limit : (held : LimitEntry) → HasLow 0 (limit_table held)
 unfolding limit_table
 low_limit held = low_key 0 _ (value_written held.value) (entry_table held.entry) (low_value held.value) (low_entry 0 held.entry)
@@ -106,51 +121,82 @@ low_fold row (file ∷ files) keys low =
     low_fold row files (with_file row keys file)
     (low_optional 1 (file_name file) (table_of_file (file_of row file)) keys (low_file (file_of row file)) low)
 
-low_files : (row : Cgroup) → HasLow 1 (files_table row)
-unfolding files_table
-low_files row =
+low_limits : (row : Cgroup) → HasLow 1 (limits_table row)
+unfolding limits_table
+low_limits row =
     low_fold row all_files _
     (low_key 1 texts.cgroup_subtree_control (table (entry_table row.subtree_control)) _ (low_table 0 _ (low_entry 0 row.subtree_control))
     (low_key 1 texts.cgroup_procs (table (entry_table row.procs)) no_members (low_table 0 _ (low_entry 0 row.procs)) (no_keys 1)))
 
-low_texts : (names : List (List ℕ))
-    → ArePlain (items_of (map_list string names)) × (items_depth (items_of (map_list string names)) ≤ 0)
-low_texts [] = (tt, omega arith)
-low_texts (name ∷ names) = let rest = low_texts names in ((tt, rest.0), omega (arith, rest.1))
+-- the value of a further limit file
+low_lines : (lines : List (List ℕ)) → IsLow 1 (lines_written lines)
+low_lines [] = low_names 0 []
+low_lines (line ∷ []) = (tt, omega arith)
+low_lines (line ∷ next ∷ lines) = low_names 0 (line ∷ next ∷ lines)
 
-low_names : (n : ℕ) (names : List (List ℕ)) → IsLow (n + 1) (texts_array names)
-low_names n names = let low = low_texts names in (low.0, omega (arith, low.1))
+low_text : (value : Option FileText) (held : Data) → option_map text_written value ≡ Some held → IsLow 1 held
+low_text None held is = cc
+low_text (Some text) held is =
+    let same : text_written text ≡ held = cc in
+    subst (IsLow 1) same (low_lines (slice_split (λ b. b == 10) text))
 
-low_cgroup : (vocabulary : Vocabulary) (e : Names × Cgroup) → HasLow 2 (cgroup_table vocabulary e.0 e.1)
+low_told : (told : ToldFile) → HasLow 1 (told_table told)
+unfolding told_table
+low_told told =
+    low_optional 1 (codes "value") (option_map text_written told.value) (entry_table told.entry) (low_text told.value)
+    (low_entry 1 told.entry)
+
+low_other : (found : Option ToldFile) (other : Data) → table_of_told found ≡ Some other → IsLow 2 other
+low_other None other is = cc
+low_other (Some told) other is =
+    let same : table (told_table told) ≡ other = cc in
+    subst (IsLow 2) same (low_table 1 (told_table told) (low_told told))
+
+low_others : (files : ToldFiles) (others : List OtherFile) (keys : Members) → HasLow 2 keys → HasLow 2 (fold (with_told files) keys others)
+low_others files [] keys low = low
+low_others files (file ∷ others) keys low =
+    low_others files others (with_told files keys file)
+    (low_optional 2 (other_name file) (table_of_told (told_in files file)) keys (low_other (told_in files file)) low)
+
+low_files : (row : Cgroup) (told : Option ToldFiles) → HasLow 2 (files_table row told)
+unfolding files_table
+low_files row None = let low = low_limits row in (low.0, omega (arith, low.1))
+low_files row (Some files) = let low = low_limits row in low_others files all_others (limits_table row) (low.0, omega (arith, low.1))
+
+low_cgroup : (vocabulary : Vocabulary) (st : State) (e : Names × Cgroup)
+    → HasLow 3 (cgroup_table vocabulary e.0 e.1 (told_of vocabulary st e.0))
 unfolding cgroup_table
-low_cgroup vocabulary e =
-    low_key 2 _ (table (files_table e.1)) _ (low_table 1 _ (low_files e.1))
-    (low_key 2 _ (table (entry_table e.1.dir)) _ (low_table 1 _ (low_entry 1 e.1.dir))
-    (low_key 2 _ (texts_array (names_in vocabulary e.1.enabled)) _ (low_names 1 (names_in vocabulary e.1.enabled))
-    (low_key 2 _ _ no_members (tt, omega arith) (no_keys 2))))
+low_cgroup vocabulary st e =
+    let told : Option ToldFiles = told_of vocabulary st e.0 in
+    low_key 3 _ (table (files_table e.1 told)) _ (low_table 2 _ (low_files e.1 told))
+    (low_key 3 _ (table (entry_table e.1.dir)) _ (low_table 2 _ (low_entry 2 e.1.dir))
+    (low_key 3 _ (texts_array (names_in vocabulary e.1.enabled)) _ (low_names 2 (names_in vocabulary e.1.enabled))
+    (low_key 3 _ _ no_members (tt, omega arith) (no_keys 3))))
 
-low_process : (e : ℕ × Process) → HasLow 2 (process_table e.0 e.1)
+low_process : (e : ℕ × Process) → HasLow 3 (process_table e.0 e.1)
 unfolding process_table
 low_process e =
-    low_key 2 _ _ _ (tt, omega arith) (low_key 2 _ _ _ (tt, omega arith) (low_key 2 _ _ no_members (tt, omega arith) (no_keys 2)))
+    low_key 3 _ _ _ (tt, omega arith) (low_key 3 _ _ _ (tt, omega arith) (low_key 3 _ _ no_members (tt, omega arith) (no_keys 3)))
 
-low_rows : {E : Type 0} (write : E → Members) → ((e : E) → HasLow 2 (write e)) → (es : List E)
-    → ArePlain (items_of (map_list (λ e. table (write e)) es)) × (items_depth (items_of (map_list (λ e. table (write e)) es)) ≤ 3)
+low_rows : {E : Type 0} (write : E → Members) → ((e : E) → HasLow 3 (write e)) → (es : List E)
+    → ArePlain (items_of (map_list (λ e. table (write e)) es)) × (items_depth (items_of (map_list (λ e. table (write e)) es)) ≤ 4)
 low_rows write each [] = (tt, omega arith)
 low_rows write each (e ∷ es) =
     let here = each e in
     let rest = low_rows write each es in
     ((here.0, rest.0), omega (arith, here.1, rest.1))
 
-low_tree : (vocabulary : Vocabulary) (st : State) → HasLow 4 (tree_document vocabulary st)
+low_tree : (vocabulary : Vocabulary) (st : State) → HasLow 5 (tree_document vocabulary st)
 unfolding tree_document
 low_tree vocabulary st =
     let processes = low_rows (λ (e : ℕ × Process). process_table e.0 e.1) low_process (finite.entries st.live) in
-    let cgroups = low_rows (λ (e : Names × Cgroup). cgroup_table vocabulary e.0 e.1) (low_cgroup vocabulary) (finite.entries st.rows) in
-    low_key 4 _ (array (items_of (processes_written st))) _ (processes.0, omega (arith, processes.1))
-    (low_key 4 _ (array (items_of (cgroups_written vocabulary st))) _ (cgroups.0, omega (arith, cgroups.1))
-    (low_key 4 _ (texts_array (names_in vocabulary st.controllers)) _ (low_names 3 (names_in vocabulary st.controllers))
-    (low_key 4 _ _ no_members (tt, omega arith) (no_keys 4))))
+    let cgroups =
+    low_rows (λ (e : Names × Cgroup). cgroup_table vocabulary e.0 e.1 (told_of vocabulary st e.0)) (low_cgroup vocabulary st)
+    (finite.entries st.rows) in
+    low_key 5 _ (array (items_of (processes_written st))) _ (processes.0, omega (arith, processes.1))
+    (low_key 5 _ (array (items_of (cgroups_written vocabulary st))) _ (cgroups.0, omega (arith, cgroups.1))
+    (low_key 5 _ (texts_array (names_in vocabulary st.controllers)) _ (low_names 4 (names_in vocabulary st.controllers))
+    (low_key 5 _ _ no_members (tt, omega arith) (no_keys 5))))
 
 pub plain_tree : (vocabulary : Vocabulary) (st : State) → HasPlain (tree_document vocabulary st)
 plain_tree vocabulary st = (low_tree vocabulary st).0

@@ -1,27 +1,35 @@
 -- What a text says can be carried by a text: it has no more cgroups and processes than the text has tables.
-use Rattle.std.proofs.Common.{◌≡◌, ℕ, ◌+◌, ◌≤◌, Bool, true, false, cond, List, [], ◌∷◌, length, Ordering, codes, Option, Some, None, is_some, option_and_then, refl, sym, ap, ◌∙◌, arith}
+use Rattle.std.proofs.Common.{◌≡◌, ℕ, ◌+◌, ◌≤◌, Bool, true, false, cond, List, [], ◌∷◌, length, Ordering, codes, Option, Some, None, is_some, option_and_then, refl, sym, ap, subst, ◌∙◌, true≢false, arith}
 use Rattle.std.specs.Prelude.{◌||◌, count_by, filter_map}
 use Rattle.std.specs.List.{cons_option, AllByRecursion, list_any}
+use Rattle.std.proofs.lemmas.Bool.{or_left, or_right}
 use Rattle.std.specs.Ordering.{eq_by_cmp}
 use Rattle.std.specs.Cmp.{IsTotalOrder, Equal-is, nat_cmp_total}
 use Rattle.std.specs.FinMap as finite
 use Rattle.std.specs.FinMap.{FinMap, IsAntisymmetric, get, entries, find, nat_cmp-IsAntisymmetric}
 use Rattle.toml.specs.Data.{Data, Members, as_table}
 use Rattle.std.specs.Option.{option_map_or}
+use Rattle.cg_cgroup.specs.Paths.{Names, path_cmp}
+use Rattle.cg_cgroup.specs.Files.{all_others}
+use Rattle.cg_cgroup.specs.Told.{told_in}
+use Rattle.cg_cgroup.specs.declared.files.EntryName.TheVariants.{Other}
 use Rattle.cg_cgroup.specs.declared.files.Vocabulary.TheVariants.{Format2}
+use Rattle.cg_cgroup.specs.declared.other_file.OtherFile.{OtherFile}
+use Rattle.cg_cgroup.specs.declared.told.ToldFiles.{ToldFiles}
 use Rattle.cg_cgroup.proofs.PathOrder.{path_cmp_total, path_cmp-IsAntisymmetric}
 use Rattle.cg_model.specs.States.{State}
 use Rattle.cg_model.proofs.Lists.{all-each}
-use Rattle.cg_format.specs.Form.{most_rows}
-use Rattle.cg_format.specs.Said.{vocabulary, elements_at, tables_at, has_path, format_said}
+use Rattle.cg_format.specs.Form.{vocabulary, most_rows}
+use Rattle.cg_format.specs.Said.{elements_at, tables_at, has_path, format_said, is_named, tells, told_row}
 use Rattle.cg_format.specs.Readings.{format_in, vocabulary_in}
-use Rattle.cg_format.specs.TextOf.{IsRowOf, IsProcessOf, has_pid, IsTextOf}
+use Rattle.cg_format.specs.TextOf.{IsRowOf, IsProcessOf, has_pid, IsDocumentOf, IsTextOf}
 use Rattle.cg_format.specs.declared.format.Format.{Format}
 use Rattle.cg_format.specs.declared.format.Format.TheVariants.{One, Two, Four}
 use Rattle.cg_format.proofs.Cuts.{any_counted}
-use Rattle.cg_format.proofs.OneState.{others_read}
+use Rattle.cg_format.proofs.OneState.{others_read, told_read, told_value_read}
 use Rattle.cg_format.proofs.ReadingLaws.{known_controllers}
-use Rattle.cg_print.specs.Carried.{IsCarried, written_in}
+use Rattle.cg_format.proofs.ToldSaid.{row_told}
+use Rattle.cg_print.specs.Carried.{IsToldInText, AreToldInText, IsCarried, written_in}
 use Rattle.cg_print.proofs.DocumentBack.{path_ties, pid_ties}
 
 -- ---- the tables of an array
@@ -112,11 +120,63 @@ rows_written One = refl
 rows_written Two = refl
 rows_written Four = refl
 
+words_in : (text : List ℕ) (st : State) (is : IsTextOf st text) → vocabulary_in text ≡ vocabulary is.says.format
+words_in text st is =
+    let said : format_in text ≡ Some is.says.format = ap (option_and_then format_said) is.parsed ∙ is.says.form.format in
+    ap (λ (found : Option Format). option_map_or vocabulary found Format2) said
+
 -- so many rows has a text of its own vocabulary at most
 rows_in : (text : List ℕ) (st : State) (is : IsTextOf st text) → most_rows (written_in (vocabulary_in text)) ≡ most_rows is.says.format
-rows_in text st is =
-    let said : format_in text ≡ Some is.says.format = ap (option_and_then format_said) is.parsed ∙ is.says.form.format in
-    ap (λ (found : Option Format). most_rows (written_in (option_map_or vocabulary found Format2))) said ∙ rows_written is.says.format
+rows_in text st is = ap (λ words. most_rows (written_in words)) (words_in text st is) ∙ rows_written is.says.format
+
+-- ---- what is told of further limit files
+
+any_passes : (test other : OtherFile → Bool) → ((file : OtherFile) → test file ≡ true → other file ≡ true) → (files : List OtherFile)
+    → list_any test files ≡ true → list_any other files ≡ true
+any_passes test other each [] any = any
+any_passes test other each (file ∷ files) any =
+    elim (test file) as (λ b. test file ≡ b → (b || list_any test files) ≡ true → list_any other (file ∷ files) ≡ true) [
+      | true ↦ λ here _. or_left (other file) (list_any other files) (each file here)
+      | false ↦ λ _ later. or_right (other file) (list_any other files) (any_passes test other each files later)
+    ] refl any
+
+-- a row that tells something has a format that names these files
+some_told : (format : Format) (row : Members) (test : OtherFile → Bool)
+    → ((file : OtherFile) → is_named (Other file) row ≡ true → test file ≡ true) → tells format row ≡ true
+    → list_any test all_others ≡ true
+some_told One row test each so = absurd (true≢false (sym so))
+some_told Two row test each so = absurd (true≢false (sym so))
+some_told Four row test each so = any_passes (λ file. is_named (Other file) row) test each all_others so
+
+module _ (st : State) (document : Members) (is : IsDocumentOf st document) where
+  told_in_text : (path : Names) (files : ToldFiles) → finite.get st.told path ≡ Some files → IsToldInText path files
+  told_in_text path files there =
+      let read = told_read st document is path files there in
+      let each = (row_told is.format read.0 files (sym read.1.said)).each in
+      record {
+        below = read.1.below;
+        some = some_told is.format read.0 (λ file. is_some (told_in files file))
+            (λ file named. ap is_some (each file) ∙ read.1.values file named) read.1.tells;
+        values = told_value_read st document is path files there;
+      }
+
+  -- formats 1 and 2 tell nothing
+  nothing_told : ((row : Members) → told_row is.format row ≡ None) → st.told ≡ finite.empty
+  nothing_told none =
+      finite.same_map path_cmp_total path_cmp-IsAntisymmetric st.told finite.empty (λ path.
+      absent (finite.get st.told path) (λ files there.
+      let read = told_read st document is path files there in
+      true≢false (ap is_some (read.1.said ∙ none read.0)))
+      ∙ sym (finite.get-empty path_cmp path))
+    where
+      absent : (found : Option ToldFiles) → ((files : ToldFiles) → found ≡ Some files → ⊥) → found ≡ None
+      absent None never = refl
+      absent (Some files) never = absurd (never files refl)
+
+  told_carried : (format : Format) → is.format ≡ format → AreToldInText (vocabulary format) st
+  told_carried One same = nothing_told (λ row. ap (λ format. told_row format row) same)
+  told_carried Two same = nothing_told (λ row. ap (λ format. told_row format row) same)
+  told_carried Four same = told_in_text
 
 -- ---- the whole
 
@@ -133,7 +193,7 @@ read_carried text st is =
       cgroups = omega (arith, most, is.says.form.few_cgroups, tables_at_most (elements_at (codes "cgroup") is.document), cgroups);
       processes = omega (arith, most, is.says.form.few_processes, tables_at_most (elements_at (codes "process") is.document), processes);
       controllers = known_controllers text st is;
-      told = is.says.told;
+      told = subst (λ words. AreToldInText words st) (sym (words_in text st is)) (told_carried st is.document is.says is.says.format refl);
       others = others_read st is.document is.says;
       used = is.says.used;
     }

@@ -5,7 +5,6 @@ use Rattle.toml.specs.Data.{Data, string, Members, no_members, as_str, as_table}
 use Rattle.toml.specs.View.{items_of}
 use Rattle.cg_cgroup.specs.Options.{◌>>=◌}
 use Rattle.cg_cgroup.specs.Paths.{Names, IsPath}
-use Rattle.cg_cgroup.specs.Texts as texts
 use Rattle.cg_cgroup.specs.Files.{is_beyond, accepts, is_of}
 use Rattle.cg_cgroup.specs.Cgroups.{file_of, entry_in}
 use Rattle.cg_cgroup.specs.declared.user.Entry.{Entry}
@@ -17,6 +16,7 @@ use Rattle.cg_cgroup.specs.declared.files.Vocabulary.{Vocabulary}
 use Rattle.cg_cgroup.specs.declared.files.Vocabulary.TheVariants.{Format2, Format4}
 use Rattle.cg_cgroup.specs.declared.files.EntryName.{EntryName}
 use Rattle.cg_cgroup.specs.declared.files.EntryName.TheVariants.{Dir, Procs, SubtreeControl, File, Other}
+use Rattle.cg_cgroup.specs.declared.told.ToldFiles.{ToldFiles}
 use Rattle.cg_cgroup.specs.declared.cgroup.LimitEntry.{LimitEntry}
 use Rattle.cg_cgroup.specs.declared.cgroup.Cgroup.{Cgroup}
 use Rattle.cg_cgroup.specs.declared.process.Process.{Process}
@@ -25,6 +25,7 @@ use Rattle.cg_cgroup.proofs.PathAt.{path_at-text}
 use Rattle.cg_model.specs.States.{State}
 use Rattle.cg_model.specs.WellFormed.{IsFormedRow}
 use Rattle.cg_format.specs.Form.{elements}
+use Rattle.cg_format.specs.Form as form
 use Rattle.cg_format.specs.Said as said
 use Rattle.cg_format.specs.Said.{elements_at, id_read, mode_read, accepted, controllers_read, limit_of, path_said, known_said, format_said, owner_said, limit_said, mode_missing, table_of, entry_said, value_said, is_named, pid_said, uid_said}
 use Rattle.cg_format.specs.declared.format.Format.TheVariants.{Two}
@@ -32,7 +33,8 @@ use Rattle.cg_print.specs.Keys.{with_key}
 use Rattle.cg_print.specs.Documents.{names_in, entry_table, value_written, limit_table, table_of_file, cgroup_table, process_table, cgroups_written, processes_written, format_number, tree_document}
 use Rattle.cg_print.specs.Carried.{IsId, HasIds, IsNamedRow, IsNamedProcess, written_in}
 use Rattle.cg_print.proofs.ControllersBack.{set_again}
-use Rattle.cg_print.proofs.FormBack.{at_key, at_file}
+use Rattle.cg_print.proofs.FormBack.{at_procs, at_control, at_file}
+use Rattle.cg_print.proofs.TextLines.{texts_again}
 
 -- ---- owners, values and controllers
 
@@ -42,7 +44,7 @@ id_again n is = ap (λ b. cond b (Some n) None) (le-leb n 4294967295 is)
 mode_again : (missing n : ℕ) → n ≤ 511 → mode_read Two missing (Some (pos n)) ≡ Some n
 mode_again missing n is = ap (λ b. cond (b && true) (Some n) None) (le-leb n 511 is)
 
-abbrev joined_owner : Option ℕ → Option ℕ → Option ℕ → Option Entry
+abbrev pub joined_owner : Option ℕ → Option ℕ → Option ℕ → Option Entry
 joined_owner uid gid mode = do
   uid ← uid
   gid ← gid
@@ -50,7 +52,7 @@ joined_owner uid gid mode = do
   Some (record { uid = uid; gid = gid; mode = mode })
 
 module _ (missing : ℕ) (entry : Entry) (ids : HasIds entry) (small : entry.mode ≤ 511) where
-  numbers_again :
+  pub numbers_again :
       joined_owner (id_read (Some (pos entry.uid))) (id_read (Some (pos entry.gid))) (mode_read Two missing (Some (pos entry.mode)))
       ≡ Some entry
   numbers_again =
@@ -59,7 +61,7 @@ module _ (missing : ℕ) (entry : Entry) (ids : HasIds entry) (small : entry.mod
       let mode = mode_again missing entry.mode small in
       λ i. joined_owner (uid i) (gid i) (mode i)
 
-  entry_again : owner_said Two missing (entry_table entry) ≡ Some entry
+  pub entry_again : owner_said Two missing (entry_table entry) ≡ Some entry
   unfolding entry_table with_key
   entry_again = numbers_again
 
@@ -76,20 +78,16 @@ value_again : (file : LimitFile) (held : LimitEntry) → accepts file held.value
 unfolding limit_table entry_table with_key
 value_again file held is = limit_again file held.value is
 
-texts_again : (names : List (List ℕ)) → filter_map as_str (elements (items_of (map_list string names))) ≡ names
-texts_again [] = refl
-texts_again (name ∷ names) = ap (λ rest. name ∷ rest) (texts_again names)
-
-vocabulary_written : (vocabulary : Vocabulary) → said.vocabulary (written_in vocabulary) ≡ vocabulary
+vocabulary_written : (vocabulary : Vocabulary) → form.vocabulary (written_in vocabulary) ≡ vocabulary
 vocabulary_written Format2 = refl
 vocabulary_written Format4 = refl
 
 controllers_again : (vocabulary : Vocabulary) (set : ControllerSet) → is_of vocabulary set ≡ true
-    → option_and_then (λ one. cond (is_of (said.vocabulary (written_in vocabulary)) one) (Some one) None)
+    → option_and_then (λ one. cond (is_of (form.vocabulary (written_in vocabulary)) one) (Some one) None)
     (controllers_read (filter_map as_str (elements (items_of (map_list string (names_in vocabulary set)))))) ≡ Some set
 controllers_again vocabulary set known =
     let read = ap controllers_read (texts_again (names_in vocabulary set)) ∙ set_again vocabulary set known in
-    ap (option_and_then (λ one. cond (is_of (said.vocabulary (written_in vocabulary)) one) (Some one) None)) read
+    ap (option_and_then (λ one. cond (is_of (form.vocabulary (written_in vocabulary)) one) (Some one) None)) read
     ∙ (λ i. cond (is_of (vocabulary_written vocabulary i) set) (Some set) None) ∙ ap (λ b. cond b (Some set) None) known
 
 -- ---- the entries of a cgroup
@@ -106,14 +104,14 @@ of_file : (found : Option LimitEntry) → option_and_then as_table (table_of_fil
 of_file None = refl
 of_file (Some held) = refl
 
-table_again : (vocabulary : Vocabulary) (path : Names) (row : Cgroup) (name : EntryName) → is_beyond name ≡ false
-    → table_of name (cgroup_table vocabulary path row) ≡ table_written row name
+table_again : (vocabulary : Vocabulary) (path : Names) (row : Cgroup) (told : Option ToldFiles) (name : EntryName) → is_beyond name ≡ false
+    → table_of name (cgroup_table vocabulary path row told) ≡ table_written row name
 unfolding cgroup_table with_key
-table_again vocabulary path row Dir within = refl
-table_again vocabulary path row Procs within = ap (option_and_then as_table) (at_key row texts.cgroup_procs)
-table_again vocabulary path row SubtreeControl within = ap (option_and_then as_table) (at_key row texts.cgroup_subtree_control)
-table_again vocabulary path row (Other file) within = absurd (true≢false within)
-table_again vocabulary path row (File file) within = ap (option_and_then as_table) (at_file row file) ∙ of_file (file_of row file)
+table_again vocabulary path row told Dir within = refl
+table_again vocabulary path row told Procs within = ap (option_and_then as_table) (at_procs row told)
+table_again vocabulary path row told SubtreeControl within = ap (option_and_then as_table) (at_control row told)
+table_again vocabulary path row told (Other file) within = absurd (true≢false within)
+table_again vocabulary path row told (File file) within = ap (option_and_then as_table) (at_file row told file) ∙ of_file (file_of row file)
 
 named_again : (row : Cgroup) (name : EntryName) → is_beyond name ≡ false → is_some (table_written row name) ≡ is_some (entry_in row name)
 named_again row Dir within = refl
@@ -125,15 +123,15 @@ named_again row (File file) within =
 
 -- ---- a cgroup
 
-pub path_back : (vocabulary : Vocabulary) (path : Names) (row : Cgroup) → IsNamedRow path row
-    → path_said (codes "path") (cgroup_table vocabulary path row) ≡ Some path
+pub path_back : (vocabulary : Vocabulary) (path : Names) (row : Cgroup) (told : Option ToldFiles) → IsNamedRow path row told
+    → path_said (codes "path") (cgroup_table vocabulary path row told) ≡ Some path
 unfolding cgroup_table with_key
-path_back vocabulary path row at = path_at-text path at.path
+path_back vocabulary path row told at = path_at-text path at.path
 
-pub enabled_back : (vocabulary : Vocabulary) (path : Names) (row : Cgroup) → is_of vocabulary row.enabled ≡ true
-    → known_said (written_in vocabulary) (codes "enabled") (cgroup_table vocabulary path row) ≡ Some row.enabled
+pub enabled_back : (vocabulary : Vocabulary) (path : Names) (row : Cgroup) (told : Option ToldFiles) → is_of vocabulary row.enabled ≡ true
+    → known_said (written_in vocabulary) (codes "enabled") (cgroup_table vocabulary path row told) ≡ Some row.enabled
 unfolding cgroup_table with_key
-enabled_back vocabulary path row known = controllers_again vocabulary row.enabled known
+enabled_back vocabulary path row told known = controllers_again vocabulary row.enabled known
 
 -- what a table says of an entry is the same in format 4 as in format 2
 said_written : (vocabulary : Vocabulary) (table : Members) (name : EntryName) → entry_said (written_in vocabulary) table name
@@ -141,7 +139,8 @@ said_written : (vocabulary : Vocabulary) (table : Members) (name : EntryName) �
 said_written Format2 table name = refl
 said_written Format4 table name = refl
 
-module _ (vocabulary : Vocabulary) (path : Names) (row : Cgroup) (above : ControllerSet) (at : IsNamedRow path row)
+module _ (vocabulary : Vocabulary) (path : Names) (row : Cgroup) (told : Option ToldFiles) (above : ControllerSet)
+    (at : IsNamedRow path row told)
     (formed : IsFormedRow above row) where
   owner_again : (name : EntryName) (entry : Entry) → is_beyond name ≡ false → entry_in row name ≡ Some entry
       → owner_said Two (mode_missing name) (entry_table entry) ≡ Some entry
@@ -162,22 +161,22 @@ module _ (vocabulary : Vocabulary) (path : Names) (row : Cgroup) (above : Contro
       ∙ ap Some held.2
 
   pub entry_back : (name : EntryName) (entry : Entry) → is_beyond name ≡ false → entry_in row name ≡ Some entry
-      → entry_said (written_in vocabulary) (cgroup_table vocabulary path row) name ≡ Some entry
+      → entry_said (written_in vocabulary) (cgroup_table vocabulary path row told) name ≡ Some entry
   entry_back name entry within is =
-      said_written vocabulary (cgroup_table vocabulary path row) name
-      ∙ ap (λ found. owner_said Two (mode_missing name) (unwrap_or found no_members)) (table_again vocabulary path row name within)
+      said_written vocabulary (cgroup_table vocabulary path row told) name
+      ∙ ap (λ found. owner_said Two (mode_missing name) (unwrap_or found no_members)) (table_again vocabulary path row told name within)
       ∙ written_again name entry within is
 
   pub value_back : (file : LimitFile) (held : LimitEntry) → file_of row file ≡ Some held
-      → value_said (cgroup_table vocabulary path row) file ≡ Some held.value
+      → value_said (cgroup_table vocabulary path row told) file ≡ Some held.value
   value_back file held is =
-      ap (λ found. limit_said file (unwrap_or found no_members)) (table_again vocabulary path row (File file) refl
+      ap (λ found. limit_said file (unwrap_or found no_members)) (table_again vocabulary path row told (File file) refl
       ∙ ap (option_map limit_table) is)
       ∙ value_again file held (formed.values file held is)
 
-  pub files_back : (name : EntryName) → is_beyond name ≡ false → is_named name (cgroup_table vocabulary path row) ≡ true
+  pub files_back : (name : EntryName) → is_beyond name ≡ false → is_named name (cgroup_table vocabulary path row told) ≡ true
       → is_some (entry_in row name) ≡ true
-  files_back name within is = sym (ap is_some (table_again vocabulary path row name within) ∙ named_again row name within) ∙ is
+  files_back name within is = sym (ap is_some (table_again vocabulary path row told name within) ∙ named_again row name within) ∙ is
 
 -- ---- a process
 

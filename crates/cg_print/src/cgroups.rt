@@ -1,8 +1,7 @@
 //! The tables of cgroups.
-ghost use Rattle.std.specs.Prelude.{◌≡◌, true, OnOk, IfOk, Some};
+ghost use Rattle.std.specs.Prelude.{◌≡◌, true, OnOk, IfOk, Some, option_copied};
 ghost use Rattle.std.specs.Option.{option_map};
 ghost use Rattle.std.specs.List.{AllByRecursion};
-ghost use Rattle.std.specs.FinMap as map;
 ghost use Rattle.toml.specs.Data.{array, table};
 ghost use Rattle.toml.specs.View.{view, items_of, table_view};
 ghost use Rattle.cg_cgroup.specs.Files.{accepts, all_files};
@@ -12,14 +11,16 @@ ghost use Rattle.cg_cgroup.specs.declared.cgroup.LimitEntry.{LimitEntry};
 ghost use Rattle.cg_cgroup.specs.declared.files.LimitFile.{LimitFile};
 ghost use Rattle.cg_model.specs.States.{row_at};
 ghost use Rattle.cg_model.specs.WellFormed.{has_row};
-ghost use Rattle.cg_print.specs.Carried.{HasIds, FileHasIds, IsNamedRow, AreNamedRows};
-ghost use Rattle.cg_print.specs.Documents.{entry_table, value_written, limit_table, with_file, files_table, cgroup_table, cgroups_written};
+ghost use Rattle.cg_print.specs.Carried.{HasIds, FileHasIds, AllHaveIds, IsNamedRow, AreNamedRows};
+ghost use Rattle.cg_print.specs.Documents.{entry_table, value_written, limit_table, with_file, limits_table, files_table, told_of, cgroup_table, cgroups_written};
 
 use crate::keys::{id_value, names_array, path_value, put};
+use crate::told::with_all_told;
 use cg_cgroup::cgroup::{Cgroup, LimitEntry};
 use cg_cgroup::files::{Limit, LimitFile, Vocabulary};
 use cg_cgroup::memory::NoMemory;
 use cg_cgroup::path::Path;
+use cg_cgroup::told::ToldFiles;
 use cg_cgroup::user::Entry;
 use cg_model::hierarchy::Hierarchy;
 use std::alloc::Global;
@@ -27,7 +28,7 @@ use toml::{Table, Value};
 
 /// The table of an owner, a group and a mode.
 #[tactic(auto, unfolding(crate::specs::Documents::entry_table))]
-fn entry_table(alloc: Global, entry: Entry) -> Result<Table, NoMemory>
+pub(crate) fn entry_table(alloc: Global, entry: Entry) -> Result<Table, NoMemory>
     ensures written { IfOk result (λ keys. table_view keys ≡ entry_table entry) }
     ensures ids { IfOk result (λ _. HasIds entry) }
 {
@@ -89,10 +90,10 @@ fn put_file(
     Ok(())
 }
 
-/// The table of a cgroup's files, whose values are ones that they accept.
-fn files_table(alloc: Global, cgroup: &Cgroup) -> Result<Table, NoMemory>
+/// The table of a cgroup's control files and those of its ten limit files that stand, whose values are ones that they accept.
+fn limits_table(alloc: Global, cgroup: &Cgroup) -> Result<Table, NoMemory>
     requires { (file : LimitFile) (held : LimitEntry) → file_of cgroup.now file ≡ Some held → accepts file held.value ≡ true }
-    ensures written { IfOk result (λ keys. table_view keys ≡ files_table cgroup.now) }
+    ensures written { IfOk result (λ keys. table_view keys ≡ limits_table cgroup.now) }
     ensures procs { IfOk result (λ _. HasIds cgroup.now.procs) }
     ensures subtree_control { IfOk result (λ _. HasIds cgroup.now.subtree_control) }
     ensures files { IfOk result (λ _. AllByRecursion (FileHasIds cgroup.now) all_files) }
@@ -113,6 +114,23 @@ fn files_table(alloc: Global, cgroup: &Cgroup) -> Result<Table, NoMemory>
     Ok(keys)
 }
 
+/// The table of a cgroup's files, whose values are ones that they accept, with what is told of its further limit files.
+#[tactic(auto, unfolding(crate::specs::Documents::files_table))]
+fn files_table(alloc: Global, cgroup: &Cgroup, told: Option<&ToldFiles>) -> Result<Table, NoMemory>
+    requires { (file : LimitFile) (held : LimitEntry) → file_of cgroup.now file ≡ Some held → accepts file held.value ≡ true }
+    ensures written { IfOk result (λ keys. table_view keys ≡ files_table cgroup.now (option_copied told.entry)) }
+    ensures procs { IfOk result (λ _. HasIds cgroup.now.procs) }
+    ensures subtree_control { IfOk result (λ _. HasIds cgroup.now.subtree_control) }
+    ensures files { IfOk result (λ _. AllByRecursion (FileHasIds cgroup.now) all_files) }
+    ensures told { IfOk result (λ _. AllHaveIds (option_copied told.entry)) }
+{
+    let keys = limits_table(alloc, cgroup)?;
+    match told {
+        Some(files) => with_all_told(alloc, keys, files),
+        None => Ok(keys),
+    }
+}
+
 /// The table of a cgroup, whose files' values are ones that they accept.
 #[tactic(auto, unfolding(crate::specs::Documents::cgroup_table))]
 fn cgroup_table(
@@ -120,10 +138,11 @@ fn cgroup_table(
     vocabulary: Vocabulary,
     path: &Path,
     cgroup: &Cgroup,
+    told: Option<&ToldFiles>,
 ) -> Result<Table, NoMemory>
     requires { (file : LimitFile) (held : LimitEntry) → file_of cgroup.now file ≡ Some held → accepts file held.value ≡ true }
-    ensures written { IfOk result (λ keys. table_view keys ≡ cgroup_table vocabulary path.now cgroup.now) }
-    ensures named { IfOk result (λ _. IsNamedRow path.now cgroup.now) }
+    ensures written { IfOk result (λ keys. table_view keys ≡ cgroup_table vocabulary path.now cgroup.now (option_copied told.entry)) }
+    ensures named { IfOk result (λ _. IsNamedRow path.now cgroup.now (option_copied told.entry)) }
 {
     let mut keys = Table::new(alloc);
     put(alloc, &mut keys, "path", path_value(alloc, path)?)?;
@@ -135,9 +154,23 @@ fn cgroup_table(
     )?;
     let dir = entry_table(alloc, cgroup.dir)?;
     put(alloc, &mut keys, "dir", Value::Table(dir))?;
-    let files = files_table(alloc, cgroup)?;
+    let files = files_table(alloc, cgroup, told)?;
     put(alloc, &mut keys, "files", Value::Table(files))?;
     Ok(keys)
+}
+
+/// What is told of the further limit files of a cgroup; format 2 doesn't name them.
+fn told_of<'a, H: Hierarchy>(
+    vocabulary: Vocabulary,
+    tree: &'a H,
+    path: &Path,
+) -> Option<&'a ToldFiles>
+    ensures { option_copied result ≡ told_of vocabulary (H.state tree.now) path.now }
+{
+    match vocabulary {
+        Vocabulary::Format2 => None,
+        Vocabulary::Format4 => tree.told(path, path.depth()),
+    }
 }
 
 /// The table of the cgroup at a path of a tree.
@@ -149,13 +182,16 @@ fn cgroup_value<H: Hierarchy>(
 ) -> Result<Value, NoMemory>
     requires { has_row (H.state tree.now) path.now ≡ true }
     ensures written { IfOk result (λ value. Some (view value)
-        ≡ option_map (λ row. table (cgroup_table vocabulary path.now row)) (row_at (H.state tree.now) path.now)) }
-    ensures named { IfOk result (λ _. (row : Cgroup) → row_at (H.state tree.now) path.now ≡ Some row → IsNamedRow path.now row) }
+        ≡ option_map (λ row. table (cgroup_table vocabulary path.now row (told_of vocabulary (H.state tree.now) path.now)))
+        (row_at (H.state tree.now) path.now)) }
+    ensures named { IfOk result (λ _. (row : Cgroup) → row_at (H.state tree.now) path.now ≡ Some row
+        → IsNamedRow path.now row (told_of vocabulary (H.state tree.now) path.now)) }
 {
     let Some(cgroup) = tree.get(path, path.depth()) else {
         unreachable!()
     };
-    Ok(Value::Table(cgroup_table(alloc, vocabulary, path, cgroup)?))
+    let told = told_of(vocabulary, tree, path);
+    Ok(Value::Table(cgroup_table(alloc, vocabulary, path, cgroup, told)?))
 }
 
 /// The tables of a tree's cgroups, in the order of their paths. Fails where memory is wanted.
@@ -165,7 +201,7 @@ pub(crate) fn cgroups_array<H: Hierarchy>(
     tree: &H,
 ) -> Result<Value, NoMemory>
     ensures written { IfOk result (λ value. view value ≡ array (items_of (cgroups_written vocabulary (H.state tree.now)))) }
-    ensures named { IfOk result (λ _. AreNamedRows (map.entries (H.state tree.now).rows)) }
+    ensures named { IfOk result (λ _. AreNamedRows vocabulary (H.state tree.now)) }
 {
     let paths = tree.paths(alloc)?;
     let mut values = Vec::new(alloc);

@@ -16,13 +16,13 @@ pub fn texts_are_one()
 
 /// A text of the document of a tree that is kept has that tree's state, where a text can carry it and isn't too long.
 pub fn texts_are_of_their_trees()
-    ensures { (text : List ℕ) (vocabulary : Vocabulary) (st : State) → document_of text ≡ Some (tree_document vocabulary st) → IsKept st
-        → IsCarried vocabulary st → length text ≤ longest_text text → IsTextOf st text }
+    ensures { (text : List ℕ) (vocabulary : Vocabulary) (st : State) → document_of text ≡ Some (tree_document vocabulary st)
+        → IsKept vocabulary st → IsCarried vocabulary st → length text ≤ longest_text text → IsTextOf st text }
 {}
 
 /// What a text says can be carried by a text that is written in its vocabulary: no more cgroups and processes than that may have,
-/// no controller of the root that it doesn't name, limit files that texts don't name are root's with mode 0o644, nothing is told of
-/// these, and no PID was used but those of its processes.
+/// no controller of the root that it doesn't name, nothing told of further limit files that it can't say, root's with mode 0o644 where
+/// nothing is told of them, and no PID used but those of its processes.
 pub fn read_trees_are_carried()
     ensures { (text : List ℕ) (st : State) → IsTextOf st text → IsCarried (vocabulary_in text) st }
 {}

@@ -5,4 +5,5 @@ mod cgroups;
 mod keys;
 pub mod laws;
 mod processes;
+mod told;
 pub mod tree;

@@ -33,7 +33,7 @@ fn document_of<H: Hierarchy>(
     tree: &H,
 ) -> Result<Table, NoMemory>
     ensures written { IfOk result (λ keys. table_view keys ≡ tree_document vocabulary (H.state tree.now)) }
-    ensures kept { IfOk result (λ _. IsKept (H.state tree.now)) }
+    ensures kept { IfOk result (λ _. IsKept vocabulary (H.state tree.now)) }
 {
     let mut keys = Table::new(alloc);
     put(alloc, &mut keys, "format", format_value(vocabulary))?;
@@ -54,13 +54,16 @@ fn document_of<H: Hierarchy>(
 }
 
 /// The text of a tree, in format 2 or 4 by its vocabulary and with every key written: the cgroups in the order of their paths,
-/// the live processes by rising PIDs. It is TOML as `toml` spells it. Fails where memory is wanted.
+/// the live processes by rising PIDs. In format 4 it has the further limit files of which something is told, with a value where one is
+/// told. It is TOML as `toml` spells it. Fails where memory is wanted.
 ///
 /// The text has the tree's state, so that it is read as an equal tree, where
 /// - it isn't longer than a text that begins so may be,
 /// - the tree has at most 4096 cgroups and 4096 processes, in format 4 at most 65536 of each,
 /// - the root has no controller but those of the vocabulary,
-/// - the limit files that texts don't name are root's with mode 0o644, and nothing is told of them, and
+/// - in format 2 nothing is told of further limit files, and in format 4 nothing of the root's; what is told of a cgroup's tells of one or
+///   more of them, with values that are lines as texts may have them,
+/// - the further limit files of which nothing is told are root's with mode 0o644, and
 /// - no PID was used but those of the live processes.
 pub fn tree_text<H: Hierarchy>(
     alloc: Global,

@@ -107,6 +107,13 @@ impl Rows {
         self.rows.entries()
     }
 
+    /// What is told of limit files beyond `LimitFile`, by cgroup, in the order of the paths.
+    pub fn told_entries(&self) -> &[(Path, ToldFiles)]
+        ensures { result.now ≡ map.entries self.now.told }
+    {
+        self.told.entries()
+    }
+
     /// Whether the cgroup of the first `at` names bars a child of that of the first `len` names, by its limits.
     fn is_full(&self, path: &Path, len: usize, at: usize) -> bool
         requires within { len ≤ length path.now }

@@ -42,7 +42,7 @@ module _ (document : Members) (format : Format) (passed : first (form_faults doc
   alone = first (each_cgroup (λ _. row_faults format) tables)
 
   abbrev together : Option ControllerSet → Option TreeFault
-  together controllers = first (cgroup_faults controllers tables)
+  together controllers = first (cgroup_faults format controllers tables)
 
   abbrev living : Option TreeFault
   living = first (each_process (process_faults tables) (tables_at (codes "process") document))
@@ -55,7 +55,7 @@ module _ (document : Members) (format : Format) (passed : first (form_faults doc
       first_none (form_faults document) (present (format_said document) (λ format. said_faults format document)) passed
       ∙ ap (λ o. first (present o (λ format. said_faults format document))) form.format
       ∙ four_or (absent (known_said format (codes "controllers") document) (BadController Top))
-      (each_cgroup (λ _. row_faults format) tables) (cgroup_faults (known_said format (codes "controllers") document) tables)
+      (each_cgroup (λ _. row_faults format) tables) (cgroup_faults format (known_said format (codes "controllers") document) tables)
       (each_process (process_faults tables) (tables_at (codes "process") document))
       ∙ (λ i. option_or (option_or (option_or (first (absent (is i) (BadController Top))) alone) (together (is i))) living)
 

@@ -39,7 +39,7 @@ use Rattle.cg_text.proofs.LeastLaws.{at_path, AreMatched, read_found, there_is, 
 -- ---- the keys of the entries
 
 -- no path stands behind a row that has it, nor twice behind it
-once_tail : (row : Row) (rows : List Row) → AreOnce (row ∷ rows) → (list_any (at_path row.path) rows ≡ false) × AreOnce rows
+pub once_tail : (row : Row) (rows : List Row) → AreOnce (row ∷ rows) → (list_any (at_path row.path) rows ≡ false) × AreOnce rows
 once_tail row rows once = (
   any_filter (at_path row.path) rows
       ∙ ap (λ some. is_some (head_of some)) (none_more row.path (same_path_refl row.path)),
@@ -61,7 +61,7 @@ once_tail row rows once = (
     none_more path at = let one = kept path true at in cc
 
 -- what isn't less, the other way, and isn't the same is less
-less : (p q : Names) → is_lt (path_cmp q p) ≡ false → same_path p q ≡ false → is_lt (path_cmp p q) ≡ true
+pub less : (p q : Names) → is_lt (path_cmp q p) ≡ false → same_path p q ≡ false → is_lt (path_cmp p q) ≡ true
 less p q late apart = grind (arith, path_cmp_total.antisymm p q, same_path-ties p q)
 
 below_entries : (path : Names) (met rows : List Row)
@@ -223,7 +223,7 @@ module _ (format : Format) (tables : List Members) (rows sorted : List Row) (rea
 
 -- ---- where there is no fault
 
-no_twice : (least : Least) (root : Bool) → least_fault least root ≡ None → least.twice ≡ None
+pub no_twice : (least : Least) (root : Bool) → least_fault least root ≡ None → least.twice ≡ None
 no_twice least root none =
     elim least.twice as (λ (twice : Option ℕ). least_fault (record least { twice = twice }) root ≡ None → twice ≡ None) [
       | None ↦ λ _. refl

@@ -19,9 +19,9 @@ use Rattle.cg_cgroup.proofs.PathLaws.{inside-first}
 use Rattle.cg_model.specs.Clauses.{unless, present, first}
 use Rattle.cg_model.proofs.ClauseLaws.{first_none, first_some}
 use Rattle.cg_format.specs.Said.{controllers_said, has_path, is_named}
-use Rattle.cg_format.specs.TextFaults.{each, is_there, over, cgroup_faults}
-use Rattle.cg_text.specs.Rows.{IsReadAs, AreReadAs}
-use Rattle.cg_text.specs.Walk.{has_met, enabled_by, over_in, entries_from, is_orphan, is_past, is_not_within, has_no_file, IsLeast, least_fault, has_root, HasTested, AreInOrder}
+use Rattle.cg_format.specs.TextFaults.{each, is_there, over, tell_standing, names_standing, cgroup_faults}
+use Rattle.cg_text.specs.Rows.{told_in_row, IsReadAs, AreReadAs}
+use Rattle.cg_text.specs.Walk.{has_met, enabled_by, over_in, entries_from, is_orphan, is_past, names_past, is_not_within, has_no_file, IsLeast, least_fault, has_root, HasTested, AreInOrder}
 use Rattle.cg_format.specs.declared.fault.Place.{Place}
 use Rattle.cg_format.specs.declared.fault.Place.TheVariants.{Cgroup as AtCgroup}
 use Rattle.cg_format.specs.declared.fault.TreeFault.{TreeFault}
@@ -324,6 +324,24 @@ files_within : (format : Format) (i : ℕ) (table : Members) (row : Row) (above 
 files_within format i table row above read =
     all_within (λ file. is_named (File file) table) above ∙ ap (λ set. is_within set above) (sym read.needed)
 
+standing_is : (format : Format) (i : ℕ) (table : Members) (row : Row) (above : ControllerSet) → IsReadAs format i table row
+    → names_standing format row.path above table ≡ (is_within row.needed above && tell_standing row.path above (told_in_row row))
+standing_is format i table row above read =
+    λ j. files_within format i table row above read j && tell_standing row.path above (sym read.told j)
+
+both_fault : (a b : Bool) (fault : TreeFault) → first (unless (a && b) fault) ≡ cond (not a || not b) (Some fault) None
+both_fault true true fault = refl
+both_fault true false fault = refl
+both_fault false true fault = refl
+both_fault false false fault = refl
+
+names_fault : (row : Row) (found : Option ControllerSet) (fault : TreeFault)
+    → first (present found (λ above. unless (is_within row.needed above && tell_standing row.path above (told_in_row row)) fault))
+    ≡ cond (names_past row found) (Some fault) None
+names_fault row None fault = refl
+names_fault row (Some above) fault =
+    both_fault (is_within row.needed above) (tell_standing row.path above (told_in_row row)) fault
+
 -- the faults in their order
 in_turn : (twice orphan within files : Option ℕ) (root : Bool) (a b c d e : Option TreeFault)
     → a ≡ option_map (λ number. Duplicate (AtCgroup number)) twice → b ≡ cond root None (Some NoRoot)
@@ -346,7 +364,7 @@ module _ (format : Format) (controllers : ControllerSet) (tables : List Members)
   enables_more row = is_past row.cgroup.enabled (over_first controllers rows row.path)
 
   abbrev needs_more : Row → Bool
-  needs_more row = is_past row.needed (over_first no_controllers rows row.path)
+  needs_more row = names_past row (over_first no_controllers rows row.path)
 
   twice_tells : Tells format twice_clause Duplicate is_twice 1 []
   twice_tells earlier met i table row before said =
@@ -365,12 +383,12 @@ module _ (format : Format) (controllers : ControllerSet) (tables : List Members)
       rw (said.path, enabled, over_is format 1 tables rows read controllers row.path)
       (past_fault row.cgroup.enabled (over_first controllers rows row.path) (TopDown (AtCgroup i)))
 
-  files_tells : Tells format (files_clause tables) NoSuchFile (λ _. needs_more) 1 []
+  files_tells : Tells format (files_clause format tables) NoSuchFile (λ _. needs_more) 1 []
   files_tells earlier met i table row before said =
       rw said.path
       ((λ j. first (present (over_is format 1 tables rows read no_controllers row.path j)
-      (λ above. unless (files_within format i table row above said j) (NoSuchFile (AtCgroup i)))))
-      ∙ past_fault row.needed (over_first no_controllers rows row.path) (NoSuchFile (AtCgroup i)))
+      (λ above. unless (standing_is format i table row above said j) (NoSuchFile (AtCgroup i)))))
+      ∙ names_fault row (over_first no_controllers rows row.path) (NoSuchFile (AtCgroup i)))
 
   module _ (sorted : List Row) (least : Least) (same : AreSameRows sorted rows) (order : AreInOrder sorted)
       (tested : HasTested controllers sorted least) where
@@ -415,12 +433,12 @@ module _ (format : Format) (controllers : ControllerSet) (tables : List Members)
           tested.not_within
           (λ front row back cut. ap (is_past row.cgroup.enabled) (over_before rows sorted same order once controllers front row back cut))
 
-      files_first : first (each (files_clause tables) AtCgroup 1 [] tables) ≡ option_map (λ n. NoSuchFile (AtCgroup n)) least.no_file
+      files_first : first (each (files_clause format tables) AtCgroup 1 [] tables) ≡ option_map (λ n. NoSuchFile (AtCgroup n)) least.no_file
       files_first =
-          alone_first (files_clause tables) NoSuchFile has_no_file needs_more least.no_file files_tells tested.no_file
-          (λ front row back cut. ap (is_past row.needed) (over_before rows sorted same order once no_controllers front row back cut))
+          alone_first (files_clause format tables) NoSuchFile has_no_file needs_more least.no_file files_tells tested.no_file
+          (λ front row back cut. ap (names_past row) (over_before rows sorted same order once no_controllers front row back cut))
 
-    pub faults_first : first (cgroup_faults (Some controllers) tables) ≡ least_fault least (has_root (entries_from [] sorted))
+    pub faults_first : first (cgroup_faults format (Some controllers) tables) ≡ least_fault least (has_root (entries_from [] sorted))
     faults_first =
         simp first_or
         (in_turn least.twice least.orphan least.not_within least.no_file (has_root (entries_from [] sorted)) _ _ _ _ _ twice_first
@@ -432,6 +450,6 @@ module _ (format : Format) (controllers : ControllerSet) (tables : List Members)
 pub least_fault_is_first : (format : Format) (controllers : ControllerSet) (tables : List Members) (rows sorted : List Row) (least : Least)
     → AreReadAs format 1 tables rows → AreInOrder sorted → IsStableByKey (λ row. row.path) path_cmp rows sorted
     → HasTested controllers sorted least
-    → first (cgroup_faults (Some controllers) tables) ≡ least_fault least (has_root (entries_from [] sorted))
+    → first (cgroup_faults format (Some controllers) tables) ≡ least_fault least (has_root (entries_from [] sorted))
 least_fault_is_first format controllers tables rows sorted least read order stable tested =
     faults_first format controllers tables rows read sorted least (same_rows rows sorted stable) order tested

@@ -1,8 +1,10 @@
 pub mod SaidLaws
+pub mod LinesLaws
 pub mod TextLaws
 pub mod TakenLaws
 pub mod LiveLaws
 pub mod DocumentInTurn
+pub mod FurtherLaws
 pub mod RowLaws
 pub mod EachRow
 mod Needed
@@ -10,6 +12,7 @@ pub mod TakesLaws
 pub mod FormInTurn
 pub mod WalkFronts
 pub mod EntriesLaws
+pub mod TellLaws
 pub mod LeastNumbers
 pub mod LeastLaws
 pub mod WalkEnd

@@ -1,10 +1,10 @@
 -- What a row's reader makes of its tables: entries and values, or the clause that fails.
-use Rattle.std.proofs.Common.{◌≡◌, ◌≢◌, ℕ, ◌+◌, ◌<◌, ◌≤◌, Bool, true, false, List, [], ◌∷◌, ◌++◌, length}
+use Rattle.std.proofs.Common.{◌≡◌, ◌≢◌, ℕ, ◌+◌, ◌<◌, ◌≤◌, Bool, true, false, List, [], ◌∷◌, ◌++◌, ◌&&◌, cond, length}
 use Rattle.std.proofs.Common.{get_or, take, map, filter_map, codes, Option, Some, None, is_some, option_map, option_and_then, unwrap_or}
 use Rattle.std.proofs.Common.{Result, Ok, Err, refl, sym, ap, subst, ◌∙◌, true≢false, arith}
 use Rattle.std.specs.Option.{ok_or}
 use Rattle.std.specs.Result.{IsErr, IsErrAnd}
-use Rattle.std.specs.List.{list_all}
+use Rattle.std.specs.List.{list_all, list_any}
 use Rattle.std.proofs.lemmas.Bool.{false_from_ne_true, and_parts, and_from}
 use Rattle.cg_cgroup.proofs.AllFiles.{each_passes, each_brought, held_as}
 use Rattle.cg_format.proofs.TablesSay.{all_so, each_within, each_entry}
@@ -14,7 +14,9 @@ use Rattle.toml.specs.Data.{Members, no_members, as_table}
 use Rattle.toml.specs.View.{view, table_view}
 use Rattle.toml.specs.declared.value.Value.{Value}
 use Rattle.cg_cgroup.specs.Paths.{Names}
-use Rattle.cg_cgroup.specs.Files.{all_files, brought_files, format_2_entries, entry_text, is_beyond}
+use Rattle.cg_cgroup.specs.Files.{all_files, brought_files, format_2_entries, known_entries, entry_text, is_beyond}
+use Rattle.cg_cgroup.specs.Told.{told_by}
+use Rattle.cg_cgroup.specs.declared.other_file.OtherFile.{OtherFile}
 use Rattle.cg_cgroup.specs.Cgroups.{file_of, entry_in, value_in as value_at, root_file}
 use Rattle.cg_cgroup.proofs.Options.{some_value, mapped_from, is_some-mapped}
 use Rattle.cg_cgroup.specs.declared.user.Entry.{Entry}
@@ -28,10 +30,13 @@ use Rattle.cg_cgroup.specs.declared.cgroup.LimitEntry.{LimitEntry}
 use Rattle.cg_cgroup.specs.declared.cgroup.Cgroup.{Cgroup}
 use Rattle.cg_model.specs.Clauses.{first, unless, absent}
 use Rattle.cg_format.specs.Said.{table_at, path_said, known_said, owner_said, limit_said, table_of, mode_missing}
-use Rattle.cg_format.specs.Said.{entry_said, value_said, is_named}
-use Rattle.cg_format.specs.TextFaults.{row_faults}
+use Rattle.cg_format.specs.Form.{vocabulary}
+use Rattle.cg_format.specs.Said.{entry_said, value_said, is_named, text_said, file_said, told_row}
+use Rattle.cg_format.specs.TextFaults.{row_faults, has_values}
 use Rattle.cg_text.specs.Faults.{or_fault, Passes}
 use Rattle.cg_text.specs.Rows.{table_in, owner_in, limit_in, entry_with, names, needed_where, needed_by, file_in, entry_faults, IsCgroupOf, IsReadAs, AreReadAs}
+use Rattle.cg_text.specs.Rows.{others_of, are_owned_in, have_texts_in, told_of, told_in_row}
+use Rattle.cg_text.proofs.FurtherLaws.{two, all_known}
 use Rattle.cg_format.specs.declared.fault.Place.TheVariants.{Cgroup as AtCgroup}
 use Rattle.cg_format.specs.declared.fault.TreeFault.{TreeFault}
 use Rattle.cg_format.specs.declared.fault.TreeFault.TheVariants.{BadPath, BadController, BadEntry, BadValue, NoMemory}
@@ -80,14 +85,14 @@ by_entry P dir procs control files (Other file) within = absurd (true≢false wi
 -- ---- a cgroup of entries
 
 module _ (said : Entries) where
-  abbrev owned : EntryName → Bool
+  abbrev pub owned : EntryName → Bool
   owned name = is_some (owner_in said name)
 
   -- each entry that texts name
   abbrev AreOwned : Type 0
   AreOwned = (name : EntryName) → is_beyond name ≡ false → is_some (owner_in said name) ≡ true
 
-  abbrev valued : LimitFile → Bool
+  abbrev pub valued : LimitFile → Bool
   valued file = is_some (limit_in said file)
 
   abbrev value_faults : List TreeFault
@@ -286,26 +291,39 @@ module _ (said : Entries) (row : Members) (dir : option_map (λ table. table_vie
   named_is : (file : LimitFile) → names said file ≡ is_named (File file) row
   named_is file = ap is_some (table_is (File file))
 
+  text_is : (file : OtherFile) → text_said (unwrap_or (table_in said (Other file)) no_members)
+      ≡ text_said (unwrap_or (table_of (Other file) row) no_members)
+  text_is file = ap (λ table. text_said (unwrap_or table no_members)) (table_is (Other file))
+
+  told_is : told_of said ≡ told_row said.format row
+  told_is = λ i.
+      cond (list_any (λ file. is_some (table_is (Other file) i)) (others_of said))
+      (Some (told_by (λ file. option_and_then (file_said said.format) (table_is (Other file) i)))) None
+
   -- with a path and controllers, a row's faults are those of its entries and values
   pub faults_behind : (path : Names) (enabled : ControllerSet) → path_said (codes "path") row ≡ Some path
       → known_said said.format (codes "enabled") row ≡ Some enabled → first (row_faults said.format said.place row)
-      ≡ first (entry_faults said)
+      ≡ two (BadEntry said.place) (BadValue said.place) (list_all (owned said) format_2_entries && are_owned_in said)
+      (list_all (valued said) all_files && have_texts_in said)
   faults_behind path enabled has_path has_enabled =
-      let entries = unless (list_all (λ name. is_some (entry_said said.format row name)) format_2_entries) (BadEntry said.place) in
-      let values = unless (list_all (λ file. is_some (value_said row file)) all_files) (BadValue said.place) in
+      let known : List EntryName = known_entries (vocabulary said.format) in
+      let entries = unless (list_all (λ name. is_some (entry_said said.format row name)) known) (BadEntry said.place) in
+      let values = unless (has_values said.format row) (BadValue said.place) in
       let controllers = absent (known_said said.format (codes "enabled") row) (BadController said.place) in
       ap (λ o. first (absent o (BadPath said.place) ++ controllers ++ entries ++ values)) has_path
       ∙ ap (λ o. first (absent o (BadController said.place) ++ entries ++ values)) has_enabled
       ∙ sym
       (λ i.
-      first
-      (unless (list_all (λ name. is_some (entry_is name i)) format_2_entries) (BadEntry said.place)
-      ++ unless (list_all (λ file. is_some (value_is file i)) all_files) (BadValue said.place)))
+      two (BadEntry said.place) (BadValue said.place) (list_all (λ name. is_some (entry_is name i)) known)
+      (list_all (λ file. is_some (value_is file i)) all_files && list_all (λ file. is_some (text_is file i)) (others_of said)))
+      ∙ ap
+      (λ b. two (BadEntry said.place) (BadValue said.place) b (list_all (valued said) all_files && have_texts_in said))
+      (all_known (owned said) (vocabulary said.format))
 
   pub row_read : (i : ℕ) (enabled : ControllerSet) (made : Row) → made.number ≡ i → path_said (codes "path") row ≡ Some made.path
       → known_said said.format (codes "enabled") row ≡ Some enabled → IsCgroupOf said enabled made.cgroup → made.needed ≡ needed_by said
-      → IsReadAs said.format i row made
-  row_read i enabled made number path has_enabled is needed = record {
+      → told_in_row made ≡ told_of said → IsReadAs said.format i row made
+  row_read i enabled made number path has_enabled is needed told = record {
     number = number;
     path = path;
     enabled = has_enabled ∙ ap (λ (set : ControllerSet). Some set) (sym is.enabled);
@@ -314,6 +332,7 @@ module _ (said : Entries) (row : Members) (dir : option_map (λ table. table_vie
     needed = needed ∙ (λ i. needed_where (λ file. named_is file i));
     files = is.files;
     freeze = is.freeze;
+    told = told ∙ told_is;
   }
 
 -- a row without a path, or whose controllers aren't

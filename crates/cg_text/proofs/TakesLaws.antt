@@ -1,5 +1,5 @@
 -- What the keys of a table take, member by member, is what the table has at each of them.
-use Rattle.std.proofs.Common.{◌≡◌, ℕ, Bool, true, false, not, cond, List, [], ◌∷◌, map as map_list, option_map, is_some, codes, drop, arith, String, Global, Option, Some, None, Ordering, Less, string_bytes, nat_cmp, is_eq, refl, sym, ap, ◌∙◌}
+use Rattle.std.proofs.Common.{◌≡◌, ℕ, Bool, true, false, not, cond, List, [], ◌∷◌, ◌++◌, map as map_list, option_map, is_some, codes, drop, arith, String, Global, Option, Some, None, Ordering, Less, string_bytes, nat_cmp, is_eq, refl, sym, ap, ◌∙◌}
 use Rattle.std.specs.Prelude.{◌&&◌, ◌||◌, find}
 use Rattle.std.specs.List.{list_any, list_all, AllByRecursion}
 use Rattle.std.specs.List.Sorted.{IsStrictlySortedBy}
@@ -8,7 +8,9 @@ use Rattle.std.specs.BTreeMap.{BTreeMap, is_at}
 use Rattle.std.specs.Ordering.{match_ordering}
 use Rattle.std.specs.String.{string_cmp}
 use Rattle.std.specs.Cmp.Lexicographic.{slice_cmp, texts_ties, bytes_decides, nat_list_eq_equiv}
-use Rattle.std.proofs.lemmas.Bool.{and_parts, not-true}
+use Rattle.std.specs.Option.{option_or}
+use Rattle.std.proofs.lemmas.Bool.{and_parts, not-true, true≢false}
+use Rattle.std.proofs.lemmas.List.Folds.{find-append, list_all-append}
 use Rattle.toml.specs.Data.{Data, table, Members, no_members, member, get_member}
 use Rattle.toml.specs.View.{view, table_view, members_view}
 use Rattle.toml.specs.declared.value.Value.{Value}
@@ -16,18 +18,18 @@ use Rattle.toml.proofs.Views.{view-lookup, view-Table}
 use Rattle.toml.specs.declared.value.Value.TheVariants.{Table}
 use Rattle.cg_cgroup.proofs.Options.{is_some-mapped}
 use Rattle.cg_cgroup.specs.Paths.{same_name}
-use Rattle.cg_cgroup.specs.Files.{all_files, file_name, file_named, entry_text, entry_known_as}
+use Rattle.cg_cgroup.specs.Files.{all_files, file_name, entry_text, entry_known_as, all_others, other_name, known_others}
 use Rattle.cg_cgroup.specs.Texts as texts
 use Rattle.cg_cgroup.specs.declared.files.LimitFile.{LimitFile}
 use Rattle.cg_cgroup.specs.declared.files.EntryName.{EntryName}
-use Rattle.cg_cgroup.specs.declared.files.Vocabulary.TheVariants.{Format2}
+use Rattle.cg_cgroup.specs.declared.other_file.OtherFile.{OtherFile}
 use Rattle.cg_cgroup.specs.declared.files.EntryName.TheVariants.{Dir, Procs, SubtreeControl, File, Other}
-use Rattle.cg_format.specs.Form.{Key, must_have, may_have, are_among, fits_at, is_table, owner_keys, limit_keys, file_keys_of, row_keys, is_text}
+use Rattle.cg_format.specs.Form.{Key, must_have, may_have, are_among, fits_at, is_table, vocabulary, owner_keys, limit_keys, text_keys, file_keys_of, row_keys, is_text}
 use Rattle.cg_text.specs.Keys.{flat_keys, takes, takes_all, allows_at, allows, allows_table}
 use Rattle.cg_format.specs.declared.format.Format.{Format}
 use Rattle.cg_format.specs.declared.format.Format.TheVariants.{One, Two, Four}
 use Rattle.cg_text.specs.declared.tree.form.FlatTable.{FlatTable}
-use Rattle.cg_text.specs.declared.tree.form.FlatTable.TheVariants.{Document, Process, Owner, Limit}
+use Rattle.cg_text.specs.declared.tree.form.FlatTable.TheVariants.{Document, Process, Owner, Limit, Further}
 
 -- ---- keys of different names
 
@@ -52,7 +54,7 @@ tied : (o : Ordering) (b : Bool) (found : Option Data) (held : Data) → b ≡ i
     ≡ cond b (Some held) found
 tied o b found held is = grind arith
 
-get_first : (key name : List ℕ) (held : Data) (rest : Members) → get_member key (member name held rest)
+pub get_first : (key name : List ℕ) (held : Data) (rest : Members) → get_member key (member name held rest)
     ≡ cond (same_name key name) (Some held) (get_member key rest)
 get_first key name held rest = tied (slice_cmp nat_cmp key name) (same_name key name) (get_member key rest) held (texts_ties key name)
 
@@ -64,7 +66,7 @@ and_swap a b c = grind arith
 and_three : (t all any l m : Bool) → (t && l) ≡ (any && m) → (t && (all && l)) ≡ ((any && all) && m)
 and_three t all any l m is = grind arith
 
-name_is : (one other : List ℕ) → same_name one other ≡ true → one ≡ other
+pub name_is : (one other : List ℕ) → same_name one other ≡ true → one ≡ other
 name_is one other same = (bytes_decides one other).0 same
 
 abbrev taken : Option Key → Data → Bool
@@ -165,9 +167,14 @@ flat_apart (Owner Four) = refl
 flat_apart (Limit One) = refl
 flat_apart (Limit Two) = refl
 flat_apart (Limit Four) = refl
+flat_apart (Further One) = refl
+flat_apart (Further Two) = refl
+flat_apart (Further Four) = refl
 
 pub file_apart : (format : Format) → are_apart (file_keys_of format) ≡ true
-file_apart format = refl
+file_apart One = refl
+file_apart Two = refl
+file_apart Four = refl
 
 pub row_apart : (format : Format) → are_apart (row_keys format) ≡ true
 row_apart format = refl
@@ -186,8 +193,34 @@ limit_allowed Two (table rows) = refl
 limit_allowed Four (table rows) = refl
 limit_allowed format held = refl
 
+pub text_allowed : (format : Format) (held : Data) → allows_table (text_keys format) held ≡ is_table (text_keys format) held
+text_allowed One (table rows) = refl
+text_allowed Two (table rows) = refl
+text_allowed Four (table rows) = refl
+text_allowed format held = refl
+
+-- at keys that may be left out
+may_allowed : {A : Type 0} (name : A → List ℕ) (test : Data → Bool) (rows : Members) (xs : List A)
+    → list_all (allows_at rows) (map_list (λ x. may_have (name x) test) xs)
+    ≡ list_all (fits_at rows) (map_list (λ x. may_have (name x) test) xs)
+may_allowed name test rows [] = refl
+may_allowed name test rows (x ∷ xs) = ap (λ b. allows_at rows (may_have (name x) test) && b) (may_allowed name test rows xs)
+
 pub files_allowed : (format : Format) (rows : Members) → allows (file_keys_of format) rows ≡ is_table (file_keys_of format) (table rows)
-files_allowed format rows = refl
+files_allowed format rows =
+    let others = known_others (vocabulary format) in
+    let limit : Data → Bool = is_table (limit_keys format) in
+    let text : Data → Bool = is_table (text_keys format) in
+    let files : List Key = map_list (λ file. may_have (file_name file) limit) all_files in
+    let further : List Key = map_list (λ file. may_have (other_name file) text) others in
+    ap
+    (λ b.
+    are_among (file_keys_of format) rows
+    && (allows_at rows (may_have texts.cgroup_procs (is_table (owner_keys format)))
+    && (allows_at rows (may_have texts.cgroup_subtree_control (is_table (owner_keys format))) && b)))
+    (list_all-append (allows_at rows) files further
+    ∙ (λ i. may_allowed file_name limit rows all_files i && may_allowed other_name text rows others i)
+    ∙ sym (list_all-append (fits_at rows) files further))
 
 -- ---- keys that have to be there
 
@@ -235,53 +268,118 @@ find_map test f (x ∷ xs) =
 abbrev pub takes_entry : Format → Option EntryName → Data → Bool
 takes_entry format None held = false
 takes_entry format (Some Dir) held = false
-takes_entry format (Some (Other file)) held = false
 takes_entry format (Some (File file)) held = is_table (limit_keys format) held
+takes_entry format (Some (Other file)) held = is_table (text_keys format) held
 takes_entry format (Some name) held = is_table (owner_keys format) held
 
 module _ (format : Format) (text : List ℕ) (held : Data) where
-  of_file : (found : Option LimitFile) → taken (option_map (λ file. may_have (file_name file) (is_table (limit_keys format))) found)
-      held ≡ takes_entry format (option_map File found) held
+  abbrev file_key : LimitFile → Key
+  file_key file = may_have (file_name file) (is_table (limit_keys format))
+
+  abbrev other_key : OtherFile → Key
+  other_key file = may_have (other_name file) (is_table (text_keys format))
+
+  abbrev is_entry : EntryName → Bool
+  is_entry name = same_name text (entry_text name)
+
+  of_file : (found : Option LimitFile) → taken (option_map file_key found) held ≡ takes_entry format (option_map File found) held
   of_file None = refl
   of_file (Some file) = refl
 
-  abbrev found_file : Option Key
-  found_file = find (has_name text) (map_list (λ file. may_have (file_name file) (is_table (limit_keys format))) all_files)
+  of_other : (found : Option OtherFile) → taken (option_map other_key found) held ≡ takes_entry format (option_map Other found) held
+  of_other None = refl
+  of_other (Some file) = refl
 
-  abbrev named_file : Option EntryName
-  named_file = find (λ name. same_name text (entry_text name)) (map_list File all_files)
+  files_taken : (files : List LimitFile)
+      → taken (find (has_name text) (map_list file_key files)) held ≡ takes_entry format (find is_entry (map_list File files)) held
+  files_taken files =
+      ap (λ found. taken found held) (find_map (has_name text) file_key files)
+      ∙ of_file (find (λ file. same_name text (file_name file)) files)
+      ∙ ap (λ found. takes_entry format found held) (sym (find_map is_entry File files))
 
-  files_taken : taken found_file held ≡ takes_entry format named_file held
-  files_taken =
-      ap (λ found. taken found held) (find_map (has_name text) (λ file. may_have (file_name file) (is_table (limit_keys format))) all_files)
-      ∙ of_file (file_named text)
-      ∙ ap (λ found. takes_entry format found held) (sym (find_map (λ name. same_name text (entry_text name)) File all_files))
+  others_taken : (others : List OtherFile)
+      → taken (find (has_name text) (map_list other_key others)) held ≡ takes_entry format (find is_entry (map_list Other others)) held
+  others_taken others =
+      ap (λ found. taken found held) (find_map (has_name text) other_key others)
+      ∙ of_other (find (λ file. same_name text (other_name file)) others)
+      ∙ ap (λ found. takes_entry format found held) (sym (find_map is_entry Other others))
 
-  owned_taken : (p s : Bool)
-      → taken (cond p (Some (may_have texts.cgroup_procs (is_table (owner_keys format))))
-      (cond s (Some (may_have texts.cgroup_subtree_control (is_table (owner_keys format)))) found_file)) held
-      ≡ takes_entry format (cond p (Some Procs) (cond s (Some SubtreeControl) named_file)) held
-  owned_taken true s = refl
-  owned_taken false true = refl
-  owned_taken false false = files_taken
+  either_taken : (file other : Option Key) (name also : Option EntryName) → is_some file ≡ is_some name
+      → taken file held ≡ takes_entry format name held → taken other held ≡ takes_entry format also held
+      → taken (option_or file other) held ≡ takes_entry format (option_or name also) held
+  either_taken None other None also some first later = later
+  either_taken None other (Some name) also some first later = absurd (true≢false (sym some))
+  either_taken (Some key) other None also some first later = absurd (true≢false some)
+  either_taken (Some key) other (Some name) also some first later = first
 
-  -- a value at the name of an entry
-  file_taken : takes (file_keys_of format) text held ≡ takes_entry format (entry_known_as Format2 text) held
-  file_taken =
-      elim (same_name text (codes "dir")) as (λ b. same_name text (codes "dir") ≡ b
-      → takes (file_keys_of format) text held
-      ≡ takes_entry format (cond b (Some Dir)
-      (cond (same_name text texts.cgroup_procs) (Some Procs)
-      (cond (same_name text texts.cgroup_subtree_control) (Some SubtreeControl) named_file))) held) [
-        | true ↦ λ same. ap (λ name. takes (file_keys_of format) name held) (name_is text (codes "dir") same)
-        | false ↦ λ other. owned_taken (same_name text texts.cgroup_procs) (same_name text texts.cgroup_subtree_control)
-      ] refl
+  both_found : (files : List LimitFile)
+      → is_some (find (has_name text) (map_list file_key files)) ≡ is_some (find is_entry (map_list File files))
+  both_found files =
+      ap is_some (find_map (has_name text) file_key files)
+      ∙ is_some-mapped file_key (find (λ file. same_name text (file_name file)) files)
+      ∙ sym (is_some-mapped File (find (λ file. same_name text (file_name file)) files)) ∙ ap is_some (sym (find_map is_entry File files))
 
-  -- a value at the name of this entry
-  pub entry_taken : (name : EntryName) (found : Option EntryName) (taken : Bool) → found ≡ entry_known_as Format2 text → found ≡ Some name
-      → taken ≡ takes_entry format (Some name) held → taken ≡ takes (file_keys_of format) text held
-  entry_taken name found taken is some told =
-      told ∙ sym (file_taken ∙ ap (λ found. takes_entry format found held) (sym is ∙ some))
+  named_taken : (files : List LimitFile) (others : List OtherFile)
+      → taken (find (has_name text) (map_list file_key files ++ map_list other_key others)) held
+      ≡ takes_entry format (find is_entry (map_list File files ++ map_list Other others)) held
+  named_taken files others =
+      ap (λ found. taken found held) (find-append (has_name text) (map_list file_key files) (map_list other_key others))
+      ∙ either_taken _ _ _ _ (both_found files) (files_taken files) (others_taken others)
+      ∙ ap (λ found. takes_entry format found held) (sym (find-append is_entry (map_list File files) (map_list Other others)))
+
+  module _ (others : List OtherFile) where
+    abbrev keys_with : List Key
+    keys_with =
+        may_have texts.cgroup_procs (is_table (owner_keys format)) ∷ may_have texts.cgroup_subtree_control (is_table (owner_keys format))
+        ∷ (map_list file_key all_files ++ map_list other_key others)
+
+    abbrev found_key : Option Key
+    found_key = find (has_name text) (map_list file_key all_files ++ map_list other_key others)
+
+    abbrev found_name : Option EntryName
+    found_name = find is_entry (map_list File all_files ++ map_list Other others)
+
+    owned_taken : (p s : Bool)
+        → taken (cond p (Some (may_have texts.cgroup_procs (is_table (owner_keys format))))
+        (cond s (Some (may_have texts.cgroup_subtree_control (is_table (owner_keys format)))) found_key)) held
+        ≡ takes_entry format (cond p (Some Procs) (cond s (Some SubtreeControl) found_name)) held
+    owned_taken true s = refl
+    owned_taken false true = refl
+    owned_taken false false = named_taken all_files others
+
+    -- a value at the name of an entry, where none has the name of the directory
+    file_taken : find (has_name (codes "dir")) (map_list other_key others) ≡ None
+        → takes keys_with text held
+        ≡ takes_entry format (find is_entry (Dir ∷ Procs ∷ SubtreeControl ∷ (map_list File all_files ++ map_list Other others))) held
+    file_taken none =
+        elim (same_name text (codes "dir")) as (λ b. same_name text (codes "dir") ≡ b
+        → takes keys_with text held
+        ≡ takes_entry format (cond b (Some Dir)
+        (cond (same_name text texts.cgroup_procs) (Some Procs)
+        (cond (same_name text texts.cgroup_subtree_control) (Some SubtreeControl) found_name))) held) [
+          | true ↦ λ same.
+              ap (λ name. takes keys_with name held) (name_is text (codes "dir") same) ∙ ap (λ found. taken found held) none
+          | false ↦ λ other. owned_taken (same_name text texts.cgroup_procs) (same_name text texts.cgroup_subtree_control)
+        ] refl
+
+-- a value at the name of an entry of the format
+known_taken : (format : Format) (text : List ℕ) (held : Data)
+    → takes (file_keys_of format) text held ≡ takes_entry format (entry_known_as (vocabulary format) text) held
+known_taken One text held = file_taken One text held [] refl
+known_taken Two text held = file_taken Two text held [] refl
+known_taken Four text held = file_taken Four text held all_others refl
+
+-- a value at the name of this entry
+pub entry_taken : (format : Format) (text : List ℕ) (held : Data) (name : EntryName) (found : Option EntryName) (taken : Bool)
+    → found ≡ entry_known_as (vocabulary format) text → found ≡ Some name
+    → taken ≡ takes_entry format (Some name) held → taken ≡ takes (file_keys_of format) text held
+entry_taken format text held name found taken is some told =
+    told ∙ sym (known_taken format text held ∙ ap (λ found. takes_entry format found held) (sym is ∙ some))
+
+pub none_taken : (format : Format) (text : List ℕ) (held : Data) (found : Option EntryName)
+    → found ≡ entry_known_as (vocabulary format) text → found ≡ None → false ≡ takes (file_keys_of format) text held
+none_taken format text held found is none =
+    sym (known_taken format text held ∙ ap (λ found. takes_entry format found held) (sym is ∙ none))
 
 -- for a table of files, whose keys name entries
-pub ruleset of_entries = (owner_allowed, limit_allowed, entry_taken)
+pub ruleset of_entries = (owner_allowed, limit_allowed, text_allowed, entry_taken, none_taken)

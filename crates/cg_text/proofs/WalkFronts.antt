@@ -2,24 +2,27 @@
 use Rattle.std.proofs.Common.{◌≡◌, ℕ, zero, suc, ◌+◌, ◌-◌, ◌<◌, ◌≤◌, Bool, true, false, ◌&&◌, cond, List, [], ◌∷◌, ◌++◌, length, take, get_or, map as map_list, reverse, Option, Some, None, is_some, refl, sym, ap, subst, ◌∙◌, true≢false, arith, ltb, eqb, ◌⊎◌, inl, inr, ⊎_elim, min}
 use Rattle.std.specs.Prelude.{find, option_and_then, unwrap_or}
 use Rattle.std.specs.Option.{option_map, option_to_list}
+use Rattle.std.specs.List.{cons_option}
 use Rattle.std.specs.Ordering.{is_le, is_lt, is_gt}
 use Rattle.std.specs.declared.cmp.Ordering.TheVariants.{Equal}
 use Rattle.std.proofs.lemmas.Bool.{cases_lt, false_from_ne_true, ltb-true, ltb-false, eq-eqb, ne_eqb}
 use Rattle.std.proofs.lemmas.Bool.Decides.{nat_tests}
 use Rattle.std.proofs.lemmas.List.{append-nil, append_assoc, reverse-append, length_push, get_or_push, get_or_append_left, take_all, take-take, length-take-le, map_push, same_from_push}
 use Rattle.std.proofs.lemmas.List.Folds.{Any-from_list_any, list_any_at}
+use Rattle.std.proofs.lemmas.List.Elements.{filter_map-append}
 use Rattle.std.proofs.lemmas.List.Sorted.{sorted_far, ranks_by, IsPermutation-reverse, list_any-IsPermutation}
 use Rattle.std.proofs.lemmas.Option.{slice_get-get_or}
 use Rattle.cg_cgroup.specs.Paths.{Names, path_cmp, same_path, inside, common}
 use Rattle.cg_cgroup.specs.Files.{no_controllers}
 use Rattle.cg_cgroup.specs.declared.controllers.ControllerSet.{ControllerSet}
 use Rattle.cg_cgroup.specs.declared.cgroup.Cgroup.{Cgroup}
+use Rattle.cg_cgroup.specs.declared.told.ToldFiles.{ToldFiles}
 use Rattle.cg_cgroup.proofs.Options.{none_value}
 use Rattle.cg_cgroup.proofs.PathOrder.{path_cmp_total, path_cmp-IsAntisymmetric, same_path-is, same_path_refl, same_path_comm, same_path-not}
 use Rattle.cg_cgroup.proofs.PathParents.{inside-take}
 use Rattle.cg_cgroup.proofs.PathLaws.{inside_between, inside-length, common-longest, common-take, common-take_first, common-inside_second}
 use Rattle.cg_text.specs.declared.tree.walk.Walk.{Walk}
-use Rattle.cg_text.specs.Walk.{HasMet, HasTested, has_met, enabled_by, over_in, over_at, fitted_to, entries_from, last_of, front_at, fronts_below, met_at, fronts_above, fronts, is_front, AreInOrder, IsNext}
+use Rattle.cg_text.specs.Walk.{HasMet, HasTested, has_met, enabled_by, over_in, over_at, fitted_to, entries_from, told_here, told_from, last_of, front_at, fronts_below, met_at, fronts_above, fronts, is_front, AreInOrder, IsNext}
 use Rattle.cg_text.specs.declared.tree.row.Row.{Row}
 use Rattle.cg_text.specs.declared.tree.walk.Above.{Above}
 use Rattle.cg_format.proofs.Cuts.{not_empty, is_some-find}
@@ -329,6 +332,15 @@ pub entries_push : (met : List Row) (row : Row)
     ≡ entries_from [] met ++ (row.path, fitted_to (unwrap_or (over_in no_controllers met row.path) no_controllers) row.cgroup) ∷ []
 entries_push met row = entries_behind [] met row
 
+-- a row behind all others is told of behind them
+pub told_push : (met : List Row) (row : Row) → told_from (met ++ row ∷ []) ≡ told_from met ++ option_to_list (told_here row)
+told_push met row =
+    filter_map-append told_here met (row ∷ []) ∙ ap (λ last. told_from met ++ last) (of_one (told_here row))
+  where
+    of_one : (here : Option (Names × ToldFiles)) → cons_option here [] ≡ option_to_list here
+    of_one None = refl
+    of_one (Some files) = refl
+
 fronts_none : (path : Names) → fronts_above [] path ≡ []
 fronts_none path = fronts_until (met_at [] path) 0 (length path) (omega arith) (λ k l m. refl)
 
@@ -435,13 +447,15 @@ pub met_next : (controllers : ControllerSet) (met : List Row) (row : Row) (old n
     → HasMet controllers met old → above ≡ fronts_above met row.path → len ≡ length row.path → over ≡ over_in no_controllers met row.path
     → new.above.items ≡ above ++ record { len = len; enabled = row.cgroup.enabled } ∷ []
     → new.entries.items ≡ old.entries.items ++ (row.path, fitted_to (unwrap_or over no_controllers) row.cgroup) ∷ []
+    → new.told.items ≡ old.told.items ++ option_to_list (told_here row)
     → HasTested controllers (met ++ row ∷ []) new.least
     → HasMet controllers (met ++ row ∷ []) new
-met_next controllers met row old new above len over has are long known pushed_above pushed_entries tested = record {
+met_next controllers met row old new above len over has are long known pushed_above pushed_entries pushed_told tested = record {
   entries =
       pushed_entries
       ∙ (λ i. has.entries i ++ (row.path, fitted_to (unwrap_or (known i) no_controllers) row.cgroup) ∷ [])
       ∙ sym (entries_push met row);
+  told = pushed_told ∙ ap (λ told. told ++ option_to_list (told_here row)) has.told ∙ sym (told_push met row);
   none = λ e. absurd (omega (arith, ap length e, length_push met row));
   above = λ other rows e.
       pushed_above

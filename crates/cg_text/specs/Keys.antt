@@ -4,17 +4,18 @@ use Rattle.std.specs.Prelude.{ℕ, Bool, true, false, ◌&&◌, ◌||◌, List, 
 use Rattle.std.specs.List.{list_all}
 use Rattle.cg_cgroup.specs.Paths.{same_name}
 use Rattle.toml.specs.Data.{Data, table, Members, no_members, member, get_member, as_table}
-use Rattle.cg_format.specs.Form.{Key, is_text, is_integer, is_array, are_texts, are_among, document_keys, live_keys, owner_keys, limit_keys}
+use Rattle.cg_format.specs.Form.{Key, is_text, is_integer, is_array, are_texts, are_among, document_keys, live_keys, owner_keys, limit_keys, text_keys}
 use Rattle.cg_text.specs.declared.tree.takes.Takes.{Takes}
-use Rattle.cg_text.specs.declared.tree.takes.Takes.TheVariants.{Integer, Text, Texts, Table as TheTable, Tables, Value as TheValue}
+use Rattle.cg_text.specs.declared.tree.takes.Takes.TheVariants.{Integer, Text, Texts, Table as TheTable, Tables, Value as TheValue, Lines}
 use Rattle.cg_text.specs.declared.tree.form.FlatTable.{FlatTable}
-use Rattle.cg_text.specs.declared.tree.form.FlatTable.TheVariants.{Document, Process, Owner, Limit}
+use Rattle.cg_text.specs.declared.tree.form.FlatTable.TheVariants.{Document, Process, Owner, Limit, Further}
 
 abbrev pub flat_keys : FlatTable → List Key
 flat_keys Document = document_keys
 flat_keys Process = live_keys
 flat_keys (Owner format) = owner_keys format
 flat_keys (Limit format) = limit_keys format
+flat_keys (Further format) = text_keys format
 
 -- whether a value is of a type
 abbrev pub admits : Takes → Data → Bool
@@ -24,6 +25,7 @@ admits Texts held = are_texts held
 admits TheTable held = is_some (as_table held)
 admits Tables held = is_array held
 admits TheValue held = is_integer held || is_text held
+admits Lines held = is_integer held || is_text held || are_texts held
 
 -- whether a key that takes this may have a value; nothing stands at a key that there isn't
 abbrev pub takes_as : Option Takes → Data → Bool

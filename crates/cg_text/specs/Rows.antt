@@ -1,15 +1,15 @@
 -- How it is read and written: nobody has to believe it.
 -- The reader's row of a cgroup, held against what the cgroup's table says.
-use Rattle.std.specs.Prelude.{◌≡◌, ℕ, ◌+◌, Bool, true, false, ◌&&◌, List, [], ◌∷◌, ◌++◌, String, codes, Option, Some, None, is_some, unwrap_or, option_and_then}
+use Rattle.std.specs.Prelude.{◌≡◌, ℕ, ◌+◌, Bool, true, false, ◌&&◌, ◌||◌, not, cond, List, [], ◌∷◌, ◌++◌, String, codes, Option, Some, None, is_some, unwrap_or, option_and_then}
 use Rattle.std.specs.Option.{option_map}
 use Rattle.std.specs.List.{list_all, list_any}
 use Rattle.std.specs.Borrow.{Bor}
 use Rattle.std.specs.BTreeMap.{BTreeMap}
 use Rattle.std.specs.declared.alloc.Global.{Global}
-use Rattle.toml.specs.Data.{Members, no_members}
+use Rattle.toml.specs.Data.{Members, no_members, member}
 use Rattle.toml.specs.View.{table_view}
 use Rattle.toml.specs.declared.value.Value.{Value}
-use Rattle.cg_cgroup.specs.Files.{all_files, format_2_entries, entry_text, is_beyond, controller_of, same_controller, set_by}
+use Rattle.cg_cgroup.specs.Files.{all_files, format_2_entries, entry_text, is_beyond, controller_of, same_controller, set_by, known_others, entry_known_as}
 use Rattle.cg_cgroup.specs.Cgroups.{file_of, entry_in, value_in as value_at, root_file}
 use Rattle.cg_cgroup.specs.declared.user.Entry.{Entry}
 use Rattle.cg_cgroup.specs.declared.files.Limit.{Limit}
@@ -17,11 +17,17 @@ use Rattle.cg_cgroup.specs.declared.files.Controller.{Controller}
 use Rattle.cg_cgroup.specs.declared.controllers.ControllerSet.{ControllerSet}
 use Rattle.cg_cgroup.specs.declared.files.LimitFile.{LimitFile}
 use Rattle.cg_cgroup.specs.declared.files.EntryName.{EntryName}
-use Rattle.cg_cgroup.specs.declared.files.EntryName.TheVariants.{Dir, File}
+use Rattle.cg_cgroup.specs.declared.files.EntryName.TheVariants.{Dir, File, Other}
+use Rattle.cg_cgroup.specs.declared.files.Vocabulary.TheVariants.{Format2}
+use Rattle.cg_cgroup.specs.declared.other_file.OtherFile.{OtherFile}
+use Rattle.cg_cgroup.specs.declared.told.ToldFile.{ToldFile}
+use Rattle.cg_cgroup.specs.declared.told.ToldFiles.{ToldFiles}
+use Rattle.cg_cgroup.specs.Told.{told_by, telling}
 use Rattle.cg_cgroup.specs.declared.cgroup.LimitEntry.{LimitEntry}
 use Rattle.cg_cgroup.specs.declared.cgroup.Cgroup.{Cgroup}
 use Rattle.cg_model.specs.Clauses.{unless}
-use Rattle.cg_format.specs.Said.{table_at, path_said, known_said, owner_said, limit_said, mode_missing, entry_said, value_said, is_named}
+use Rattle.cg_format.specs.Form.{vocabulary}
+use Rattle.cg_format.specs.Said.{table_at, path_said, known_said, owner_said, limit_said, mode_missing, entry_said, value_said, is_named, text_said, file_said, told_row}
 use Rattle.cg_format.specs.declared.format.Format.{Format}
 use Rattle.cg_format.specs.declared.fault.TreeFault.{TreeFault}
 use Rattle.cg_format.specs.declared.fault.TreeFault.TheVariants.{BadEntry, BadValue}
@@ -75,6 +81,56 @@ entry_faults entries =
     unless (list_all (λ name. is_some (owner_in entries name)) format_2_entries) (BadEntry entries.place)
     ++ unless (list_all (λ file. is_some (limit_in entries file)) all_files) (BadValue entries.place)
 
+-- ---- the limit files beyond `LimitFile`
+
+-- a text and a line behind it
+abbrev pub line_added : Bool → List ℕ → List ℕ → List ℕ
+line_added is_first text line = cond is_first (text ++ line) (text ++ 10 ∷ line)
+
+-- whether a table has a key that is no name of formats 1 and 2
+abbrev pub has_beyond : Members → Bool
+has_beyond no_members = false
+has_beyond (member name held rest) = not (is_some (entry_known_as Format2 name)) || has_beyond rest
+
+-- those that the format names
+abbrev pub others_of : Entries → List OtherFile
+others_of entries = known_others (vocabulary entries.format)
+
+abbrev pub names_other : Entries → OtherFile → Bool
+names_other entries file = is_some (table_in entries (Other file))
+
+abbrev pub is_owned : Entries → OtherFile → Bool
+is_owned entries file = is_some (owner_in entries (Other file))
+
+abbrev pub has_text : Entries → OtherFile → Bool
+has_text entries file = is_some (text_said (unwrap_or (table_in entries (Other file)) no_members))
+
+-- whether one is named, whether the owner of each is so, and whether the value of each is
+abbrev pub tells_in : Entries → Bool
+tells_in entries = list_any (names_other entries) (others_of entries)
+
+abbrev pub are_owned_in : Entries → Bool
+are_owned_in entries = list_all (is_owned entries) (others_of entries)
+
+abbrev pub have_texts_in : Entries → Bool
+have_texts_in entries = list_all (has_text entries) (others_of entries)
+
+-- what is told of one, of these and one more, and of all
+abbrev pub told_at : Entries → OtherFile → Option ToldFile
+told_at entries file = option_and_then (file_said entries.format) (table_in entries (Other file))
+
+abbrev pub told_with : Option ToldFile → OtherFile → ToldFiles → ToldFiles
+told_with None file files = files
+told_with (Some told) file files = telling file (Some told) files
+
+abbrev pub told_of : Entries → Option ToldFiles
+told_of entries = cond (tells_in entries) (Some (told_by (told_at entries))) None
+
+abbrev pub told_in_row : Row → Option ToldFiles
+told_in_row row = option_map (λ boxed. boxed.value) row.told
+
+-- ---- rows
+
 -- a cgroup with all files, as these tables and the defaults say
 pub record IsCgroupOf (said : Entries) (controllers : ControllerSet) (cgroup : Cgroup) : Type 0 where
   pub enabled : cgroup.enabled ≡ controllers
@@ -93,6 +149,7 @@ pub record IsReadAs (format : Format) (i : ℕ) (table : Members) (row : Row) : 
   pub needed : row.needed ≡ needed_where (λ file. is_named (File file) table)
   pub files : (file : LimitFile) → is_some (file_of row.cgroup file) ≡ true
   pub freeze : row.cgroup.freeze ≡ root_file
+  pub told : told_in_row row ≡ told_row format table
 
 -- rows as tables say them, the first of which has the number i
 abbrev pub AreReadAs : Format → ℕ → List Members → List Row → Type 0

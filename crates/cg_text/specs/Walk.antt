@@ -1,6 +1,6 @@
 -- How it is read and written: nobody has to believe it.
 -- The reader's walk over rows in the order of their paths: what is above each, and which test it fails. Own.
-use Rattle.std.specs.Prelude.{◌≡◌, ℕ, ◌-◌, option_and_then, ◌≤◌, nat_lt, nat_eq, Bool, true, false, ◌&&◌, not, cond, List, [], ◌∷◌, ◌++◌, length, take, Option, Some, None, is_some, unwrap_or, find, reverse, slice_get, zero, suc}
+use Rattle.std.specs.Prelude.{◌≡◌, ℕ, ◌-◌, option_and_then, ◌≤◌, nat_lt, nat_eq, Bool, true, false, ◌&&◌, ◌||◌, not, cond, List, [], ◌∷◌, ◌++◌, length, take, Option, Some, None, is_some, unwrap_or, find, reverse, filter_map, slice_get, zero, suc}
 use Rattle.std.specs.Option.{option_map}
 use Rattle.std.specs.List.{list_any}
 use Rattle.std.specs.List.Sorted.{IsSortedByKey}
@@ -11,9 +11,12 @@ use Rattle.cg_cgroup.specs.declared.controllers.ControllerSet.{ControllerSet}
 use Rattle.cg_cgroup.specs.declared.files.LimitFile.{LimitFile}
 use Rattle.cg_cgroup.specs.declared.cgroup.LimitEntry.{LimitEntry}
 use Rattle.cg_cgroup.specs.declared.cgroup.Cgroup.{Cgroup}
+use Rattle.cg_cgroup.specs.declared.told.ToldFiles.{ToldFiles}
+use Rattle.cg_format.specs.TextFaults.{tell_standing}
 use Rattle.cg_format.specs.declared.fault.Place.TheVariants.{Cgroup as AtCgroup}
 use Rattle.cg_format.specs.declared.fault.TreeFault.{TreeFault}
 use Rattle.cg_format.specs.declared.fault.TreeFault.TheVariants.{Duplicate, NoRoot, NoParent, TopDown, NoSuchFile}
+use Rattle.cg_text.specs.Rows.{told_in_row}
 use Rattle.cg_text.specs.declared.tree.row.Row.{Row}
 use Rattle.cg_text.specs.declared.tree.walk.Above.{Above}
 use Rattle.cg_text.specs.declared.tree.walk.Least.{Least}
@@ -47,6 +50,13 @@ abbrev pub entries_from : List Row → List Row → List (Names × Cgroup)
 entries_from met [] = []
 entries_from met (row ∷ rows) = (row.path, fitted_to (unwrap_or (over_in no_controllers met row.path) no_controllers) row.cgroup) ∷ entries_from (met ++ row ∷ []) rows
 
+-- what rows tell of the limit files beyond `LimitFile`
+abbrev pub told_here : Row → Option (Names × ToldFiles)
+told_here row = option_map (λ files. (row.path, files)) (told_in_row row)
+
+abbrev pub told_from : List Row → List (Names × ToldFiles)
+told_from rows = filter_map told_here rows
+
 -- ---- the tests
 
 abbrev pub is_orphan : List Row → Row → Bool
@@ -58,8 +68,15 @@ is_past set over = elim over [ None ↦ false | Some other ↦ not (is_within se
 abbrev pub is_not_within : ControllerSet → List Row → Row → Bool
 is_not_within controllers met row = is_past row.cgroup.enabled (over_in controllers met row.path)
 
+-- whether one of these doesn't stand under what is over its path, where that is known
+abbrev pub tells_past : Names → Option ToldFiles → Option ControllerSet → Bool
+tells_past path told over = elim over [ None ↦ false | Some above ↦ not (tell_standing path above told) ]
+
+abbrev pub names_past : Row → Option ControllerSet → Bool
+names_past row over = is_past row.needed over || tells_past row.path (told_in_row row) over
+
 abbrev pub has_no_file : List Row → Row → Bool
-has_no_file met row = is_past row.needed (over_in no_controllers met row.path)
+has_no_file met row = names_past row (over_in no_controllers met row.path)
 
 -- The least number of a row that fails a test behind those before it.
 pub record IsLeast (fails : List Row → Row → Bool) (rows : List Row) (least : Option ℕ) : Type 0 where
@@ -82,7 +99,7 @@ least_behind controllers twice over row least = record {
   twice = noted least.twice row.number twice;
   orphan = noted least.orphan row.number (not (is_some over));
   not_within = noted least.not_within row.number (is_past row.cgroup.enabled (cond (is_root row.path) (Some controllers) over));
-  no_file = noted least.no_file row.number (is_past row.needed over);
+  no_file = noted least.no_file row.number (names_past row over);
 }
 
 -- the first fault of the least numbers
@@ -150,6 +167,7 @@ pub record HasTested (controllers : ControllerSet) (met : List Row) (least : Lea
 -- The walk has met these rows.
 pub record HasMet (controllers : ControllerSet) (met : List Row) (walk : Walk) : Type 0 where
   pub entries : walk.entries.items ≡ entries_from [] met
+  pub told : walk.told.items ≡ told_from met
   pub none : met ≡ [] → walk.above.items ≡ []
   pub above : (row : Row) (rows : List Row) → met ≡ rows ++ row ∷ [] → walk.above.items ≡ fronts met row.path
   pub tested : HasTested controllers met walk.least

@@ -65,10 +65,15 @@ fn tree_of(alloc: Global, mut document: Table) -> Result<Rows, TreeFault>
     ))?;
     // a row of the document is dropped once it is read
     let rows = rows_of(alloc, format, take_elements(alloc, &mut document, "cgroup"))?;
-    let cgroups = PathTable::from_sorted(walked(alloc, rows, controllers)?);
+    let met = walked(alloc, rows, controllers)?;
+    let cgroups = PathTable::from_sorted(met.cgroups);
     let processes = processes_of(alloc, &cgroups, elements_at(&document, "process"))?;
-    // no text tells of further limit files
-    Ok(Rows::from_tables(cgroups, processes, PathTable::new(alloc), controllers))
+    Ok(Rows::from_tables(
+        cgroups,
+        processes,
+        PathTable::from_sorted(met.told),
+        controllers,
+    ))
 }
 
 /// What a text says, or the text's first fault. `NoMemory` where an allocation was refused.

@@ -1,6 +1,6 @@
 -- A try of one operation breaks where it is allowed and its step breaks.
 use Rattle.std.proofs.Common.{◌≡◌, ℕ, Bool, true, false, cond, not, ◌&&◌, ◌≢◌, List, [], ◌∷◌, Some, None, is_some, option_map, nat_eq, refl, sym, ap, ◌∙◌, true≢false, arith}
-use Rattle.std.proofs.lemmas.Bool.{and_from, eqb-true, eqb-false}
+use Rattle.std.proofs.lemmas.Bool.{and_from, eqb-true, eqb-false, not-true}
 use Rattle.std.proofs.Math.Bool.{and-true}
 use Rattle.cg_cgroup.specs.Paths.{Names, inside}
 use Rattle.cg_cgroup.specs.Identity.{Identity}
@@ -19,6 +19,7 @@ use Rattle.cg_cgroup.specs.declared.told.FileText.{FileText}
 use Rattle.cg_cgroup.specs.declared.told.ToldFile.{ToldFile}
 use Rattle.cg_cgroup.specs.declared.user.Entry.{Entry}
 use Rattle.cg_model.proofs.StateTold.{told_at-telling}
+use Rattle.cg_cgroup.proofs.AllOthers.{each_other}
 use Rattle.cg_cgroup.proofs.Options.{mapped_from, same_some}
 use Rattle.cg_cgroup.proofs.PathOrder.{same_path_refl}
 use Rattle.cg_cgroup.proofs.CgroupLaws.{same_file-refl, same_other-refl}
@@ -154,23 +155,21 @@ set_try st user subtree file value whole is = where_allowed st user subtree (Set
 
 -- ---- set of a limit file beyond `LimitFile`
 
--- of two texts the first that isn't the file's
+-- the two texts of a file differ
+two_texts : (file : OtherFile) → same_name (other_kind file).loose (other_kind file).other ≡ false
+two_texts file = not-true _ (each_other (λ file. not (same_name (other_kind file).loose (other_kind file).other)) refl file)
+
+-- of the two the one that isn't the file's
 pub text_differs : (file : OtherFile) (had : Option FileText) → had ≢ Some (other_text file had)
 text_differs file None is = cc
 text_differs file (Some text) is =
     elim (same_name (other_kind file).loose text) as (λ b. same_name (other_kind file).loose text ≡ b
-    → Some text ≢ Some (unwrap_or (cond (not b) (Some (other_kind file).loose)
-    (cond (not (same_name (codes "max") text)) (Some (codes "max")) None)) (codes "0"))) [
+    → Some text ≢ Some (cond b (other_kind file).other (other_kind file).loose)) [
       | false ↦ λ apart is.
           true≢false (sym ((bytes_decides (other_kind file).loose text).1 (sym (same_some text (other_kind file).loose is))) ∙ apart)
-      | true ↦ λ _ is.
-          elim (same_name (codes "max") text) as (λ b. same_name (codes "max") text ≡ b
-          → Some text ≢ Some (unwrap_or (cond (not b) (Some (codes "max")) None) (codes "0"))) [
-            | false ↦ λ apart is. true≢false (sym ((bytes_decides (codes "max") text).1 (sym (same_some text (codes "max") is))) ∙ apart)
-            | true ↦ λ same is.
-                true≢false (sym ((bytes_decides (codes "max") (codes "0")).1
-                ((bytes_decides (codes "max") text).0 same ∙ same_some text (codes "0") is)) ∙ refl)
-          ] refl is
+      | true ↦ λ same is.
+          true≢false (sym ((bytes_decides (other_kind file).loose (other_kind file).other).1
+          ((bytes_decides (other_kind file).loose text).0 same ∙ same_some text (other_kind file).other is)) ∙ two_texts file)
     ] refl is
 
 text_set : (st : State) (subtree : Names) (file : OtherFile) (told : ToldFile) (value : FileText) → file_told st subtree file ≡ Some told

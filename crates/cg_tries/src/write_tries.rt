@@ -89,17 +89,15 @@ fn has_text(had: Option<&FileText>, text: &str) -> bool
     }
 }
 
-/// Another text than the file's, one that loosens it where there is one.
+/// Another text than the file's, the one that loosens it where it doesn't have that.
 fn other_text(file: OtherFile, had: Option<&FileText>) -> &'static str
     ensures { result.now ≡ other_text file (option_copied had.entry) }
 {
-    if !has_text(had, file.loose()) {
-        return file.loose();
+    if has_text(had, file.loose()) {
+        file.other()
+    } else {
+        file.loose()
     }
-    if !has_text(had, "max") {
-        return "max";
-    }
-    "0"
 }
 
 /// A limit file of the subtree beyond `LimitFile` to another text than it had, where the user writes it.

@@ -203,17 +203,12 @@ fn other_value(file: LimitFile, value: Limit) -> Limit {
     }
 }
 
-/// Another text than that of a file, one that loosens it where there is one.
+/// Another text than that of a file, the one that loosens it where it doesn't have that.
 fn other_text(file: OtherFile, had: Option<&FileText>) -> &'static str {
-    let Some(had) = had else {
-        return file.loose();
-    };
-    for text in [file.loose(), "max"] {
-        if text != had.text.as_str() {
-            return text;
-        }
+    match had {
+        Some(had) if had.text.as_str() == file.loose() => file.other(),
+        _ => file.loose(),
     }
-    "0"
 }
 
 /// The sets of the subtree's limit files beyond `LimitFile`.

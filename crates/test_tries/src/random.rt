@@ -67,7 +67,7 @@ fn set(alloc: Global, random: &mut Random, tree: &Rows) -> Result<Op, NoMemory> 
 fn set_other(alloc: Global, random: &mut Random, tree: &Rows) -> Result<Op, NoMemory> {
     let at = path_of(alloc, random, tree)?;
     let file = random.one_of(&OtherFile::ALL, OtherFile::CpuMax);
-    let text = random.one_of(&[file.loose(), "max", "0"], "max");
+    let text = random.one_of(&[file.loose(), file.other(), "0"], "max");
     let value = FileText {
         text: String::from_str(alloc, text)?,
     };

@@ -198,7 +198,7 @@ pub fn texts()
     ensures one_text { (vocabulary : Vocabulary) (st : State) (text other : List ℕ)
         → IsSpelled vocabulary st text → IsSpelled vocabulary st other → text ≡ other }
     ensures read_again { (vocabulary : Vocabulary) (text : List ℕ) (st : State)
-        → document_of text ≡ Some (tree_document vocabulary st) → IsKept st → IsCarried vocabulary st
+        → document_of text ≡ Some (tree_document vocabulary st) → IsKept vocabulary st → IsCarried vocabulary st
         → length text ≤ longest_text text → IsTextOf st text }
 {}
 

@@ -1,13 +1,15 @@
 //! Keys that are missing, unknown or of the wrong type: what is to be written, and what holds where one is left out.
 use crate::names::listed;
 use crate::trees::places::shown_value;
+use cg_cgroup::files::Vocabulary;
+use cg_cgroup::other_file::OtherFile;
 use cg_text::tree::takes::Takes;
 use cg_text::tree::told::keys::Kind;
 use cg_text::tree::told::{At, Told};
 use std::alloc::{AllocError, Global};
 use text_places::near::nearest_of;
 use text_places::shown::quoted;
-use toml::Value;
+use toml::{Table, Value};
 
 /// What is wrong in a row, behind the table within it that has it.
 pub(super) fn fronted(alloc: Global, at: At<'_>, why: &str) -> Result<String, AllocError> {
@@ -25,6 +27,11 @@ pub(super) fn unknown_said(
     held: Option<&Value>,
 ) -> Result<String, AllocError> {
     let shown = quoted(alloc, key)?;
+    if is_of_format_4(kind, key) {
+        return format!(in alloc;
+            "there is no key {shown}: left out, what it says counts in no answer; format = 4 has it"
+        );
+    }
     let keys = kind.keys(alloc)?;
     if let Some(name) = unquoted(key, held, keys.as_slice()) {
         return format!(in alloc;
@@ -32,7 +39,7 @@ pub(super) fn unknown_said(
         );
     }
     let Some(near) = nearest_of(alloc, key, keys.as_slice())? else {
-        let names = listed(alloc, keys.as_slice())?;
+        let names = listed(alloc, akin(alloc, key, keys)?.as_slice())?;
         return format!(in alloc;
             "there is no key {shown}: left out, what it says counts in no answer; there are{names}"
         );
@@ -45,6 +52,29 @@ pub(super) fn unknown_said(
     }
 }
 
+/// Those of some names that have a key's first part, before a dot; all where none has.
+fn akin<'k>(alloc: Global, key: &str, names: Vec<&'k str>) -> Result<Vec<&'k str>, AllocError> {
+    let mut akin = Vec::new(alloc);
+    for name in &names {
+        if first_part(name) == first_part(key) {
+            akin.push(*name)?;
+        }
+    }
+    if akin.is_empty() { Ok(names) } else { Ok(akin) }
+}
+
+fn first_part(name: &str) -> &str {
+    match name.split_once('.') {
+        Some((first, _)) => first,
+        None => name,
+    }
+}
+
+/// Whether a key of a table of format 1 or 2 is one of format 4.
+fn is_of_format_4(kind: Kind, key: &str) -> bool {
+    kind == Kind::Files(Vocabulary::Format2) && OtherFile::from_name(key).is_some()
+}
+
 /// What holds where a key is left out that needn't be there.
 fn without(kind: Kind, key: &str) -> Option<&'static str> {
     let said = match (kind, key) {
@@ -53,9 +83,12 @@ fn without(kind: Kind, key: &str) -> Option<&'static str> {
         (Kind::Cgroup, "enabled") => "the cgroup enables no controller",
         (Kind::Cgroup, "dir") => "root owns the directory, with mode 0o755",
         (Kind::Cgroup, "files") => "root owns each file, with mode 0o644 and its default value",
-        (Kind::Files, name) => without_file(name),
+        (Kind::Files(_), name) => without_file(name),
         (Kind::Dir, "mode") => "its mode is 0o755",
-        (Kind::Dir | Kind::ControlFile | Kind::LimitFile, _) => without_owner(key),
+        (Kind::FurtherFile, "value") => "nothing is told of its value",
+        (Kind::Dir | Kind::ControlFile | Kind::LimitFile | Kind::FurtherFile, _) => without_owner(
+            key,
+        ),
         _ => return None,
     };
     Some(said)
@@ -64,6 +97,7 @@ fn without(kind: Kind, key: &str) -> Option<&'static str> {
 fn without_file(name: &str) -> &'static str {
     match Kind::of_file(name) {
         Kind::LimitFile => "root owns it, with mode 0o644 and its default value",
+        Kind::FurtherFile => "root owns it, with mode 0o644, and nothing is told of its value",
         _ => "root owns it, with mode 0o644",
     }
 }
@@ -77,10 +111,52 @@ fn without_owner(key: &str) -> &'static str {
     }
 }
 
-/// The name with dots that was written without quotes, which makes a table at each of its dots.
+/// The name with dots that was written without quotes, which makes a table at each of its dots: the longest that stands there whole,
+/// or else one that begins so.
 fn unquoted<'k>(key: &str, held: Option<&Value>, keys: &[&'k str]) -> Option<&'k str> {
-    for (inner, _) in held?.as_table()? {
-        if let Some(name) = beginning(key, inner.as_str(), keys) {
+    let table = held?.as_table()?;
+    match longest_written(key, table, keys) {
+        Some(name) => Some(name),
+        None => begun(key, table, keys),
+    }
+}
+
+/// The longest of some names that is written whole.
+fn longest_written<'k>(key: &str, table: &Table, names: &[&'k str]) -> Option<&'k str> {
+    let mut longest: Option<&'k str> = None;
+    for name in names {
+        let len = longest.unwrap_or("").len();
+        if len < name.len() && is_written(name, key, table) {
+            longest = Some(*name);
+        }
+    }
+    longest
+}
+
+/// Whether a name's first part is this key, and its others lead from there to something.
+fn is_written(name: &str, key: &str, table: &Table) -> bool {
+    match name.split_once('.') {
+        Some((front, rest)) => front == key && leads(rest, table),
+        None => false,
+    }
+}
+
+/// Whether these parts, between dots, lead from a table to something.
+fn leads(parts: &str, table: &Table) -> bool {
+    let mut inner = Some(table);
+    for part in parts.split('.') {
+        let Some(held) = inner.and_then(|table| table.get(part)) else {
+            return false;
+        };
+        inner = held.as_table();
+    }
+    true
+}
+
+/// The first of some names that begins with a key and one of the table that stands there.
+fn begun<'k>(key: &str, table: &Table, names: &[&'k str]) -> Option<&'k str> {
+    for (inner, _) in table {
+        if let Some(name) = beginning(key, inner.as_str(), names) {
             return Some(name);
         }
     }
@@ -99,14 +175,10 @@ fn beginning<'k>(first: &str, second: &str, names: &[&'k str]) -> Option<&'k str
 
 /// Whether a name begins with these two parts, between dots.
 fn begins_with(name: &str, first: &str, second: &str) -> bool {
-    let Some((front, rest)) = name.split_once('.') else {
-        return false;
-    };
-    let next = match rest.split_once('.') {
-        Some((next, _)) => next,
-        None => rest,
-    };
-    front == first && next == second
+    match name.split_once('.') {
+        Some((front, rest)) => front == first && first_part(rest) == second,
+        None => false,
+    }
 }
 
 /// That what stands at a key is of another type.
@@ -131,5 +203,6 @@ fn words_of(takes: Takes) -> &'static str {
         Takes::Table => "a table",
         Takes::Tables => "an array of tables, [[..]]",
         Takes::Value => "an integer or \"max\"",
+        Takes::Lines => "an integer, a text or an array of texts",
     }
 }

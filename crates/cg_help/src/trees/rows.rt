@@ -78,18 +78,18 @@ pub(super) fn file_said(
     alloc: Global,
     name: &str,
     controller: Controller,
-    above: Option<&str>,
+    above: &str,
 ) -> Result<String, AllocError> {
     let controller = controller.name();
-    match above {
-        Some(above) => {
-            let above = quoted(alloc, above)?;
-            format!(in alloc;
-                "{name} doesn't stand there: the row of '{above}' doesn't enable {controller}"
-            )
-        }
-        None => format!(in alloc; "{name} never stands at the root"),
-    }
+    let above = quoted(alloc, above)?;
+    format!(in alloc;
+        "{name} doesn't stand there: the row of '{above}' doesn't enable {controller}"
+    )
+}
+
+/// That a limit file never stands at the root.
+pub(super) fn root_said(alloc: Global, name: &str) -> Result<String, AllocError> {
+    format!(in alloc; "{name} never stands at the root")
 }
 
 /// That a process is in a cgroup that enables controllers.

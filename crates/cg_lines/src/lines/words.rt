@@ -1,9 +1,8 @@
 //! The words of operation lines.
 ghost use Rattle.std.specs.Prelude.{◌≡◌};
-ghost use Rattle.std.specs.List.{list_all};
 ghost use Rattle.std.specs.Option.{option_map};
 ghost use Rattle.cg_cgroup.specs.Files.{entry_known_as};
-ghost use Rattle.cg_lines.specs.OperationLines.{is_graphic, is_value_word, is_line_value};
+ghost use Rattle.cg_lines.specs.OperationLines.{is_line_value};
 ghost use Rattle.cg_lines.specs.LineReading.{ReadsAs, cut, number_at, pid_at, limit_at, text_value_at, other_known_as, octal_at, mode_at, change_at};
 
 use crate::lines::fault::LineFault;
@@ -12,6 +11,7 @@ use cg_cgroup::other_file::OtherFile;
 use cg_cgroup::process::Pid;
 use cg_cgroup::told::FileText;
 use cg_cgroup::user::Mode;
+use cg_cgroup::value::is_one_line;
 use cg_model::changes::Change;
 use std::alloc::Global;
 
@@ -57,31 +57,12 @@ pub fn limit_of(word: &str) -> Option<Limit>
     number_of(word).map(Limit::At)
 }
 
-/// Whether a byte is printable and no space.
-fn is_graphic(byte: u8) -> bool
-    ensures { result ≡ is_graphic byte }
-{
-    byte.is_ascii_graphic()
-}
-
-fn are_graphic(bytes: &[u8]) -> bool
-    ensures { result ≡ list_all is_graphic bytes.now }
-{
-    bytes.iter().all(|byte| is_graphic(*byte))
-}
-
-fn is_value_word(word: &str) -> bool
-    ensures { result ≡ is_value_word word.now }
-{
-    0 < word.len() && are_graphic(word.as_bytes())
-}
-
 /// Whether a line can hold a text as a value: printable words with one space between them, 1 to 3800 bytes.
 #[tactic(auto, unfolding(crate::specs::OperationLines::is_line_value))]
 pub fn is_line_value(text: &str) -> bool
     ensures { result ≡ is_line_value text.now }
 {
-    text.len() <= LONGEST_VALUE && text.split(' ').all(|word| is_value_word(word))
+    text.len() <= LONGEST_VALUE && is_one_line(text)
 }
 
 /// The value that a text is.

@@ -5,7 +5,8 @@ ghost use Rattle.cg_model.specs.Clauses.{first, unless};
 ghost use Rattle.toml.specs.Data.{Data, table, get_member};
 ghost use Rattle.toml.specs.View.{view, table_view};
 ghost use Rattle.cg_format.specs.declared.fault.TreeFault.TheVariants.{Shape};
-ghost use Rattle.cg_format.specs.Form.{document_keys, owner_keys, limit_keys, file_keys_of, row_keys, live_keys, is_table};
+ghost use Rattle.cg_cgroup.specs.Files.{entry_known_as};
+ghost use Rattle.cg_format.specs.Form.{vocabulary, document_keys, owner_keys, limit_keys, file_keys_of, row_keys, live_keys, is_table};
 ghost use Rattle.cg_format.specs.TextFaults.{each_cgroup, each_process, form_faults};
 ghost use Rattle.cg_format.specs.TextOf.{IsInForm};
 ghost use Rattle.cg_text.specs.Faults.{Passes};
@@ -13,7 +14,7 @@ ghost use Rattle.cg_text.specs.Keys.{flat_keys, takes, takes_as, allows, allows_
 
 use crate::tree::said::{elements_at, format_at};
 use crate::tree::takes::Takes;
-use cg_cgroup::files::EntryName;
+use cg_cgroup::files::{EntryName, Vocabulary};
 use cg_format::fault::{Place, TreeFault};
 use cg_format::format::{Format, MOST_ROWS_OF_4};
 use toml::{Table, Value};
@@ -33,6 +34,8 @@ pub enum FlatTable {
     Process,
     Owner(Format),
     Limit(Format),
+    /// Of a limit file beyond `LimitFile`.
+    Further(Format),
 }
 
 /// What a key of an owner, a group or a mode takes.
@@ -56,7 +59,9 @@ pub fn flat_takes(kind: FlatTable, key: &str) -> Option<Takes>
         (FlatTable::Process, "pid" | "uid") => Some(Takes::Integer),
         (FlatTable::Process, "at") => Some(Takes::Text),
         (FlatTable::Limit(_), "value") => Some(Takes::Value),
-        (FlatTable::Owner(format) | FlatTable::Limit(format), _) => owner_takes(format, key),
+        (FlatTable::Further(_), "value") => Some(Takes::Lines),
+        (FlatTable::Owner(format) | FlatTable::Limit(format) | FlatTable::Further(format), _) =>
+            owner_takes(format, key),
         _ => None,
     }
 }
@@ -93,16 +98,27 @@ fn is_entry(kind: FlatTable, value: &Value) -> bool
     }
 }
 
+/// The entry that a name means in a format.
+fn entry_at(format: Format, key: &str) -> Option<EntryName>
+    ensures { result ≡ entry_known_as (vocabulary format) key.now }
+{
+    match format.vocabulary() {
+        Vocabulary::Format2 => EntryName::in_format_2(key),
+        Vocabulary::Format4 => EntryName::from_name(key),
+    }
+}
+
 /// Whether a table of files may have a value at a key.
 #[tactic(auto, using(crate::proofs::TakesLaws::of_entries))]
 fn takes_file(format: Format, key: &str, value: &Value) -> bool
     ensures { result ≡ takes (file_keys_of format) key.now (view value.now) }
 {
-    match EntryName::in_format_2(key) {
-        None | Some(EntryName::Dir | EntryName::Other(_)) => false,
+    match entry_at(format, key) {
+        None | Some(EntryName::Dir) => false,
         Some(EntryName::Procs) => is_entry(FlatTable::Owner(format), value),
         Some(EntryName::SubtreeControl) => is_entry(FlatTable::Owner(format), value),
         Some(EntryName::File(_)) => is_entry(FlatTable::Limit(format), value),
+        Some(EntryName::Other(_)) => is_entry(FlatTable::Further(format), value),
     }
 }
 

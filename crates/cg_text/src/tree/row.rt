@@ -1,26 +1,30 @@
 //! A cgroup's row, read into what the tree keeps of it.
-ghost use Rattle.std.specs.Prelude.{◌≡◌, ◌≤◌, true, length, map, filter_map, Some, is_some};
-ghost use Rattle.std.specs.Option.{option_map};
-ghost use Rattle.std.specs.List.{list_all};
+ghost use Rattle.std.specs.Prelude.{◌≡◌, ◌≤◌, true, false, length, map, filter_map, Some, is_some};
+ghost use Rattle.std.specs.Option.{option_map, option_map_or};
+ghost use Rattle.std.specs.List.{list_all, list_any};
 ghost use Rattle.toml.specs.Data.{Members, as_table};
 ghost use Rattle.toml.specs.View.{view, table_view};
-ghost use Rattle.cg_cgroup.specs.Files.{brought_files};
+ghost use Rattle.cg_cgroup.specs.Files.{brought_files, all_others};
+ghost use Rattle.cg_cgroup.specs.Told.{told_by};
 ghost use Rattle.cg_cgroup.specs.declared.files.EntryName.TheVariants.{File};
-ghost use Rattle.cg_model.specs.Clauses.{first};
+ghost use Rattle.cg_model.specs.Clauses.{first, unless};
 ghost use Rattle.cg_format.specs.declared.fault.Place.TheVariants.{Cgroup as AtCgroup};
 ghost use Rattle.cg_format.specs.declared.fault.TreeFault.TheVariants.{BadEntry, BadValue};
 ghost use Rattle.cg_format.specs.declared.format.TheConstants.{MOST_ROWS_OF_4};
 ghost use Rattle.cg_format.specs.TextFaults.{each_cgroup, row_faults};
 ghost use Rattle.cg_text.specs.Faults.{Passes, or_fault};
 ghost use Rattle.cg_text.specs.Rows.{table_in, owner_in, limit_in, entry_with, is_file_of, names, needs, needed_by, file_in, entry_faults, IsCgroupOf, IsReadAs, AreReadAs};
+ghost use Rattle.cg_text.specs.Rows.{has_beyond, names_other, is_owned, has_text, tells_in, are_owned_in, have_texts_in, told_at, told_with, told_of};
 
 use crate::tree::form::row_number;
-use crate::tree::said::{known_at, limit_of, owner_of, path_at, table_at};
+use crate::tree::said::{known_at, limit_of, owner_of, path_at, table_at, text_said};
 use cg_cgroup::brought::BroughtFiles;
 use cg_cgroup::cgroup::{Cgroup, LimitEntry};
 use cg_cgroup::files::{BROUGHT_COUNT, Controller, ControllerSet, EntryName, Limit, LimitFile};
+use cg_cgroup::other_file::{OTHER_COUNT, OtherFile};
 use cg_cgroup::others::OtherFiles;
 use cg_cgroup::path::Path;
+use cg_cgroup::told::{ToldFile, ToldFiles};
 use cg_cgroup::user::{Entry, Mode};
 use cg_format::fault::{Place, TreeFault};
 use cg_format::format::Format;
@@ -35,6 +39,8 @@ pub struct Row {
     pub cgroup: Cgroup,
     /// The controllers whose files the row names.
     pub needed: ControllerSet,
+    /// What the row tells of the limit files beyond `LimitFile`, where it names one.
+    pub told: Option<Box<ToldFiles>>,
 }
 
 /// What is written of a cgroup's entries, and where.
@@ -189,6 +195,118 @@ impl<'a> Entries<'a> {
     }
 }
 
+/// The limit files beyond `LimitFile`.
+impl<'a> Entries<'a> {
+    /// Whether a file's key is no name of formats 1 and 2.
+    fn has_beyond(self) -> bool
+        ensures { result ≡ option_map_or (λ table. has_beyond (table_view table.now)) self.entry.files false }
+    {
+        match self.files {
+            None => false,
+            Some(files) => has_beyond(files),
+        }
+    }
+
+    fn names_other(self) -> bool
+        ensures { result ≡ list_any (names_other self.entry) all_others }
+    {
+        OtherFile::ALL
+            .iter()
+            .any(|file| self.table(EntryName::Other(*file)).is_some())
+    }
+
+    /// Whether one is named that the format has. Where each key is one of format 2, none is looked for.
+    fn tells(self) -> bool
+        ensures { result ≡ tells_in self.entry }
+    {
+        match self.format {
+            Format::Four => self.has_beyond() && self.names_other(),
+            _ => false,
+        }
+    }
+
+    fn has_other_owners(self) -> bool
+        ensures { result ≡ list_all (is_owned self.entry) all_others }
+    {
+        OtherFile::ALL
+            .iter()
+            .all(|file| self.owner_at(EntryName::Other(*file)).is_some())
+    }
+
+    /// Whether the owner of each is so.
+    fn others_are_owned(self, tells: bool) -> bool
+        requires { tells ≡ tells_in self }
+        ensures { result ≡ are_owned_in self.entry }
+    {
+        !tells || self.has_other_owners()
+    }
+
+    /// What is told of one.
+    fn told_at(self, alloc: Global, file: OtherFile) -> Result<Option<ToldFile>, TreeFault>
+        ensures { Passes (λ told. told ≡ told_at self.entry file)
+            (first (unless (has_text self.entry file) (BadValue self.entry.place))) result }
+    {
+        let Some(table) = self.table(EntryName::Other(file)) else {
+            return Ok(None);
+        };
+        let Some(value) = text_said(alloc, table)? else {
+            return Err(TreeFault::BadValue(self.place));
+        };
+        match owner_of(self.format, Mode::FILE.get(), Some(table)) {
+            None => Ok(None),
+            Some(entry) => Ok(Some(ToldFile { entry, value })),
+        }
+    }
+
+    /// Tells of one what is told of it here.
+    fn tell(self, alloc: Global, file: OtherFile, files: &mut ToldFiles) -> Result<(), TreeFault>
+        ensures { Passes (λ _. files.new ≡ told_with (told_at self.entry file) file files.old)
+            (first (unless (has_text self.entry file) (BadValue self.entry.place))) result }
+    {
+        if let Some(told) = self.told_at(alloc, file)? {
+            files.set(file, told);
+        }
+        Ok(())
+    }
+
+    /// What is told of each.
+    fn told_of_all(self, alloc: Global) -> Result<ToldFiles, TreeFault>
+        ensures { Passes (λ files. files ≡ told_by (told_at self.entry))
+            (first (unless (list_all (has_text self.entry) all_others) (BadValue self.entry.place))) result }
+    {
+        let mut files = ToldFiles::none();
+        for at in 0..OTHER_COUNT {
+            self.tell(alloc, OtherFile::ALL[at], &mut files)?;
+        }
+        Ok(files)
+    }
+
+    /// What is told of each, where one is named.
+    fn told(self, alloc: Global, tells: bool) -> Result<Option<Box<ToldFiles>>, TreeFault>
+        requires { tells ≡ tells_in self }
+        ensures { Passes (λ told. option_map (λ boxed. boxed.value) told ≡ told_of self.entry)
+            (first (unless (have_texts_in self.entry) (BadValue self.entry.place))) result }
+    {
+        if !tells {
+            return Ok(None);
+        }
+        let files = self.told_of_all(alloc)?;
+        Ok(Some(Box::new(alloc, files)?))
+    }
+}
+
+/// Whether a table has a key that is no name of formats 1 and 2.
+fn has_beyond(table: &Table) -> bool
+    ensures { result ≡ has_beyond (table_view table.now) }
+{
+    for (key, _) in table {
+        if EntryName::in_format_2(key.as_str()).is_none() {
+            return true;
+        }
+    }
+    false
+}
+
 /// Whether a controller brings a file.
 fn is_file_of(controller: Controller, file: LimitFile) -> bool
     ensures { result ≡ is_file_of controller file }
@@ -220,11 +338,18 @@ fn row_of(alloc: Global, format: Format, number: u32, table: &Table) -> Result<R
         dir: table_at(table, "dir"),
         files: table_at(table, "files"),
     };
+    let tells = entries.tells();
+    if !entries.others_are_owned(tells) {
+        return Err(TreeFault::BadEntry(place));
+    }
+    let cgroup = entries.cgroup(enabled)?;
+    let told = entries.told(alloc, tells)?;
     Ok(Row {
         number,
         path,
-        cgroup: entries.cgroup(enabled)?,
+        cgroup,
         needed: entries.needed(),
+        told,
     })
 }
 

@@ -1,19 +1,24 @@
 //! What a table says at its keys, as far as it is in range.
-ghost use Rattle.std.specs.Prelude.{◌≡◌, ℕ, List, false, map, Some, option_and_then};
+ghost use Rattle.std.specs.Prelude.{◌≡◌, ℕ, List, [], ◌∷◌, false, map, filter_map, Some, IfOk, option_and_then};
+ghost use Rattle.std.specs.String.{string_bytes};
 ghost use Rattle.std.specs.Option.{option_map, option_map_or, option_copied};
 ghost use Rattle.std.specs.Ordering.{is_eq, nat_cmp};
 ghost use Rattle.std.specs.Cmp.Lexicographic.{slice_cmp};
 ghost use Rattle.cg_model.specs.Clauses.{first, absent};
-ghost use Rattle.toml.specs.Data.{get_member, as_array};
+ghost use Rattle.toml.specs.Data.{get_member, as_array, as_str};
 ghost use Rattle.toml.specs.View.{view, array_view, table_view};
-ghost use Rattle.cg_format.specs.Said.{id_read, mode_read, pid_read, controllers_said, known_said, vocabulary, elements_at, text_at, integer_at, table_at, format_said, path_said, owner_said, limit_of, limit_said};
+ghost use Rattle.cg_format.specs.Form.{vocabulary};
+ghost use Rattle.cg_format.specs.Said.{id_read, mode_read, pid_read, controllers_said, known_said, elements_at, text_at, integer_at, table_at, format_said, path_said, owner_said, limit_of, limit_said, is_text_line, lines_text, integer_text, text_of, text_said};
 ghost use Rattle.cg_text.specs.Faults.{Passes};
-ghost use Rattle.cg_text.specs.Rows.{written};
+ghost use Rattle.cg_text.specs.Rows.{written, line_added};
 
 use cg_cgroup::files::{Controller, ControllerSet, Limit, LimitFile, Vocabulary};
+use cg_cgroup::memory::NoMemory;
 use cg_cgroup::path::{Path, PathFault};
 use cg_cgroup::process::Pid;
+use cg_cgroup::told::FileText;
 use cg_cgroup::user::Entry;
+use cg_cgroup::value::is_one_line;
 use cg_format::fault::TreeFault;
 use cg_format::format::Format;
 use std::alloc::Global;
@@ -224,4 +229,91 @@ fn member_of<'a>(table: Option<&'a Table>, key: &str) -> Option<&'a Value>
     ensures { option_map (λ v. view v.now) result ≡ get_member key.now (written table.entry) }
 {
     member(table?, key)
+}
+
+/// The most bytes of a line of a value of a limit file beyond `LimitFile`.
+const LONGEST_LINE: usize = 4095;
+
+/// Whether a text is such a line: printable words, one or more, with one space between them.
+pub fn is_text_line(text: &str) -> bool
+    ensures { result ≡ is_text_line text.now }
+{
+    text.len() <= LONGEST_LINE && is_one_line(text)
+}
+
+/// Puts a line behind others.
+fn add_line(text: &mut String, is_first: bool, line: &str) -> Result<(), NoMemory>
+    ensures { IfOk result (λ _. string_bytes text.new ≡ line_added is_first (string_bytes text.old) line.now) }
+{
+    if !is_first {
+        text.push_str("\n")?;
+    }
+    text.push_str(line)?;
+    Ok(())
+}
+
+/// The text of the lines among these. `None` where there is none, or one isn't as it has to be.
+fn text_of_lines(alloc: Global, lines: &[Value]) -> Result<Option<FileText>, NoMemory>
+    ensures { IfOk result (λ text. text ≡ lines_text (filter_map as_str (map view lines.now))) }
+{
+    let mut text = String::new(alloc);
+    let mut is_first = true;
+    for value in lines {
+        if let Some(line) = value.as_str() {
+            if !is_text_line(line) {
+                return Ok(None);
+            }
+            add_line(&mut text, is_first, line)?;
+            is_first = false;
+        }
+    }
+    if is_first {
+        return Ok(None);
+    }
+    Ok(Some(FileText { text }))
+}
+
+fn text_of_line(alloc: Global, line: &str) -> Result<Option<FileText>, NoMemory>
+    ensures { IfOk result (λ text. text ≡ lines_text (line.now ∷ [])) }
+{
+    if !is_text_line(line) {
+        return Ok(None);
+    }
+    Ok(Some(FileText {
+        text: String::from_str(alloc, line)?,
+    }))
+}
+
+/// The decimal digits of an integer.
+fn text_of_integer(alloc: Global, number: i64) -> Result<FileText, NoMemory>
+    ensures { IfOk result (λ text. text ≡ integer_text number) }
+{
+    Ok(FileText {
+        text: number.to_string(alloc)?,
+    })
+}
+
+/// The text that a value of a limit file beyond `LimitFile` is. `None` where it is none.
+fn text_of(alloc: Global, value: &Value) -> Result<Option<FileText>, NoMemory>
+    ensures { IfOk result (λ text. text ≡ text_of (view value.now)) }
+{
+    match value {
+        Value::Integer(number) => Ok(Some(text_of_integer(alloc, *number)?)),
+        Value::String(line) => text_of_line(alloc, line.as_str()),
+        Value::Array(lines) => text_of_lines(alloc, lines.as_slice()),
+        _ => Ok(None),
+    }
+}
+
+/// The value that the table of such a file says, where it says one. `None` where what it says is none.
+pub fn text_said(alloc: Global, table: &Table) -> Result<Option<Option<FileText>>, NoMemory>
+    ensures { IfOk result (λ text. text ≡ text_said (table_view table.now)) }
+{
+    let Some(value) = member(table, "value") else {
+        return Ok(Some(None));
+    };
+    match text_of(alloc, value)? {
+        Some(text) => Ok(Some(Some(text))),
+        None => Ok(None),
+    }
 }

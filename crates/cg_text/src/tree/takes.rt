@@ -19,6 +19,8 @@ pub enum Takes {
     Tables,
     /// An integer or a text.
     Value,
+    /// An integer, a text or an array of texts.
+    Lines,
 }
 
 impl Takes {
@@ -33,6 +35,7 @@ impl Takes {
             Takes::Table => value.is_table(),
             Takes::Tables => value.is_array(),
             Takes::Value => value.is_integer() || value.is_str(),
+            Takes::Lines => value.is_integer() || value.is_str() || are_texts(value),
         }
     }
 }

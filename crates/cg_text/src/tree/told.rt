@@ -6,6 +6,7 @@ ghost use Rattle.cg_text.specs.Told.{seen, element_at, numbered, row_at, place_o
 
 pub mod keys;
 mod rows;
+mod texts;
 mod together;
 
 pub use crate::tree::said::vocabulary_at;
@@ -92,6 +93,10 @@ pub enum Wrong<'d> {
     OutOfRange(i64),
     /// The file doesn't accept the value.
     NotAccepted(LimitFile),
+    /// Of lines that a value has there is at least one.
+    NoLines,
+    /// This text is no line that a value has.
+    NotALine(&'d str),
     /// An earlier row has the same.
     Again,
     /// No row has this path, which is the parent's.
@@ -101,11 +106,13 @@ pub enum Wrong<'d> {
         controller: &'d str,
         above: Option<&'d str>,
     },
-    /// The row of the path above doesn't enable the controller that brings the file, which never stands at the root.
+    /// The row of the path above doesn't enable the controller that brings the file.
     NoFile {
         controller: Controller,
-        above: Option<&'d str>,
+        above: &'d str,
     },
+    /// The file never stands at the root.
+    NotAtRoot,
     /// No PID has this number.
     NoPid(i64),
     /// No row has this path.
@@ -248,7 +255,7 @@ fn wrong_in<'d>(
 ) -> Option<Found<'d>> {
     match fault {
         TreeFault::Format => Some((At::key("format"), Wrong::Format)),
-        TreeFault::Shape(_) => Some(misshapen(place, row)),
+        TreeFault::Shape(_) => Some(misshapen(vocabulary_at(document), place, row)),
         TreeFault::BadController(_) => bad_controller(vocabulary_at(document), place, row),
         TreeFault::BadPath(_) => Some((At::key("path"), Wrong::NoPath)),
         TreeFault::BadEntry(_) => Some(bad_entry(place, row)),

@@ -1,27 +1,32 @@
 //! The rows together: one walk over them in the order of their paths.
-ghost use Rattle.std.specs.Prelude.{◌≡◌, List, [], ◌∷◌, ◌++◌, map, Some, None, cond, IfOk, OnOk};
+ghost use Rattle.std.specs.Prelude.{◌≡◌, List, [], ◌∷◌, ◌++◌, map, Some, None, is_some, not, ◌||◌, cond, IfOk, OnOk};
+ghost use Rattle.std.specs.Option.{option_map, option_to_list};
+ghost use Rattle.std.specs.List.{list_all};
 ghost use Rattle.std.specs.List.Sorted.{IsPermutation, IsStableByKey};
 ghost use Rattle.toml.specs.Data.{Members};
 ghost use Rattle.cg_cgroup.specs.Paths.{path_cmp, is_root};
-ghost use Rattle.cg_cgroup.specs.Files.{brought_files, stands_under};
+ghost use Rattle.cg_cgroup.specs.Files.{brought_files, all_others, brought_by, stands_by, stands_under};
 ghost use Rattle.cg_cgroup.specs.Cgroups.{file_of};
+ghost use Rattle.cg_cgroup.specs.Told.{told_in};
 ghost use Rattle.cg_cgroup.specs.declared.controllers.ControllerSet.{ControllerSet};
 ghost use Rattle.cg_model.specs.Clauses.{first};
 ghost use Rattle.cg_format.specs.declared.format.Format.{Format};
 ghost use Rattle.cg_text.specs.declared.tree.row.Row.{Row};
-ghost use Rattle.cg_format.specs.TextFaults.{cgroup_faults};
-ghost use Rattle.cg_format.specs.Tables.{AreEntriesOf};
+ghost use Rattle.cg_format.specs.TextFaults.{tell_standing, cgroup_faults};
+ghost use Rattle.cg_format.specs.Tables.{AreEntriesOf, AreToldOf};
 ghost use Rattle.cg_text.specs.Faults.{Passes};
 ghost use Rattle.cg_text.specs.Rows.{AreReadAs};
-ghost use Rattle.cg_text.specs.Walk.{has_met, is_past, over_at, fitted_to, entries_from, noted, least_behind, least_fault, has_root, is_front, fronts_above, HasMet, AreInOrder, IsNext};
+ghost use Rattle.cg_text.specs.Walk.{has_met, is_past, tells_past, names_past, over_at, fitted_to, entries_from, noted, least_behind, least_fault, has_root, is_front, fronts_above, HasMet, AreInOrder, IsNext};
 
 use crate::tree::row::Row;
 use cg_cgroup::brought::BroughtFiles;
 use cg_cgroup::cgroup::{Cgroup, LimitEntry};
 use cg_cgroup::files::{BROUGHT_COUNT, ControllerSet, LimitFile};
 use cg_cgroup::memory::NoMemory;
+use cg_cgroup::other_file::OtherFile;
 use cg_cgroup::others::OtherFiles;
 use cg_cgroup::path::Path;
+use cg_cgroup::told::ToldFiles;
 use cg_cgroup::user::Entry;
 use cg_format::fault::{Place, TreeFault};
 use std::alloc::{AllocError, Global};
@@ -100,6 +105,56 @@ fn is_past(set: ControllerSet, available: Option<ControllerSet>) -> bool
     }
 }
 
+/// Whether something is told of a file.
+fn is_told(told: &ToldFiles, file: OtherFile) -> bool
+    ensures { result ≡ is_some (told_in told.now file) }
+{
+    told.get(file).is_some()
+}
+
+/// Whether a file stands under a parent that enables `over`.
+fn is_brought(file: OtherFile, over: ControllerSet) -> bool
+    ensures { result ≡ stands_by over (brought_by file) }
+{
+    match file.controller() {
+        Some(controller) => over.contains(controller),
+        None => true,
+    }
+}
+
+/// Whether each file of which something is told stands under a parent that enables `over`.
+fn are_brought(told: &ToldFiles, over: ControllerSet) -> bool
+    ensures { result ≡ list_all (λ file. not (is_some (told_in told.now file)) || stands_by over (brought_by file)) all_others }
+{
+    OtherFile::ALL
+        .iter()
+        .all(|file| !is_told(told, *file) || is_brought(*file, over))
+}
+
+/// Whether what is told of at a path stands under a parent that enables `over`.
+fn tell_standing(path: &Path, over: ControllerSet, told: &ToldFiles) -> bool
+    ensures { result ≡ tell_standing path.now over (Some told.now) }
+{
+    !is_root(path) && are_brought(told, over)
+}
+
+/// Whether what is told of at a path doesn't stand under what is over it, where that is known.
+fn tells_past(path: &Path, told: &Option<Box<ToldFiles>>, over: Option<ControllerSet>) -> bool
+    ensures { result ≡ tells_past path.now (option_map (λ boxed. boxed.value) told.now) over }
+{
+    match (told, over) {
+        (Some(told), Some(over)) => !tell_standing(path, over, told),
+        _ => false,
+    }
+}
+
+/// Whether a row names a file that doesn't stand under what is over it, where that is known.
+fn names_past(row: &Row, over: Option<ControllerSet>) -> bool
+    ensures { result ≡ names_past row.now over }
+{
+    is_past(row.needed, over) || tells_past(&row.path, &row.told, over)
+}
+
 /// What may be enabled at a path: what is over it, and at the root what there is.
 fn available(
     path: &Path,
@@ -157,11 +212,36 @@ fn fitted(over: ControllerSet, cgroup: Cgroup) -> Cgroup
     }
 }
 
+/// The cgroups of rows, in the order of their paths, and what is told of limit files beyond `LimitFile`.
+#[derive(Drop)]
+pub struct WalkedRows {
+    pub cgroups: Vec<(Path, Cgroup)>,
+    pub told: Vec<(Path, ToldFiles)>,
+}
+
+/// Puts what is told of at a path, if something is, behind the rest.
+fn tell(
+    told: &mut Vec<(Path, ToldFiles)>,
+    alloc: Global,
+    path: &Path,
+    here: Option<Box<ToldFiles>>,
+) -> Result<(), NoMemory>
+    ensures { OnOk result (told.new.items
+        ≡ told.old.items ++ option_to_list (option_map (λ files. (path.now, files)) (option_map (λ boxed. boxed.value) here))) }
+{
+    if let Some(files) = here {
+        told.push((path.try_clone(alloc)?, Box::into_inner(files)))?;
+    }
+    Ok(())
+}
+
 /// How far a walk has come.
 #[derive(Drop)]
 struct Walk {
     /// The cgroups that were met, with the files that stand at them.
     entries: Vec<(Path, Cgroup)>,
+    /// What was told of them.
+    told: Vec<(Path, ToldFiles)>,
     /// Those of them whose path is a front of the last one's, from the root down.
     above: Vec<Above>,
     least: Least,
@@ -173,6 +253,7 @@ impl Walk {
     {
         Ok(Walk {
             entries: Vec::with_capacity(alloc, rows)?,
+            told: Vec::new(alloc),
             above: Vec::new(alloc),
             least: Least::NONE,
         })
@@ -204,6 +285,7 @@ impl Walk {
         ensures left { (controllers : ControllerSet) (met : List Row) (row : Row) → HasMet controllers met self.old → IsNext met row → row.path ≡ path.now
             → self.new.above.items ≡ fronts_above met path.now }
         ensures entries { self.new.entries ≡ self.old.entries }
+        ensures told { self.new.told ≡ self.old.told }
         ensures least { self.new.least ≡ self.old.least }
     {
         while !self.above.is_empty() && !self.is_below(path) {
@@ -216,6 +298,7 @@ impl Walk {
         ensures tested { (met : List Row) → self.old.entries.items ≡ entries_from [] met → IsNext met row.now
             → self.new.least ≡ least_behind controllers (has_met met row.now.path) over row.now self.old.least }
         ensures entries { self.new.entries ≡ self.old.entries }
+        ensures told { self.new.told ≡ self.old.told }
         ensures above { self.new.above ≡ self.old.above }
     {
         let least = self.least;
@@ -229,12 +312,12 @@ impl Walk {
                 row.number,
                 is_past(row.cgroup.enabled, available),
             ),
-            no_file: noted(least.no_file, row.number, is_past(row.needed, over)),
+            no_file: noted(least.no_file, row.number, names_past(row, over)),
         };
     }
 
     /// Goes on to a row, whose path is that of the last one or comes after it.
-    fn step(&mut self, row: Row, controllers: ControllerSet) -> Result<(), NoMemory>
+    fn step(&mut self, alloc: Global, row: Row, controllers: ControllerSet) -> Result<(), NoMemory>
         ensures { (met : List Row) → HasMet controllers met self.old → IsNext met row
             → OnOk result (HasMet controllers (met ++ row ∷ []) self.new) }
     {
@@ -242,7 +325,13 @@ impl Walk {
         let len = row.path.depth();
         let over = over(&self.above, len);
         self.test(&row, over, controllers);
-        let Row { path, cgroup, .. } = row;
+        let Row {
+            path,
+            cgroup,
+            told,
+            ..
+        } = row;
+        tell(&mut self.told, alloc, &path, told)?;
         self.above.push(Above {
             len,
             enabled: cgroup.enabled,
@@ -252,16 +341,20 @@ impl Walk {
         Ok(())
     }
 
-    /// The cgroups, or the first fault of the rows.
-    fn end(self) -> Result<Vec<(Path, Cgroup)>, TreeFault>
-        ensures { Passes (λ entries. entries ≡ self.entries) (least_fault self.least (has_root self.entries.items)) result }
+    /// What was met, or the first fault of the rows.
+    fn end(self) -> Result<WalkedRows, TreeFault>
+        ensures { Passes (λ walked. (walked.cgroups ≡ self.entries) × (walked.told ≡ self.told))
+            (least_fault self.least (has_root self.entries.items)) result }
     {
         let has_root = match self.entries.first() {
             None => false,
             Some((path, _)) => is_root(path),
         };
         match self.least.fault(has_root) {
-            None => Ok(self.entries),
+            None => Ok(WalkedRows {
+                cgroups: self.entries,
+                told: self.told,
+            }),
             Some(fault) => Err(fault),
         }
     }
@@ -279,20 +372,22 @@ fn sort(rows: &mut Vec<Row>) -> Result<(), AllocError>
     rows.sort_by(|row, other| row.path.cmp(&other.path))
 }
 
-/// The cgroups of rows in the order of their paths, with the files that stand at them, or the first fault of the rows together.
+/// The cgroups of rows in the order of their paths, with the files that stand at them, and what is told of further ones,
+/// or the first fault of the rows together.
 pub fn walked(
     alloc: Global,
     rows: Vec<Row>,
     controllers: ControllerSet,
-) -> Result<Vec<(Path, Cgroup)>, TreeFault>
+) -> Result<WalkedRows, TreeFault>
     ensures { (format : Format) (tables : List Members) → AreReadAs format 1 tables rows.items
-        → Passes (λ entries. AreEntriesOf format tables entries.items) (first (cgroup_faults (Some controllers) tables)) result }
+        → Passes (λ walked. AreEntriesOf format tables walked.cgroups.items × AreToldOf format tables walked.told.items)
+        (first (cgroup_faults format (Some controllers) tables)) result }
 {
     let mut rows = rows;
     sort(&mut rows)?;
     let mut walk = Walk::new(alloc, rows.len())?;
     for row in rows {
-        walk.step(row, controllers)?;
+        walk.step(alloc, row, controllers)?;
     }
     walk.end()
 }

@@ -27,7 +27,7 @@ const ROWS: [(&str, &str); 28] = [
     ),
     (
         "files.'memroy.max'.value = 5",
-        "Cgroup(2) '/a', files memroy.max is table: Unknown(Files)",
+        "Cgroup(2) '/a', files memroy.max is table: Unknown(Files(Format2))",
     ),
     (
         "files.'memory.max' = 5",
@@ -97,7 +97,7 @@ const ROWS: [(&str, &str); 28] = [
     ),
     (
         "files.'cpu.weight'.value = 5",
-        "Cgroup(2) '/a', files cpu.weight is table: NoFile { controller: Cpu, above: Some(\"/\") }",
+        "Cgroup(2) '/a', files cpu.weight is table: NoFile { controller: Cpu, above: \"/\" }",
     ),
     (
         "[[process]]\npid = 0\nuid = 1\nat = '/'",
@@ -118,7 +118,7 @@ const ROWS: [(&str, &str); 28] = [
 ];
 
 /// Whole texts whose fault is told of the top table, of a row that is no table, or in format 1.
-const TEXTS: [(&str, &str); 13] = [
+const TEXTS: [(&str, &str); 15] = [
     ("controllers = []", "Top, format: Missing"),
     ("format = 3\ncontrollers = []", "Top, format is 3: Format"),
     ("format = 5\ncontrollers = []", "Top, format is 5: Format"),
@@ -148,7 +148,15 @@ const TEXTS: [(&str, &str); 13] = [
     ),
     (
         "format = 4\ncontrollers = ['io']\n[[cgroup]]\npath = '/'\nfiles.'io.max'.uid = 5",
-        "Cgroup(1) '/', files io.max is table: Unknown(Files)",
+        "Cgroup(1) '/', files io.max is table: NotAtRoot",
+    ),
+    (
+        "format = 2\ncontrollers = ['memory']\n[[cgroup]]\npath = '/'\nfiles.'memory.max'.value = 5",
+        "Cgroup(1) '/', files memory.max is table: NotAtRoot",
+    ),
+    (
+        "format = 2\ncontrollers = []\n[[cgroup]]\npath = '/'\nfiles.'io.max'.uid = 5",
+        "Cgroup(1) '/', files io.max is table: Unknown(Files(Format2))",
     ),
     (
         "format = 2\ncontrollers = []\ncgroup = [5]",
@@ -161,6 +169,62 @@ const TEXTS: [(&str, &str); 13] = [
     (
         "format = 1\ncontrollers = []\n[[cgroup]]\npath = '/'\ndir.mode = 0o775",
         "Cgroup(1) '/': NoGroupBit",
+    ),
+];
+
+/// A row at `/` of format 4, and what stands before it.
+const ROOT_OF_4: &str =
+    "format = 4\ncontrollers = ['io', 'memory']\n[[cgroup]]\npath = '/'\nenabled = ['memory']\n[[cgroup]]\npath = '/a'\n";
+
+/// What stands behind the lines of the row of `/a` there, of its limit files beyond `LimitFile`, and what is told of the fault.
+const FURTHER: [(&str, &str); 12] = [
+    (
+        "files.'memory.swapmax'.value = 5",
+        "Cgroup(2) '/a', files memory.swapmax is table: Unknown(Files(Format4))",
+    ),
+    (
+        "files.'cgroup.freeze' = 0",
+        "Cgroup(2) '/a', files cgroup.freeze is 0: Mistyped(Table)",
+    ),
+    (
+        "files.'cgroup.freeze'.vlaue = 0",
+        "Cgroup(2) '/a', files cgroup.freeze vlaue is 0: Unknown(FurtherFile)",
+    ),
+    (
+        "files.'cgroup.freeze'.value = true",
+        "Cgroup(2) '/a', files cgroup.freeze value is boolean: Mistyped(Lines)",
+    ),
+    (
+        "files.'memory.swap.max'.value = ['a', 5]",
+        "Cgroup(2) '/a', files memory.swap.max value is array: Mistyped(Lines)",
+    ),
+    (
+        "files.'memory.swap.max'.uid = -1",
+        "Cgroup(2) '/a', files memory.swap.max uid is -1: OutOfRange(-1)",
+    ),
+    (
+        "files.'memory.swap.max'.mode = 0o1000",
+        "Cgroup(2) '/a', files memory.swap.max mode is 512: OutOfRange(512)",
+    ),
+    (
+        "files.'memory.swap.max'.value = ''",
+        "Cgroup(2) '/a', files memory.swap.max value is '': NotALine(\"\")",
+    ),
+    (
+        "files.'memory.swap.max'.value = 'a  b'",
+        "Cgroup(2) '/a', files memory.swap.max value is 'a  b': NotALine(\"a  b\")",
+    ),
+    (
+        "files.'memory.swap.max'.value = ['a', ' b']",
+        "Cgroup(2) '/a', files memory.swap.max value is array: NotALine(\" b\")",
+    ),
+    (
+        "files.'memory.swap.max'.value = []",
+        "Cgroup(2) '/a', files memory.swap.max value is array: NoLines",
+    ),
+    (
+        "files.'cgroup.freeze'.value = 0\nfiles.'io.max'.value = 'max'",
+        "Cgroup(2) '/a', files io.max is table: NoFile { controller: Io, above: \"/\" }",
     ),
 ];
 
@@ -238,6 +302,16 @@ fn what_is_told_of_a_row(rt: HostRuntime) -> Result<(), Fail> {
     let a = rt.alloc();
     for (rest, wanted) in &ROWS {
         let text = format!(in a; "{ROOT}{rest}\n")?;
+        expect_told(&rt, a, text.as_str(), wanted)?;
+    }
+    Ok(())
+}
+
+#[test]
+fn what_is_told_of_further_limit_files(rt: HostRuntime) -> Result<(), Fail> {
+    let a = rt.alloc();
+    for (rest, wanted) in &FURTHER {
+        let text = format!(in a; "{ROOT_OF_4}{rest}\n")?;
         expect_told(&rt, a, text.as_str(), wanted)?;
     }
     Ok(())

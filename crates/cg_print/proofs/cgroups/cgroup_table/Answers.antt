@@ -7,4 +7,5 @@ returns-clause-named c = record {
   ids =
       ids_only c.args.cgroup.now c.in_ok-files.ensures.files c.in_ok-dir.ensures.ids c.in_ok-files.ensures.procs
       c.in_ok-files.ensures.subtree_control;
+  told_ids = c.in_ok-files.ensures.told;
 }

@@ -3,7 +3,8 @@ use Rattle.std.specs.Option.{option_map_or}
 use Rattle.std.proofs.lemmas.Result.{err_from_is_err_and}
 use Rattle.toml.specs.View.{table_view}
 use Rattle.cg_cgroup.specs.declared.files.Vocabulary.TheVariants.{Format2}
-use Rattle.cg_format.specs.Said.{vocabulary, format_said}
+use Rattle.cg_format.specs.Form.{vocabulary}
+use Rattle.cg_format.specs.Said.{format_said}
 use Rattle.cg_format.specs.TreeTexts.{longest_text, document_of}
 use Rattle.cg_text.proofs.DocumentInTurn.{document_read, text_read}
 use Rattle.cg_text.proofs.tree.read_text.Goals as goal

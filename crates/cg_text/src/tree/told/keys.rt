@@ -2,7 +2,8 @@
 use crate::tree::form::{FlatTable, flat_takes};
 use crate::tree::takes::Takes;
 use crate::tree::told::Wrong;
-use cg_cgroup::files::{EntryName, LimitFile};
+use cg_cgroup::files::{EntryName, LimitFile, Vocabulary};
+use cg_cgroup::other_file::OtherFile;
 use cg_format::fault::Place;
 use cg_format::format::Format;
 use std::alloc::{AllocError, Global};
@@ -15,11 +16,13 @@ pub enum Kind {
     Cgroup,
     Process,
     Dir,
-    /// `files` of a cgroup.
-    Files,
+    /// `files` of a cgroup, in formats of this vocabulary.
+    Files(Vocabulary),
     /// `cgroup.procs` or `cgroup.subtree_control`.
     ControlFile,
     LimitFile,
+    /// A limit file beyond `LimitFile`.
+    FurtherFile,
 }
 
 impl Kind {
@@ -34,8 +37,9 @@ impl Kind {
 
     /// The kind of the table at a name of `files`.
     pub fn of_file(name: &str) -> Kind {
-        match EntryName::in_format_2(name) {
+        match EntryName::from_name(name) {
             Some(EntryName::Procs | EntryName::SubtreeControl) => Kind::ControlFile,
+            Some(EntryName::Other(_)) => Kind::FurtherFile,
             _ => Kind::LimitFile,
         }
     }
@@ -47,8 +51,9 @@ impl Kind {
             Kind::Cgroup => row_takes(key),
             Kind::Process => flat_takes(FlatTable::Process, key),
             Kind::Dir | Kind::ControlFile => flat_takes(FlatTable::Owner(Format::Two), key),
-            Kind::Files => file_takes(key),
+            Kind::Files(vocabulary) => file_takes(vocabulary, key),
             Kind::LimitFile => flat_takes(FlatTable::Limit(Format::Two), key),
+            Kind::FurtherFile => flat_takes(FlatTable::Further(Format::Four), key),
         }
     }
 
@@ -59,15 +64,15 @@ impl Kind {
             Kind::Cgroup => &["path", "enabled", "dir", "files"],
             Kind::Process => &["pid", "uid", "at"],
             Kind::Dir | Kind::ControlFile => &["uid", "gid", "mode"],
-            Kind::Files => &[],
-            Kind::LimitFile => &["uid", "gid", "mode", "value"],
+            Kind::Files(_) => &[],
+            Kind::LimitFile | Kind::FurtherFile => &["uid", "gid", "mode", "value"],
         }
     }
 
     /// The keys of formats 2 and 4.
     pub fn keys(self, alloc: Global) -> Result<Vec<&'static str>, AllocError> {
         match self {
-            Kind::Files => file_keys(alloc),
+            Kind::Files(vocabulary) => file_keys(alloc, vocabulary),
             _ => Vec::from_slice(alloc, self.plain_keys()),
         }
     }
@@ -94,19 +99,24 @@ fn row_takes(key: &str) -> Option<Takes> {
 }
 
 /// What a key of `files` takes.
-fn file_takes(key: &str) -> Option<Takes> {
-    match EntryName::in_format_2(key) {
+fn file_takes(vocabulary: Vocabulary, key: &str) -> Option<Takes> {
+    let entry = match vocabulary {
+        Vocabulary::Format2 => EntryName::in_format_2(key),
+        Vocabulary::Format4 => EntryName::from_name(key),
+    };
+    match entry {
         None | Some(EntryName::Dir) => None,
         Some(_) => Some(Takes::Table),
     }
 }
 
-fn file_keys(alloc: Global) -> Result<Vec<&'static str>, AllocError> {
+fn file_keys(alloc: Global, vocabulary: Vocabulary) -> Result<Vec<&'static str>, AllocError> {
     let mut keys = Vec::new(alloc);
     keys.push(EntryName::Procs.name())?;
     keys.push(EntryName::SubtreeControl.name())?;
-    for file in LimitFile::ALL {
-        keys.push(file.name())?;
+    keys.extend_from_slice(&LimitFile::ALL.map(|file| file.name()))?;
+    if vocabulary == Vocabulary::Format4 {
+        keys.extend_from_slice(&OtherFile::ALL.map(|file| file.name()))?;
     }
     Ok(keys)
 }
@@ -117,7 +127,7 @@ pub(super) fn misfit<'d>(kind: Kind, table: &'d Table) -> Option<(&'d str, Wrong
         return Some((key, Wrong::Unknown(kind)));
     }
     match kind {
-        Kind::Files => no_table(table),
+        Kind::Files(_) => no_table(table),
         _ => missing_or_mistyped(kind, table),
     }
 }
@@ -151,18 +161,9 @@ fn wrong_at<'d>(kind: Kind, table: &'d Table, key: &str) -> Option<Wrong<'d>> {
 
 /// The first file of which something else than a table is written.
 fn no_table<'d>(files: &'d Table) -> Option<(&'d str, Wrong<'d>)> {
-    for entry in [EntryName::Procs, EntryName::SubtreeControl] {
-        if let Some(wrong) = wrong_at(Kind::Files, files, entry.name()) {
-            return Some((entry.name(), wrong));
-        }
-    }
-    no_limit_table(files)
-}
-
-fn no_limit_table<'d>(files: &'d Table) -> Option<(&'d str, Wrong<'d>)> {
-    for file in LimitFile::ALL {
-        if let Some(wrong) = wrong_at(Kind::Files, files, file.name()) {
-            return Some((file.name(), wrong));
+    for (name, value) in files {
+        if !Takes::Table.fits(value) {
+            return Some((name.as_str(), Wrong::Mistyped(Takes::Table)));
         }
     }
     None

@@ -1,21 +1,22 @@
 //! What is wrong within a row: a key, an owner, a mode, a value, a controller.
 use crate::tree::said::{elements_at, id_read, integer_at, limit_of, mode_read, table_at};
 use crate::tree::told::keys::{Kind, misfit};
+use crate::tree::told::texts::wrong_text;
 use crate::tree::told::{At, Found, Wrong};
-use cg_cgroup::files::{LimitFile, Vocabulary};
+use cg_cgroup::files::{EntryName, LimitFile, Vocabulary};
 use cg_format::fault::Place;
 use cg_format::format::Format;
 use toml::{Table, Value};
 
 /// The first key that isn't in form: of the row, then of `dir`, of `files`, and of each file. Where format 2 has them all, format 1 has one not.
-pub(super) fn misshapen<'d>(place: Place, row: &'d Table) -> Found<'d> {
+pub(super) fn misshapen<'d>(vocabulary: Vocabulary, place: Place, row: &'d Table) -> Found<'d> {
     if let Some((key, wrong)) = misfit(Kind::of_row(place), row) {
         return (At::key(key), wrong);
     }
     if let Some(found) = misfit_in(row, "dir", Kind::Dir) {
         return found;
     }
-    if let Some(found) = misfit_in(row, "files", Kind::Files) {
+    if let Some(found) = misfit_in(row, "files", Kind::Files(vocabulary)) {
         return found;
     }
     match table_at(row, "files").and_then(misfit_of_file) {
@@ -95,13 +96,29 @@ fn is_in_range(key: &str, number: i64) -> bool {
 /// The first limit file that doesn't accept its value.
 pub(super) fn bad_value<'d>(row: &'d Table) -> Option<Found<'d>> {
     for (name, value) in table_at(row, "files")? {
-        if let (Some(file), Some(table)) = (LimitFile::from_name(name.as_str()), value.as_table()) {
-            if limit_of(file, Some(table)).is_none() {
-                return Some((At::file(name.as_str(), "value"), Wrong::NotAccepted(file)));
+        if let Some(table) = value.as_table() {
+            if let Some(wrong) = wrong_value(name.as_str(), table) {
+                return Some((At::file(name.as_str(), "value"), wrong));
             }
         }
     }
     None
+}
+
+/// Why the file of a name doesn't accept the value that its table has.
+fn wrong_value<'d>(name: &str, table: &'d Table) -> Option<Wrong<'d>> {
+    match EntryName::from_name(name)? {
+        EntryName::File(file) => not_accepted(file, table),
+        EntryName::Other(_) => wrong_text(table),
+        _ => None,
+    }
+}
+
+fn not_accepted<'d>(file: LimitFile, table: &Table) -> Option<Wrong<'d>> {
+    match limit_of(file, Some(table)) {
+        Some(_) => None,
+        None => Some(Wrong::NotAccepted(file)),
+    }
 }
 
 /// The first text that names none of these controllers.

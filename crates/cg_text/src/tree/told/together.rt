@@ -1,7 +1,7 @@
 //! What is wrong with a row among the others: its parent, what is enabled there, its files.
 use crate::tree::said::{elements_at, table_at, text_at};
 use crate::tree::told::{At, Found, Wrong};
-use cg_cgroup::files::{Controller, LimitFile};
+use cg_cgroup::files::{Controller, EntryName};
 use std::alloc::{AllocError, Global};
 use toml::{Table, Value};
 
@@ -98,17 +98,34 @@ fn is_among(text: &str, others: &[Value]) -> bool {
 
 /// The first limit file of a row that doesn't stand there.
 pub(super) fn not_standing<'d>(document: &'d Table, row: &'d Table) -> Option<Found<'d>> {
+    let files = table_at(row, "files")?;
     let path = text_at(row, "path")?;
-    let available = match above(path) {
-        Some(_) => available_at(document, path),
-        None => &[],
-    };
-    let (name, controller) = first_not_under(table_at(row, "files")?, available)?;
-    let wrong = Wrong::NoFile {
-        controller,
-        above: above(path),
+    let (name, wrong) = match above(path) {
+        None => (first_below_root(files)?, Wrong::NotAtRoot),
+        Some(above) => {
+            let (name, controller) = first_not_under(files, available_at(document, path))?;
+            (name, Wrong::NoFile { controller, above })
+        }
     };
     Some((At::inner("files", name), wrong))
+}
+
+/// The first limit file that the root never has: it has but the two that stand at every cgroup.
+fn first_below_root(files: &Table) -> Option<&str> {
+    for (name, _) in files {
+        if is_below_root(name.as_str()) {
+            return Some(name.as_str());
+        }
+    }
+    None
+}
+
+fn is_below_root(name: &str) -> bool {
+    match EntryName::from_name(name) {
+        Some(EntryName::File(file)) => file.controller().is_some(),
+        Some(EntryName::Other(_)) => true,
+        _ => false,
+    }
 }
 
 /// The first limit file of a controller that isn't among these texts, with the controller.
@@ -125,5 +142,9 @@ fn first_not_under<'d>(files: &'d Table, enabled: &[Value]) -> Option<(&'d str, 
 
 /// The controller that brings the limit file of a name.
 fn controller_of(name: &str) -> Option<Controller> {
-    LimitFile::from_name(name)?.controller()
+    match EntryName::from_name(name)? {
+        EntryName::File(file) => file.controller(),
+        EntryName::Other(file) => file.controller(),
+        _ => None,
+    }
 }

@@ -44,14 +44,14 @@ invariant_of-self c =
     elim c.add.result as (λ r. OnOk r (c.add.new.self ≡ map.insert c.self.inside.cgroups c.args.path.now (new_held c.args.cgroup))
     → OnErr r (c.add.new.self ≡ c.self.inside.cgroups)
     → IsIndexed c.add.new.self c.self.inside.processes c.self.inside.told c.self.inside.controllers) [
-      | Ok x ↦ λ ok err. subst (λ held.
-          IsIndexed held c.self.inside.processes c.self.inside.told c.self.inside.controllers) (sym ok) (record {
+      | Ok x ↦ λ ok err.
+          let st : State = state_of c.self.inside.cgroups c.self.inside.processes c.self.inside.told c.self.inside.controllers in
+          let absent = ap (λ (s : State). has_row s c.args.path.now) c.self.view_is ∙ c.requires.absent in
+          subst (λ held. IsIndexed held c.self.inside.processes c.self.inside.told c.self.inside.controllers) (sym ok) (record {
             formed = subst IsWellFormed (sym (next c)) c.requires.keeps;
             live =
                 counted_more_path c.self.inside.cgroups c.args.path.now (new_held c.args.cgroup) c.self.inside.processes.live
-                c.self.invariant.live
-                (sym (none_live (state_of c.self.inside.cgroups c.self.inside.processes c.self.inside.told c.self.inside.controllers)
-                c.self.invariant.formed c.args.path.now (ap (λ (s : State). has_row s c.args.path.now) c.self.view_is ∙ c.requires.absent)));
+                c.self.invariant.live (sym (none_live st c.self.invariant.formed c.args.path.now absent));
           })
       | Err f ↦ λ ok err.
           subst (λ held. IsIndexed held c.self.inside.processes c.self.inside.told c.self.inside.controllers) (sym err) c.self.invariant

@@ -6,6 +6,7 @@ use Rattle.cg_text.specs.declared.tree.row.Entries.{Entries}
 use Rattle.cg_format.specs.declared.fault.Place.TheVariants.{Cgroup as AtCgroup}
 use Rattle.cg_format.specs.declared.fault.TreeFault.TheVariants.{BadController}
 use Rattle.cg_text.proofs.RowLaws.{ok_of, err_of, ok_or_is, passed_on, no_path, no_enabled, faults_behind, row_read}
+use Rattle.cg_text.proofs.FurtherLaws.{not_owned, ten_failed, ten_passed}
 use Rattle.cg_text.proofs.tree.row.row_of.Goals as goal
 use Rattle.cg_text.proofs.tree.row.row_of.Goals.{In_ok-enabled}
 
@@ -31,27 +32,46 @@ returns-in_err-enabled c =
     (ap is_some c.in_ok-path.ensures.1) (sym c.known_at.ensures ∙ refused.0)
     ∙ ap (λ fault. Some fault) refused.1)
 
-pub returns-in_err-cgroup : goal.returns-in_err-cgroup
-returns-in_err-cgroup c =
+pub returns-then-not-others_are_owned : goal.returns-then-not-others_are_owned
+returns-then-not-others_are_owned c =
+    let enabled = enabled_is (goal.at.returns-then-not-others_are_owned c).In_ok-enabled in
     let said : Entries =
     record { place = AtCgroup c.args.number; format = c.args.format; dir = c.table_at.result; files = c.table_at-2.result } in
+    λ _.
+    faults_behind said (table_view c.args.table.now) c.table_at.ensures c.table_at-2.ensures _ _ c.in_ok-path.ensures.1 enabled
+    ∙ not_owned _ _ _ _ _ (sym c.others_are_owned.ensures ∙ c.if-not-others_are_owned.true)
+
+pub returns-in_err-cgroup : goal.returns-in_err-cgroup
+returns-in_err-cgroup c =
     let enabled = enabled_is (goal.at.returns-in_err-cgroup c).In_ok-enabled in
+    let said : Entries =
+    record { place = AtCgroup c.args.number; format = c.args.format; dir = c.table_at.result; files = c.table_at-2.result } in
     passed_on _ _ _ c.in_err-cgroup.field-0.0 c.from_residual-in_err-cgroup.ensures
     (λ memory.
     faults_behind said (table_view c.args.table.now) c.table_at.ensures c.table_at-2.ensures _ _ c.in_ok-path.ensures.1 enabled
-    ∙ c.in_err-cgroup.ensures memory)
+    ∙ ten_failed _ _ _ _ _ _ _ (sym c.others_are_owned.ensures ∙ c.if-not-others_are_owned.false) (c.in_err-cgroup.ensures memory))
 
-pub invariant_of-result : goal.invariant_of-result
-invariant_of-result c = c.path.invariant
+pub returns-in_err-told : goal.returns-in_err-told
+returns-in_err-told c =
+    let enabled = enabled_is (goal.at.returns-in_err-told c).In_ok-enabled in
+    let said : Entries =
+    record { place = AtCgroup c.args.number; format = c.args.format; dir = c.table_at.result; files = c.table_at-2.result } in
+    passed_on _ _ _ c.in_err-told.field-0.0 c.from_residual-in_err-told.ensures
+    (λ memory.
+    faults_behind said (table_view c.args.table.now) c.table_at.ensures c.table_at-2.ensures _ _ c.in_ok-path.ensures.1 enabled
+    ∙ ten_passed _ _ _ _ _ _ (sym c.others_are_owned.ensures ∙ c.if-not-others_are_owned.false) c.in_ok-cgroup.ensures.0
+    ∙ c.in_err-told.ensures memory)
 
 pub returns : goal.returns
 returns c =
     let row = table_view c.args.table.now in
+    let enabled = enabled_is (goal.at.returns c).In_ok-enabled in
     let said : Entries =
     record { place = AtCgroup c.args.number; format = c.args.format; dir = c.table_at.result; files = c.table_at-2.result } in
-    let enabled = enabled_is (goal.at.returns c).In_ok-enabled in
     let path = c.in_ok-path.ensures.1 in (
-      faults_behind said row c.table_at.ensures c.table_at-2.ensures _ _ path enabled ∙ c.in_ok-cgroup.ensures.0,
-      row_read said row c.table_at.ensures c.table_at-2.ensures c.args.number _ _ refl (path ∙ ap (λ path. Some path) (sym c.path.view_is))
-          enabled c.in_ok-cgroup.ensures.1 c.needed.ensures,
+      faults_behind said row c.table_at.ensures c.table_at-2.ensures _ _ path enabled
+          ∙ ten_passed _ _ _ _ _ _ (sym c.others_are_owned.ensures ∙ c.if-not-others_are_owned.false) c.in_ok-cgroup.ensures.0
+          ∙ c.in_ok-told.ensures.0,
+      row_read said row c.table_at.ensures c.table_at-2.ensures c.args.number _ _ refl path
+          enabled c.in_ok-cgroup.ensures.1 c.needed.ensures c.in_ok-told.ensures.1,
     )

@@ -1,6 +1,5 @@
-use Rattle.std.proofs.Common.{◌≡◌, ℕ, ◌+◌, ◌<◌, true, List, ◌∷◌, length, drop, drop-cons, add-one, get_or, map, filter_map, Option, Some, None, option_and_then, sym, ap, ◌∙◌}
+use Rattle.std.proofs.Common.{◌≡◌, ℕ, ◌+◌, ◌<◌, true, List, length, drop, get_or, map, filter_map, Option, Some, None, option_and_then, sym, ap, ◌∙◌}
 use Rattle.std.specs.Option.{option_copied}
-use Rattle.std.specs.List.{cons_option}
 use Rattle.toml.specs.Data.{as_str}
 use Rattle.toml.specs.View.{view}
 use Rattle.toml.specs.declared.value.Value.{Value}
@@ -8,6 +7,7 @@ use Rattle.cg_cgroup.specs.Files.{controller_named, with_controller}
 use Rattle.cg_cgroup.specs.declared.files.Controller.{Controller}
 use Rattle.cg_cgroup.specs.declared.controllers.ControllerSet.{ControllerSet}
 use Rattle.cg_format.specs.Said.{controllers_from}
+use Rattle.cg_text.proofs.LinesLaws.{texts_from}
 use Rattle.cg_text.proofs.tree.said.controllers_at.Goals.{in-Some+in_ok-from_name, in_default}
 use Rattle.cg_text.proofs.tree.said.controllers_at.Goals as goal
 
@@ -17,23 +17,17 @@ module _ (elements : List Value) (i : ℕ) (item : Value) (within : i < length e
   abbrev left : List (List ℕ)
   left = filter_map as_str (map view (drop (i + 1) elements))
 
-  -- the texts from here on, by whether this element is one
-  texts : (text : Option (List ℕ)) → as_str (view item) ≡ text
-      → filter_map as_str (map view (drop i elements)) ≡ cons_option text left
-  texts text so =
-      ap (λ rest. filter_map as_str (map view rest))
-      (drop-cons elements i item within ∙ (λ j. sym is j ∷ drop (sym (add-one i) j) elements))
-      ∙ ap (λ found. cons_option found left) so
-
   skipped : new ≡ set → as_str (view item) ≡ None → controllers_from new left ≡ said
-  skipped same so = ap (λ set. controllers_from set left) same ∙ (ap (controllers_from set) (sym (texts None so)) ∙ had)
+  skipped same so =
+      ap (λ set. controllers_from set left) same
+      ∙ (ap (controllers_from set) (sym (texts_from elements i item within is None so)) ∙ had)
 
   taken : (controller : Controller) (text : List ℕ) → new ≡ with_controller set controller true → controller_named text ≡ Some controller
       → as_str (view item) ≡ Some text → controllers_from new left ≡ said
   taken controller text more named so =
       ap (λ set. controllers_from set left) more
       ∙ (sym (ap (option_and_then (λ found. controllers_from (with_controller set found true) left)) named)
-      ∙ (ap (controllers_from set) (sym (texts (Some text) so)) ∙ had))
+      ∙ (ap (controllers_from set) (sym (texts_from elements i item within is (Some text) so)) ∙ had))
 
 pub loop-element-preserved : goal.loop-element-preserved
 loop-element-preserved c =

@@ -8,6 +8,7 @@ use Rattle.cg_text.proofs.tree.walk.Walk.leave.Goals as goal
 pub loop-self-init : goal.loop-self-init
 loop-self-init c = record {
   entries = refl;
+  told = refl;
   least = refl;
   left = λ controllers met has. fronts_first controllers met c.args.self.now c.args.path.now has;
 }
@@ -20,6 +21,7 @@ loop-self-preserved c =
     let other = ap (λ v. is_front stays (paths_in v.items) path) (sym kept.entries) ∙ sym c.is_below.ensures ∙ c.if-not-is_below.true in
     record {
       entries = kept.entries;
+      told = kept.told;
       least = kept.least;
       left = λ controllers met has.
           fronts_more controllers met path c.args.self.now has stays (kept.left controllers met has) c.pop.new.self.items c.pop.result other

@@ -8,6 +8,7 @@ use Rattle.cg_text.proofs.tree.walk.Walk.leave.Given as goal
 abbrev pub invariant-loop-self : goal.invariant-loop-self
 invariant-loop-self l = record {
   entries : l.self.entries ≡ l.initial.self.entries;
+  told : l.self.told ≡ l.initial.self.told;
   least : l.self.least ≡ l.initial.self.least;
   left : (controllers : ControllerSet) (met : List Row) → HasMet controllers met l.initial.self → AreFronts met l.path l.self.above.items;
 }

@@ -1,5 +1,6 @@
 use Rattle.std.proofs.Common.{◌≡◌, subst, refl, ap, sym, ◌∙◌, ◌++◌, ◌∷◌, [], unwrap_or}
-use Rattle.cg_text.specs.Walk.{over_at, fitted_to, entries_from, fronts_above, HasTested}
+use Rattle.std.specs.Option.{option_to_list}
+use Rattle.cg_text.specs.Walk.{over_at, fitted_to, entries_from, told_here, fronts_above, HasTested}
 use Rattle.cg_text.specs.declared.tree.walk.Walk.{Walk}
 use Rattle.cg_text.proofs.WalkFronts.{met_next, over_next}
 use Rattle.cg_text.proofs.LeastNumbers.{tested_push}
@@ -23,8 +24,11 @@ returns c met has next =
     let same = ap (λ v. v.items) (c.test.ensures.entries ∙ c.leave.ensures.entries) in
     let unwrapped = c.unwrap_or-over.ensures ∙ ap (unwrap_or c.over-over.result) c.none.ensures in
     let fitted = c.fitted.ensures ∙ ap (λ set. fitted_to set row.cgroup) unwrapped in
-    let new : Walk = record { entries = c.push-2.new.self; above = c.push.new.self; least = c.test.new.self.least } in
+    let told = c.in_ok-tell.ensures ∙ ap (λ v. v.items ++ option_to_list (told_here row)) (c.test.ensures.told ∙ c.leave.ensures.told) in
+    let new : Walk =
+    record { entries = c.push-2.new.self; told = c.tell.new.told; above = c.push.new.self; least = c.test.new.self.least } in
     met_next controllers met row c.args.self.now new left.above.items len c.over-over.result has above long over
     (c.in_ok-push.ensures.items ∙ ap (λ v. v.items ++ record { len = len; enabled = row.cgroup.enabled } ∷ []) c.test.ensures.above)
     (c.in_ok-push-2.ensures.items ∙ (λ i. same i ++ (row.path, fitted i) ∷ []))
+    told
     tested

@@ -14,5 +14,5 @@ returns-clause-tested c met entries next =
     let alone = c.noted-2.ensures ∙ ap (noted least.orphan row.number) (turned _ _ c.is_none.ensures) in
     let past = c.noted-3.ensures ∙ ap (noted least.not_within row.number) (c.is_past.ensures
     ∙ ap (is_past row.cgroup.enabled) c.available-available.ensures) in
-    let file = c.noted-4.ensures ∙ ap (noted least.no_file row.number) c.is_past-2.ensures in
+    let file = c.noted-4.ensures ∙ ap (noted least.no_file row.number) c.names_past.ensures in
     λ i. record { twice = met_is i; orphan = alone i; not_within = past i; no_file = file i }

@@ -11,9 +11,9 @@ use Rattle.cg_cgroup.specs.Files.{all_files}
 use Rattle.cg_cgroup.specs.declared.files.LimitFile.TheVariants.{MaxDescendants}
 use Rattle.cg_print.specs.Carried.{FileHasIds}
 use Rattle.cg_print.specs.Keys.{with_key}
-use Rattle.cg_print.specs.Documents.{entry_table, with_file, files_table}
+use Rattle.cg_print.specs.Documents.{entry_table, with_file, limits_table}
 use Rattle.cg_print.proofs.Entries.{all_more}
-use Rattle.cg_print.proofs.cgroups.files_table.Goals as goal
+use Rattle.cg_print.proofs.cgroups.limits_table.Goals as goal
 
 pub loop-file-init : goal.loop-file-init
 loop-file-init c =
@@ -44,7 +44,7 @@ loop-file-preserved c =
     }
 
 pub returns-clause-written : goal.returns-clause-written
-unfolding files_table
+unfolding limits_table
 returns-clause-written c =
     let row = c.args.cgroup.now in
     let all : take c.loop-file.file-index all_files ≡ all_files =

@@ -7,7 +7,7 @@ use Rattle.cg_cgroup.specs.Files.{all_files}
 use Rattle.cg_print.specs.Carried.{FileHasIds}
 use Rattle.cg_print.specs.Keys.{with_key}
 use Rattle.cg_print.specs.Documents.{entry_table, with_file}
-use Rattle.cg_print.proofs.cgroups.files_table.Given as goal
+use Rattle.cg_print.proofs.cgroups.limits_table.Given as goal
 
 abbrev pub invariant-loop-file : goal.invariant-loop-file
 invariant-loop-file l = record {

@@ -1,0 +1,30 @@
+//! The texts that values of limit files beyond `LimitFile` are, line by line.
+ghost use Rattle.std.specs.Prelude.{◌≡◌};
+ghost use Rattle.std.specs.List.{list_all};
+ghost use Rattle.cg_cgroup.specs.Values.{is_graphic, is_value_word, is_one_line};
+
+/// Whether a byte is printable and no space.
+fn is_graphic(byte: u8) -> bool
+    ensures { result ≡ is_graphic byte }
+{
+    byte.is_ascii_graphic()
+}
+
+fn are_graphic(bytes: &[u8]) -> bool
+    ensures { result ≡ list_all is_graphic bytes.now }
+{
+    bytes.iter().all(|byte| is_graphic(*byte))
+}
+
+fn is_value_word(word: &str) -> bool
+    ensures { result ≡ is_value_word word.now }
+{
+    0 < word.len() && are_graphic(word.as_bytes())
+}
+
+/// Whether a text is printable words, one or more, with one space between them.
+pub fn is_one_line(text: &str) -> bool
+    ensures { result ≡ is_one_line text.now }
+{
+    text.split(' ').all(|word| is_value_word(word))
+}
