@@ -172,8 +172,20 @@ def tree_faults():
     yield is_fault("top-down cgroup 1", of_root(4, ["io"], root="enabled = ['io', 'rdma']"))
     yield is_fault("internal-process process 1", of_root(4, ["io"], row("/a", "enabled = ['io']") + process(1, "/a"), "enabled = ['io']"))
     yield is_fault("no-such-file cgroup 2", of_root(4, NINE, row("/a", 'files."pids.max".value = 1'), "enabled = ['io']"))
-    # what else a controller brings has no key, and no name that is kept from cgroups
-    yield is_fault("shape cgroup 2", of_root(4, NINE, row("/a", 'files."io.max".uid = 1000'), "enabled = ['io']"))
+    # a further limit file: what it takes, and that no cgroup is kept from its name
+    yield is_fault("shape cgroup 2", of_root(4, NINE, row("/a", 'files."io.maxx".uid = 1000'), "enabled = ['io']"))
+    yield is_read(of_root(4, NINE, row("/a", 'files."io.max".uid = 1000'), "enabled = ['io']"))
+    yield is_fault("shape cgroup 2", of_root(2, ["cpu"], row("/a", 'files."cpu.max".uid = 1000'), "enabled = ['cpu']"))
+    long = 4096 * "1"
+    for value in '[]', '""', '" 1"', '"1 "', '"1  2"', '"1\\n2"', '["1", ""]', '["1", "1  2"]', '"\\u00e9"', f'"{long}"', f'["{long}"]':
+        yield is_fault("bad-value cgroup 2", of_root(4, NINE, row("/a", f'files."io.max".value = {value}'), "enabled = ['io']"))
+    for value in '5', '-5', '"5"', '["5"]', '["5", "6 7"]', f'"{long[1:]}"':
+        yield is_read(of_root(4, NINE, row("/a", f'files."io.max".value = {value}'), "enabled = ['io']"))
+    for value in 'true', '1.5', '[5]', '["5", 5]', '{}':
+        yield is_fault("shape cgroup 2", of_root(4, NINE, row("/a", f'files."io.max".value = {value}'), "enabled = ['io']"))
+    yield is_fault("bad-entry cgroup 2", of_root(4, NINE, row("/a", 'files."io.max".uid = 4294967296'), "enabled = ['io']"))
+    yield is_fault("no-such-file cgroup 2", of_root(4, NINE, row("/a", 'files."io.max".uid = 1'), "enabled = ['cpu']"))
+    yield is_fault("no-such-file cgroup 1", of_root(4, NINE, row("/a"), 'files."cgroup.freeze".uid = 1'))
     yield is_read(of_root(4, NINE, row("/io.max") + row("/cpuset.cpus") + row("/io")))
     yield is_fault("bad-path cgroup 2", of_root(4, NINE, row("/memory.max")))
     yield is_read(of_root(4, (), row("/a", "dir = { gid = 5, mode = 0o775 }")))

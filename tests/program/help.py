@@ -32,6 +32,7 @@ uid = 1000
 at = '/c0'
 """
 FOUR = TREE.replace("format = 2", "format = 4")
+LIMIT = '"memory.max" = { value = 4096 }'
 ALL_NINE = "cpuset cpu io memory hugetlb pids rdma misc dmem"
 NEWLINE = "\n"
 OPS = "set /c0 memory.max max\nmove 10 /c0\n"
@@ -256,7 +257,7 @@ def trees():
 
 
 def of_format_4():
-    """Controllers that format 4 has, and what is too much."""
+    """Controllers and limit files that format 4 has, and what is too much."""
     def row(old, new, line, *helps):
         return Row(CHECK, f"tree {line}", helps, edited(old, new).replace("format = 2", "format = 4"))
 
@@ -264,7 +265,7 @@ def of_format_4():
     yield row('"pids"]', '"network"]', "bad-controller top", f"'network' of controllers is none of {ALL_NINE}: left out")
     yield row('enabled = ["memory"]', 'enabled = ["cpusets"]', "bad-controller cgroup 1", "'cpusets' of enabled is no controller: write cpuset")
     yield row('enabled = ["memory"]', 'enabled = ["io"]', "top-down cgroup 1", "io isn't in controllers")
-    yield row('"memory.max" = { value = 4096 }', '"io.max" = { }', "shape cgroup 2", "/c0", "io.max: left out, what it says counts in no answer")
+    yield from of_further_files()
     few = "a tree has at most 4096 cgroups and 4096 processes, or 65536 of each with format = 4"
     for text, count in ((TREE, 4097), (FOUR, 65537)):
         yield Row(CHECK, "tree too-many", [few], text + "[[cgroup]]\n" * (count - 2))
@@ -274,12 +275,50 @@ def of_format_4():
         yield Row(CHECK, "tree too-long", ["a text has at most 16777216 bytes, or 67108864 where format = 4 is its first line"], text + "#" * 16777216)
 
 
+def of_further_files():
+    """Limit files that format 4 has beside those of format 2: at `/c0` those of `memory`, and `cgroup.freeze`."""
+    def row(written, line, *helps, tree=FOUR):
+        return Row(CHECK, f"tree {line}", helps, tree.replace(LIMIT, written))
+
+    def value(written, *helps):
+        tree = FOUR.replace(LIMIT, f'"memory.swap.max" = {{ value = {written} }}')
+        return Row(CHECK, "tree bad-value cgroup 2", ["/c0", place(tree, "value"), *helps], tree)
+
+    left_out = "memory.zswap.max; left out, root owns it, with mode 0o644, and nothing is told of its value"
+    yield row('"memory.zwsap.max" = { }', "shape cgroup 2", "/c0", f"there is no key memory.zwsap.max: write {left_out}")
+    yield row('"io.maks" = { }', "shape cgroup 2", "there is no key io.maks: write io.max")
+    yield row('"cgroup.threads" = { }', "shape cgroup 2", "cgroup.threads: left out, what it says counts in no answer; there are cgroup.procs cgroup.subtree_control cgroup.max.descendants cgroup.max.depth cgroup.freeze")
+    yield row('"cpu.pressure" = { }', "shape cgroup 2", "there are cpu.weight cpu.idle cpu.max cpu.max.burst cpu.uclamp.max cpu.uclamp.min cpu.weight.nice")
+    yield row('"freezer" = { }', "shape cgroup 2", "freezer: left out", "there are cgroup.procs", "rdma.max")
+    yield row('"io.max" = { }', "shape cgroup 2", "there is no key io.max: left out, what it says counts in no answer; format = 4 has it", tree=TREE)
+    yield row("memory.swap.max = { uid = 5 }", "shape cgroup 2", 'memory: a name with dots is quoted, as "memory.swap.max"')
+    yield row("cpu.max.burst = { value = 0 }", "shape cgroup 2", 'cpu: a name with dots is quoted, as "cpu.max.burst"')
+    yield row('"cgroup.freeze" = 0', "shape cgroup 2", "cgroup.freeze is 0, and has to be a table")
+    yield row('"cgroup.freeze" = { vlaue = 0 }', "shape cgroup 2", "cgroup.freeze: there is no key vlaue: write value; left out, nothing is told of its value")
+    yield row('"cgroup.freeze" = { value = true }', "shape cgroup 2", "value is boolean, and has to be an integer, a text or an array of texts")
+    yield row('"memory.swap.max" = { value = [0] }', "shape cgroup 2", "value is array, and has to be an integer, a text or an array of texts")
+    yield row('"memory.swap.max" = { uid = -1 }', "bad-entry cgroup 2", "memory.swap.max: uid -1 isn't one of 0 to 4294967295")
+    yield row('"memory.swap.max" = { mode = 644 }', "bad-entry cgroup 2", "memory.swap.max: mode 644 is decimal: write 0o644")
+    yield value("''", "memory.swap.max doesn't accept '': a line has a byte or more; left out, nothing is told of the value")
+    yield value("'8:0  max'", "memory.swap.max doesn't accept '8:0  max': write words with one space between them")
+    yield value("'max '", "doesn't accept 'max ': write words with one space between them")
+    yield value('"max\\n"', "doesn't accept 'max\\x0a': write an array of lines, with no newline in them")
+    yield value('["max", "8:0\\tmax"]', "doesn't accept '8:0\\x09max': a line has printable ASCII alone")
+    yield value("[]", "memory.swap.max doesn't accept an empty array: write a line or more")
+    yield value(f"'{'x' * 4096}'", "a line has at most 4095 bytes")
+    yield row('"io.max" = { value = "max" }', "no-such-file cgroup 2", "/c0", "io.max doesn't stand there: the row of '/' doesn't enable io")
+    for name in ("cgroup.freeze", "memory.swap.max"):
+        tree = FOUR.replace('enabled = ["memory"]', f'enabled = ["memory"]\nfiles = {{ "{name}" = {{ }} }}')
+        yield Row(CHECK, "tree no-such-file cgroup 1", [place(tree, f'"{name}"'), f"{name} never stands at the root"], tree)
+
+
 def strangers():
     """What is said beside an answer of users of whom the tree says nothing, and of no others."""
     said = "uid 1001 and its gids own nothing in this tree, write nothing but what all others write, and have no process in it"
     of_group = TREE.replace("gid = 1000, mode", "gid = 5, mode").replace("0o644", "0o664")
     of_all, running = TREE.replace("0o644", "0o646"), TREE.replace("pid = 10\nuid = 1000", "pid = 10\nuid = 1001")
     a_limit = TREE.replace("value = 4096", "uid = 1001, value = 4096")
+    a_further_one = FOUR.replace(LIMIT, '"cgroup.freeze" = { uid = 1001 }')
     at = ["--subtree", "/c0"]
     check, audit, advise = (["check", "--uid", "1001"], ["audit", "--uid", "1000", "--uid", "1001"], ["advise", "--uid", "1001"])
     audits = [audit, [*audit, "--all"], [*audit, "--settle"], [*audit, "--settle", "--all"], ["explain", *audit[1:]]]
@@ -287,11 +326,15 @@ def strangers():
                   [*audit[:3], "--uid", "1001:5,6"]):
         yield Row([*words, *at], None, [said])
         yield Row([*words, *at], None, [said], of_all)
-        for tree in (running, a_limit):
+        for tree in (running, a_limit, a_further_one):
             yield Row([*words, *at], None, (), tree)
     yield Row([*check, *at], None, [said], of_group)
     yield Row([*check, "--gid", "7", "--gid", "5", *at], None, (), of_group)
     yield Row(["audit", "--uid", "1001:5", *at], None, (), of_group)
+    for told, helps in (("gid = 7, mode = 0o664", ()), ("gid = 7", [said]), ("mode = 0o646", [said])):
+        tree = FOUR.replace(LIMIT, f'"memory.swap.max" = {{ {told} }}')
+        yield Row([*check, "--gid", "7", *at], None, helps, tree)
+        yield Row(["audit", "--uid", "1001:7", *at], None, helps, tree)
     yield Row(["audit", "--uid", "1002", "--uid", "1001", *at], None, [said.replace("1001", "1002")])
     yield Row(CHECK, None, ())
     yield Row(["may", "--uid", "1001", "--pid", "10", "--to", "/c0"], None, ())

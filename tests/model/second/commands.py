@@ -8,7 +8,7 @@ import re
 from . import explained, rules, settled
 from .controllers import controllers_in
 from .documents import Fault
-from .further import FURTHER_FILES, is_value
+from .further import FURTHER_FILES, is_value, value_written
 from .rules import text_of
 from .texts import LAST_ID, tree_of
 
@@ -462,7 +462,7 @@ def document_of(state):
 def full_row(path, cgroup):
     files = {name: {"uid": entry.uid, "gid": entry.gid, "mode": entry.mode} for name, entry in cgroup.entries.items()}
     for name, value in cgroup.values.items():
-        files[name]["value"] = value
+        files[name]["value"] = value_written(value) if name in FURTHER_FILES else value
     enabled = [c for c in rules.ALL_CONTROLLERS if c in cgroup.enabled]
     return {"path": text_of(path), "enabled": enabled, "dir": files.pop(rules.DIR), "files": files}
 

@@ -9,7 +9,7 @@ import itertools
 from dataclasses import dataclass, field, replace
 
 from .controllers import ALL_CONTROLLERS, CONTROLLERS
-from .further import FURTHER_FILES
+from .further import FURTHER_FILES, other_text
 
 MOST = 2 ** 63 - 1
 MAX = "max"
@@ -44,8 +44,8 @@ class Entry:
 @dataclass(frozen=True)
 class Cgroup:
     """`entries` by name: the directory, the control files, the eight limit files that stand and the further ones that are told of;
-    `values` of the eight, and the texts of further ones that aren't as they are. `untold` by the controller that brings them, or None: the
-    entry of further ones of which nothing is told, where it isn't root's."""
+    `values` of the eight, and the texts of further ones that aren't as they are, with a newline between two lines. `untold` by the
+    controller that brings them, or None: the entry of further ones of which nothing is told, where it isn't root's."""
     entries: dict
     values: dict
     enabled: frozenset = frozenset()
@@ -455,7 +455,7 @@ def failures(state, user, top):
 def other_value(file, value):
     """Another value of a file, which is None where it is as it is."""
     if file in FURTHER_FILES:
-        return next(text for text in (FURTHER_FILES[file][1], MAX, "0") if text != value)
+        return other_text(file, value)
     if file == "cpu.weight":
         return 1 if value == 100 else 100
     return 0 if value == MAX else MAX

@@ -7,6 +7,7 @@ import itertools
 from . import rules
 from .controllers import controllers_in
 from .documents import Fault, document_of
+from .further import FURTHER_FILES, is_told, text_told
 from .rules import Cgroup, Entry, State
 
 LAST_ID = 2 ** 32 - 1
@@ -33,18 +34,39 @@ def number(value):
     return is_a(value, int)
 
 
-def entry_form(form, holds_value):
+def limit_value(value):
+    return number(value) or is_a(value, str)
+
+
+def further_value(value):
+    return number(value) or is_a(value, str) or texts(value)
+
+
+def further_files(form):
+    """The further limit files that a text of a format may name."""
+    return FURTHER_FILES if form == 4 else {}
+
+
+def entry_form(form, value=None):
+    """The form of an entry's table, which holds a value if there is a test of one."""
     tests = {"uid": number, "mode": number}
     if form != 1:
         tests["gid"] = number
-    if holds_value:
-        tests["value"] = lambda value: number(value) or is_a(value, str)
+    if value:
+        tests["value"] = value
     return lambda table: has_form(table, {}, tests)
 
 
+def files_form(form):
+    tests = {name: entry_form(form) for name in (rules.PROCS, rules.CONTROL)}
+    tests.update((name, entry_form(form, limit_value)) for name in rules.LIMIT_FILES)
+    tests.update((name, entry_form(form, further_value)) for name in further_files(form))
+    return lambda table: has_form(table, {}, tests)
+
+
+@functools.lru_cache(maxsize=None)
 def cgroup_form(form):
-    files = {name: entry_form(form, name in rules.LIMIT_FILES) for name in (rules.PROCS, rules.CONTROL, *rules.LIMIT_FILES)}
-    optional = {"enabled": texts, "dir": entry_form(form, False), "files": lambda table: has_form(table, {}, files)}
+    optional = {"enabled": texts, "dir": entry_form(form), "files": files_form(form)}
     return lambda table: has_form(table, {"path": lambda value: is_a(value, str)}, optional)
 
 
@@ -110,6 +132,8 @@ def bad_entry(form, table):
 
 
 def bad_value(name, value):
+    if name in FURTHER_FILES:
+        return not is_told(value)
     return not (value == rules.MAX or number(value)) or not rules.accepts(name, value)
 
 
@@ -124,19 +148,26 @@ def state_of(form, controllers, rows, processes):
     first("no-parent cgroup", paths, lambda path: path and path[:-1] not in at)
     first("top-down cgroup", paths, lambda path: not at[path] <= (at[path[:-1]] if path else set(controllers)))
     bare = State(frozenset(controllers), {path: Cgroup({}, {}, at[path]) for path in paths}, {}, frozenset(), max(form, 2))
-    limits = [set(row.get("files", {})) & rules.LIMIT_FILES.keys() for row in rows]
-    first("no-such-file cgroup", numbered, lambda each: not limits[each[0]] <= set(rules.files_at(bare, paths[each[0]])))
+    limits = [set(row.get("files", {})) & {*rules.ALL_FILES} for row in rows]
+    first("no-such-file cgroup", numbered, lambda each: limits[each[0]] and not limits[each[0]] <= set(nameable(bare, paths[each[0]])))
     cgroups = {path: cgroup_of(bare, path, row) for path, row in zip(paths, rows)}
     live = live_of(cgroups, processes)
     return State(bare.controllers, cgroups, live, frozenset(live), bare.form)
 
 
+def nameable(bare, path):
+    """The limit files that a row may name: those that stand there, and of further ones none at the root."""
+    return [*rules.files_at(bare, path), *(rules.further_at(bare, path) if path else [])]
+
+
 def cgroup_of(bare, path, row):
     files = row.get("files", {})
+    told = [name for name in files if name in FURTHER_FILES]
     entries = {rules.DIR: entry_of(row.get("dir", {}), rules.DIR_MODE)}
-    for name in (rules.PROCS, rules.CONTROL, *rules.files_at(bare, path)):
+    for name in (rules.PROCS, rules.CONTROL, *rules.files_at(bare, path), *told):
         entries[name] = entry_of(files.get(name, {}), rules.FILE_MODE)
     values = {name: files.get(name, {}).get("value", rules.default_of(name)) for name in rules.files_at(bare, path)}
+    values.update((name, text_told(files[name]["value"])) for name in told if "value" in files[name])
     return Cgroup(entries, values, bare.cgroups[path].enabled)
 
 

@@ -7,9 +7,9 @@ import tomllib
 import unittest
 
 sys.path.insert(0, os.path.dirname(os.path.dirname(os.path.abspath(__file__))))
-from second import commands, documents, texts
+from second import commands, documents, rules, texts
 from second.further import FURTHER_FILES
-from trials import cases, format_4, programs, spelling, trees
+from trials import cases, format_4, further, programs, spelling, trees
 import format_4_rows as rows
 
 MOST, LARGE = documents.MOST_BYTES, documents.MOST_LARGE
@@ -44,9 +44,9 @@ class RowsTest(unittest.TestCase):
                 self.assertEqual(said, (lines, status), (change, words))
 
     def test_outcomes(self):
-        for outcomes in (rows.OUTCOMES, rows.OUTCOMES_OF_FURTHER):
+        for tree, outcomes in ((rows.H, rows.OUTCOMES), (rows.H, rows.OUTCOMES_OF_FURTHER), (rows.B, rows.OUTCOMES_OF_TOLD)):
             lines = [outcome for _, outcome in outcomes]
-            self.assertEqual(ask(rows.AS_ONE, rows.H.encode(), [operation for operation, _ in outcomes]), ([*lines, "kept"], 0))
+            self.assertEqual(ask(rows.AS_ONE, tree.encode(), [operation for operation, _ in outcomes]), ([*lines, "kept"], 0))
 
     def test_verdicts(self):
         for change, operations, lines in rows.VERDICTS:
@@ -71,6 +71,26 @@ class RowsTest(unittest.TestCase):
             self.assertEqual(ask(rows.AS_ONE, rows.H.encode(), [line]), (["refused no-such-file / io.max", "kept"], 0), line)
             self.assertEqual(commands.operation_of(line.encode(), 4), ("set", (), "io.max", value))
             self.assertEqual(commands.spelling(("set", (), "io.max", value)), line)
+
+    def test_each_further_file_has_a_key_where_it_stands(self):
+        every = format_4.ALL_CONTROLLERS
+        text = f"format = 4\ncontrollers = {[*every]}\ncgroup = [{{ path = '/', enabled = {[*every]} }}, {{ path = '/s' }}]\n"
+        for name, (controller, loose) in FURTHER_FILES.items():
+            key = f"files = {{ '{name}' = {{ uid = 1000 }} }}"
+            self.assertEqual(ask(rows.CHECK, changed(text, [("'/s'", f"'/s', {key}")])), (["escapes", f"set /s {name} {loose}"], 1))
+            self.assertEqual(ask(rows.CHECK, changed(text, [("'/', ", f"'/', {key}, ")])), (["fault: tree no-such-file cgroup 1"], 3))
+            other = changed(text, [("'/s'", f"'/s', {key}"), (f"enabled = {[*every]}", f"enabled = {[c for c in every if c != controller]}")])
+            expected = (["fault: tree no-such-file cgroup 2"], 3) if controller else (["escapes", f"set /s {name} {loose}"], 1)
+            self.assertEqual(ask(rows.CHECK, other), expected)
+
+    def test_upgrade_of_told_files(self):
+        for value, written in rows.TOLD_VALUES:
+            text = changed(rows.H, [rows.told(f'"io.max" = {{ value = {value} }}', '"cpu.max" = { uid = 5, gid = 6, mode = 0o660 }')])
+            files = {row["path"]: row["files"] for row in ask("upgrade", text)[0][0]["cgroup"]}
+            self.assertEqual(files["/s"]["io.max"], {"uid": 0, "gid": 0, "mode": 0o644, "value": written}, value)
+            self.assertEqual(files["/s"]["cpu.max"], {"uid": 5, "gid": 6, "mode": 0o660})
+            self.assertEqual({name for path, names in files.items() for name in names if name in FURTHER_FILES}, {"io.max", "cpu.max"})
+            self.assertEqual(ask("upgrade", spelling.document(random.Random(value), ask("upgrade", text)[0][0])), ask("upgrade", text))
 
     def test_upgrade(self):
         for text in (rows.UPGRADED, rows.WRITTEN):
@@ -134,6 +154,18 @@ class FormatTest(unittest.TestCase):
             self.assertEqual(state.form, 4)
             document = commands.document_of(state)
             self.assertEqual(texts.tree_of(spelling.document(rng, document)), state)
+
+    def test_random_trees_tell_of_each_further_file(self):
+        found = set()
+        for number in range(60):
+            rng = random.Random(number)
+            tree = trees.random_tree(rng)
+            format_4.widen(rng, tree)
+            further.tell(rng, tree)
+            state = texts.tree_of(spelling.document(rng, tree.document(rng)))
+            found.update(name for path in state.cgroups for name in rules.told_at(state, path))
+            self.assertEqual(texts.tree_of(spelling.document(rng, commands.document_of(state))), state)
+        self.assertEqual(found, {*FURTHER_FILES})
 
     def test_random_trees_have_each_controller(self):
         found = set()

@@ -1,10 +1,10 @@
-"""Tests of the second model's further limit files by docs/MODEL.md, on states that no text is of as well."""
+"""Tests of the second model's further limit files by docs/MODEL.md and docs/FORMATS.md, on states that no text is of as well."""
 import os
 import sys
 import unittest
 
 sys.path.insert(0, os.path.dirname(os.path.dirname(os.path.abspath(__file__))))
-from second import commands, explained, lasting, rules, texts
+from second import commands, explained, further, lasting, rules, texts
 from second.further import FURTHER_FILES
 from second.rules import Entry
 import format_4_rows as rows
@@ -19,7 +19,7 @@ def tree(text=rows.H):
 
 
 def opened(name, mode=0o644):
-    """H with a further limit file of the subtree that is the user's, as none is that a text tells of."""
+    """H with a further limit file of the subtree that is the user's, with its value as it is."""
     state = tree()
     top = state.cgroups[TOP]
     return rules.with_cgroup(state, TOP, rules.replace(top, entries={**top.entries, name: Entry(1000, 0, mode)}))
@@ -55,7 +55,26 @@ class FilesTest(unittest.TestCase):
             found = [name for name in FURTHER_FILES if name.startswith((f"{controller}.", "cgroup."))]
             self.assertEqual(rules.further_at(some, TOP), found)
 
-    def test_a_text_tells_of_none(self):
+    def test_values_of_a_text(self):
+        for value, text in ((5, "5"), (-5, "-5"), ("5", "5"), (["5"], "5"), ("a b", "a b"), (["a", "b"], "a\nb")):
+            self.assertTrue(further.is_told(value))
+            self.assertEqual(further.text_told(value), text)
+            self.assertEqual(further.text_told(further.value_written(text)), text)
+        self.assertEqual([further.value_written(text) for text in ("5", "a b", "a\nb")], ["5", "a b", ["a", "b"]])
+        for value in ("", " 1", "1 ", "1  2", "1\n2", "\xe9", [], [""], ["1", "2 "], 4096 * "x", ["1", 4096 * "x"]):
+            self.assertFalse(further.is_told(value), value)
+        self.assertTrue(further.is_told([4095 * "x", 4095 * "y"]))
+        self.assertEqual([further.is_value(length * "x") for length in (3800, 3801)], [True, False])
+
+    def test_what_a_text_tells(self):
+        state = tree(rows.H.replace(rows.WEIGHT, '"io.weight" = {}\n"io.max" = { uid = 5, gid = 6, mode = 0o60, value = ["b", "a"] }'))
+        self.assertEqual(rules.told_at(state, TOP), ["io.max", "io.weight"])
+        self.assertEqual([rules.entry_of(state, TOP, name) for name in ("io.max", "io.weight")], [Entry(5, 6, 0o60), Entry(0, 0, 0o644)])
+        self.assertEqual({name: value for name, value in state.cgroups[TOP].values.items() if name in FURTHER_FILES}, {"io.max": "b\na"})
+        self.assertEqual([name for guard, _, name in rules.guarded(state, TOP) if guard == "limit-file"][-2:], ["io.max", "io.weight"])
+        self.assertEqual(rules.limits_of(state, TOP)[0]["io.max"], "b\na")
+
+    def test_a_text_tells_of_what_it_names_alone(self):
         for text in (rows.H, OF_NINE, rows.TWO):
             state = tree(text)
             for path in state.cgroups:
@@ -115,8 +134,8 @@ class SubtreeTest(unittest.TestCase):
 
     def test_another_value_is_tried(self):
         for name, value, other in (("io.max", None, "max"), ("io.max", "1", "max"), ("io.max", "max", "0"), ("cpu.idle", None, "0"),
-                                   ("cpu.idle", "0", "max"), ("cpu.idle", "max", "0"), ("cpu.max", "max", "max 100000"),
-                                   ("cpu.max", "max 100000", "max"), ("cpuset.cpus.partition", "root", "member")):
+                                   ("cpu.idle", "0", "1"), ("cpu.idle", "max", "0"), ("cpu.max", "max", "max 100000"),
+                                   ("cpu.max", "max 100000", "max 50000"), ("cpuset.cpus.partition", "root", "member")):
             self.assertEqual(rules.other_value(name, value), other, (name, value))
         for name, (_, loose) in FURTHER_FILES.items():
             self.assertEqual(rules.other_value(name, None), loose)

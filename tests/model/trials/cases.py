@@ -60,9 +60,12 @@ def random_case(seed, number, known):
     command = rng.choices(able, [WEIGHTS[name] for name in able])[0]
     if not large and ("settle" in command and rng.random() < 0.75 or command == "explain" and rng.random() < 0.5):
         tree = trees.tree_of_state(rng, 35 if command in ("audit --settle", "advise --settle") else 9, wide)
+        if wide and rng.random() < 0.4:
+            further.tell(rng, tree)
         data = spelling.document(rng, tree.document(rng))
     if wide and not large and command.startswith("replay") and tree.form == 4 and tree.subtree and state_of(data) and rng.random() < 0.8:
         further.make_room(rng, tree)
+        further.tell(rng, tree)
         data = spelling.document(rng, tree.document(rng))
     case = Case(MAKERS[command](rng, tree, state_of(data)))
     if command.startswith("replay"):
@@ -83,8 +86,10 @@ def text_of_tree(rng, tree, wide):
     """A tree's text, mostly of format 4 where that is asked for; at times a faulty one, or one of about as many bytes as may be."""
     if wide and rng.random() < 0.9:
         format_4.widen(rng, tree)
+        if rng.random() < 0.5:
+            further.tell(rng, tree)
     parts = tree.document(rng)
-    if rng.random() < 0.25:
+    if rng.random() < (0.32 if wide else 0.25):
         (format_4 if wide and rng.random() < 0.6 else faults).turn_document(rng, parts)
     data = spelling.document(rng, parts)
     if rng.random() < 0.05:

@@ -3,8 +3,7 @@ import itertools
 
 from second import documents, rules
 from second.controllers import ALL_CONTROLLERS, CONTROLLERS
-from second.further import FURTHER_FILES
-from trials import spelling
+from trials import further, spelling
 from trials.spelling import Raw
 
 # among the commands that a program has: that it reads this format
@@ -13,7 +12,7 @@ TREE = b'format = 4\ncontrollers = ["dmem"]\n[[cgroup]]\npath = "/"\n'
 FURTHER = [c for c in ALL_CONTROLLERS if c not in CONTROLLERS]
 # names of no controller, some of which are a kernel's, and of files that have no key
 NONE = ["perf_event", "net_cls", "cgroup", "", "IO", "io ", "cpuset.cpus", "freezer"]
-KEYLESS = [*FURTHER_FILES, "pids.peak", "memory.oom.group", "hugetlb.4MB.max", "io.cost.qos", "cgroup.kill"]
+KEYLESS = ["pids.peak", "memory.oom.group", "hugetlb.4MB.max", "io.cost.qos", "cgroup.kill", "cgroup.type", "cpu.max.", "CPU.MAX", "io.stat"]
 MANY = 4097
 # a byte order mark
 MARK = "\ufeff"
@@ -100,6 +99,13 @@ def another_form(rng, parts):
     parts["format"] = rng.choice([1, 2, 2, 3, 5, 6])
 
 
+def enabled_of_others(rng, parts):
+    """Another format, whose root has what it may have, and of which a cgroup may enable what it may not."""
+    parts["format"] = rng.choice([1, 2, 2])
+    parts["controllers"] = [c for c in parts["controllers"] if c in CONTROLLERS]
+    rng.choice(parts["cgroup"]).setdefault("enabled", []).append(rng.choice(FURTHER))
+
+
 def too_many(rng, parts):
     parts[rng.choice(["cgroup", "process"])] = Raw("[" + "1," * rng.choice([4096, 4097, 65536, 65536, 65537, 65537]) + "]")
 
@@ -123,7 +129,8 @@ def gid(rng, parts):
     rng.choice(parts["cgroup"])["dir"] = {"gid": rng.choice([0, 5, 2 ** 32 - 1, 2 ** 32]), "mode": rng.choice([0o775, 0o755, 0o1000])}
 
 
-FAULTS = [*2 * [bad_controller], *2 * [another_form], *2 * [too_many], top_down, *2 * [internal_process], keyless, gid]
+FAULTS = [*2 * [bad_controller], *2 * [another_form], enabled_of_others, *2 * [too_many], top_down, *2 * [internal_process], keyless, gid,
+          *7 * [further.turn_told]]
 
 
 def turn_document(rng, parts):

@@ -1,10 +1,12 @@
-"""Operations on further limit files, made at random, and lines that are nearly such."""
+"""Further limit files, made at random: what texts tell of them, with its faults, and operations on them, with lines that are nearly such."""
 import itertools
 
 from second import rules
 from second.controllers import ALL_CONTROLLERS
-from second.further import FURTHER_FILES, LONGEST_VALUE
+from second.further import FURTHER_FILES, LONGEST_LINE, LONGEST_VALUE, is_value, other_text
 from second.rules import text_of
+from trials import trees
+from trials.spelling import Raw
 
 # of another kind, of a size that has no row, or spelled otherwise
 NONE = ["memory.oom.group", "memory.reclaim", "pids.peak", "pids.current", "io.cost.qos", "cgroup.kill", "cgroup.type", "cgroup.freez",
@@ -16,6 +18,13 @@ VALUES = ["max", "0", "1", "05", "-5", "+5", "default 50", "50000 100000", "8:0 
 BAD_VALUES = ["", " ", "1 ", " 1", *3 * ["1  2"], "1\t2", "1\x1f", *6 * ["\x7f", "1 \x7f"], "\xe9", "1\r", "1\0",
               (LONGEST_VALUE + 1) * "x", "x" + (LONGEST_VALUE // 2) * " x"]
 LONG = [LONGEST_VALUE * "x", "xx" + (LONGEST_VALUE // 2 - 1) * " x"]
+# what a text tells, longer than a line of operations may say; numbers; what tells no value; and what is none at all
+LONG_TOLD = [(LONGEST_VALUE + 1) * "x", *2 * [LONGEST_LINE * "x"], "x" + (LONGEST_LINE // 2) * " x"]
+NUMBERS = [0, 5, -5, 100, 1073741824, 2 ** 63 - 1, -2 ** 63]
+NO_LINES = ["", " ", "1 ", " 1", "1  2", "1\t2", "1\n2", "1\n", "\x7f", "\xe9", *3 * [(LONGEST_LINE + 1) * "x"],
+            "xx" + (LONGEST_LINE // 2) * " x"]
+NO_ARRAYS = [*4 * [[]], [""], ["1", ""], ["1", "2 "], ["1\n2"], ["1", "1", "1  2"], ["1", (LONGEST_LINE + 1) * "x"]]
+WRONG = [True, {}, Raw("1.5"), Raw("07:32:00"), [1], ["1", 2], [["1"]], [True], [{}], ["", 1], {"value": "1"}]
 
 
 def some_text(rng, file):
@@ -24,11 +33,12 @@ def some_text(rng, file):
 
 
 def file_where(rng, state, holds):
-    """A path and a further limit file of it for which something holds, where there is one; mostly."""
+    """A path and a further limit file of it for which something holds, where there is one; mostly, and often one that is told of."""
     found = [(path, name) for path in state.cgroups for name in rules.further_at(state, path)
              if holds(rules.entry_of(state, path, name))]
+    told = [(path, name) for path, name in found if name in rules.told_at(state, path)]
     if found and rng.random() < 0.7:
-        return rng.choice(found)
+        return rng.choice(told if told and rng.random() < 0.6 else found)
     path = rng.choice(list(state.cgroups))
     return path + ("new",) * (rng.random() < 0.15), rng.choice(list(FURTHER_FILES))
 
@@ -38,13 +48,130 @@ def some_operation(rng, state, user):
     if rng.random() < 0.4:
         return "chmod", *file_where(rng, state, lambda entry: rules.owns(user, entry)), rng.choice([0o000, 0o222, 0o444, 0o644, 0o600])
     path, file = file_where(rng, state, lambda entry: rules.writes(user, entry))
-    return "set", path, file, some_text(rng, file)
+    return "set", path, file, near_text(rng, state, path, file)
+
+
+def near_text(rng, state, path, file):
+    """A value for a further limit file: at times what it has, or its first line."""
+    told = state.cgroups[path].values.get(file, "") if path in state.cgroups else ""
+    lines = [text for text in (told, told.split("\n")[0]) if is_value(text)]
+    return rng.choice(lines) if lines and rng.random() < 0.4 else some_text(rng, file)
 
 
 def some_deed(rng, state, path):
     """A set or a chmod of a further limit file at a path, one that stands there if any does."""
     file = rng.choice(rules.further_at(state, path) or list(FURTHER_FILES))
     return rng.choice([("set", path, file, some_text(rng, file)), ("chmod", path, file, rng.choice([0o400, 0o444, 0o600]))])
+
+
+# What texts tell
+
+
+def tell(rng, tree):
+    """Has a tree's text tell of some further limit files, most often of the subtree's, at times of all that stand in a cgroup."""
+    for path in [path for path in tree.rows if path]:
+        able = files_of(tree, path)
+        if rng.random() < (0.6 if path == tree.subtree else 0.2):
+            told = rng.sample(able, min(len(able), rng.choice([1, 1, 2, 3, 3, len(able)])))
+            for file in told:
+                tell_one(rng, tree, path, file)
+            if rng.random() < 0.35:
+                share_one(rng, tree, path, rng.choice(told))
+
+
+def share_one(rng, tree, path, file):
+    """Lets the user reach it, or be near to it, at times where it has the text that loosens it."""
+    trees.share(rng, tree, path, file)
+    if rng.random() < 0.3:
+        loose = FURTHER_FILES[file][1]
+        tree.entry(path, file)["value"] = rng.choice([loose, [loose]])
+
+
+def files_of(tree, path):
+    """The further limit files that stand in a cgroup of a tree other than the root."""
+    brought = tree.rows[path[:-1]].get("enabled", [])
+    return [file for file, (controller, _) in FURTHER_FILES.items() if controller is None or controller in brought]
+
+
+def tell_one(rng, tree, path, file):
+    table = tree.entry(path, file)
+    own = {"uid": tree.user[0]} if path != tree.subtree else {}
+    table.update(rng.choice([{}, {}, {"uid": 0}, {"gid": 5}, {"uid": 7, "mode": 0o600}, {"gid": 77, "mode": 0o664}, own, own]))
+    if rng.random() < 0.8:
+        table["value"] = some_told(rng, file)
+
+
+def some_told(rng, file):
+    """A value as a text tells it."""
+    loose, chance = FURTHER_FILES[file][1], rng.random()
+    if chance < 0.25:
+        digits = loose.removeprefix("-").isdigit()
+        return rng.choice([loose, loose, other_text(file, loose), "0", [loose], int(loose) if digits else loose])
+    if chance < 0.4:
+        return rng.choice(NUMBERS)
+    if chance < 0.43:
+        return rng.choice([*LONG_TOLD, [rng.choice(LONG_TOLD), "1"]])
+    if chance < 0.7:
+        return rng.choice(VALUES)
+    return [rng.choice([*VALUES, loose]) for _ in range(rng.choice([1, 1, 2, 2, 3, 8]))]
+
+
+# Faults of a document that tells of them
+
+
+def turn_told(rng, parts):
+    rng.choice([bad_told, bad_told, wrong_told, entry_told, nowhere_told, nowhere_told, two_nowhere, told_of_others])(rng, parts)
+
+
+def row_told(rng, parts):
+    """A row with the table of a further limit file, which it may have had before."""
+    row = rng.choice([rng.choice(parts["cgroup"]), parts["cgroup"][-1]])
+    files = row.setdefault("files", {})
+    there = [name for name in files if name in FURTHER_FILES]
+    return files.setdefault(rng.choice(there) if there and rng.random() < 0.7 else rng.choice(list(FURTHER_FILES)), {})
+
+
+def bad_told(rng, parts):
+    row_told(rng, parts)["value"] = rng.choice(rng.choice([NO_LINES, NO_ARRAYS]))
+    if rng.random() < 0.3:
+        rng.choice([entry_told, wrong_told, bad_told])(rng, parts)
+
+
+def wrong_told(rng, parts):
+    """What isn't of its type, and keys that the table hasn't."""
+    if rng.random() < 0.8:
+        row_told(rng, parts)["value"] = rng.choice(WRONG)
+    else:
+        row_told(rng, parts)[rng.choice(["values", "uid", "owner", "gid"])] = rng.choice(["0", [], True])
+
+
+def entry_told(rng, parts):
+    row_told(rng, parts).update(rng.choice([{"uid": -1}, {"uid": 2 ** 32}, {"gid": 2 ** 32}, {"gid": -1}, {"mode": 0o1000}, {"mode": -1},
+                                            {"mode": 644}]))
+
+
+def nowhere_told(rng, parts):
+    """Mostly one that doesn't stand; at the root none has a key."""
+    roots = [row for row in parts["cgroup"] if row["path"] == "/"]
+    if roots and rng.random() < 0.5:
+        roots[0].setdefault("files", {})[rng.choice(["cgroup.freeze", "cgroup.freeze", rng.choice(list(FURTHER_FILES))])] = {}
+    else:
+        row_told(rng, parts)
+
+
+def two_nowhere(rng, parts):
+    """One in a row, and one of the eight in another."""
+    rows = rng.sample(parts["cgroup"], 2) if len(parts["cgroup"]) > 1 else 2 * parts["cgroup"]
+    rows[0].setdefault("files", {})[rng.choice(list(FURTHER_FILES)[1:])] = {}
+    rows[1].setdefault("files", {}).setdefault(rng.choice(list(rules.LIMIT_FILES)[2:]), {})
+
+
+def told_of_others(rng, parts):
+    row_told(rng, parts)
+    parts["format"] = rng.choice([1, 2, 2])
+
+
+# Operations that belong together
 
 
 def make_room(rng, tree):
@@ -61,17 +188,42 @@ def make_room(rng, tree):
     for name in rules.STANDING:
         tree.entry(tree.subtree, name).clear()
         tree.entry(tree.subtree, name)["uid"] = tree.user[0]
+    if rng.random() < 0.15:
+        tree.entry(tree.subtree[:-1], rules.CONTROL)["uid"] = tree.user[0]
 
 
 def some_operations(rng, state, user):
-    """At times operations that belong together: a further limit file that a user told of goes and comes back, or a set or a chmod of each
-    in turn, be it there or not."""
+    """At times operations that belong together: a further limit file that a user or a text told of goes and comes back, a set or a chmod of
+    each in turn, be it there or not, or sets of one to what it has."""
+    again = [(path, file) for path in state.cgroups for file in rules.told_at(state, path)
+             if rules.writes(user, rules.entry_of(state, path, file)) and is_value(first_line(state, path, file))]
+    if again and rng.random() < 0.4:
+        return told_again(rng, state, *rng.choice(again))
     parents = [path for path, cgroup in state.cgroups.items() if rules.available(state, path) and not rules.lives_at(state, path) and all(
         rules.writes(user, cgroup.entries[name]) for name in (rules.DIR, rules.CONTROL))]
     if not parents or rng.random() < 0.1:
         return []
     parent = rng.choice(parents)
+    told = [(child, file) for child in rules.children(state, parent) for file in rules.told_at(state, child) if FURTHER_FILES[file][0]]
+    if told and rng.random() < 0.4:
+        return told_and_back(rng, state, parent, *rng.choice(told))
     return (every_file if rng.random() < 0.45 else gone_and_back)(rng, parent, sorted(rules.available(state, parent)))
+
+
+def first_line(state, path, file):
+    return state.cgroups[path].values.get(file, "").split("\n")[0]
+
+
+def told_again(rng, state, path, file):
+    again = ("set", path, file, first_line(state, path, file))
+    return [again, *rng.choice([[], [("set", path, file, some_text(rng, file)), again]])]
+
+
+def told_and_back(rng, state, parent, child, file):
+    """A file of which a text tells goes with its controller, or another's goes, and it is set or its mode changes."""
+    away = [FURTHER_FILES[file][0]] if rng.random() < 0.7 else rng.sample(sorted(state.cgroups[parent].enabled), 1)
+    seen = [("set", child, file, near_text(rng, state, child, file)), ("chmod", child, file, rng.choice([0o400, 0o600]))]
+    return [control(parent, sign, controller) for controller in away for sign in "-+"] + rng.sample(seen, 2)
 
 
 def every_file(rng, parent, controllers):

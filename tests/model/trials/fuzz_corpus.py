@@ -16,6 +16,15 @@ uid = 1000
 at = "/"
 """
 SMALL_4 = SMALL.replace(b"2", b"4", 1).replace(b'["cpu"]', b'["cpu", "io"]')
+SMALL_TOLD = b"""format = 4
+controllers = ["io"]
+[[cgroup]]
+path = '/'
+enabled = ["io"]
+[[cgroup]]
+path = '/a'
+files = { "io.max" = { uid = 5, value = ["8:0 rbps=1", '8:16'] }, "cgroup.freeze" = { value = 5 }, "io.weight" = { value = "a b" } }
+"""
 HEAD = b"format = 1\ncontrollers = []\n"
 ROOT = HEAD + b"[[cgroup]]\npath = '/'\n"
 LEVELS = [1, 8, 40, 76, 77, 78, 79, 80, 81, 82, 83, 160, 1000, 20000]
@@ -55,15 +64,18 @@ def nested():
                     ROOT + b"files." + deep + b" = 1", b"[[cgroup." + deep + b"]]", b"a = [" + b"{a = [" * levels)
 
 
-def numbers():
+def spelled_numbers():
     ends = [0, 1, 2 ** 16, 2 ** 22, 2 ** 31, 2 ** 32, 2 ** 53, 2 ** 63, 2 ** 64, 2 ** 128, 10 ** 400]
     spelled = {str(sign * (end + by)) for end in ends for by in (-1, 0, 1) for sign in (1, -1)}
     spelled |= {form.format(end + by) for end in ends for by in (-1, 0, 1) if end + by >= 0
                 for form in ("0x{:x}", "0o{:o}", "0b{:b}", "+{}", "{}.0", "{:_}")}
     spelled |= {"1e400", "-1e400", "inf", "-inf", "nan", "1e-400", "-0", "+0", "00", "0_0", "0x", "0o8", "1__0", "_1", "1_", "1.", ".1",
                 "1979-05-27T07:32:00.999999999999999999Z", "9999-12-31", "07:32:00"}
-    for word in sorted(spelled):
-        value = word.encode()
+    return [word.encode() for word in sorted(spelled)]
+
+
+def numbers():
+    for value in spelled_numbers():
         yield from (b"format = " + value + b"\ncontrollers = []\n", ROOT + b"dir = { uid = " + value + b" }",
                     ROOT + b"dir = { mode = " + value + b" }", ROOT + b"files = { 'cgroup.max.depth' = { value = " + value + b" } }",
                     ROOT + b"[[process]]\npid = " + value + b"\nuid = 0\nat = '/'",
@@ -86,8 +98,19 @@ def doubled():
             yield HEAD + part + other + part
 
 
-def tree_texts():
-    for kind in (cut(SMALL), changed(SMALL), spliced(SMALL, 400), nested(), numbers(), odd_letters(), doubled()):
+def told():
+    """Texts of format 4 that tell of further limit files."""
+    yield from changed(SMALL_TOLD)
+    for value in spelled_numbers():
+        yield from (SMALL_TOLD.replace(b"value = 5", b"value = " + value), SMALL_TOLD.replace(b"'8:16'", value))
+    for line in (b"x", b"x ", b" x", b"\xc3\xa9", b"\\n", b"'"):
+        for count in (0, 1, 2, 2047, 2048, 4094, 4095, 4096, 70000):
+            yield SMALL_TOLD.replace(b"a b", line * count)
+
+
+def tree_texts(with_format_4):
+    of_4 = told() if with_format_4 else []
+    for kind in (cut(SMALL), changed(SMALL), spliced(SMALL, 400), nested(), numbers(), odd_letters(), doubled(), of_4):
         yield from kind
 
 

@@ -3,7 +3,7 @@ import re
 
 from second import commands, documents, rules
 from second.controllers import CONTROLLERS
-from second.further import FURTHER_FILES, LONGEST_VALUE
+from second.further import FURTHER_FILES, LONGEST_LINE, LONGEST_VALUE, text_told
 from trials.cases import OPS, TREE, state_of
 from trials.format_4 import FORMAT_4, FURTHER
 
@@ -29,7 +29,11 @@ FAULTS = ["usage", "uid", "gid", "pid", "path", "subtree root", "subtree missing
 STATUSES = {"may": 2, "check": 3, "audit": 3, "audit --all": 3, "replay": 2, "upgrade": 1, "advise": 2, "advise --pairs": 2, "settle": 3,
             "audit --settle": 3, "audit --all --settle": 3, "advise --settle": 2, "explain": 3}
 # of trees of format 4, and of controllers that other formats don't have
-FAULTS_4 = """bad-controller cgroup, bad-controller top, bad-entry cgroup, internal-process process, shape cgroup, too-many, top-down cgroup"""
+FAULTS_4 = """bad-controller cgroup, bad-controller top, bad-entry cgroup, bad-value cgroup, internal-process process, no-such-file cgroup,
+shape cgroup, too-many, top-down cgroup"""
+# of a row that names a further limit file
+OF_NAMED = ["shape", "bad-entry", "bad-value", "no-such-file"]
+VALUES_TOLD = ["a text", "an integer", "an array of one", "an array of several", "no value"]
 WIDE = ["upgrade", "a bad word", "read past 4096 rows", "read past 16777216 bytes", "too-long past 16777216 bytes",
         "too-long past 67108864 bytes", "broken limits by its controllers", "escapes by a control of its controllers",
         "escapes by an opened control of its controllers", "its controllers in another's text", "its controllers in a line for another",
@@ -39,6 +43,14 @@ WIDE = ["upgrade", "a bad word", "read past 4096 rows", "read past 16777216 byte
         *(f"chmod of a further file: {outcome}" for outcome in CLAUSES["chmod"]),
         *(f"a set or a chmod of {name}: ok" for name in FURTHER_FILES),
         "a further file in a line for another", "a value of several words", f"a value of {LONGEST_VALUE} bytes",
+        *(f"a text tells of {name}" for name in FURTHER_FILES), *(f"a text tells {kind}" for kind in VALUES_TOLD),
+        f"a text tells a line of {LONGEST_LINE} bytes", "a further file in another's text",
+        "fault: no-such-file of a further file at the root",
+        *(f"fault: {what} of a row with a further file" for what in OF_NAMED),
+        "escapes by a set of a further file", "escapes by an opened set of a further file", "escapes by a set of a further file that was loose",
+        "a set of a further file to what a text tells",
+        "broken limits by a set of a further file", "explain: a further file holds", "explain: a further file fails",
+        *(f"advise: {change} of a further file" for change in ("chown", "chmod")),
         *(f"fault: tree {name}" for name in re.split(r",\s+", FAULTS_4))]
 # what is told of a guarded entry, and of the second row
 BY = ["owner", "group", "others"]
@@ -111,6 +123,8 @@ def labels_of_others(case, fault):
         yield "too-long past 16777216 bytes"
     if fault == "fault: tree bad-controller top" and not {*FURTHER}.isdisjoint(document_of(case)["controllers"]):
         yield "its controllers in another's text"
+    if fault.startswith("fault: tree shape cgroup") and named_in(row_of(document_of(case), fault)):
+        yield "a further file in another's text"
     where = re.fullmatch(r"fault: line ([0-9]+) bad-word", fault)
     found = commands.operation_of(case.files[OPS].split(b"\n")[int(where[1]) - 1], 4) if where and OPS in case.files else None
     if found:
@@ -120,9 +134,11 @@ def labels_of_others(case, fault):
 def wide_labels(case, lines, status, fault):
     """What comes up of a tree of format 4, and more."""
     yield "too-long past 67108864 bytes" if fault == "fault: tree too-long" else re.sub(r" [0-9]+$", "", fault)
+    yield from further_faults(document_of(case), fault)
     if status != 3:
         document, data = document_of(case), case.files.get(TREE, case.stdin)
         yield from case.words[:1]
+        yield from told_labels(document)
         yield "read past 16777216 bytes" if len(data) > documents.MOST_BYTES else ""
         yield "read past 4096 rows" if max(len(document.get(name, [])) for name in ("cgroup", "process")) > 4096 else ""
     yield from wide_answers(case, [line.split(" ") for line in lines if isinstance(line, str)])
@@ -130,9 +146,53 @@ def wide_labels(case, lines, status, fault):
         yield from wide_replay(case, lines, fault)
 
 
+def row_of(document, fault):
+    """The row of a cgroup that a fault names, or one without keys."""
+    where, rows = re.search(r" cgroup ([0-9]+)$", fault), document.get("cgroup", [])
+    row = rows[int(where[1]) - 1] if where else {}
+    return row if isinstance(row, dict) else {}
+
+
+def named_in(row):
+    """The further limit files that a row names, with their tables."""
+    files = row.get("files", {})
+    return {name: table for name, table in files.items() if name in FURTHER_FILES} if isinstance(files, dict) else {}
+
+
+def further_faults(document, fault):
+    row = row_of(document, fault)
+    if named_in(row):
+        what = fault.split(" ")[2]
+        yield f"fault: {what} of a row with a further file"
+        if what == "no-such-file" and row["path"] == "/":
+            yield "fault: no-such-file of a further file at the root"
+
+
+def told_labels(document):
+    for row in document.get("cgroup", []):
+        for name, table in named_in(row).items():
+            yield f"a text tells of {name}"
+            yield f"a text tells {kind_told(table)}"
+            yield f"a text tells a line of {len(str(table.get('value')))} bytes"
+
+
+def kind_told(table):
+    value = table.get("value")
+    if isinstance(value, list):
+        return "an array of one" if len(value) == 1 else "an array of several"
+    return {str: "a text", int: "an integer"}.get(type(value), "no value")
+
+
 def wide_answers(case, lines):
     opened = "an opened" if any(words[0] == "chmod" for words in lines) else "a"
     for words in lines:
+        if words[0] == "set" and words[2] in FURTHER_FILES:
+            yield f"escapes by {opened} set of a further file"
+            yield "escapes by a set of a further file that was loose" if " ".join(words[3:]) != FURTHER_FILES[words[2]][1] else ""
+        if case.words[:1] == ["advise"] and words[0] in ("chown", "chmod") and words[2] in FURTHER_FILES:
+            yield f"advise: {words[0]} of a further file"
+        if case.words[:1] == ["explain"] and words[1:2] == ["limit-file"] and words[3] in FURTHER_FILES:
+            yield f"explain: a further file {words[0]}"
         if words[0] == "control" and any(word[1:] not in CONTROLLERS for word in words[2:]):
             yield f"escapes by {opened} control of its controllers"
         if words[1:2] == ["control"] and words[3] not in CONTROLLERS:
@@ -144,11 +204,16 @@ def wide_answers(case, lines):
 def wide_replay(case, lines, fault):
     spelled = case.files.get(OPS, b"").split(b"\n")
     further = [None if commands.operation_of(line) else commands.operation_of(line, 4) for line in spelled]
+    told = {(row["path"], name): text_told(table["value"]) for row in document_of(case).get("cgroup", []) if lines
+            for name, table in named_in(row).items() if "value" in table}
     for operation, line in zip(further, lines):
         if operation:
             yield from wide_operation(operation, outcome_of(operation, line))
-    if lines and re.fullmatch("broken [1-9][0-9]* limits", lines[-1]) and further[int(lines[-1].split(" ")[1]) - 1]:
-        yield "broken limits by its controllers"
+            if operation[0] == "set" and line == "ok" and told.get((rules.text_of(operation[1]), operation[2])) == operation[3]:
+                yield "a set of a further file to what a text tells"
+    if lines and re.fullmatch("broken [1-9][0-9]* limits", lines[-1]):
+        last = further[int(lines[-1].split(" ")[1]) - 1]
+        yield f"broken limits by {'its controllers' if last[0] == 'control' else 'a set of a further file'}" if last else ""
     if fault.endswith("bad-word"):
         yield "a bad word"
 

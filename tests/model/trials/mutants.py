@@ -295,9 +295,16 @@ OF_LASTING_4 = {
         BY_MEMORY, "any(is_on(state, users, lasting.on, path, one) for one in state.cgroups[path].enabled - {'cpuset', 'cpu', 'pids'})"),
     "three of the parent's controllers are asked of": ("for controller in rules.controllers_of(state)):", "for controller in rules.CONTROLLERS):"),
     "three controllers last": ("itertools.product(stays, rules.controllers_of(state))", "itertools.product(stays, rules.CONTROLLERS)"),
+    "a further limit file is forgotten by the second row": ("for file in rules.ALL_FILES)", "for file in rules.LIMIT_FILES)"),
 }
 OF_EXPLAINED_4 = {
     "explain tells of three controllers": ("for controller in rules.controllers_of(state):", "for controller in rules.CONTROLLERS:"),
+    "explain looks for the eight alone": ("for file in rules.ALL_FILES)", "for file in rules.LIMIT_FILES)"),
+    "explain has no line of a further limit file that isn't reached": (
+        "for guard, path, name in rules.guarded(state, top)]", "for guard, path, name in rules.guarded(state, top) "
+        "if name not in rules.FURTHER_FILES or rules.reaches(user, state.cgroups[path].entries[name])]"),
+    "explain has no line of a further limit file": (
+        "for guard, path, name in rules.guarded(state, top)]", "for guard, path, name in rules.guarded(state, top) if name not in rules.FURTHER_FILES]"),
 }
 OF_ROOT, OF_CGROUP = 'set(document["controllers"]) <= set(controllers_in(form))', 'set(row.get("enabled", [])) <= set(controllers_in(form))'
 OCCUPIED = "bool(path) and path in cgroups and bool(cgroups[path].enabled)"
@@ -357,8 +364,8 @@ OF_FURTHER_4 = {
     "a value of several words is none": ("all(is_word(word) for word in text.split(\" \"))", "is_word(text)"),
     "a value's words end at the first space": ("all(is_word(word) for word in text.split(\" \"))", "is_word(text.split(\" \")[0])"),
     "words of a value may have more than a space between them": ('word != "" and all', "all"),
-    "a value of 3800 bytes is none": ("1 <= len(text) <= LONGEST_VALUE", "1 <= len(text) < LONGEST_VALUE"),
-    "a value may have 3801 bytes": ("1 <= len(text) <= LONGEST_VALUE", "1 <= len(text) <= LONGEST_VALUE + 1"),
+    "a value of 3800 bytes is none": ("len(text) <= LONGEST_VALUE", "len(text) < LONGEST_VALUE"),
+    "a value may have 3801 bytes": ("len(text) <= LONGEST_VALUE", "len(text) <= LONGEST_VALUE + 1"),
     "a value has bytes past ASCII's printable ones": ("<= 0x7E", "<= 0x7F"),
     "cgroup.freeze is no limit file": ('    "cgroup.freeze": (None, "0"),\n', ""),
     "a huge page of 512 MB has no limit files": ('"512MB", ', ""),
@@ -366,6 +373,50 @@ OF_FURTHER_4 = {
     "what is reserved of huge pages is no limit": ('("max", "rsvd.max")', '("max",)'),
     "memory.swap.max comes with no controller": ('"memory.swap.max": ("memory",', '"memory.swap.max": (None,'),
     "cpuset.mems comes with cpu": ('"cpuset.mems": ("cpuset",', '"cpuset.mems": ("cpu",'),
+}
+# of what a text tells
+AS_LINES = "list(map(str, value if isinstance(value, list) else [value]))"
+OF_FURTHER_TOLD_4 = {
+    '5 and "5" are two values': (AS_LINES, AS_LINES.replace("map(str,", 'map(lambda line: line if isinstance(line, str) else f"+{line}",')),
+    "an array of one line isn't that line": (
+        'return "\\n".join(lines_of(value))', 'return "\\n".join(lines_of(value)) + "\\n" * (isinstance(value, list) and len(value) == 1)'),
+    "lines of a value are in whatever order": ('return "\\n".join(lines_of(value))', 'return "\\n".join(sorted(lines_of(value)))'),
+    "of several lines of a value the first is kept": ('return "\\n".join(lines_of(value))', "return lines_of(value)[0]"),
+    "of several lines of a value the last is kept": ('return "\\n".join(lines_of(value))', "return lines_of(value)[-1]"),
+    "no lines are a value": ("return len(lines) > 0 and all(", "return all("),
+    "of several lines of a value the first is tested": ("for line in lines)", "for line in lines[:1])"),
+    "a line that a text tells has 3800 bytes at most": ("= 3800, 4095", "= 3800, 3800"),
+    "a line of 4095 bytes is none": ("len(text) <= LONGEST_LINE", "len(text) < LONGEST_LINE"),
+    "a line may have 4096 bytes": ("len(text) <= LONGEST_LINE", "len(text) <= LONGEST_LINE + 1"),
+    "a line that a text tells is any text": ("len(text) <= LONGEST_LINE and are_words(text)", "1 <= len(text) <= LONGEST_LINE"),
+    "upgrade writes one line as an array": ("return lines if len(lines) > 1 else text", "return lines"),
+    "upgrade writes several lines as a text": ("return lines if len(lines) > 1 else text", "return text"),
+}
+OF_KEYS, ARRAYS = "return FURTHER_FILES if form == 4 else {}", "number(value) or is_a(value, str) or texts(value)"
+NOWHERE = '    first("no-such-file cgroup", numbered, lambda each: limits'
+TELLS = 'text_told(files[name]["value"])) for name in told if "value" in files[name])'
+OF_TEXTS_TOLD_4 = {
+    "texts of any format name further limit files": (OF_KEYS, "return FURTHER_FILES"),
+    "no text names a further limit file": (OF_KEYS, "return {}"),
+    "a value of a further limit file is no array": (ARRAYS, ARRAYS.replace(" or texts(value)", "")),
+    "a value of a further limit file is no number": (ARRAYS, ARRAYS.replace("number(value) or ", "")),
+    "an array may have numbers among its lines": (ARRAYS, ARRAYS.replace("texts(value)", "is_a(value, list)")),
+    "a further limit file of a text is root's": (
+        "entry_of(files.get(name, {}), rules.FILE_MODE)", "entry_of({} if name in told else files.get(name, {}), rules.FILE_MODE)"),
+    "a value that a text leaves out is max": (TELLS, 'text_told(files[name].get("value", rules.MAX))) for name in told)'),
+    "a further limit file of a text is as it is": (TELLS, TELLS.replace('"value" in files[name]', "False")),
+    "a further limit file that a text tells no value of isn't told of": (
+        "told = [name for name in files if name in FURTHER_FILES]", 'told = [name for name in files if name in FURTHER_FILES and "value" in files[name]]'),
+    "cgroup.freeze has a key at the root": ("(rules.further_at(bare, path) if path else [])", "rules.further_at(bare, path)"),
+    "a text names further limit files wherever it is": ("{*rules.ALL_FILES}", "rules.LIMIT_FILES.keys()"),
+    "a text names cgroup.freeze alone": ("(rules.further_at(bare, path) if path else [])", '["cgroup.freeze"] * bool(path)'),
+    "files of the eight are looked for first": (
+        NOWHERE, '    first("no-such-file cgroup", numbered, lambda each: not limits[each[0]] & rules.LIMIT_FILES.keys() '
+                 "<= set(rules.files_at(bare, paths[each[0]])))\n" + NOWHERE),
+    "the entry of a further limit file isn't tested": (
+        '*row.get("files", {}).values()]', '*(table for name, table in row.get("files", {}).items() if name not in FURTHER_FILES)]'),
+    "the value of a further limit file isn't tested": ("return not is_told(value)", "return False"),
+    "a value of a further limit file is tested as one of the eight": ("return not is_told(value)", "return not rules.MAX == value and not number(value)"),
 }
 BROUGHT = "FURTHER_FILES.items() if controller is None or controller in brought(state, path)]"
 CHMOD = "    return with_cgroup(state, path, replace(old, entries={**old.entries, name: entry}))"
@@ -399,6 +450,22 @@ OF_RULES_FURTHER_4 = {
     "a further limit file that isn't there isn't written": (
         'found.append(f"no-such-file {text_of(path)} {file}")',
         "found.append(f\"no-{'access' if file in FURTHER_FILES else 'such-file'} {text_of(path)} {file}\")"),
+    "a further limit file is forgotten by the guards": ("for file in ALL_FILES if file in state", "for file in LIMIT_FILES if file in state"),
+    "a further limit file is forgotten by the tries": ("in files_at(state, top) + told_at(state, top):", "in files_at(state, top):"),
+    "a further limit file is tried before the eight": (
+        "in files_at(state, top) + told_at(state, top):", "in told_at(state, top) + files_at(state, top):"),
+    "tries max of each further limit file": ("return other_text(file, value)", "return MAX if value != MAX else '0'"),
+    "tries the text that loosens a file that has it": ("return other_text(file, value)", "return FURTHER_FILES[file][1]"),
+    "the eight alone are limits of a subtree": (
+        "return state.cgroups[top].values, brought",
+        "return {file: value for file, value in state.cgroups[top].values.items() if file in LIMIT_FILES}, brought"),
+    "a set of a file that is as it is is no change": (
+        UNLIKE, "brought(after, top) != limits[1] or any(limits[0].get(file, value) != value for file, value in after.cgroups[top].values.items()):"),
+    "a set of a further limit file is a change whatever it is": (
+        "values={**old.values, file: value}", 'values={**old.values, file: f"{value} " if file in FURTHER_FILES else value}'),
+    "a chmod of a further limit file turns its value": (
+        CHMOD, CHMOD.replace("name: entry}", "name: entry}, values={file: value for file, value in old.values.items() "
+                             "if file != name or file in LIMIT_FILES}")),
 }
 OF_COMMANDS_FURTHER_4 = {
     "lines for any format name further limit files": ("word if form == 4 and word in FURTHER_FILES", "word if word in FURTHER_FILES"),
@@ -407,6 +474,12 @@ OF_COMMANDS_FURTHER_4 = {
     "a value of a further limit file is one word": ("rest, value = [*rest[:2], \" \".join(rest[2:])], text_word", "value = text_word"),
     "a value of a further limit file is max or a number": (
         "rest, value = [*rest[:2], \" \".join(rest[2:])], text_word", "value = value_word"),
+    "upgrade leaves a told file out": (
+        '"files": files}', '"files": {name: table for name, table in files.items() if name not in FURTHER_FILES}}'),
+    "upgrade leaves the value of a told file out": (
+        "for name, value in cgroup.values.items():", "for name, value in [each for each in cgroup.values.items() if each[0] not in FURTHER_FILES]:"),
+    "upgrade writes a file of which nothing is told": (
+        '"files": files}', '"files": {"cgroup.freeze": {"uid": 0, "gid": 0, "mode": 0o644}, **files}}'),
 }
 # of each kind the module, and the command without which a program isn't told from what is turned there
 KINDS = [("documents", "may", OF_DOCUMENTS), ("rules", "may", OF_RULES), ("lasting", "settle", OF_LASTING),
@@ -415,7 +488,7 @@ KINDS = [("documents", "may", OF_DOCUMENTS), ("rules", "may", OF_RULES), ("lasti
 KINDS_4 = [("controllers", FORMAT_4, OF_CONTROLLERS_4), ("rules", FORMAT_4, OF_RULES_4), ("texts", FORMAT_4, OF_TEXTS_4),
            ("documents", FORMAT_4, OF_DOCUMENTS_4), ("commands", FORMAT_4, OF_COMMANDS_4), ("lasting", "settle", OF_LASTING_4),
            ("explained", "explain", OF_EXPLAINED_4), ("further", FORMAT_4, OF_FURTHER_4), ("rules", FORMAT_4, OF_RULES_FURTHER_4),
-           ("commands", FORMAT_4, OF_COMMANDS_FURTHER_4)]
+           ("commands", FORMAT_4, OF_COMMANDS_FURTHER_4), ("further", FORMAT_4, OF_FURTHER_TOLD_4), ("texts", FORMAT_4, OF_TEXTS_TOLD_4)]
 KINDS += KINDS_4
 MUTANTS = {name: (module, *turn) for module, _, turns in KINDS for name, turn in turns.items()}
 

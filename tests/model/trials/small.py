@@ -3,6 +3,7 @@ from dataclasses import replace
 
 from second import rules
 from second.controllers import ALL_CONTROLLERS
+from second.further import FURTHER_FILES
 from second.rules import CONTROLLERS, DEPTH, DESCENDANTS, DIR, MAX, Cgroup, Entry, State
 
 USERS = [(1000, (5,)), (1001, ())]
@@ -32,6 +33,17 @@ def in_format_4(rng, state):
         able = [c for c in more if not path or c in cgroups[path[:-1]].enabled and not rules.lives_at(state, path)]
         cgroups[path] = replace(cgroup, enabled=cgroup.enabled | {c for c in able if rng.random() < 0.6})
     return replace(state, controllers=state.controllers | {*more}, cgroups=cgroups, form=4)
+
+
+def with_told(rng, state):
+    """A state of format 4 in which some further limit files are told of, at times as such that are reached."""
+    cgroups = {}
+    for path, cgroup in state.cgroups.items():
+        told = [file for file in rules.further_at(state, path) if path and rng.random() < 0.06]
+        values = {file: rng.choice(["1", MAX, FURTHER_FILES[file][1], "1\n2"]) for file in told if rng.random() < 0.6}
+        entries = {file: random_entry(rng, 0.15) for file in told}
+        cgroups[path] = replace(cgroup, entries={**cgroup.entries, **entries}, values={**cgroup.values, **values})
+    return replace(state, cgroups=cgroups)
 
 
 def state_about_room(rng, paths):
