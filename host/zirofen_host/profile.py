@@ -13,12 +13,14 @@ AnyPath = TypeVar("AnyPath", str, CgroupPath)
 
 
 class TextFormat(NamedTuple):
-    """A format in which tree texts are written: the controllers that it names, and what a text of it has at most."""
+    """A format in which tree texts are written: the controllers that it names, what a text of it has at most, and the further limit
+    files that it names."""
     number: int
     controllers: Tuple[str, ...]
     most_rows: int
     most_processes: int
     longest: int
+    further: Tuple[str, ...] = ()
 
 
 # every controller that a tree text may name, in the order of each text
@@ -37,6 +39,23 @@ LIMIT_FILES: Dict[str, Tuple[Optional[str], Union[int, str]]] = {
     "pids.max": ("pids", "max"),
 }
 
+# the sizes of huge pages that a tree text names
+PAGE_SIZES = ("16GB", "16MB", "1GB", "1MB", "2GB", "2MB", "32MB", "512MB", "64KB")
+# each further limit file, of which a text tells where it isn't root's own, with the controller that brings it
+FURTHER_FILES: Dict[str, Optional[str]] = {
+    "cgroup.freeze": None,
+    **dict.fromkeys(("cpu.idle", "cpu.max", "cpu.max.burst", "cpu.uclamp.max", "cpu.uclamp.min", "cpu.weight.nice"), "cpu"),
+    **dict.fromkeys(("cpuset.cpus", "cpuset.cpus.exclusive", "cpuset.cpus.partition", "cpuset.mems"), "cpuset"),
+    **dict.fromkeys(("dmem.low", "dmem.max", "dmem.min"), "dmem"),
+    **{f"hugetlb.{size}.{end}": "hugetlb" for size in PAGE_SIZES for end in ("max", "rsvd.max")},
+    **dict.fromkeys(("io.bfq.weight", "io.latency", "io.max", "io.prio.class", "io.weight"), "io"),
+    **dict.fromkeys(("memory.swap.high", "memory.swap.max", "memory.zswap.max", "memory.zswap.writeback"), "memory"),
+    "misc.max": "misc",
+    "rdma.max": "rdma",
+}
+# bytes of one line of a further limit file's value
+LONGEST_LINE = 4095
+
 RESERVED_NAMES = {".", "..", "cgroup.controllers", *CONTROL_FILES, *LIMIT_FILES}
 DIRECTORY_MODE = 0o755
 FILE_MODE = 0o644
@@ -46,7 +65,7 @@ MOST_GROUPS = 32
 # by their numbers; a text of format 1 has no more than one of format 2, and is written so
 TEXT_FORMATS: Dict[int, TextFormat] = {
     2: TextFormat(2, ("cpu", "memory", "pids"), 4096, 4096, 16777216),
-    4: TextFormat(4, CONTROLLERS, 65536, 65536, 67108864),
+    4: TextFormat(4, CONTROLLERS, 65536, 65536, 67108864, tuple(FURTHER_FILES)),
 }
 NEWEST = 4
 # bytes of the longest text that is read
@@ -79,6 +98,8 @@ KEYED = ("dmem.low", "dmem.max", "dmem.min", "misc.max", "rdma.max")
 # stands for a user of whom nothing is known but what everybody may do
 ANYBODY = 65534
 
+# words with one space between two
+_LINE = re.compile(r"[!-~]+( [!-~]+)*\Z")
 _NAME = re.compile(rb"[\x21-\x2e\x30-\x7e]{1,255}\Z")
 
 
@@ -87,8 +108,13 @@ def is_name(name: bytes) -> bool:
     return _NAME.match(name) is not None and name.decode("ascii") not in RESERVED_NAMES
 
 
+def is_line(text: str) -> bool:
+    """Whether a tree text takes a line as one of a further limit file's value."""
+    return len(text) <= LONGEST_LINE and _LINE.match(text) is not None
+
+
 def is_other_limit(file: str) -> bool:
-    """Whether something is set by a file that a tree text doesn't carry."""
+    """Whether something is set by a file that isn't one of the limit files of every text."""
     return files.is_known(file) and files.may_set(file) and file not in CONTROL_FILES and file not in LIMIT_FILES
 
 

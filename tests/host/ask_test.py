@@ -106,7 +106,7 @@ class CommandsTest(HostTest):
                 f"setpriv --reuid 1000 {words} sh -c " + shell.shlex.quote("rmdir '/sys/fs/cgroup/a'\"'\"'b'"), "# exit 1"])
 
     def test_what_is_no_operation(self):
-        for line in ("move 10", "move x /a", "move 010 /a", "mkdir a", "mkdir /a/../b", "set /a cpu.max 1", "set /a memory.max -1",
+        for line in ("move 10", "move x /a", "move 010 /a", "mkdir a", "mkdir /a/../b", "set /a cgroup.kill 1", "set /a memory.max -1",
                      "chmod /a dir 88", "chmod /a dir 999", "control /a +fancy", "rm /a", "mkdir /a; reboot", "move 1 /a\x1b[1m"):
             with self.subTest(line), self.assertRaisesRegex(Fault, "^line 2 is no operation$"):
                 shell.commands(MOUNT, f"rmdir /a\n{line}\n")

@@ -42,7 +42,7 @@ def cgroups_of(*paths, owners=()):
             places.add(path)
             path = path.rpartition("/")[0]
     owners = dict(owners)
-    return {path_of(each): Cgroup(owners.get(each, Entry(0, 0, 0o755)), {}, {}, (), (), "domain", {}, ()) for each in places}
+    return {path_of(each): Cgroup(owners.get(each, Entry(0, 0, 0o755)), {}, {}, {}, (), (), "domain", {}, ()) for each in places}
 
 
 @unittest.skipIf(os.geteuid(), "files are root's only where root makes them")

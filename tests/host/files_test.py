@@ -57,8 +57,12 @@ class OpenFilesTest(HostTest):
         self.manager()
         names = ("cgroup.freeze", "cgroup.kill", "cgroup.pressure", "cgroup.type")
         self.host.cgroup("/a", more=names, modes=dict.fromkeys(names, 0o666))
-        found = self.report()
-        self.assertEqual((found["status"], self.opened(found)), (1, [f"/a {name} by everybody" for name in names]))
+        opened = [f"/a {name} by everybody" for name in names]
+        for number, told in ((4, opened[1:]), (2, opened)):
+            found = self.report(tree_format=number)
+            self.assertEqual((found["status"], self.opened(found)), (1, told))
+            # of this one a text of format 4 tells
+            self.assertEqual([each["entry"] for each in found["entries"]], ["cgroup.freeze"] if number == 4 else [])
 
     def test_threads_are_looked_at_where_there_are_any(self):
         for kind, told in (("domain", []), ("domain threaded", ["/a cgroup.threads by everybody"]),

@@ -150,7 +150,7 @@ class LargeTest(HostTest):
         self.assertEqual([(text.subtrees, len(text.rows)) for text in packed.texts], [(some[:2], 5), (some[2:], 5)])
         packed = packed_in(300, [some[0], path(f"/1/{'n' * 200}")])
         self.assertEqual((packed.texts, packed.refused[some[0]]),
-                         ([], "what it needs goes into no tree text: its paths are too long"))
+                         ([], "what it needs goes into no tree text: its paths and limits are too long"))
 
     def test_progress_is_told_at_a_terminal(self):
         class Terminal(io.StringIO):

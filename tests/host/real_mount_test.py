@@ -83,6 +83,17 @@ class RealMountTest(unittest.TestCase):
         found, status, answers = self.report()
         self.assertEqual((status, answers, found["faults"]), (GOOD, {"/alice": "contained", "/bob": "contained"}, []))
 
+    def test_a_further_limit_file_that_is_somebodys(self):
+        os.chown(f"{MOUNT}{self.top}/alice/cgroup.freeze", 1000, 0)
+        ended = subprocess.run([sys.executable, COMMAND, "snapshot", "--mount", MOUNT, "--only", self.top], capture_output=True, text=True)
+        row = ended.stdout.partition(f"path = '{self.top}/alice'\n")[2].partition("\n\n")[0].split("\n")
+        self.assertIn('"cgroup.freeze" = { uid = 1000, value = "0" }', row)
+        self.assertEqual(ended.stdout.count("cgroup.freeze"), 1)
+        found, status, _ = self.report("--zirofen", PROGRAM)
+        self.assertEqual([(each["path"], each["entry"], each["answer"], each["changes"]) for each in found["entries"]], [
+            (f"{self.top}/alice", "cgroup.freeze", "escapes", [f"chown root {MOUNT}{self.top}/alice/cgroup.freeze"])])
+        self.assertEqual((found["opened"], status), ([], 1))
+
     def without(self, name):
         """The report of a helper that lacks a capability, with its lines of that."""
         words = ["setpriv", f"--bounding-set=-{name}", sys.executable, COMMAND, "check", "--mount", MOUNT, "--only", self.top, "--json",

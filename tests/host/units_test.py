@@ -202,6 +202,16 @@ Slice=b.slice\nTasksAccounting=no\nMemoryAccounting=no\n{text}"""))
                          (Entry(0, 0, 0o755), Entry(0, 0, 0o644), "max", "max"))
         self.assertFalse([line for line in lines if line.startswith("mkdir")])
 
+    def test_further_limit_files_of_a_unit_that_runs_are_roots_again(self):
+        tree = TREE.replace("format = 2", "format = 4").replace('"memory.max" = { uid = 5', """"memory.swap.max" = { uid = 5, value = 7 }
+"cgroup.freeze" = { mode = 0o666 }
+"memory.max" = { uid = 5""")
+        lines, _ = self.planned(self.write("old.service", "[Service]\nExecStart=/x\nTasksMax=infinity\n"), tree=tree)
+        row = self.row("/system.slice/old.service")
+        self.assertEqual(row.further, ["cgroup.freeze", "memory.swap.max"])
+        self.assertEqual({row.entry(file) for file in row.further}, {Entry(0, 0, 0o644)})
+        self.assertIn("chown /system.slice/old.service memory.swap.max 0:0", lines)
+
 
 class SliceTest(UnitsTest):
     def test_slices_stand_in_one_another(self):

@@ -233,7 +233,7 @@ def why_refused(layout: Layout, path: CgroupPath, most: TextFormat) -> str:
     count = end - start + len(list(ancestors(path)))
     if count > most.most_rows:
         return f"{count} cgroups, and a tree text has {most.most_rows} at most"
-    return "what it needs goes into no tree text: its paths are too long"
+    return "what it needs goes into no tree text: its paths and limits are too long"
 
 
 @dataclass(frozen=True)

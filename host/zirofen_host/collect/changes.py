@@ -9,8 +9,8 @@ from zirofen_host.collect.snapshot import LARGEST_PID
 from zirofen_host.collect.walk import MARKS
 from zirofen_host.fault import Fault
 from zirofen_host.files import is_known
-from zirofen_host.profile import (CONTROL_FILES, DIRECTORY_MODE, LIMIT_FILES, LONGEST_PATH, CgroupPath, accepts, ancestors,
-                                  is_inside, is_name, is_number, is_root, parent_of, path_of, shown, text_of)
+from zirofen_host.profile import (CONTROL_FILES, DIRECTORY_MODE, FURTHER_FILES, LIMIT_FILES, LONGEST_PATH, CgroupPath, accepts, ancestors,
+                                  is_inside, is_line, is_name, is_number, is_root, parent_of, path_of, shown, text_of)
 
 DIRECTORY = Entry(0, 0, DIRECTORY_MODE)
 # what stands for a change, before its words
@@ -67,6 +67,13 @@ class Changes:
         return [] if is_root(path) else [file for file, (controller, _) in LIMIT_FILES.items()
                                          if controller is None or controller in self.controllers_for(path)]
 
+    def is_further(self, path: CgroupPath, name: str) -> bool:
+        """Whether a name is that of a further limit file that stands at a cgroup, and that the text's format has."""
+        if name not in self.snapshot.tree.format.further or is_root(path):
+            return False
+        controller = FURTHER_FILES[name]
+        return controller is None or controller in self.controllers_for(path)
+
     def children(self, path: CgroupPath) -> List[CgroupPath]:
         return [each for each in self.rows if parent_of(each) == path]
 
@@ -83,7 +90,7 @@ class Changes:
             self.has_room(above, "cgroup.max.depth", depth)
             self.has_room(above, "cgroup.max.descendants", sum(is_inside(each, above) for each in self.rows))
         self.rows[path] = Row(path)
-        self.cgroups[path] = Cgroup(DIRECTORY, {}, {}, (), (), "domain", {}, ())
+        self.cgroups[path] = Cgroup(DIRECTORY, {}, {}, {}, (), (), "domain", {}, ())
         for file in self.limit_files(path):
             self.bring(path, file)
 
@@ -119,7 +126,7 @@ class Changes:
         if name == "dir":
             self.rows[path], self.cgroups[path] = replace(row, directory=entry), replace(found, directory=entry)
             return
-        if name in CONTROL_FILES or name in LIMIT_FILES:
+        if name in CONTROL_FILES or name in LIMIT_FILES or self.is_further(path, name):
             self.rows[path] = replace(row, files={**row.files, name: entry})
         elif self.snapshot.source.file is not None and self.snapshot.source.carried is None:
             refuse(f"the text carries nothing of its host, and has no place for {name}")
@@ -161,24 +168,37 @@ class Changes:
     def enable(self, path: CgroupPath, enabled: Tuple[str, ...]) -> None:
         children = self.children(path)
         before = {each: self.limit_files(each) for each in children}
+        disabled = {*self.rows[path].enabled}.difference(enabled)
         self.rows[path] = replace(self.rows[path], enabled=enabled)
         self.cgroups[path] = replace(self.cgroups[path], enabled=enabled)
         for each in children:
             behind = self.limit_files(each)
-            for file in set(before[each]) - set(behind):
+            gone = {file for file in self.snapshot.tree.format.further if FURTHER_FILES[file] in disabled}
+            for file in gone.union(before[each]).difference(behind):
                 self.take_away(each, file)
             for file in set(behind) - set(before[each]):
                 self.bring(each, file)
 
     def set_limit(self, words: Words) -> None:
-        word, file, text = words
-        path = self.path(word)
+        word, file, *parts = words
+        path, text = self.path(word), " ".join(parts)
+        if parts and self.is_further(path, file):
+            self.set_further(path, file, text)
+            return
+        if len(parts) != 1:
+            raise ValueError
         value: Value = int(text) if is_number(text) and len(text) <= 20 else text
         if file not in self.limit_files(path):
             refuse(f"{file!a} at {shown(path)} is no limit that a tree text carries")
         if not accepts(file, value):
             refuse(f"{file} doesn't take {text!a}")
         self.rows[path] = replace(self.rows[path], values={**self.rows[path].values, file: value})
+
+    def set_further(self, path: CgroupPath, file: str, text: str) -> None:
+        if not is_line(text):
+            refuse(f"{file} doesn't take {text!a}")
+        self.put(path, file, self.entry(path, file))
+        self.rows[path] = replace(self.rows[path], values={**self.rows[path].values, file: text})
 
     def run(self, words: Words) -> None:
         pid, uid, word = words

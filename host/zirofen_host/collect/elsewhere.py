@@ -142,8 +142,8 @@ def with_defaults(tree: Tree) -> Tree:
     """A tree with the values that aren't written since they are the default. The root has no limits."""
     rows = {}
     for path, row in tree.rows.items():
-        values = {name: row.values.get(name, LIMIT_FILES[name][1]) for name in tree.limit_files(path)}
-        rows[path] = row if is_root(path) else replace(row, values=values)
+        values = {name: LIMIT_FILES[name][1] for name in tree.limit_files(path) if name in LIMIT_FILES}
+        rows[path] = row if is_root(path) else replace(row, values={**values, **row.values})
     return replace(tree, rows=rows)
 
 
@@ -166,7 +166,7 @@ def cgroup_of(tree: Tree, row: Row, gathered: Gathered) -> Cgroup:
     carried = gathered.files[row.path]
     directory = carried.get("dir", row.directory)
     files.update({name: entry for name, entry in carried.items() if name != "dir"})
-    return Cgroup(directory, files, {}, row.enabled, (), gathered.kind(row.path), gathered.marks[row.path], ())
+    return Cgroup(directory, files, {}, {}, row.enabled, (), gathered.kind(row.path), gathered.marks[row.path], ())
 
 
 def version_1_in(notes: Iterable[Note]) -> Tuple[str, ...]:
@@ -244,11 +244,15 @@ def carried(snapshot: Snapshot, accounts: Accounts) -> Iterator[Mapping[str, obj
 
 def carried_of(snapshot: Snapshot, path: CgroupPath, found: Cgroup) -> Mapping[str, object]:
     """What a text carries of a cgroup: other files than the tree's, as far as they matter, other limits, and marks."""
+    row = snapshot.tree.rows[path]
     others = {name: entry for name, entry in found.files.items()
-              if is_other_limit(name) or not is_known(name) or entry.uid or entry.mode & 0o022 or entry.mode > 0o777}
+              if is_other_limit(name) or not is_known(name) or entry.is_reached or entry.mode > 0o777}
+    # what the row tells isn't carried again
+    told = {name for name in row.further if row.files[name] == others.get(name)}
     if found.directory.mode > 0o777:
         others["dir"] = found.directory
-    values = {name: snapshots.value_of(snapshot, path, name) for name in others if is_other_limit(name)}
+    values = {name: snapshots.value_of(snapshot, path, name) for name in others if is_other_limit(name) and name not in row.values}
+    others = {name: entry for name, entry in others.items() if name not in told}
     return {"path": text_of(path), "files": {name: word_of(entry) for name, entry in others.items()},
             "values": {name: value for name, value in values.items() if value is not None},
             "marks": {name: mark.decode("latin-1") for name, mark in found.marks.items()}}

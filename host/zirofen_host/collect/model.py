@@ -2,11 +2,14 @@
 from dataclasses import dataclass, field
 from typing import Collection, FrozenSet, List, Mapping, NamedTuple, Optional, Sequence, Tuple, Union
 
-from zirofen_host.profile import DIRECTORY_MODE, FILE_MODE, LIMIT_FILES, TEXT_FORMATS, CgroupPath, TextFormat, parent_of
+from zirofen_host.profile import (DIRECTORY_MODE, FILE_MODE, FURTHER_FILES, LIMIT_FILES, TEXT_FORMATS, CgroupPath, TextFormat,
+                                  parent_of)
 
 OWNER, GROUP, OTHERS = CLASSES = ("owner", "group", "others")
 
-# a limit's value as a tree text has it
+# the group's and everybody's bits
+SOMEBODY_ELSE_WRITES = 0o022
+# a limit's value as a tree text has it; of a further limit file a text, with a newline between two lines
 Value = Union[int, str]
 # a device and an inode
 FilePlace = Tuple[int, int]
@@ -19,6 +22,11 @@ class Entry:
     uid: int
     gid: int
     mode: int
+
+    @property
+    def is_reached(self) -> bool:
+        """Whether somebody but root owns or writes it."""
+        return bool(self.uid or self.mode & SOMEBODY_ELSE_WRITES)
 
 
 DEFAULT_FILE = Entry(0, 0, FILE_MODE)
@@ -44,11 +52,13 @@ class User(NamedTuple):
 @dataclass(frozen=True)
 class Cgroup:
     """A cgroup as it was found: every file with its owner, and the texts that matter."""
-    __slots__ = ("directory", "files", "texts", "enabled", "available", "kind", "marks", "pids")
+    __slots__ = ("directory", "files", "texts", "further", "enabled", "available", "kind", "marks", "pids")
     directory: Entry
     files: Mapping[str, Entry]
     # what the limit files have
     texts: Mapping[str, str]
+    # what those further ones had, as far as they were read, that somebody but root reaches: no answer rests on it
+    further: Mapping[str, str]
     enabled: Tuple[str, ...]
     available: Tuple[str, ...]
     # what cgroup.type has
@@ -71,6 +81,11 @@ class Row:
         """The directory or a file by its name; a file that isn't named has its default."""
         return self.directory if name == "dir" else self.files.get(name, DEFAULT_FILE)
 
+    @property
+    def further(self) -> List[str]:
+        """The further limit files that it tells of, in their order."""
+        return [] if FURTHER_FILES.keys().isdisjoint(self.files) else sorted(name for name in self.files if name in FURTHER_FILES)
+
 
 class Placed(NamedTuple):
     """What a tree text carries of a process."""
@@ -88,10 +103,12 @@ class Tree:
     format: TextFormat = TEXT_FORMATS[2]
 
     def limit_files(self, path: CgroupPath) -> List[str]:
-        """The limit files that stand at a cgroup, in their order."""
+        """The limit files that stand at a cgroup, in their order, and behind them the further ones that are told of."""
         parent = parent_of(path)
         enabled = self.rows[parent].enabled if parent else ()
-        return [file for file, (controller, _) in LIMIT_FILES.items() if controller is None or controller in enabled]
+        first = [file for file, (controller, _) in LIMIT_FILES.items() if controller is None or controller in enabled]
+        further = self.rows[path].further
+        return first + further if further else first
 
 
 @dataclass(frozen=True)

@@ -3,7 +3,7 @@ import os
 import time
 from collections import Counter
 from dataclasses import replace
-from typing import Callable, Dict, Iterable, Iterator, List, Mapping, Optional, Tuple
+from typing import Callable, Dict, Iterable, Iterator, List, Mapping, Optional, Sequence, Tuple
 
 from zirofen_host.collect import containers, inside, walk
 from zirofen_host.collect.accounts import payer_of
@@ -15,11 +15,13 @@ from zirofen_host.collect.processes import Reader, lacking_notes
 from zirofen_host.collect.tree import tree_text as text_of_tree
 from zirofen_host.fault import Fault
 from zirofen_host.options import PROC, Options
-from zirofen_host.profile import (CONTROL_FILES, KERNEL_LIST, LIMIT_FILES, ROOT, CgroupPath, TextFormat, accepts, is_inside, is_root,
-                                  parent_of, shown, text_of, topmost)
+from zirofen_host.profile import (CONTROL_FILES, FURTHER_FILES, KERNEL_LIST, LIMIT_FILES, ROOT, CgroupPath, TextFormat, accepts, is_inside,
+                                  is_line, is_root, parent_of, shown, text_of, topmost)
 
 ANY_MODE = 0o777
 LARGEST_PID = 4194303
+# letters of a value that a note shows
+SHOWN = 64
 RESERVED = {name.encode() for name in (*CONTROL_FILES, *LIMIT_FILES)}
 
 Cgroups = Mapping[CgroupPath, Cgroup]
@@ -69,6 +71,8 @@ class Bending:
         self.cgroups = cgroups
         self.text_format = text_format
         self.notes: List[Note] = []
+        # the further limit files that are told of, by the table of files that cgroups with the same ones share
+        self.reached: Dict[int, List[str]] = {}
 
     def note(self, kind: str, path: CgroupPath, detail: str) -> None:
         self.notes.append(Note(kind, text_of(path), detail))
@@ -91,7 +95,34 @@ class Bending:
                 values[file] = self.value(path, file, found.texts[file])
             else:
                 self.note("file", path, f"{file} left out: the parent doesn't enable {controller}")
+        for file in self.further(path, found, available):
+            files[file] = self.plain(path, file, found.files[file])
+            value = self.further_value(path, file, found.further.get(file, ""))
+            if value is not None:
+                values[file] = value
         return Row(path, directory, files, values, tuple(name for name in self.text_format.controllers if name in found.enabled))
+
+    def further(self, path: CgroupPath, found: Cgroup, available: Sequence[str]) -> List[str]:
+        """The further limit files that are told of: those that somebody but root reaches, and that the parent brings."""
+        reached = self.reached.get(id(found.files))
+        if reached is None:
+            reached = self.reached[id(found.files)] = walk.reached_in(found.files) if self.text_format.further else []
+        if not reached or is_root(path):
+            return []
+        brought = [file for file in reached if FURTHER_FILES[file] is None or FURTHER_FILES[file] in available]
+        for file in sorted(set(reached).difference(brought)):
+            self.note("file", path, f"{file} left out: the parent doesn't enable {FURTHER_FILES[file]}")
+        return brought
+
+    def further_value(self, path: CgroupPath, file: str, text: str) -> Optional[str]:
+        """What such a file has, as lines of a text. Nothing is in one that isn't set, or that wasn't read."""
+        lines = [line.rstrip(" ") for line in text.split("\n")]
+        if text and all(map(is_line, lines)):
+            return "\n".join(lines)
+        if text:
+            cut = f"{text[:SHOWN]!a}{'' if len(text) <= SHOWN else '..'}"
+            self.note("value", path, f"{file} is {cut}, and is written without it: the format has no such value")
+        return None
 
     def plain(self, path: CgroupPath, name: str, entry: Entry) -> Entry:
         """An entry without what its mode has beside read, write and search."""
@@ -185,7 +216,7 @@ def take(options: Options, subtrees_of: SubtreesOf) -> Snapshot:
         found = snapshot_of(walk.Settled(walked, {}, {}), running[0], options, mounts)
         return subtrees_of(found, changing)
 
-    settled = walk.settled(options.mount, options.only, subtrees_in, payer)
+    settled = walk.settled(options.mount, options.only, subtrees_in, payer, options.text_format.further)
     found, looks = snapshot_of(settled, look_at_processes(options, payer), options, mounts), Looks()
     insides = looks.all("root-inside", lambda: inside.look(options.proc, found.cgroups, found.processes))
     # of a part what is above it is there for the answers, and isn't told of by itself
@@ -208,7 +239,10 @@ def all_that_changes(_: Snapshot, changing: walk.Whys) -> Iterable[CgroupPath]:
 
 
 def value_of(snapshot: Snapshot, path: CgroupPath, name: str) -> Optional[str]:
-    """What a file has that the tree doesn't carry: now, or as the text has it."""
+    """What a file has that isn't a limit of every text: as the tree tells it, or now, or as the text has it."""
+    told = snapshot.tree.rows[path].values.get(name)
+    if told is not None:
+        return str(told)
     if snapshot.source.file is not None:
         carried = snapshot.source.carried
         return carried.values.get((path, name)) if carried else None

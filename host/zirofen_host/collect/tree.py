@@ -1,11 +1,12 @@
 """A tree text: what is in it, and its spelling."""
+import json
 import sys
 from typing import Callable, Iterable, List, Mapping, Sequence, Tuple, Type, TypeVar
 
 from zirofen_host.collect.model import Entry, Placed, Row, Tree, Value
 from zirofen_host.fault import Fault
-from zirofen_host.profile import (CONTROL_FILES, DIRECTORY_MODE, FILE_MODE, LIMIT_FILES, TEXT_FORMATS, CgroupPath, TextFormat, is_root,
-                                  parent_of, parts_of, path_of, text_of)
+from zirofen_host.profile import (CONTROL_FILES, DIRECTORY_MODE, FILE_MODE, FURTHER_FILES, LIMIT_FILES, TEXT_FORMATS, CgroupPath,
+                                  TextFormat, is_root, parent_of, parts_of, path_of, text_of)
 
 Table = Mapping[str, object]
 Kind = TypeVar("Kind")
@@ -33,6 +34,16 @@ def file_line(row: Row, file: str) -> List[str]:
     return [f'"{file}" = {{ {", ".join(parts)} }}'] if parts else []
 
 
+def further_line(row: Row, file: str) -> str:
+    """The line of a further limit file: as it is, where no value is told."""
+    parts = entry_parts(row.entry(file), FILE_MODE)
+    if file in row.values:
+        # what is printable ASCII is in JSON as in TOML
+        lines = [json.dumps(line) for line in str(row.values[file]).split("\n")]
+        parts.append(f"value = {lines[0] if len(lines) == 1 else '[' + ', '.join(lines) + ']'}")
+    return f'"{file}" = {{ {", ".join(parts)} }}' if parts else f'"{file}" = {{}}'
+
+
 def row_lines(row: Row, text_format: TextFormat) -> List[str]:
     lines = ["", "[[cgroup]]", f"path = {literal(text_of(row.path))}"]
     enabled = names(row.enabled, text_format)
@@ -42,6 +53,7 @@ def row_lines(row: Row, text_format: TextFormat) -> List[str]:
     if parts:
         lines.append(f"dir = {{ {', '.join(parts)} }}")
     files = [line for file in (*CONTROL_FILES, *LIMIT_FILES) for line in file_line(row, file)]
+    files += [further_line(row, file) for file in row.further]
     return lines + (["[cgroup.files]"] + files if files else [])
 
 
@@ -112,6 +124,11 @@ def value_in(value: object) -> Value:
     return value if isinstance(value, str) else number_in(value)
 
 
+def further_value(value: object) -> str:
+    """The text of a further limit file's value: of a number its digits, and of several lines these with a newline between two."""
+    return "\n".join(texts_in(value)) if isinstance(value, list) else str(value_in(value))
+
+
 def read_entry(table: Table, usual_mode: int) -> Entry:
     return Entry(number_in(table.get("uid", 0)), number_in(table.get("gid", 0)), number_in(table.get("mode", usual_mode)))
 
@@ -121,7 +138,8 @@ def read_row(table: Table) -> Row:
     return Row(path=path_of(text_in(table["path"])),
                directory=read_entry(table_in(table.get("dir", {})), DIRECTORY_MODE),
                files={name: read_entry(entry, FILE_MODE) for name, entry in files.items()},
-               values={name: value_in(entry["value"]) for name, entry in files.items() if "value" in entry},
+               values={name: (further_value if name in FURTHER_FILES else value_in)(entry["value"])
+                       for name, entry in files.items() if "value" in entry},
                enabled=texts_in(table.get("enabled", [])))
 
 

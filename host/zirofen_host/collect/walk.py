@@ -15,8 +15,8 @@ from zirofen_host.collect.bounded import Payer, Spent
 from zirofen_host.collect.model import Cgroup, Entry, FilePlace
 from zirofen_host.fault import Fault
 from zirofen_host.files import may_set
-from zirofen_host.profile import (CONTROL_FILES, CONTROLLERS, LIMIT_FILES, LONGEST_PATH, ROOT, CgroupPath, ancestors, is_name,
-                                  parent_of, shown, topmost)
+from zirofen_host.profile import (CONTROL_FILES, CONTROLLERS, FURTHER_FILES, LIMIT_FILES, LONGEST_PATH, ROOT, CgroupPath, ancestors,
+                                  is_name, parent_of, shown, topmost)
 
 MANAGERS_MARK, OWNERS_MARK = MARKS = ("trusted.delegate", "user.delegate")
 MOST_WALKS = 8
@@ -27,6 +27,7 @@ CHANGED = "it came, went or changed while it was read"
 ALL_THE_TIME = f"what matters for it came, went or changed through {MOST_WALKS} walks"
 
 Of = TypeVar("Of")
+NONE: FrozenSet[str] = frozenset()
 # a uid, a gid and a mode
 Owned = Tuple[int, int, int]
 # why something is left out, by its path
@@ -58,6 +59,8 @@ class Once:
         self.entries: Dict[Owned, Entry] = {}
         self.files: Dict[Tuple[Tuple[str, Owned], ...], Mapping[str, Entry]] = {}
         self.texts: Dict[Tuple[Tuple[str, str], ...], Mapping[str, str]] = {}
+        # by the table that stands in `files`, which is held as long
+        self.reached: Dict[int, Tuple[str, ...]] = {}
 
     def entry(self, owned: Owned) -> Entry:
         if owned not in self.entries:
@@ -70,6 +73,12 @@ class Once:
             found = self.files[pairs] = {name: self.entry(owned) for name, owned in pairs}
         return found
 
+    def reached_in(self, files: Mapping[str, Entry]) -> Tuple[str, ...]:
+        """The further limit files of a table of `files_of` that somebody but root reaches."""
+        if id(files) not in self.reached:
+            self.reached[id(files)] = tuple(reached_in(files))
+        return self.reached[id(files)]
+
     def texts_of(self, pairs: Tuple[Tuple[str, str], ...]) -> Mapping[str, str]:
         found = self.texts.get(pairs)
         if found is None:
@@ -80,11 +89,13 @@ class Once:
 class Walk:
     """One walk over a mount: the cgroups that were found by path, what was left out on the way, what went before it was read,
     and what can't be read. Where tops are named, it is these with what is inside, and their ancestors. What is read is charged to
-    the owner of a cgroup, and of root's own inside of somebody's to whose that is."""
+    the owner of a cgroup, and of root's own inside of somebody's to whose that is. Of some further limit files values are read, where
+    somebody but root reaches them."""
 
-    def __init__(self, mount: str, tops: Optional[Iterable[CgroupPath]] = None, payer: Payer = int) -> None:
+    def __init__(self, mount: str, tops: Optional[Iterable[CgroupPath]] = None, payer: Payer = int, further: Sequence[str] = ()) -> None:
         self.mount = os.fsencode(mount)
         self.payer = payer
+        self.further = frozenset(further)
         self.cgroups, self.bytes = Spent(bounded.CGROUPS, payer), Spent(bounded.CGROUP_BYTES, payer)
         self.tops: Optional[FrozenSet[CgroupPath]] = None if tops is None else topmost(tops)
         self.on_the_way = {place for top in self.tops or () for place in ancestors(top)}
@@ -188,19 +199,30 @@ class Walk:
         for file in CONTROL_FILES:
             if file not in files:
                 raise FileNotFoundError(errno.ENOENT, os.strerror(errno.ENOENT), file)
-        return self.cgroup(folder, files, directory), names
+        return self.cgroup(folder, files, directory, self.further if path != ROOT else NONE), names
 
-    def cgroup(self, folder: int, files: Mapping[str, Entry], directory: Owned) -> Cgroup:
+    def cgroup(self, folder: int, files: Mapping[str, Entry], directory: Owned, further: FrozenSet[str]) -> Cgroup:
         texts = self.once.texts_of(tuple((file, text_of(folder, file)) for file in LIMIT_FILES if file in files))
         # each is a number or a word: a kernel writes it
         self.charge(self.bytes, sum(map(len, texts.values())) + len(texts))
         kind = self.text(folder, "cgroup.type") if "cgroup.type" in files else "domain"
         marks = marks_of(folder)
         self.charge(self.bytes, marks.read)
-        return Cgroup(directory=self.once.entry(directory), files=files, texts=texts,
+        others = self.further_texts(folder, [file for file in self.once.reached_in(files) if file in further] if further else ())
+        return Cgroup(directory=self.once.entry(directory), files=files, texts=texts, further=others,
                       enabled=tuple(map(sys.intern, self.text(folder, "cgroup.subtree_control").split())),
                       available=tuple(map(sys.intern, self.text(folder, "cgroup.controllers").split())),
                       kind=sys.intern(kind), marks=marks.values, pids=self.pids(folder))
+
+    def further_texts(self, folder: int, files: Iterable[str]) -> Mapping[str, str]:
+        """What some files have, as far as they can be read."""
+        found = []
+        for file in files:
+            try:
+                found.append((file, self.text(folder, file)))
+            except OSError:
+                continue
+        return self.once.texts_of(tuple(found))
 
     def text(self, folder: int, file: str) -> str:
         """What a file has, charged to whose cgroup it is of."""
@@ -287,9 +309,11 @@ class Settled(NamedTuple):
     spoiled: Whys
 
 
-def walk_over(mount: str, tops: Optional[Iterable[CgroupPath]] = None, before: Optional[Walk] = None, payer: Payer = int) -> Walk:
-    """A walk; what is equal to what one before found is held once."""
-    walk = Walk(mount, tops, payer)
+def walk_over(mount: str, tops: Optional[Iterable[CgroupPath]] = None, before: Optional[Walk] = None, payer: Payer = int,
+              further: Sequence[str] = ()) -> Walk:
+    """A walk; what is equal to what one before found is held once. The first reads no further limit file, since nothing that two have
+    to agree on is in one."""
+    walk = Walk(mount, tops, payer, further if before else ())
     if before:
         walk.once = before.once
     walk.walk()
@@ -318,6 +342,11 @@ def is_alike(found: Optional[Cgroup], before: Optional[Cgroup]) -> bool:
 
 def key_of(found: Cgroup) -> Tuple[object, ...]:
     return found.directory, found.files, found.texts, found.enabled, found.available, found.kind, found.marks
+
+
+def reached_in(files: Mapping[str, Entry]) -> List[str]:
+    """The further limit files of a cgroup that somebody but root reaches, in their order."""
+    return sorted(file for file, entry in files.items() if file in FURTHER_FILES and entry.is_reached)
 
 
 def owned_of(status: os.stat_result) -> Owned:
@@ -380,13 +409,13 @@ def count_of(folder: int, name: bytes, most: int) -> int:
 
 
 def settled(mount: str, only: Optional[CgroupPath], subtrees_of: Callable[[Walk, Whys], Iterable[CgroupPath]],
-            payer: Payer = int) -> Settled:
+            payer: Payer = int, further: Sequence[str] = ()) -> Settled:
     """Walks until two walks in a row agree on all that can matter for a subtree: itself, what is inside, and its ancestors.
     Only what doesn't agree is walked over again. `subtrees_of` gives the subtrees that are asked of, by a walk and by what
-    changes."""
+    changes; the values of some further limit files are read."""
     tops = None if only is None else (only,)
     before = walk_over(mount, tops, None, payer)
-    walk = walk_over(mount, tops, before, payer)
+    walk = walk_over(mount, tops, before, payer, further)
     walk.holds = {**before.holds, **walk.holds}
     if only is not None and only not in walk.found and only not in walk.unread:
         raise Fault(f"there is no cgroup {shown(only)}")
@@ -396,7 +425,7 @@ def settled(mount: str, only: Optional[CgroupPath], subtrees_of: Callable[[Walk,
         again: Sequence[CgroupPath] = [ROOT] if ROOT in changing else [path for path, why in spoiled.items() if why == CHANGED]
         if not again:
             break
-        part = walk_over(mount, again, walk, payer)
+        part = walk_over(mount, again, walk, payer, further)
         changing = {**{path: why for path, why in changing.items() if not part.covers(path)}, **part.differing(walk)}
         walk.take(part)
         spoiled = spoiled_by(changing, subtrees_of(walk, changing))

@@ -1,8 +1,8 @@
 """Limits that somebody sets at a cgroup that isn't theirs, and directories in which a manager will make what it starts: seen by
 the helper on the host, and not proved.
 
-The answers speak of the limit files of a tree text at subtrees that are asked of. Everything else by which something
-is set is looked at here.
+The answers speak of the limit files that a tree text tells of at subtrees that are asked of. Everything else by which something is
+set is looked at here.
 """
 from collections import Counter, defaultdict
 from dataclasses import dataclass, replace
@@ -13,7 +13,7 @@ from zirofen_host.collect.model import GROUP, OTHERS, OWNER, Entry, Snapshot, Us
 from zirofen_host.collect.walk import MANAGERS_MARK
 from zirofen_host.files import PRESSURE, is_known, may_set
 from zirofen_host.judge.judged import LetIn, Place
-from zirofen_host.profile import ANYBODY, CONTROL_FILES, LIMIT_FILES, CgroupPath, is_root, parts_of
+from zirofen_host.profile import ANYBODY, CONTROL_FILES, FURTHER_FILES, LIMIT_FILES, CgroupPath, is_root, parts_of
 
 GROUP_WRITES, OTHERS_WRITE, SOMEBODY_WRITES = 0o020, 0o002, 0o222
 # why a directory counts in which a manager makes what it starts: it adopts a cgroup that it finds there
@@ -35,7 +35,7 @@ class Looked:
             return is_made_in(self.questions, path)
         if name in CONTROL_FILES:
             return is_root(path) or path in self.questions.kept
-        if name in LIMIT_FILES:
+        if name in LIMIT_FILES or name in FURTHER_FILES and name in self.snapshot.tree.rows[path].files:
             return path not in self.asked
         if name == "cgroup.threads":
             return self.has_threads(path)
@@ -71,8 +71,7 @@ def find_openings(snapshot: Snapshot, questions: Questions) -> Iterator[Tuple[Pl
     for path in sorted(snapshot.cgroups, key=parts_of):
         found = snapshot.cgroups[path]
         for name, entry in sorted({"dir": found.directory, **found.files}.items()):
-            is_writable = entry.uid or entry.mode & (GROUP_WRITES | OTHERS_WRITE)
-            if is_writable and looked.covers(Place(path, name)):
+            if entry.is_reached and looked.covers(Place(path, name)):
                 whom = whom_of(snapshot, questions, Place(path, name), entry)
                 if whom:
                     yield Place(path, name), entry, whom

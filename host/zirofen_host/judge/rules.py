@@ -11,7 +11,7 @@ from zirofen_host.judge.finding_lines import (INSIDE_MEANS, acceptance_line, dif
 from zirofen_host.judge.gravity import ACCEPTED, Gravity, is_empty, of_answer, of_fault
 from zirofen_host.judge.judged import OVER, UNKNOWN
 from zirofen_host.judge.model import (ABSENT, Absent, DiffersFinding, EntryFinding, OpenedFinding, Report, RootInside, Whom, Within)
-from zirofen_host.profile import LIMIT_FILES
+from zirofen_host.profile import FURTHER_FILES, LIMIT_FILES
 
 NOTHING_ASKED, VERSION_1, DIFFERS = "nothing-asked", "version-1", "differs"
 # a look's kind: limits that a unit's next start doesn't bring back
@@ -22,7 +22,7 @@ ROOT_INSIDE, ROOT_HELD = "root-inside", "root-inside/held"
 ROOT = Whom(OWNER, 0, "root(0)", ())
 # the guard that stands on an entry, by the entry's name; what is no entry has its own word
 GUARDS: Dict[str, str] = {"cgroup.procs": "common-ancestor", "cgroup.subtree_control": "parent-control", "dir": "parent-dir",
-                          **{name: "limit-file" for name in LIMIT_FILES}, OVER: OVER, UNKNOWN: UNKNOWN}
+                          **dict.fromkeys((*LIMIT_FILES, *FURTHER_FILES), "limit-file"), OVER: OVER, UNKNOWN: UNKNOWN}
 # what each guard that fails lets happen
 LETS: Dict[str, str] = {
     "common-ancestor": "somebody writes cgroup.procs above a subtree, and so moves processes over its edge",

@@ -53,7 +53,8 @@ def agreed(before: Settings, behind: Settings) -> Settings:
 
 def values_of(snapshot: Snapshot, path: CgroupPath) -> Dict[str, Optional[Value]]:
     """What the limits of a cgroup have: of the tree's at the walk, and of others now."""
-    values: Dict[str, Optional[Value]] = dict(snapshot.tree.rows[path].values)
+    told = snapshot.tree.rows[path].values
+    values: Dict[str, Optional[Value]] = {name: told[name] for name in LIMIT_FILES if name in told}
     others = [name for name in snapshot.cgroups[path].files if kind_of(name) is Kind.LIMIT and name not in LIMIT_FILES]
     values.update({name: value_of(snapshot, path, name) for name in sorted(others)})
     return values

@@ -1,18 +1,21 @@
 """Shell commands for a mount: of operations, and of what to change."""
+import re
 import shlex
 from typing import Callable, Dict, Iterable, List, Mapping, Optional, Sequence, Tuple
 
 from zirofen_host.collect.model import Entry, User
 from zirofen_host.fault import Fault
-from zirofen_host.profile import CONTROL_FILES, CONTROLLERS, LIMIT_FILES, is_number, is_root
+from zirofen_host.profile import CONTROL_FILES, CONTROLLERS, FURTHER_FILES, LIMIT_FILES, is_line, is_number, is_root
 
 # the words of what to change, as the program advises it
 Change = Sequence[str]
 
-ENTRIES = ("dir", *CONTROL_FILES, *LIMIT_FILES)
+ENTRIES = frozenset(("dir", *CONTROL_FILES, *LIMIT_FILES, *FURTHER_FILES))
 # lines of a report that stand around operations
 ANSWERS = ("escapes", "contained", "unsettled", "pair")
 NOBODYS_GROUP = 65534
+# what every shell's echo writes as it stands
+_ECHOED = re.compile(r"(?!-[a-zA-Z])[^\\]+\Z")
 
 
 def place(mount: str, path: str, entry: str = "dir") -> str:
@@ -47,9 +50,16 @@ def remove(mount: str, words: Sequence[str]) -> Optional[str]:
 
 
 def set_limit(mount: str, words: Sequence[str]) -> Optional[str]:
-    path, file, value = words
-    known = file in LIMIT_FILES and (value == "max" or is_number(value))
-    return f"echo {value} >{place(mount, path, file)}" if known and is_path(path) else None
+    path, file, *parts = words
+    value = " ".join(parts)
+    known = file in LIMIT_FILES and (value == "max" or is_number(value)) or file in FURTHER_FILES and is_line(value)
+    return f"{echoed(value)} >{place(mount, path, file)}" if known and is_path(path) else None
+
+
+def echoed(value: str) -> str:
+    """What writes a value and a newline."""
+    writes = "echo" if _ECHOED.match(value) else r"printf '%s\n'"
+    return f"{writes} {shlex.quote(value)}"
 
 
 def set_mode(mount: str, words: Sequence[str]) -> Optional[str]:

@@ -10,8 +10,8 @@ from zirofen_host.collect.model import AccountLists, Snapshot
 from zirofen_host.collect.snapshot import LARGEST_PID
 from zirofen_host.collect.unit_files import UnitFile, filled, specifiers
 from zirofen_host.fault import Fault
-from zirofen_host.profile import (CONTROL_FILES, CONTROLLERS, LIMIT_FILES, ROOT, SETTINGS, CgroupPath, ancestors, is_root, parent_of,
-                                  path_of, text_of)
+from zirofen_host.profile import (CONTROL_FILES, CONTROLLERS, FURTHER_FILES, LIMIT_FILES, ROOT, SETTINGS, CgroupPath, ancestors, is_root,
+                                  parent_of, path_of, text_of)
 
 SERVICE, SLICE = "service", "slice"
 # what a manager of this version and of newer ones knows: subgroups, and giving a unit to a group alone
@@ -68,6 +68,12 @@ class Plan:
     def can_carry(self) -> bool:
         """Whether there is a place for what a tree text alone has none for."""
         return self.snapshot.source.file is None or self.snapshot.source.carried is not None
+
+    def further(self, path: CgroupPath) -> List[str]:
+        """The further limit files that are told of at a cgroup, as far as the cgroup above still brings them."""
+        row, parent = self.snapshot.tree.rows.get(path), parent_of(path)
+        brought = (None, *(self.enabled[parent] if parent else ()))
+        return [file for file in row.further if FURTHER_FILES[file] in brought] if row else []
 
     def cgroup(self, path: CgroupPath) -> None:
         """A cgroup is there, and all above it; files of one that was there are as a new one's."""
@@ -228,7 +234,8 @@ class Started:
         files = [file for file, (controller, _) in LIMIT_FILES.items()
                  if parent and (controller is None or controller in self.plan.enabled[parent])]
         if was_there and self.unit.name.kind == SERVICE:
-            lines += [line for name in ("dir", *CONTROL_FILES, *files) for line in
+            further = self.plan.further(path)
+            lines += [line for name in ("dir", *CONTROL_FILES, *files, *further) for line in
                       (f"chown {text_of(path)} {name} 0:0", f"chmod {text_of(path)} {name} {'755' if name == 'dir' else '644'}")]
             lines += [f"set {text_of(path)} {file} {LIMIT_FILES[file][1]}" for file in files]
         lines += [f"set {text_of(path)} {file} {number}" for file, number in self.limits() if file in files]

@@ -31,10 +31,11 @@ def cgroup_of(checked: Checked, path: CgroupPath) -> ReportCgroup:
     it isn't read twice as the others are."""
     tree, found = checked.snapshot.tree, checked.snapshot.cgroups[path]
     row = tree.rows[path]
-    files = {name: file_of(row.entry(name), row.values.get(name, ABSENT)) for name in (*CONTROL_FILES, *tree.limit_files(path))}
-    for name, entry in found.files.items():
-        if is_other_limit(name):
-            files[name] = file_of(entry, None if name in WITHOUT_VALUE else value_of(checked.snapshot, path, name))
+    others = {name: entry for name, entry in found.files.items() if is_other_limit(name)}
+    files = {name: file_of(row.entry(name), row.values.get(name, ABSENT)) for name in (*CONTROL_FILES, *tree.limit_files(path))
+             if name not in others}
+    for name, entry in others.items():
+        files[name] = file_of(entry, None if name in WITHOUT_VALUE else value_of(checked.snapshot, path, name))
     marks = {name: mark.decode("ascii", "replace") for name, mark in sorted(found.marks.items())}
     return ReportCgroup(text_of(path), owner_of(row.directory), row.enabled, unit_of(path), marks, files)
 

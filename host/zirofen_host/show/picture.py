@@ -169,5 +169,5 @@ def svg(shown: Shown, name: str) -> str:
 
 
 def value(file: str, told: Optional[Value]) -> str:
-    """A limit's value, or that it has none, since its file isn't there."""
-    return "no limit file" if told is None else words.size(file, told)
+    """A limit's value, or that it has none, since nobody has set it or its file isn't there."""
+    return "no limit file" if told is None else "not set" if told == "" else words.size(file, told)

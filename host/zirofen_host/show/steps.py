@@ -81,11 +81,12 @@ class Teller:
         return told
 
     def set(self, words: Sequence[str]) -> Sentence:
-        path, file, value = words
+        path, file, *parts = words
+        value = " ".join(parts)
         before = self.host.value(path, file)
         if path == self.subtree:
             self.breaks = Breaks(LIMITS, changes=(Change(file, before, value),))
-        is_now = [f" from {size(file, before)}"] if before is not None else []
+        is_now = [f" from {size(file, before)}"] if before not in (None, "") else []
         return ["set ", ("code", file), " of ", ("code", path), *is_now, f" to {size(file, value)}"]
 
     def control(self, words: Sequence[str]) -> Sentence:

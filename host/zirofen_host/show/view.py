@@ -3,13 +3,13 @@ import dataclasses
 from collections import defaultdict
 from dataclasses import dataclass
 from functools import cached_property
-from typing import Callable, Dict, Iterator, List, Mapping, Optional, Sequence, Set, Tuple, TypeVar, Union
+from typing import Callable, Dict, Iterable, Iterator, List, Mapping, Optional, Sequence, Set, Tuple, TypeVar, Union
 
 from zirofen_host.collect.model import Value
 from zirofen_host.collect.walk import OWNERS_MARK
 from zirofen_host.judge.model import (Absent, DiffersFinding, EntryFinding, FaultFinding, HeldBy, NamedScope, OpenedFinding, Owner, Report,
                                       ReportCgroup, ReportFile, ReportProcess, ReportUser, RootInside, Subtree, Whom)
-from zirofen_host.profile import CONTROL_FILES, HANDED_OVER, LIMIT_FILES, ancestors, is_usual, parent_of
+from zirofen_host.profile import CONTROL_FILES, FURTHER_FILES, HANDED_OVER, LIMIT_FILES, ancestors, is_usual, parent_of
 from zirofen_host.show import words
 from zirofen_host.show.lines import alike, entry_in_common, opened_in_common
 from zirofen_host.show.words import ABOVE, ACCEPTED, CONTAINED, ESCAPES, FAULT, NOT_ASKED, OPENED, STANDINGS, UNSETTLED, visible
@@ -258,7 +258,11 @@ class Host:
         """By which entries it was handed over."""
         held, row = self.subtrees[path].held_by, self.rows[path]
         entries: Dict[str, Union[Owner, ReportFile]] = {"dir": row.dir, **row.files}
-        handed = [name for name in ("dir", *CONTROL_FILES, *LIMIT_FILES) if name in entries and is_handed(entries[name], held)]
+
+        def among(names: Iterable[str]) -> List[str]:
+            return [name for name in names if name in entries and is_handed(entries[name], held)]
+
+        handed = among(("dir", *CONTROL_FILES, *LIMIT_FILES)) or among(FURTHER_FILES)
         return sorted(handed, key=lambda name: name not in HANDED_OVER)
 
     def value(self, path: str, file: str) -> Optional[Value]:
