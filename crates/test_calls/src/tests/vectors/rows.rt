@@ -188,7 +188,19 @@ fn all_nine_controllers(rt: HostRuntime) -> Result<(), Fail> {
         ),
         (
             "[[cgroup]]\npath = '/in/io'\nfiles.'io.max'.uid = 5",
+            "fault: tree no-such-file cgroup 4",
+        ),
+        (
+            "[[cgroup]]\npath = '/in/io'\nfiles.'io.maximum'.uid = 5",
             "fault: tree shape cgroup 4",
+        ),
+        (
+            "[[cgroup]]\npath = '/in/io'\nfiles.'cgroup.freeze'.value = ['0', '0']",
+            READ,
+        ),
+        (
+            "[[cgroup]]\npath = '/in/io'\nfiles.'cgroup.freeze'.value = '0  0'",
+            "fault: tree bad-value cgroup 4",
         ),
         (
             "[[cgroup]]\npath = '/memory.max'",
