@@ -26,7 +26,8 @@ from zirofen_host.options import AskOptions
 from zirofen_host.profile import CONTROLLERS, FURTHER_FILES, LIMIT_FILES, TEXT_FORMATS
 from zirofen_host.show import steps, view
 
-ROW = re.compile(r"^other_kind \w+ = row (\d+) \(codes \"([^\"]+)\"\) (?:None|\(Some (\w+)\)) \(codes \"([^\"]+)\"\)$", re.M)
+VALUE = r"\(codes \"[^\"]+\"\)"
+ROW = re.compile(rf"^other_kind \w+ = row (\d+) \(codes \"([^\"]+)\"\) (?:None|\(Some (\w+)\)) {VALUE} {VALUE}$", re.M)
 LONG = "7" * 4095
 # what a kernel has in a file, behind it what a text has
 VALUES = (
@@ -48,7 +49,7 @@ class TableTest(unittest.TestCase):
     def test_they_are_those_of_the_definition(self):
         with open(f"{TOP}/crates/cg_cgroup/specs/OtherKinds.antt", encoding="utf-8") as text:
             found = ROW.findall(text.read())
-        self.assertEqual([(int(number), name, by.lower() or None) for number, name, by, _ in found],
+        self.assertEqual([(int(number), name, by.lower() or None) for number, name, by in found],
                          [(number, *each) for number, each in enumerate(FURTHER_FILES.items())])
         self.assertEqual((len(found), list(FURTHER_FILES)), (43, sorted(FURTHER_FILES)))
 
