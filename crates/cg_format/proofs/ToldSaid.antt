@@ -144,13 +144,6 @@ pub known_parts : (p : EntryName → Bool) (words : Vocabulary) → list_all p (
 known_parts p Format2 all = (all, refl)
 known_parts p Format4 all = two_lists p format_2_entries all_others all
 
-pub known_all : (p : EntryName → Bool) (words : Vocabulary) → list_all p format_2_entries ≡ true
-    → list_all (λ file. p (Other file)) (known_others words) ≡ true → list_all p (known_entries words) ≡ true
-known_all p Format2 all others = all
-known_all p Format4 all others =
-    list_all-append p format_2_entries (map Other all_others)
-    ∙ and_from (list_all p format_2_entries) (list_all p (map Other all_others)) all (list_all-map p Other all_others ∙ others)
-
 -- ---- names that a format doesn't have
 
 tied : (o : Ordering) (b : Bool) (found : Option Data) (held : Data) → b ≡ is_eq o → match_ordering o found (Some held) found
