@@ -65,13 +65,17 @@ module _ (uid gid : ℕ) (row : Cgroup) where
   enabled-with_owner_in (File file) = (rest-with_file file (with_file_owned_by uid gid) row).enabled
   enabled-with_owner_in name = refl
 
+  freeze-with_owner_in : (name : EntryName) → (with_owner_in name uid gid row).freeze ≡ row.freeze
+  freeze-with_owner_in (File file) = (rest-with_file file (with_file_owned_by uid gid) row).freeze
+  freeze-with_owner_in name = refl
+
   value_in-with_owner_in : (name : EntryName) (file : LimitFile) → value_in (with_owner_in name uid gid row) file ≡ value_in row file
   value_in-with_owner_in name file =
       ap (option_map (λ x. x.value)) (file_of-with_owner_in name file) ∙ value_kept (same_entry name (File file)) uid gid (file_of row file)
 
   untold_in-with_owner_in : (name : EntryName) (file : OtherFile) → untold_in (with_owner_in name uid gid row) file ≡ untold_in row file
   untold_in-with_owner_in (File changed) file =
-      untold_same row (with_owner_in (File changed) uid gid row) (rest-with_file changed (with_file_owned_by uid gid) row).freeze
+      untold_same row (with_owner_in (File changed) uid gid row) (freeze-with_owner_in (File changed))
       (other_in-with_owner_in (File changed)) file
   untold_in-with_owner_in Dir file = untold_same row (with_owner_in Dir uid gid row) refl (λ controller. refl) file
   untold_in-with_owner_in Procs file = untold_same row (with_owner_in Procs uid gid row) refl (λ controller. refl) file
@@ -219,6 +223,7 @@ formed-row-with_owner : (st : State) (path : Names) (name : EntryName) (uid gid 
     → IsWellFormed (change_at path (with_owner_in name uid gid) st)
 formed-row-with_owner st path name uid gid =
     formed-change_at st path (with_owner_in name uid gid) (λ row. enabled-with_owner_in uid gid row name)
+    (λ row. freeze-with_owner_in uid gid row name)
     (λ above row formed. formed_row-with_owner_in above name uid gid row formed)
 
 same_reading : (b : Bool) (r : Option Cgroup) (file : OtherFile) (uid gid : ℕ)

@@ -196,9 +196,9 @@ pub untold_same : (old new : Cgroup) → new.freeze ≡ old.freeze
     → (file : OtherFile) → untold_in new file ≡ untold_in old file
 untold_same old new freeze others file =
     elim (brought_by file) as
-    (λ by. elim by [ None ↦ Some new.freeze | Some controller ↦ other_in new controller ]
-    ≡ elim by [ None ↦ Some old.freeze | Some controller ↦ other_in old controller ])
-    [ None ↦ ap Some freeze | Some controller ↦ others controller ]
+    (λ by. elim by [ None ↦ new.freeze | Some controller ↦ other_in new controller ]
+    ≡ elim by [ None ↦ old.freeze | Some controller ↦ other_in old controller ])
+    [ None ↦ freeze | Some controller ↦ others controller ]
 
 entry_part : (b : Bool) (f : LimitEntry → LimitEntry) (o : Option LimitEntry) → ((x : LimitEntry) → (f x).entry ≡ x.entry)
     → option_map (λ x. x.entry) (cond b (option_map f o) o) ≡ option_map (λ x. x.entry) o
@@ -213,6 +213,9 @@ file_of-with_value_in file value row other = file_of-with_file file (with_value_
 
 pub enabled-with_value_in : (file : LimitFile) (value : Limit) (row : Cgroup) → (with_value_in file value row).enabled ≡ row.enabled
 enabled-with_value_in file value row = (rest-with_file file (with_value_of value) row).enabled
+
+pub freeze-with_value_in : (file : LimitFile) (value : Limit) (row : Cgroup) → (with_value_in file value row).freeze ≡ row.freeze
+freeze-with_value_in file value row = (rest-with_file file (with_value_of value) row).freeze
 
 pub other_in-with_value_in : (file : LimitFile) (value : Limit) (row : Cgroup) (controller : Controller)
     → other_in (with_value_in file value row) controller ≡ other_in row controller
@@ -270,6 +273,10 @@ file_of-with_mode_in name mode row file = refl
 pub enabled-with_mode_in : (name : EntryName) (mode : ℕ) (row : Cgroup) → (with_mode_in name mode row).enabled ≡ row.enabled
 enabled-with_mode_in (File file) mode row = (rest-with_file file (with_file_mode_of mode) row).enabled
 enabled-with_mode_in name mode row = refl
+
+pub freeze-with_mode_in : (name : EntryName) (mode : ℕ) (row : Cgroup) → (with_mode_in name mode row).freeze ≡ row.freeze
+freeze-with_mode_in (File file) mode row = (rest-with_file file (with_file_mode_of mode) row).freeze
+freeze-with_mode_in name mode row = refl
 
 pub other_in-with_mode_in : (name : EntryName) (mode : ℕ) (row : Cgroup) (controller : Controller)
     → other_in (with_mode_in name mode row) controller ≡ other_in row controller

@@ -148,7 +148,7 @@ flag_set set new controller on is =
           | false ↦ λ e. get_or-set_other set.flags number (controller_kind other).number on false (grind (arith, e))
         ] refl
 
-not_true : (b : Bool) → not b ≡ true → b ≡ false
+pub not_true : (b : Bool) → not b ≡ true → b ≡ false
 not_true true h = absurd (true≢false (sym h))
 not_true false h = refl
 

@@ -14,6 +14,7 @@ pub mod CgroupLaws
 pub mod ToldLaws
 pub mod AllFiles
 pub mod AllOthers
+pub mod DeviceLines
 pub mod NameLaws
 pub mod ControllerLaws
 pub mod UserLaws

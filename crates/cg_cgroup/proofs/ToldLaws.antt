@@ -74,8 +74,12 @@ pub record AreKept (enabled : ControllerSet) (files : ToldFiles) (i : ℕ) (entr
   pub rest : (k : ℕ) → i ≤ k → get_or entries k None ≡ get_or files.entries k None
 
 module _ (enabled : ControllerSet) (files : ToldFiles) where
-  pub kept_none : AreKept enabled files 0 files.entries
-  kept_none = record { long = files.whole; front = refl; rest = λ k from. refl }
+  pub kept_none : (entries : List (Option ToldFile)) → entries ≡ files.entries → AreKept enabled files 0 entries
+  kept_none entries same = record {
+    long = ap length same ∙ files.whole;
+    front = refl;
+    rest = λ k from. ap (λ xs. get_or xs k None) same;
+  }
 
   pub kept_more : (i : ℕ) (entries : List (Option ToldFile)) (d : OtherFile) (e new : Option ToldFile) → AreKept enabled files i entries
       → i < length all_others → new ≡ cond (stands_by enabled (brought_by (get_or all_others i d))) (get_or entries i e) None

@@ -52,7 +52,7 @@ root_file = record { uid = 0; gid = 0; mode = 420 }
 
 -- the entry of a limit file beyond `LimitFile` of which nothing is told, where it is there
 abbrev pub untold_in : Cgroup → OtherFile → Option Entry
-untold_in row file = elim (brought_by file) [ None ↦ Some row.freeze | Some controller ↦ other_in row controller ]
+untold_in row file = elim (brought_by file) [ None ↦ row.freeze | Some controller ↦ other_in row controller ]
 
 -- the entry of a directory or file, where it is there and nothing else is told of it
 abbrev pub entry_in : Cgroup → EntryName → Option Entry
@@ -120,7 +120,7 @@ cgroup_made_by user enabled = with_files_of enabled user (record {
   subtree_control = entry_made_by user 420;
   max_descendants = file_made_by user MaxDescendants;
   max_depth = file_made_by user MaxDepth;
-  freeze = entry_made_by user 420;
+  freeze = Some (entry_made_by user 420);
   files = files_by (λ file. None);
   others = others_by (λ controller. None);
   enabled = no_controllers;

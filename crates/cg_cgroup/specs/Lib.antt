@@ -9,5 +9,6 @@ pub mod OtherKinds
 pub mod Values
 pub mod Files
 pub mod Cgroups
+pub mod ToldList
 pub mod Told
 pub mod Options

@@ -1,5 +1,5 @@
 -- The limit files beyond `LimitFile`, one row each.
-use Rattle.std.specs.Prelude.{ℕ, List, [], ◌∷◌, Option, Some, None, codes}
+use Rattle.std.specs.Prelude.{ℕ, Bool, true, false, List, [], ◌∷◌, Option, Some, None, codes}
 use Rattle.std.specs.List.{find}
 use Rattle.cg_cgroup.specs.Paths.{same_name}
 use Rattle.cg_cgroup.specs.declared.files.Controller.{Controller}
@@ -17,16 +17,22 @@ all_others =
     HugetlbOf512MbMax ∷ HugetlbOf512MbReservedMax ∷ HugetlbOf64KbMax ∷ HugetlbOf64KbReservedMax ∷ IoBfqWeight ∷ IoLatency ∷ IoMax ∷
     IoPrioClass ∷ IoWeight ∷ MemorySwapHigh ∷ MemorySwapMax ∷ MemoryZswapMax ∷ MemoryZswapWriteback ∷ MiscMax ∷ RdmaMax ∷ []
 
--- Such a file: its number in that order, its name, the controller that brings it, and two values of which the first holds nothing, or little.
+-- Such a file: its number in that order, its name, the controller that brings it, whether each of its lines begins with a device or a
+-- resource, and two values, without that, of which the first holds nothing, or little.
 pub record OtherKind : Type 0 where
   pub number : ℕ
   pub name : List ℕ
   pub controller : Option Controller
+  pub of_devices : Bool
   pub loose : List ℕ
   pub other : List ℕ
 
 abbrev row : ℕ → List ℕ → Option Controller → List ℕ → List ℕ → OtherKind
-row number name controller loose other = record { number = number; name = name; controller = controller; loose = loose; other = other }
+row number name controller loose other =
+    record { number = number; name = name; controller = controller; of_devices = false; loose = loose; other = other }
+
+abbrev by_device : OtherKind → OtherKind
+by_device kind = record kind { of_devices = true }
 
 -- Core Interface Files; CPU, Memory, IO, Cpuset, HugeTLB, RDMA, Misc, Device memory.
 abbrev pub other_kind : OtherFile → OtherKind
@@ -41,9 +47,9 @@ other_kind CpusetCpus = row 7 (codes "cpuset.cpus") (Some Cpuset) (codes "0-1") 
 other_kind CpusetCpusExclusive = row 8 (codes "cpuset.cpus.exclusive") (Some Cpuset) (codes "0-1") (codes "0")
 other_kind CpusetCpusPartition = row 9 (codes "cpuset.cpus.partition") (Some Cpuset) (codes "member") (codes "root")
 other_kind CpusetMems = row 10 (codes "cpuset.mems") (Some Cpuset) (codes "0-1") (codes "0")
-other_kind DmemLow = row 11 (codes "dmem.low") (Some Dmem) (codes "max") (codes "0")
-other_kind DmemMax = row 12 (codes "dmem.max") (Some Dmem) (codes "max") (codes "0")
-other_kind DmemMin = row 13 (codes "dmem.min") (Some Dmem) (codes "max") (codes "0")
+other_kind DmemLow = by_device (row 11 (codes "dmem.low") (Some Dmem) (codes "max") (codes "0"))
+other_kind DmemMax = by_device (row 12 (codes "dmem.max") (Some Dmem) (codes "max") (codes "0"))
+other_kind DmemMin = by_device (row 13 (codes "dmem.min") (Some Dmem) (codes "max") (codes "0"))
 other_kind HugetlbOf16GbMax = row 14 (codes "hugetlb.16GB.max") (Some Hugetlb) (codes "max") (codes "0")
 other_kind HugetlbOf16GbReservedMax = row 15 (codes "hugetlb.16GB.rsvd.max") (Some Hugetlb) (codes "max") (codes "0")
 other_kind HugetlbOf16MbMax = row 16 (codes "hugetlb.16MB.max") (Some Hugetlb) (codes "max") (codes "0")
@@ -62,17 +68,17 @@ other_kind HugetlbOf512MbMax = row 28 (codes "hugetlb.512MB.max") (Some Hugetlb)
 other_kind HugetlbOf512MbReservedMax = row 29 (codes "hugetlb.512MB.rsvd.max") (Some Hugetlb) (codes "max") (codes "0")
 other_kind HugetlbOf64KbMax = row 30 (codes "hugetlb.64KB.max") (Some Hugetlb) (codes "max") (codes "0")
 other_kind HugetlbOf64KbReservedMax = row 31 (codes "hugetlb.64KB.rsvd.max") (Some Hugetlb) (codes "max") (codes "0")
-other_kind IoBfqWeight = row 32 (codes "io.bfq.weight") (Some Io) (codes "1000") (codes "999")
-other_kind IoLatency = row 33 (codes "io.latency") (Some Io) (codes "max") (codes "0")
-other_kind IoMax = row 34 (codes "io.max") (Some Io) (codes "max") (codes "0")
+other_kind IoBfqWeight = row 32 (codes "io.bfq.weight") (Some Io) (codes "default 1000") (codes "default 999")
+other_kind IoLatency = by_device (row 33 (codes "io.latency") (Some Io) (codes "target=max") (codes "target=1"))
+other_kind IoMax = by_device (row 34 (codes "io.max") (Some Io) (codes "rbps=max wbps=max riops=max wiops=max") (codes "rbps=2 wbps=2 riops=2 wiops=2"))
 other_kind IoPrioClass = row 35 (codes "io.prio.class") (Some Io) (codes "no-change") (codes "none-to-rt")
 other_kind IoWeight = row 36 (codes "io.weight") (Some Io) (codes "default 10000") (codes "default 9999")
 other_kind MemorySwapHigh = row 37 (codes "memory.swap.high") (Some Memory) (codes "max") (codes "0")
 other_kind MemorySwapMax = row 38 (codes "memory.swap.max") (Some Memory) (codes "max") (codes "0")
 other_kind MemoryZswapMax = row 39 (codes "memory.zswap.max") (Some Memory) (codes "max") (codes "0")
 other_kind MemoryZswapWriteback = row 40 (codes "memory.zswap.writeback") (Some Memory) (codes "1") (codes "0")
-other_kind MiscMax = row 41 (codes "misc.max") (Some Misc) (codes "max") (codes "0")
-other_kind RdmaMax = row 42 (codes "rdma.max") (Some Rdma) (codes "max") (codes "0")
+other_kind MiscMax = by_device (row 41 (codes "misc.max") (Some Misc) (codes "max") (codes "0"))
+other_kind RdmaMax = by_device (row 42 (codes "rdma.max") (Some Rdma) (codes "hca_handle=max hca_object=max") (codes "hca_handle=0 hca_object=0"))
 
 abbrev pub other_name : OtherFile → List ℕ
 other_name file = (other_kind file).name

@@ -53,8 +53,8 @@ pub struct Cgroup {
     pub subtree_control: Entry,
     pub max_descendants: LimitEntry,
     pub max_depth: LimitEntry,
-    /// `cgroup.freeze`, which stands at each cgroup but the root: what the root has here isn't looked at.
-    pub freeze: Entry,
+    /// `cgroup.freeze`, which stands at each cgroup but the root.
+    pub freeze: Option<Entry>,
     pub files: BroughtFiles,
     pub others: OtherFiles,
     pub enabled: ControllerSet,
@@ -72,7 +72,7 @@ impl Cgroup {
             subtree_control: Entry::made_by(user, Mode::FILE),
             max_descendants: LimitEntry::made_by(user, LimitFile::MaxDescendants),
             max_depth: LimitEntry::made_by(user, LimitFile::MaxDepth),
-            freeze: Entry::made_by(user, Mode::FILE),
+            freeze: Some(Entry::made_by(user, Mode::FILE)),
             files: BroughtFiles::none(),
             others: OtherFiles::none(),
             enabled: ControllerSet::none(),
@@ -104,7 +104,7 @@ impl Cgroup {
         ensures { result ≡ untold_in self.now file }
     {
         match file.controller() {
-            None => Some(self.freeze),
+            None => self.freeze,
             Some(controller) => self.other(controller),
         }
     }

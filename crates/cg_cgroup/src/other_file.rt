@@ -1,7 +1,9 @@
 //! Limit files beyond `LimitFile`, whose values are texts.
 ghost use Rattle.std.specs.Prelude.{◌≡◌, ◌<◌, length};
 ghost use Rattle.cg_cgroup.specs.OtherKinds.{all_others, other_kind, other_name, other_named, brought_by};
+ghost use Rattle.cg_cgroup.specs.Files.{stands_by};
 
+use crate::controllers::ControllerSet;
 use crate::files::Controller;
 
 /// How many there are.
@@ -196,9 +198,13 @@ impl OtherFile {
                 Some(Controller::Hugetlb),
                 "max",
             ),
-            OtherFile::IoBfqWeight => ("io.bfq.weight", Some(Controller::Io), "1000"),
-            OtherFile::IoLatency => ("io.latency", Some(Controller::Io), "max"),
-            OtherFile::IoMax => ("io.max", Some(Controller::Io), "max"),
+            OtherFile::IoBfqWeight => ("io.bfq.weight", Some(Controller::Io), "default 1000"),
+            OtherFile::IoLatency => ("io.latency", Some(Controller::Io), "target=max"),
+            OtherFile::IoMax => (
+                "io.max",
+                Some(Controller::Io),
+                "rbps=max wbps=max riops=max wiops=max",
+            ),
             OtherFile::IoPrioClass => ("io.prio.class", Some(Controller::Io), "no-change"),
             OtherFile::IoWeight => ("io.weight", Some(Controller::Io), "default 10000"),
             OtherFile::MemorySwapHigh => ("memory.swap.high", Some(Controller::Memory), "max"),
@@ -210,7 +216,11 @@ impl OtherFile {
                 "1",
             ),
             OtherFile::MiscMax => ("misc.max", Some(Controller::Misc), "max"),
-            OtherFile::RdmaMax => ("rdma.max", Some(Controller::Rdma), "max"),
+            OtherFile::RdmaMax => (
+                "rdma.max",
+                Some(Controller::Rdma),
+                "hca_handle=max hca_object=max",
+            ),
         };
         OtherKind {
             name,
@@ -251,7 +261,29 @@ impl OtherFile {
         self.kind().controller
     }
 
-    /// A value that holds nothing, or little.
+    /// Whether it stands at a child of a cgroup that enables these controllers.
+    pub fn stands_under(self, enabled: ControllerSet) -> bool
+        ensures { result ≡ stands_by enabled (brought_by self) }
+    {
+        match self.controller() {
+            Some(controller) => enabled.contains(controller),
+            None => true,
+        }
+    }
+
+    /// Whether each of its lines begins with the name of a device or of a resource.
+    pub fn is_of_devices(self) -> bool
+        ensures { result ≡ (other_kind self).of_devices }
+    {
+        match self {
+            OtherFile::DmemLow | OtherFile::DmemMax | OtherFile::DmemMin | OtherFile::IoLatency =>
+                true,
+            OtherFile::IoMax | OtherFile::MiscMax | OtherFile::RdmaMax => true,
+            _ => false,
+        }
+    }
+
+    /// A value that holds nothing, or little; behind the name of a device where each of its lines begins with one.
     pub fn loose(self) -> &'static str
         ensures { result.now ≡ (other_kind self).loose }
     {
@@ -268,9 +300,12 @@ impl OtherFile {
             OtherFile::CpuUclampMax => "50",
             OtherFile::CpuWeightNice => "-19",
             OtherFile::CpusetCpusPartition => "root",
-            OtherFile::IoBfqWeight => "999",
+            OtherFile::IoBfqWeight => "default 999",
+            OtherFile::IoLatency => "target=1",
+            OtherFile::IoMax => "rbps=2 wbps=2 riops=2 wiops=2",
             OtherFile::IoPrioClass => "none-to-rt",
             OtherFile::IoWeight => "default 9999",
+            OtherFile::RdmaMax => "hca_handle=0 hca_object=0",
             _ => "0",
         }
     }

@@ -80,22 +80,40 @@ impl ToldFile {
 }
 
 /// What is told of a cgroup's files, each at its number; `None` for one of which nothing is.
-#[derive(Debug, Drop, PartialEq, Eq)]
+#[derive(Debug, Drop)]
 pub struct ToldFiles {
-    pub entries: [Option<ToldFile>; OTHER_COUNT],
-    pub ghost whole: { length entries ≡ length all_others },
+    entries: Box<[Option<ToldFile>; OTHER_COUNT]>,
+    ghost whole: { length entries.value ≡ length all_others },
+}
+
+impl Model for ToldFiles {
+    ghost use Rattle.std.specs.Coded.{codes};
+    ghost use Rattle.cg_cgroup.specs.ToldList.{ToldList};
+
+    ghost Value = { ToldList };
+
+    ghost coded = { Prim.hlevel codes };
+
+    ghost view = { λ t. record { entries = t.entries.value; whole = t.whole } };
 }
 
 impl ToldFiles {
     ghost use Rattle.cg_cgroup.specs.Told.{nothing_told, told_in, telling, told_under};
 
-    /// Nothing.
-    pub fn none() -> ToldFiles
-        ensures { result ≡ nothing_told }
+    /// Nothing. Fails where memory is wanted.
+    pub fn none(alloc: Global) -> Result<ToldFiles, NoMemory>
+        ensures { IfOk result (λ files. files ≡ nothing_told) }
     {
-        ToldFiles {
-            entries: none_told(),
-        }
+        Ok(ToldFiles {
+            entries: Box::new(alloc, none_told())?,
+        })
+    }
+
+    /// What is told of each, at its number.
+    pub fn entries(&self) -> &[Option<ToldFile>]
+        ensures { result.now ≡ self.now.entries }
+    {
+        self.entries.as_slice()
     }
 
     /// What is told of a file.
@@ -125,9 +143,10 @@ impl ToldFiles {
     pub fn try_clone(&self, alloc: Global) -> Result<ToldFiles, NoMemory>
         ensures { IfOk result (λ copy. copy ≡ self.now) }
     {
-        let mut entries = none_told();
+        let mut entries = Box::new(alloc, none_told())?;
         for at in 0..OTHER_COUNT {
-            entries[at] = copy_of(&self.entries[at], alloc)?;
+            let copy = copy_of(&self.entries[at], alloc)?;
+            entries[at] = copy;
         }
         Ok(ToldFiles { entries })
     }
@@ -138,16 +157,6 @@ fn none_told() -> [Option<ToldFile>; OTHER_COUNT]
     ensures { result ≡ map (λ file. None) all_others }
 {
     OtherFile::ALL.map(|_| None)
-}
-
-/// Whether a file stands at a child of a cgroup that enables these.
-fn is_brought(file: OtherFile, enabled: ControllerSet) -> bool
-    ensures { result ≡ stands_by enabled (brought_by file) }
-{
-    match file.controller() {
-        Some(controller) => enabled.contains(controller),
-        None => true,
-    }
 }
 
 /// An equal one, where something is told.
@@ -164,7 +173,7 @@ fn copy_of(told: &Option<ToldFile>, alloc: Global) -> Result<Option<ToldFile>, N
 fn keep_one(told: &mut Option<ToldFile>, file: OtherFile, enabled: ControllerSet)
     ensures { told.new ≡ cond (stands_by enabled (brought_by file)) told.old None }
 {
-    if !is_brought(file, enabled) {
+    if !file.stands_under(enabled) {
         *told = None;
     }
 }

@@ -1,7 +1,10 @@
 //! The texts that values of limit files beyond `LimitFile` are, line by line.
-ghost use Rattle.std.specs.Prelude.{◌≡◌};
+ghost use Rattle.std.specs.Prelude.{◌≡◌, option_copied};
 ghost use Rattle.std.specs.List.{list_all};
-ghost use Rattle.cg_cgroup.specs.Values.{is_graphic, is_value_word, is_one_line};
+ghost use Rattle.cg_cgroup.specs.Values.{is_graphic, is_value_word, is_one_line, device_in};
+
+/// The greatest number of bytes of a device's or a resource's name.
+const LONGEST_DEVICE: usize = 255;
 
 /// Whether a byte is printable and no space.
 fn is_graphic(byte: u8) -> bool
@@ -27,4 +30,16 @@ pub fn is_one_line(text: &str) -> bool
     ensures { result ≡ is_one_line text.now }
 {
     text.split(' ').all(|word| is_value_word(word))
+}
+
+/// The device or the resource whose line a value's first one is: its first word, where others are behind it.
+pub fn device_in(value: &str) -> Option<&str>
+    ensures { option_copied result ≡ device_in value.now }
+{
+    let (word, _) = value.split_once(' ')?;
+    if is_value_word(word) && word.len() <= LONGEST_DEVICE {
+        Some(word)
+    } else {
+        None
+    }
 }

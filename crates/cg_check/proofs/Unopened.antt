@@ -45,12 +45,12 @@ no_chmod user (Some entry) chmod h =
 
 module _ (st : State) (user : Identity) (subtree : Names) (untold : finite.get st.told subtree ≡ None) (row : Cgroup)
     (here : row_at st subtree ≡ Some row)
-    (left : (is_left user (Some row.freeze) && list_all (is_left user) row.others.entries) ≡ true) where
+    (left : (is_left user row.freeze && list_all (is_left user) row.others.entries) ≡ true) where
   file_left : (file : OtherFile) → is_left user (untold_in row file) ≡ true
   file_left file =
-      let parts = and_parts (is_left user (Some row.freeze)) (list_all (is_left user) row.others.entries) left in
+      let parts = and_parts (is_left user row.freeze) (list_all (is_left user) row.others.entries) left in
       elim (brought_by file) as (λ by.
-      is_left user (elim by [ None ↦ Some row.freeze | Some controller ↦ other_in row controller ]) ≡ true) [
+      is_left user (elim by [ None ↦ row.freeze | Some controller ↦ other_in row controller ]) ≡ true) [
         | None ↦ parts.0
         | Some controller ↦ get_left user row.others.entries _ parts.1
       ]
@@ -85,7 +85,7 @@ module _ (st : State) (user : Identity) (subtree : Names) where
       let parts = and_parts (is_none (finite.get st.told subtree)) _ h in
       elim (row_at st subtree) as (λ r. row_at st subtree ≡ r → elim r [
         | None ↦ false
-        | Some row ↦ is_left user (Some row.freeze) && list_all (is_left user) row.others.entries
+        | Some row ↦ is_left user row.freeze && list_all (is_left user) row.others.entries
       ] ≡ true → flat_map (opening_of st user subtree) (asked_others subtree) ≡ []) [
         | None ↦ λ _ h. absurd (false≢true h)
         | Some row ↦ λ here left. none_opened st user subtree (none_there (finite.get st.told subtree) parts.0) row here left all_others

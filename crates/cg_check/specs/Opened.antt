@@ -38,5 +38,5 @@ is_left user (Some entry) = not (is_opened user entry)
 abbrev pub leaves_others : State → Identity → Names → Bool
 leaves_others st user subtree = is_none (finite.get st.told subtree) && elim (row_at st subtree) [
   | None ↦ false
-  | Some row ↦ is_left user (Some row.freeze) && list_all (is_left user) row.others.entries
+  | Some row ↦ is_left user row.freeze && list_all (is_left user) row.others.entries
 ]

@@ -50,7 +50,7 @@ fn leaves_others<H: Hierarchy>(tree: &H, user: &User, subtree: &Path) -> bool
     let Some(cgroup) = tree.get(subtree, len) else {
         return false;
     };
-    is_left(user, Some(cgroup.freeze)) && all_left(user, &cgroup.others.entries)
+    is_left(user, cgroup.freeze) && all_left(user, &cgroup.others.entries)
 }
 
 fn all_left(user: &User, entries: &[Option<Entry>]) -> bool

@@ -68,7 +68,14 @@ impl Known {
     fn add_told(&mut self, files: &ToldFiles) -> Result<(), NoMemory>
         ensures { OnOk result (AreAdded self.old self.new (told_entries files.now)) }
     {
-        for told in &files.entries {
+        self.add_told_files(files.entries())
+    }
+
+    /// Adds those of some such files.
+    fn add_told_files(&mut self, files: &[Option<ToldFile>]) -> Result<(), NoMemory>
+        ensures { OnOk result (AreAdded self.old self.new (flat_map told_entry files.now)) }
+    {
+        for told in files {
             self.add_told_file(told)?;
         }
         Ok(())
@@ -203,7 +210,7 @@ fn any_told_speaks(told: &[(Path, ToldFiles)], user: &User) -> bool
 fn told_speaks(files: &ToldFiles, user: &User) -> bool
     ensures { result ≡ list_any (speaks_of user.now) (told_entries files.now) }
 {
-    any_told_file_speaks(&files.entries, user)
+    any_told_file_speaks(files.entries(), user)
 }
 
 /// Whether one of some such files does.

@@ -1,6 +1,6 @@
 -- Each operation of a try has a line, and a try has few.
 use Rattle.std.proofs.Common.{◌≡◌, ℕ, zero, suc, ◌+◌, ◌≤◌, Bool, true, false, cond, not, ◌&&◌, List, [], ◌∷◌, ◌++◌, length, length-append, map, filter, take, Option, Some, None, is_some, option_and_then, refl, ap, ◌∙◌, arith, flat_map, nat_le, nat_eq, Ordering, ◌-◌, ◌||◌, codes, decimal, sym, subst, true≢false, unwrap_or, option_map, find}
-use Rattle.std.proofs.lemmas.Bool.{leb-true, le-leb, and_parts, false_from_ne_true}
+use Rattle.std.proofs.lemmas.Bool.{leb-true, le-leb, and_parts, and_from, false_from_ne_true}
 use Rattle.std.proofs.Math.Bool.{or-true}
 use Rattle.std.specs.List.{AllByRecursion, list_any}
 use Rattle.std.specs.Ordering.{eq_by_cmp, is_eq}
@@ -14,7 +14,9 @@ use Rattle.cg_cgroup.specs.Numbers.{is_pid}
 use Rattle.cg_cgroup.specs.Users.{writes, owns, reaches, opened}
 use Rattle.cg_cgroup.specs.Files.{all_files, all_others, other_kind, same_entry}
 use Rattle.cg_cgroup.specs.declared.files.Vocabulary.{Vocabulary}
+use Rattle.cg_cgroup.specs.Values.{is_value_word, is_one_line, device_in}
 use Rattle.cg_cgroup.proofs.AllOthers.{each_other}
+use Rattle.cg_cgroup.proofs.DeviceLines.{one_line_behind, device_word}
 use Rattle.cg_cgroup.proofs.CgroupLaws.{same_entry-true}
 use Rattle.cg_cgroup.proofs.ControllerLaws.{told-known, vocabulary-least}
 use Rattle.cg_cgroup.proofs.Options.{mapped_from, same_some}
@@ -45,7 +47,7 @@ use Rattle.cg_model.specs.declared.outcome.Refusal.TheVariants.{NoAccess}
 use Rattle.cg_model.specs.declared.operation.Op.{Op}
 use Rattle.cg_model.specs.declared.operation.Op.TheVariants.{Move, Mkdir, Rmdir, Set, SetOther, Chmod}
 use Rattle.cg_model.specs.Guards.{Guarded, ancestors, limit_files, parent_control, parent_dir, guarded_entries, guarded_entry, IsSubtree, failures}
-use Rattle.cg_model.specs.Tries.{other_value, other_text, set_tries, control_tries, across, move_tries, probe, free_probe, is_inside, probe_tries_at, probe_tries, plain_tries, opening_of, opening}
+use Rattle.cg_model.specs.Tries.{other_value, device_of, on_device, other_text, set_tries, control_tries, across, move_tries, probe, free_probe, is_inside, probe_tries_at, probe_tries, plain_tries, opening_of, opening}
 use Rattle.cg_model.specs.Escapes.{breaks, first_escape}
 use Rattle.cg_tries.specs.Escapes.{IsUnbroken}
 use Rattle.cg_tries.specs.Finding.{allowed}
@@ -139,21 +141,52 @@ entry_mode st formed at name entry is = row_mode st formed at name entry (row_at
 
 -- ---- further limit files
 
-loose_value : (file : OtherFile) → is_line_value (other_kind file).loose ≡ true
-unfolding is_line_value
-loose_value = each_other (λ file. is_line_value (other_kind file).loose) refl
+-- a text that leaves room for a device before it
+abbrev is_short_line : List ℕ → Bool
+is_short_line text = nat_le (length text) 3000 && is_one_line text
 
-second_value : (file : OtherFile) → is_line_value (other_kind file).other ≡ true
+loose_short : (file : OtherFile) → is_short_line (other_kind file).loose ≡ true
+loose_short = each_other (λ file. is_short_line (other_kind file).loose) refl
+
+other_short : (file : OtherFile) → is_short_line (other_kind file).other ≡ true
+other_short = each_other (λ file. is_short_line (other_kind file).other) refl
+
+device_of_word : (file : OtherFile) (had : Option FileText) (device : List ℕ) → device_of file had ≡ Some device
+    → (is_value_word device ≡ true) × (length device ≤ 255)
+device_of_word file had device is =
+    elim (other_kind file).of_devices as
+    (λ b. cond b (option_and_then device_in had) None ≡ Some device → (is_value_word device ≡ true) × (length device ≤ 255)) [
+      | false ↦ λ is. cc
+      | true ↦ λ is. told had is
+    ] is
+  where
+    told : (had : Option FileText) → option_and_then device_in had ≡ Some device → (is_value_word device ≡ true) × (length device ≤ 255)
+    told None is = cc
+    told (Some value) is = device_word value device is
+
+value_on : (found : Option (List ℕ)) → ((device : List ℕ) → found ≡ Some device → (is_value_word device ≡ true) × (length device ≤ 255))
+    → (text : List ℕ) → is_short_line text ≡ true → is_line_value (on_device found text) ≡ true
 unfolding is_line_value
-second_value = each_other (λ file. is_line_value (other_kind file).other) refl
+value_on None word text short =
+    let parts = and_parts (nat_le (length text) 3000) (is_one_line text) short in
+    and_from (nat_le (length text) 3800) (is_one_line text)
+    (le-leb (length text) 3800 (omega (arith, leb-true (length text) 3000 parts.0))) parts.1
+value_on (Some device) word text short =
+    let parts = and_parts (nat_le (length text) 3000) (is_one_line text) short in
+    let is = word device refl in
+    let all = length-append device (32 ∷ text) in
+    and_from (nat_le (length (device ++ 32 ∷ text)) 3800) (is_one_line (device ++ 32 ∷ text))
+    (le-leb (length (device ++ 32 ∷ text)) 3800 (omega (arith, leb-true (length text) 3000 parts.0, is.1, all)))
+    (one_line_behind device text is.0 parts.1)
 
 text_value : (file : OtherFile) (had : Option FileText) → is_line_value (other_text file had) ≡ true
-unfolding is_line_value
 text_value file had =
-    elim (same_text (Some (other_kind file).loose) had) as
-    (λ b. is_line_value (cond b (other_kind file).other (other_kind file).loose) ≡ true) [
-      | true ↦ second_value file
-      | false ↦ loose_value file
+    let on = value_on (device_of file had) (device_of_word file had) in
+    let first = on_device (device_of file had) (other_kind file).loose in
+    let second = on_device (device_of file had) (other_kind file).other in
+    elim (same_text (Some first) had) as (λ b. is_line_value (cond b second first) ≡ true) [
+      | true ↦ on (other_kind file).other (other_short file)
+      | false ↦ on (other_kind file).loose (loose_short file)
     ]
 
 -- a chmod of an entry that lines name

@@ -17,7 +17,7 @@ use Rattle.cg_cgroup.specs.declared.files.Vocabulary.{Vocabulary}
 use Rattle.cg_cgroup.specs.declared.files.Vocabulary.TheVariants.{Format2, Format4}
 use Rattle.cg_cgroup.specs.declared.other_file.OtherFile.{OtherFile}
 use Rattle.cg_cgroup.specs.declared.cgroup.Cgroup.{Cgroup}
-use Rattle.cg_cgroup.proofs.Options.{mapped_from, same_some}
+use Rattle.cg_cgroup.proofs.Options.{mapped_from}
 use Rattle.cg_model.specs.States.{State, row_at, untold_at, entry_at}
 use Rattle.cg_lines.specs.OperationLines.{is_entry_of}
 use Rattle.cg_format.specs.Readings.{vocabulary_in}
@@ -41,8 +41,8 @@ unreached user h =
 -- ---- the entries of a text
 
 untold_root : (row : Cgroup) → OthersAreRoots row → (by : Option Controller) (entry : Entry)
-    → elim by [ None ↦ Some row.freeze | Some controller ↦ other_in row controller ] ≡ Some entry → entry ≡ root_file
-untold_root row roots None entry is = sym (same_some row.freeze entry is) ∙ roots.freeze
+    → elim by [ None ↦ row.freeze | Some controller ↦ other_in row controller ] ≡ Some entry → entry ≡ root_file
+untold_root row roots None entry is = roots.freeze entry is
 untold_root row roots (Some controller) entry is = roots.others controller entry is
 
 -- what nothing is told of has the entry of its row

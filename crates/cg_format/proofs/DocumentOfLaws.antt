@@ -11,9 +11,10 @@ use Rattle.std.specs.FinSet as set
 use Rattle.toml.specs.Data.{Data, Members, no_members, get_member}
 use Rattle.cg_cgroup.specs.Paths.{Names, path_cmp, same_path, is_root, parent}
 use Rattle.cg_cgroup.specs.Files.{all_others, is_beyond, brought_by, no_controllers, default_value, accepts, is_within, stands_by, stands_under}
-use Rattle.cg_cgroup.specs.Told.{told_in, told_by}
-use Rattle.cg_cgroup.specs.Cgroups.{other_in, file_of, entry_in}
+use Rattle.cg_cgroup.specs.Told.{told_in}
+use Rattle.cg_cgroup.specs.Cgroups.{other_in, file_of, entry_in, root_file}
 use Rattle.cg_cgroup.proofs.CgroupLaws.{accepts-default_value}
+use Rattle.cg_cgroup.proofs.ControllerLaws.{not_true}
 use Rattle.cg_cgroup.proofs.Options.{some_value, none_value, same_some, is_some-mapped}
 use Rattle.cg_cgroup.proofs.AllOthers.{each_other}
 use Rattle.cg_cgroup.proofs.PathOrder.{same_path-is, same_path_refl, same_path-ties}
@@ -36,10 +37,10 @@ use Rattle.cg_model.specs.WellFormed.{has_row, enabled_at, enabled_above, availa
 use Rattle.cg_model.proofs.ClauseLaws.{none_of_first}
 use Rattle.cg_model.proofs.FormedParts.{row-may_hold}
 use Rattle.cg_format.specs.Form.{row_keys}
-use Rattle.cg_format.specs.Said.{elements_at, tables_at, integer_at, path_said, controllers_said, known_said, mode_missing, limit_of, accepted, id_read, mode_read, table_of, entry_said, value_said, is_named, told_said, tells, told_row, has_path, pid_said}
+use Rattle.cg_format.specs.Said.{elements_at, tables_at, integer_at, path_said, controllers_said, known_said, mode_missing, limit_of, accepted, id_read, mode_read, table_of, entry_said, value_said, is_named, told_row, has_path, pid_said}
 use Rattle.cg_format.specs.TextOf.{OthersAreRoots, IsInForm, IsRowOf, IsProcessOf, has_pid, IsDocumentOf}
 use Rattle.cg_format.specs.TextFaults.{each_cgroup, each_process, row_faults, is_there, enabled_there, over, tell_standing, cgroup_faults, process_faults}
-use Rattle.cg_format.specs.Tables.{IsEntryOf, AreEntriesOf, AreToldOf, IsAmong, IsLive, AreProcesses}
+use Rattle.cg_format.specs.Tables.{freeze_at, IsEntryOf, AreEntriesOf, AreToldOf, IsAmong, IsLive, AreProcesses}
 use Rattle.cg_format.specs.declared.fault.Place.TheVariants.{Cgroup as AtCgroup, Process as AtProcess}
 use Rattle.cg_format.specs.declared.format.Format.{Format}
 use Rattle.cg_format.proofs.Cuts.{is_some-find}
@@ -72,12 +73,24 @@ value_accepted : (file : LimitFile) (row : Members) (value : Limit) → value_sa
 value_accepted file row value is = found_accepted file (get_member (codes "value") (unwrap_or (table_of (File file) row) no_members)) value
     is
 
+-- ---- `cgroup.freeze`
+
+pub freeze-stands : (path : Names) → is_some (freeze_at path) ≡ not (is_root path)
+freeze-stands path = elim (is_root path) as (λ b. is_some (cond b None (Some root_file)) ≡ not b) [ true ↦ refl | false ↦ refl ]
+
+pub freeze-roots : (path : Names) (entry : Entry) → freeze_at path ≡ Some entry → entry ≡ root_file
+freeze-roots path entry =
+    elim (is_root path) as (λ b. cond b None (Some root_file) ≡ Some entry → entry ≡ root_file) [
+      | true ↦ λ none. absurd (true≢false (sym (ap is_some none)))
+      | false ↦ λ is. sym (same_some root_file entry is)
+    ]
+
 -- ---- modes
 
 untold_small : (cgroup : Cgroup) → OthersAreRoots cgroup → (by : Option Controller) (entry : Entry)
-    → elim by [ None ↦ Some cgroup.freeze | Some controller ↦ other_in cgroup controller ] ≡ Some entry → entry.mode ≤ 511
+    → elim by [ None ↦ cgroup.freeze | Some controller ↦ other_in cgroup controller ] ≡ Some entry → entry.mode ≤ 511
 untold_small cgroup roots None entry is =
-    subst (λ (e : Entry). e.mode ≤ 511) (sym roots.freeze ∙ same_some cgroup.freeze entry is) (omega arith)
+    subst (λ (e : Entry). e.mode ≤ 511) (sym (roots.freeze entry is)) (omega arith)
 untold_small cgroup roots (Some controller) entry is =
     subst (λ (e : Entry). e.mode ≤ 511) (sym (roots.others controller entry is)) (omega arith)
 
@@ -115,13 +128,10 @@ implied a b h so = grind arith
 
 -- ---- what is told
 
-root_silent : (format : Format) (row : Members) (path : Names) (above : ControllerSet)
-    → tell_standing path above (told_row format row) ≡ true → is_root path ≡ true → tells format row ≡ false
-root_silent format row path above stands root =
-    elim (tells format row) as (λ b. tell_standing path above (cond b (Some (told_by (told_said format row))) None) ≡ true → b ≡ false) [
-      | true ↦ λ so. absurd (true≢false (sym (and_parts (not (is_root path)) _ so).0 ∙ ap not root))
-      | false ↦ λ _. refl
-    ] stands
+below_root : (format : Format) (row : Members) (path : Names) (above : ControllerSet) (files : ToldFiles)
+    → told_row format row ≡ Some files → tell_standing path above (told_row format row) ≡ true → is_root path ≡ false
+below_root format row path above files is stands =
+    not_true (is_root path) (and_parts (not (is_root path)) _ (ap (tell_standing path above) (sym is) ∙ stands)).0
 
 formed_told : (format : Format) (row : Members) (path : Names) (above : ControllerSet) (files : ToldFiles)
     → told_row format row ≡ Some files → tell_standing path above (told_row format row) ≡ true → IsFormedTold above files
@@ -247,16 +257,18 @@ module _ (format : Format) (document : Members) (controllers : ControllerSet) (e
         }
 
     told_formed : (path : Names) (files : ToldFiles) → map.get st.told path ≡ Some files
-        → (has_row st path ≡ true) × IsFormedTold (enabled_above st path) files
+        → (has_row st path ≡ true) × (is_root path ≡ false) × IsFormedTold (enabled_above st path) files
     told_formed path files is =
         let row = and_then_from (told_row format) (find (has_path path) tables) files (sym (told_is path) ∙ is) in
         let cgroup = some_value (map.get cgroups path) (sym (found_is path) ∙ ap is_some row.1) in
         let at = table_at path cgroup.0 cgroup.1 in
         let tells : told_row format at.table ≡ Some files =
-        ap (told_row format) (same_some at.table row.0 (sym at.found ∙ row.1)) ∙ row.2 in (
+        ap (told_row format) (same_some at.table row.0 (sym at.found ∙ row.1)) ∙ row.2 in
+        let above : ControllerSet = enabled_above st path in
+        let stands = at.stands.tells above (over_is no_controllers path at.stands.parent_there) in (
           ap is_some cgroup.1,
-          formed_told format at.table path (enabled_above st path) files tells
-              (at.stands.tells (enabled_above st path) (over_is no_controllers path at.stands.parent_there)),
+          below_root format at.table path above files tells stands,
+          formed_told format at.table path above files tells stands,
         )
 
     -- ---- the tables' rows
@@ -288,7 +300,6 @@ module _ (format : Format) (document : Members) (controllers : ControllerSet) (e
           told = told_is path ∙ ap (option_and_then (told_row format)) found;
           told_values = known_told format row
               (table_fits (row_keys format) (elements_at (codes "cgroup") document) form.cgroups before row after is) said.told;
-          told_below = root_silent format row path above (stands.tells above above_is);
         }
       where
         files_named : (row : Members) (cgroup : Cgroup) → ((file : LimitFile) → is_named (File file) row ≡ true
@@ -351,7 +362,9 @@ module _ (format : Format) (document : Members) (controllers : ControllerSet) (e
         parents = parents_there;
         top_down = rows_within;
         rows = rows_formed;
-        told = told_formed;
+        freeze = λ path cgroup is. let at = table_at path cgroup is in at.entry.freeze path at.named;
+        told = λ path files is. let known = told_formed path files is in (known.0, known.2);
+        told_below_root = λ path files is. (told_formed path files is).1;
         places = placed;
         used = λ pid process is. these.used pid ∙ ap is_some is;
       }

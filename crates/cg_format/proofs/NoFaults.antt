@@ -34,7 +34,7 @@ use Rattle.cg_format.specs.declared.fault.TreeFault.{TreeFault}
 use Rattle.cg_format.specs.declared.fault.TreeFault.TheVariants.{TooLong, NotToml, Shape, Format as BadFormat, TooMany, BadController, BadPath, BadEntry, BadValue, NoRoot, NoSuchFile, InternalProcess}
 use Rattle.cg_format.specs.declared.format.Format.{Format}
 use Rattle.cg_format.proofs.SaidRanges.{said_of_known}
-use Rattle.cg_format.proofs.ToldSaid.{nobody, named_told-parts, row_told}
+use Rattle.cg_format.proofs.ToldSaid.{nobody, named_told-parts}
 use Rattle.cg_format.proofs.TablesSay.{all_so}
 use Rattle.cg_format.proofs.CgroupClauses.{twice_clause, orphan_clause, within_clause, files_clause}
 use Rattle.cg_format.proofs.Cuts.{head_of, is_some-find, any_filter, filter_cut}
@@ -222,9 +222,7 @@ module _ (format : Format) (st : State) (tables : List Members) (all : AllByRecu
         | Some files ↦ λ tells.
             let above : ControllerSet = enabled_above st is.path in
             let formed_told = (formed.told is.path files (is.told ∙ tells)).1 in
-            let below : is_root is.path ≡ false = false_from_ne_true (is_root is.path) (λ root.
-            true≢false (sym (row_told format row files tells).tells ∙ is.told_below root)) in
-            and_from (not (is_root is.path)) _ (ap not below)
+            and_from (not (is_root is.path)) _ (ap not (formed.told_below_root is.path files (is.told ∙ tells)))
             (all_so (λ file. not (is_some (told_in files file)) || stands_by above (brought_by file))
             (λ file. where_named (is_some (told_in files file)) (stands_by above (brought_by file)) (λ known.
             let told = some_value (told_in files file) known in

@@ -1,5 +1,5 @@
 -- A text is of one state at most. In it each cgroup stands at a path, and each live process has a PID.
-use Rattle.std.proofs.Common.{◌≡◌, ℕ, Bool, true, false, cond, List, codes, Option, Some, None, is_some, option_map, option_and_then, refl, sym, ap, subst, ◌∙◌, true≢false, eqb-true, arith}
+use Rattle.std.proofs.Common.{◌≡◌, ℕ, Bool, true, false, not, cond, List, codes, Option, Some, None, is_some, option_map, option_and_then, refl, sym, ap, subst, ◌∙◌, true≢false, eqb-true, arith}
 use Rattle.std.specs.Prelude.{count_by, nat_eq, find, ◌==◌}
 use Rattle.std.specs.List.{AllByRecursion, list_all, slice_split}
 use Rattle.std.specs.Cmp.{nat_cmp_total}
@@ -12,7 +12,7 @@ use Rattle.toml.specs.Data.{Members}
 use Rattle.cg_cgroup.specs.Paths.{Names, IsPath, same_path, is_root, parent, path_at}
 use Rattle.cg_cgroup.specs.Numbers.{is_pid}
 use Rattle.cg_cgroup.specs.Files.{is_beyond, enables, no_controllers, stands_under}
-use Rattle.cg_cgroup.specs.Cgroups.{file_of, other_in, entry_in}
+use Rattle.cg_cgroup.specs.Cgroups.{file_of, other_in, entry_in, root_file}
 use Rattle.cg_cgroup.specs.declared.user.Entry.{Entry}
 use Rattle.cg_cgroup.specs.declared.controllers.ControllerSet.{ControllerSet}
 use Rattle.cg_cgroup.specs.declared.files.Controller.{Controller}
@@ -92,7 +92,6 @@ pub record ToldRead (format : Format) (path : Names) (files : ToldFiles) (row : 
   pub tells : tells format row ≡ true
   pub said : Some files ≡ told_row format row
   pub values : (file : OtherFile) → is_named (Other file) row ≡ true → is_some (told_said format row file) ≡ true
-  pub below : is_root path ≡ false
 
 -- what is told of a path of a document's state, one of its rows tells
 pub told_read : (st : State) (document : Members) (is : IsDocumentOf st document) (path : Names) (files : ToldFiles)
@@ -110,8 +109,6 @@ told_read st document is path files there =
         tells = told.tells;
         said = sym tells;
         values = found.1.told_values;
-        below = false_from_ne_true (is_root path) (λ root.
-            true≢false (sym told.tells ∙ found.1.told_below (ap is_root (sym named) ∙ root)));
       },
     )
 
@@ -133,6 +130,14 @@ pids_are_pids bytes st pid is there =
 
 -- ---- one cgroup of two states, as a table says it
 
+-- files of root's, where both stand or neither does
+same_roots : (one two : Option Entry) → ((entry : Entry) → one ≡ Some entry → entry ≡ root_file)
+    → ((entry : Entry) → two ≡ Some entry → entry ≡ root_file) → is_some one ≡ is_some two → one ≡ two
+same_roots None None roots also stands = refl
+same_roots None (Some two) roots also stands = cc
+same_roots (Some one) None roots also stands = cc
+same_roots (Some one) (Some two) roots also stands = ap Some (roots one refl ∙ sym (also two refl))
+
 module _ (format : Format) (st other : State) (row : Members) (is : IsRowOf format st row) (also : IsRowOf format other row) where
   same_enabled : is.cgroup.enabled ≡ also.cgroup.enabled
   same_enabled = same_some is.cgroup.enabled also.cgroup.enabled (sym is.enabled ∙ also.enabled)
@@ -142,17 +147,18 @@ module _ (format : Format) (st other : State) (row : Members) (is : IsRowOf form
   same_entry name within one two here there =
       same_some one two (sym (is.entries name one within here) ∙ also.entries name two within there)
 
-  same_rest : SameRest also.cgroup is.cgroup
-  same_rest = record {
+  same_rest : is.cgroup.freeze ≡ also.cgroup.freeze → SameRest also.cgroup is.cgroup
+  same_rest freeze = record {
     dir = same_entry Dir refl is.cgroup.dir also.cgroup.dir refl refl;
     procs = same_entry Procs refl is.cgroup.procs also.cgroup.procs refl refl;
     subtree_control = same_entry SubtreeControl refl is.cgroup.subtree_control also.cgroup.subtree_control refl refl;
-    freeze = is.others.freeze ∙ sym also.others.freeze;
+    freeze = freeze;
     enabled = same_enabled;
   }
 
   module _ (stand : (file : LimitFile) → is_some (file_of is.cgroup file) ≡ is_some (file_of also.cgroup file))
-      (stand_too : (controller : Controller) → is_some (other_in is.cgroup controller) ≡ is_some (other_in also.cgroup controller)) where
+      (stand_too : (controller : Controller) → is_some (other_in is.cgroup controller) ≡ is_some (other_in also.cgroup controller))
+      (freezes : is_some is.cgroup.freeze ≡ is_some also.cgroup.freeze) where
     same_file : (file : LimitFile) (one two : Option LimitEntry) → file_of is.cgroup file ≡ one → file_of also.cgroup file ≡ two
         → is_some one ≡ is_some two → one ≡ two
     same_file file None None here there stands = refl
@@ -164,20 +170,13 @@ module _ (format : Format) (st other : State) (row : Members) (is : IsRowOf form
         let value : one.value ≡ two.value = same_some one.value two.value (sym (is.values file one here) ∙ also.values file two there) in
         λ i. Some (record { entry = entry i; value = value i })
 
-    same_other : (controller : Controller) (one two : Option Entry) → other_in is.cgroup controller ≡ one
-        → other_in also.cgroup controller ≡ two → is_some one ≡ is_some two → one ≡ two
-    same_other controller None None here there stands = refl
-    same_other controller None (Some two) here there stands = cc
-    same_other controller (Some one) None here there stands = cc
-    same_other controller (Some one) (Some two) here there stands =
-        ap Some (is.others.others controller one here ∙ sym (also.others.others controller two there))
-
     one_cgroup : is.cgroup ≡ also.cgroup
     one_cgroup =
-        same_cgroup also.cgroup is.cgroup same_rest
+        same_cgroup also.cgroup is.cgroup
+        (same_rest (same_roots is.cgroup.freeze also.cgroup.freeze is.others.freeze also.others.freeze freezes))
         (λ file. same_file file (file_of is.cgroup file) (file_of also.cgroup file) refl refl (stand file))
-        (λ controller. same_other controller (other_in is.cgroup controller) (other_in also.cgroup controller) refl refl
-        (stand_too controller))
+        (λ controller. same_roots (other_in is.cgroup controller) (other_in also.cgroup controller) (is.others.others controller)
+        (also.others.others controller) (stand_too controller))
 
 one_process : (st other : State) (row : Members) (is : IsProcessOf st row) (also : IsProcessOf other row) → is.process ≡ also.process
 one_process st other row is also =
@@ -259,7 +258,9 @@ module _ (format : Format) (st other : State) (tables : List Members)
         ∙ ap (λ path. enables (enabled_above st path) controller) (sym named)
         ∙ ap (λ set. enables (cond (is_root path) no_controllers set) controller) (same_enabled_at (parent path))
         ∙ ap (λ path. enables (enabled_above other path) controller) named_also
-        ∙ sym ((formed_also.rows also.path also.cgroup also.there).others controller))))
+        ∙ sym ((formed_also.rows also.path also.cgroup also.there).others controller))
+        (formed.freeze is.path is.cgroup is.there ∙ ap (λ path. not (is_root path)) (sym named ∙ named_also)
+        ∙ sym (formed_also.freeze also.path also.cgroup also.there))))
 
 module _ (st other : State) (lives : List Members)
     (here : AllByRecursion (IsProcessOf st) lives) (there : AllByRecursion (IsProcessOf other) lives)

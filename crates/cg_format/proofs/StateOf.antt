@@ -1,5 +1,5 @@
 -- A text without a fault is of a state: the cgroups and the processes that its tables say.
-use Rattle.std.proofs.Common.{true≢false, ◌≡◌, ℕ, Bool, true, false, T, List, [], ◌∷◌, length, map as map_list, codes, Option, Some, is_some, option_and_then, option_map, unwrap_or, cond, None, arith, refl, sym, ap, subst, ◌∙◌}
+use Rattle.std.proofs.Common.{true≢false, ◌≡◌, ℕ, Bool, true, false, T, List, [], ◌∷◌, length, map as map_list, codes, Option, Some, is_some, option_and_then, option_map, unwrap_or, not, cond, None, arith, refl, sym, ap, subst, ◌∙◌}
 use Rattle.std.specs.Prelude.{find, nat_eq}
 use Rattle.std.specs.List.{AllByRecursion}
 use Rattle.std.specs.Map.{lookup}
@@ -12,7 +12,7 @@ use Rattle.std.specs.FinSet as set
 use Rattle.std.specs.FinSet.{contains-from_list}
 use Rattle.std.proofs.lemmas.Bool.{leb-true}
 use Rattle.toml.specs.Data.{Members}
-use Rattle.cg_cgroup.specs.Paths.{Names, path_cmp, same_path}
+use Rattle.cg_cgroup.specs.Paths.{Names, path_cmp, same_path, is_root}
 use Rattle.cg_cgroup.specs.Files.{is_beyond, enables, no_controllers, stands_under}
 use Rattle.cg_cgroup.specs.Cgroups.{file_of, files_by, others_under, root_file, entry_in}
 use Rattle.cg_cgroup.proofs.CgroupLaws.{stands-under, entry-under}
@@ -37,14 +37,14 @@ use Rattle.cg_format.specs.Said.{tables_at, path_said, format_said, entry_said, 
 use Rattle.cg_format.specs.TextOf.{has_pid, IsDocumentOf, IsTextOf}
 use Rattle.cg_format.specs.TextFaults.{form_faults, said_faults, row_faults, over, cgroup_faults, process_faults, document_faults, text_faults}
 use Rattle.cg_format.specs.TreeTexts.{longest_text}
-use Rattle.cg_format.specs.Tables.{IsEntryOf, AreEntriesOf, AreToldOf, IsLive, AreProcesses}
+use Rattle.cg_format.specs.Tables.{freeze_at, IsEntryOf, AreEntriesOf, AreToldOf, IsLive, AreProcesses}
 use Rattle.cg_format.specs.declared.format.Format.{Format}
 use Rattle.cg_format.specs.declared.fault.Place.TheVariants.{Cgroup as AtCgroup, Process as AtProcess}
 use Rattle.cg_format.proofs.KeysOnce.{five_none, absent_none, none_say}
 use Rattle.cg_format.proofs.TablesSay.{SaysCgroup, row_says, SaysProcess, process_says}
 use Rattle.cg_format.proofs.FormClauses.{in_form}
 use Rattle.cg_format.proofs.PairsOf.{pairs_of, pair_there, pair_found}
-use Rattle.cg_format.proofs.DocumentOfLaws.{state_with, found_by_path, document_is_of}
+use Rattle.cg_format.proofs.DocumentOfLaws.{freeze-stands, freeze-roots, state_with, found_by_path, document_is_of}
 
 -- ---- a cgroup's table
 
@@ -70,7 +70,7 @@ module _ (format : Format) (row : Members) (says : SaysCgroup format row) (above
     subtree_control = says.owner SubtreeControl;
     max_descendants = held MaxDescendants;
     max_depth = held MaxDepth;
-    freeze = root_file;
+    freeze = freeze_at says.path;
     files = files_by standing;
     others = others_under above root_file;
     enabled = says.enabled;
@@ -113,7 +113,9 @@ module _ (format : Format) (row : Members) (says : SaysCgroup format row) (above
         let own : path ≡ says.path = same_some path says.path (sym said ∙ says.named) in
         let sets : other ≡ above = same other (ap (over (Some no_controllers) tables) (sym own) ∙ is) in
         stands-under above root_file cgroup_of refl controller ∙ ap (λ (set : ControllerSet). enables set controller) (sym sets);
-    roots = record { freeze = refl; others = entry-under above root_file cgroup_of refl };
+    freeze = λ path said.
+        freeze-stands says.path ∙ ap (λ path. not (is_root path)) (sym (same_some path says.path (sym said ∙ says.named)));
+    roots = record { freeze = freeze-roots says.path; others = entry-under above root_file cgroup_of refl };
   }
 
 -- ---- the cgroups

@@ -2,7 +2,7 @@
 use Rattle.std.proofs.Common.{◌≡◌, ℕ, zero, suc, ◌+◌, ◌<◌, ◌≤◌, ◌/◌, ◌%◌, ℤ, pos, negsuc, Bool, true, false, not, cond, List, [], ◌∷◌, ◌++◌, length, Option, Some, None, is_some, option_map, option_and_then, refl, sym, ap, ◌∙◌, true≢false, eqb-true, eq-eqb, ltb-true, lt-ltb, le-leb, arith}
 use Rattle.std.specs.Prelude.{◌==◌, ◌&&◌, nat_lt, nat_le, if◌then◌else◌, filter_map, codes}
 use Rattle.std.specs.List.{list_all, slice_split, onto_first, join_with_byte}
-use Rattle.std.specs.Fmt.{digit_glyph, digits_onto, digits, decimal}
+use Rattle.std.specs.Fmt.{digit_glyph, digits_onto, digits, decimal, signed_decimal}
 use Rattle.std.proofs.lemmas.Bool.{and_from, and_parts, not-true}
 use Rattle.std.proofs.lemmas.List.Splits.{slice_split-cons_yes, slice_split-cons_no, length-slice_split, join_with_byte-slice_split}
 use Rattle.toml.specs.Data.{Data, string, integer, array, Members, get_member, as_str}
@@ -15,7 +15,7 @@ use Rattle.cg_cgroup.specs.declared.other_file.OtherFile.{OtherFile}
 use Rattle.std.proofs.lemmas.Option.{cond_some}
 use Rattle.cg_cgroup.proofs.Options.{same_some, mapped_from}
 use Rattle.cg_format.specs.Form.{elements}
-use Rattle.cg_format.specs.Said.{is_text_line, lines_text, integer_text, text_of, text_said, owner_said, file_said, told_said, table_of}
+use Rattle.cg_format.specs.Said.{is_text_line, lines_text, text_of, text_said, owner_said, file_said, told_said, table_of}
 use Rattle.cg_format.specs.declared.format.Format.{Format}
 
 -- ---- lists cut where no element is a byte, and joined by it
@@ -193,13 +193,13 @@ word_line word graphic some few =
     ap (list_all is_text_line) (cut_none 10 word (all_as is_graphic (is_other 10) (graphic_other 10 (omega arith)) word graphic))
     ∙ and_from (is_text_line word) true (and_from (nat_le (length word) 4095) (is_one_line word) (le-leb (length word) 4095 few) one) refl
 
-integer_line : (number : ℤ) → list_all is_text_line (slice_split (is_byte 10) (integer_text number)) ≡ true
+integer_line : (number : ℤ) → list_all is_text_line (slice_split (is_byte 10) (signed_decimal number)) ≡ true
 integer_line (pos number) =
     let are = decimal_so number in
     word_line (decimal number) are.graphic are.some (omega (arith, are.few))
 integer_line (negsuc number) =
-    let are = decimal_so (number + 1) in
-    word_line (45 ∷ decimal (number + 1)) (and_from (is_graphic 45) (list_all is_graphic (decimal (number + 1))) refl are.graphic)
+    let are = decimal_so (suc number) in
+    word_line (45 ∷ decimal (suc number)) (and_from (is_graphic 45) (list_all is_graphic (decimal (suc number))) refl are.graphic)
     (omega arith) (omega (arith, are.few))
 
 -- ---- the lines of a value
@@ -208,7 +208,7 @@ integer_line (negsuc number) =
 pub lines_told : (held : Data) (text : FileText) → text_of held ≡ Some text
     → list_all is_text_line (slice_split (λ b. b == 10) text) ≡ true
 lines_told (integer number) text is =
-    ap (λ text. list_all is_text_line (slice_split (is_byte 10) text)) (sym (same_some (integer_text number) text is))
+    ap (λ text. list_all is_text_line (slice_split (is_byte 10) text)) (sym (same_some (signed_decimal number) text is))
     ∙ integer_line number
 lines_told (string line) text is = lines_back (line ∷ []) text is
 lines_told (array items) text is = lines_back (filter_map as_str (elements items)) text is

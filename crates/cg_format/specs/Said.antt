@@ -1,8 +1,8 @@
 -- What a tree text's tables say, each by itself. Nothing is said by what isn't as it has to be. Own.
 use Rattle.std.specs.List.{list_any, list_all, join_with_byte}
-use Rattle.std.specs.Fmt.{decimal}
+use Rattle.std.specs.Fmt.{signed_decimal}
 use Rattle.std.specs.Option.{option_map}
-use Rattle.std.specs.Prelude.{ℕ, ◌+◌, ◌&&◌, ◌||◌, not, nat_le, ◌==◌, if◌then◌else◌, ℤ, pos, negsuc, Bool, true, false, cond, List, [], ◌∷◌, length, codes, filter_map, Option, Some, None, is_some, option_and_then, unwrap_or}
+use Rattle.std.specs.Prelude.{ℕ, ◌&&◌, ◌||◌, not, nat_le, ◌==◌, if◌then◌else◌, ℤ, pos, negsuc, Bool, true, false, cond, List, [], ◌∷◌, length, codes, filter_map, Option, Some, None, is_some, option_and_then, unwrap_or}
 use Rattle.cg_cgroup.specs.Options.{◌>>=◌}
 use Rattle.cg_cgroup.specs.Paths.{Names, same_name, path_at, same_path}
 use Rattle.cg_cgroup.specs.Numbers.{is_pid, is_mode}
@@ -153,13 +153,9 @@ abbrev pub lines_text : List (List ℕ) → Option FileText
 lines_text [] = None
 lines_text (line ∷ lines) = cond (list_all is_text_line (line ∷ lines)) (Some (join_with_byte 10 (line ∷ lines))) None
 
-abbrev pub integer_text : ℤ → FileText
-integer_text (pos number) = decimal number
-integer_text (negsuc number) = 45 ∷ decimal (number + 1)
-
 -- the decimal digits of an integer, a line, or several lines
 abbrev pub text_of : Data → Option FileText
-text_of (integer number) = Some (integer_text number)
+text_of (integer number) = Some (signed_decimal number)
 text_of (string line) = lines_text (line ∷ [])
 text_of (array items) = lines_text (filter_map as_str (elements items))
 text_of held = None

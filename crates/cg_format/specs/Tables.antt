@@ -1,6 +1,6 @@
 -- How it is read and written: nobody has to believe it.
 -- Cgroups and processes, held against what the tables of a document say.
-use Rattle.std.specs.Prelude.{◌≡◌, ℕ, true, false, List, codes, Some, is_some, option_and_then, find}
+use Rattle.std.specs.Prelude.{◌≡◌, ℕ, true, false, not, cond, List, codes, Option, Some, None, is_some, option_and_then, find}
 use Rattle.std.specs.Option.{option_map}
 use Rattle.std.specs.List.{list_any}
 use Rattle.std.specs.Map.{lookup}
@@ -9,9 +9,9 @@ use Rattle.std.specs.FinMap as map
 use Rattle.std.specs.FinMap.{is_sorted}
 use Rattle.std.specs.FinSet as set
 use Rattle.toml.specs.Data.{Members}
-use Rattle.cg_cgroup.specs.Paths.{Names, path_cmp, same_path}
+use Rattle.cg_cgroup.specs.Paths.{Names, path_cmp, same_path, is_root}
 use Rattle.cg_cgroup.specs.Files.{enables, no_controllers, stands_under, is_beyond}
-use Rattle.cg_cgroup.specs.Cgroups.{file_of, other_in, entry_in}
+use Rattle.cg_cgroup.specs.Cgroups.{file_of, other_in, entry_in, root_file}
 use Rattle.cg_cgroup.specs.declared.user.Entry.{Entry}
 use Rattle.cg_cgroup.specs.declared.controllers.ControllerSet.{ControllerSet}
 use Rattle.cg_cgroup.specs.declared.files.EntryName.{EntryName}
@@ -28,6 +28,10 @@ use Rattle.cg_format.specs.declared.format.Format.{Format}
 
 -- ---- cgroups
 
+-- `cgroup.freeze` of the cgroup at a path: root's, and none at the root
+abbrev pub freeze_at : Names → Option Entry
+freeze_at path = cond (is_root path) None (Some root_file)
+
 -- a cgroup as a table says it, with the files that stand at it
 pub record IsEntryOf (format : Format) (tables : List Members) (table : Members) (cgroup : Cgroup) : Type 0 where
   pub enabled : known_said format (codes "enabled") table ≡ Some cgroup.enabled
@@ -38,6 +42,7 @@ pub record IsEntryOf (format : Format) (tables : List Members) (table : Members)
       → (file : LimitFile) → is_some (file_of cgroup file) ≡ stands_under above file
   pub others : (path : Names) (above : ControllerSet) → path_said (codes "path") table ≡ Some path → over (Some no_controllers) tables path ≡ Some above
       → (controller : Controller) → is_some (other_in cgroup controller) ≡ enables above controller
+  pub freeze : (path : Names) → path_said (codes "path") table ≡ Some path → is_some cgroup.freeze ≡ not (is_root path)
   pub roots : OthersAreRoots cgroup
 
 -- the entries rise by their paths, and are those of the tables

@@ -3,7 +3,7 @@ use Rattle.std.specs.Prelude.{◌≡◌, ℕ, ◌≤◌, Bool, true, false, cond
 use Rattle.std.specs.List.{AllByRecursion, list_all}
 use Rattle.std.specs.FinMap as map
 use Rattle.toml.specs.Data.{Members, table}
-use Rattle.cg_cgroup.specs.Paths.{Names, is_root}
+use Rattle.cg_cgroup.specs.Paths.{Names}
 use Rattle.cg_cgroup.specs.Files.{is_beyond}
 use Rattle.cg_cgroup.specs.Cgroups.{file_of, other_in, entry_in, root_file}
 use Rattle.cg_cgroup.specs.declared.user.Entry.{Entry}
@@ -18,7 +18,7 @@ use Rattle.cg_cgroup.specs.declared.process.Process.{Process}
 use Rattle.cg_model.specs.States.{State, row_at, process_at, is_used}
 use Rattle.cg_model.specs.WellFormed.{has_row, IsWellFormed}
 use Rattle.cg_format.specs.Form.{most_rows, document_keys, row_keys, live_keys, is_table}
-use Rattle.cg_format.specs.Said.{elements_at, tables_at, path_said, known_said, format_said, entry_said, value_said, is_named, told_said, tells, told_row, has_path, pid_said, uid_said}
+use Rattle.cg_format.specs.Said.{elements_at, tables_at, path_said, known_said, format_said, entry_said, value_said, is_named, told_said, told_row, has_path, pid_said, uid_said}
 use Rattle.cg_format.specs.TreeTexts.{longest_text, document_of}
 use Rattle.cg_format.specs.declared.format.Format.{Format}
 
@@ -33,7 +33,7 @@ pub record IsInForm (kind : Format) (document : Members) : Type 0 where
 
 -- The limit files beyond `LimitFile` of which a text tells nothing are root's, with mode 0o644.
 pub record OthersAreRoots (cgroup : Cgroup) : Type 0 where
-  pub freeze : cgroup.freeze ≡ root_file
+  pub freeze : (entry : Entry) → cgroup.freeze ≡ Some entry → entry ≡ root_file
   pub others : (controller : Controller) (entry : Entry) → other_in cgroup controller ≡ Some entry → entry ≡ root_file
 
 -- A cgroup of the state is as the table says, and has each file that the table names; it is told of the files beyond `LimitFile` what the table tells.
@@ -50,8 +50,6 @@ pub record IsRowOf (format : Format) (st : State) (row : Members) : Type 0 where
   pub others : OthersAreRoots cgroup
   pub told : map.get st.told path ≡ told_row format row
   pub told_values : (file : OtherFile) → is_named (Other file) row ≡ true → is_some (told_said format row file) ≡ true
-  -- Core Interface Files: none of them stands at the root
-  pub told_below : is_root path ≡ true → tells format row ≡ false
 
 -- A live process of the state is as the table says.
 pub record IsProcessOf (st : State) (row : Members) : Type 0 where

@@ -84,10 +84,10 @@ get_covered one other (entry ∷ entries) (suc n) h =
 untold_covered : (above : Entry) (row : Cgroup) → are_covered above row ≡ true → (file : OtherFile)
     → is_covered above row.max_descendants.entry (untold_in row file) ≡ true
 untold_covered above row h file =
-    let parts = and_parts (is_covered above row.max_descendants.entry (Some row.freeze))
+    let parts = and_parts (is_covered above row.max_descendants.entry row.freeze)
     (list_all (is_covered above row.max_descendants.entry) row.others.entries) h in
     elim (brought_by file) as (λ by.
-    is_covered above row.max_descendants.entry (elim by [ None ↦ Some row.freeze | Some controller ↦ other_in row controller ]) ≡ true) [
+    is_covered above row.max_descendants.entry (elim by [ None ↦ row.freeze | Some controller ↦ other_in row controller ]) ≡ true) [
       | None ↦ parts.0
       | Some controller ↦ get_covered above row.max_descendants.entry row.others.entries _ parts.1
     ]

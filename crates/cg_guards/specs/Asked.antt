@@ -34,7 +34,7 @@ is_covered one other (Some entry) = is_alike one entry || is_alike other entry
 -- each of those files of which nothing is told is like the cgroup.max.descendants of its cgroup, or like another entry
 abbrev pub are_covered : Entry → Cgroup → Bool
 are_covered above row =
-    is_covered above row.max_descendants.entry (Some row.freeze)
+    is_covered above row.max_descendants.entry row.freeze
     && list_all (is_covered above row.max_descendants.entry) row.others.entries
 
 -- nothing is told of the subtree's files, and they are like its cgroup.max.descendants or the root's cgroup.procs

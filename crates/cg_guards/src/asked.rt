@@ -78,7 +78,7 @@ fn are_covered(above: &Entry, cgroup: &Cgroup) -> bool
     ensures { result ≡ are_covered above.now cgroup.now }
 {
     let own = &cgroup.max_descendants.entry;
-    is_covered(above, own, Some(cgroup.freeze)) && all_covered(above, own, &cgroup.others.entries)
+    is_covered(above, own, cgroup.freeze) && all_covered(above, own, &cgroup.others.entries)
 }
 
 fn all_covered(one: &Entry, other: &Entry, entries: &[Option<Entry>]) -> bool

@@ -95,7 +95,7 @@ file-stands st standing path file =
   where
     untold-stands : is_some (untold_at st path file) ≡ true → file_stands st path file ≡ true
     untold-stands = elim (brought_by file) as (λ by.
-        is_some (option_and_then (λ (row : Cgroup). elim by [ None ↦ Some row.freeze | Some controller ↦ other_in row controller ])
+        is_some (option_and_then (λ (row : Cgroup). elim by [ None ↦ row.freeze | Some controller ↦ other_in row controller ])
         (row_at st path)) ≡ true
         → elim by [ None ↦ has_row st path | Some controller ↦ is_some (other_at st path controller) ] ≡ true) [
           | None ↦ λ h. ap is_some (some-chained _ (row_at st path) h).1

@@ -123,7 +123,7 @@ module _ (st : State) (at : Names) (enabled : ControllerSet) (user : Identity) (
         → file_told (with_enabled st at enabled user) subtree file ≡ file_told st subtree file
     brought-with_enabled controller by child =
         let untold = λ (s : State). ap (λ by. option_and_then (λ row. elim by [
-          | None ↦ Some row.freeze
+          | None ↦ row.freeze
           | Some controller ↦ other_in row controller
         ]) (row_at s subtree)) by in
         file_told-same st (with_enabled st at enabled user) subtree file told-with_enabled

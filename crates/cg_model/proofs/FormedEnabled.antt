@@ -194,6 +194,9 @@ module _ (st : State) (path : Names) (enabled : ControllerSet) (user : Identity)
       parents = λ q h. has_row-with_enabled (parent q) ∙ whole.parents q (sym (has_row-with_enabled q) ∙ h);
       top_down = each_row (λ q row. is_within row.enabled (available_at (with_enabled st path enabled user) q) ≡ true) stays_top_down;
       rows = each_row (λ q row. IsFormedRow (enabled_above (with_enabled st path enabled user) q) row) stays_formed;
+      freeze = each_row (λ q row. is_some row.freeze ≡ not (is_root q)) (λ q row is.
+          enabling-by path enabled user (λ r. is_some r.freeze ≡ not (is_root q)) q row
+          (λ _. whole.freeze q row is) (λ _. whole.freeze q row is) (λ _ _. whole.freeze q row is));
       told = λ q files is.
           let old = mapped_from (λ files. cond (is_child path q) (told_under enabled files) files) (finite.get st.told q) files
           (sym (get-told-with_enabled st path enabled user q) ∙ is) in
@@ -201,6 +204,10 @@ module _ (st : State) (path : Names) (enabled : ControllerSet) (user : Identity)
             has_row-with_enabled q ∙ formed.0,
             subst (IsFormedTold (enabled_above (with_enabled st path enabled user) q)) old.2 (stays_told q old.0 formed.1),
           );
+      told_below_root = λ q files is.
+          let old = mapped_from (λ files. cond (is_child path q) (told_under enabled files) files) (finite.get st.told q) files
+          (sym (get-told-with_enabled st path enabled user q) ∙ is) in
+          whole.told_below_root q old.0 old.1;
       places = stays_held;
       used = whole.used;
     }

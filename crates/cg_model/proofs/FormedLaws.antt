@@ -25,7 +25,7 @@ use Rattle.cg_model.proofs.FormedTold.{formed-telling}
 use Rattle.cg_cgroup.specs.declared.cgroup.Cgroup.{Cgroup}
 use Rattle.cg_cgroup.specs.declared.process.Process.{Process}
 use Rattle.cg_model.proofs.StateLaws.{row_at-change_at, process_at-with_place, process_at-with_process, process_at-without_process, is_used-with_process}
-use Rattle.cg_cgroup.proofs.CgroupLaws.{enabled-with_value_in, enabled-with_mode_in}
+use Rattle.cg_cgroup.proofs.CgroupLaws.{enabled-with_value_in, enabled-with_mode_in, freeze-with_value_in, freeze-with_mode_in}
 use Rattle.cg_model.proofs.FormedRows.{formed_row-with_value_in, formed_row-with_mode_in}
 use Rattle.cg_model.proofs.FormedReshaped.{formed-reshaped}
 
@@ -46,25 +46,29 @@ cond_kept P false x y p q = q
 
 -- one row changed, that enables what it enabled
 pub formed-change_at : (st : State) (path : Names) (g : Cgroup → Cgroup) → ((row : Cgroup) → (g row).enabled ≡ row.enabled)
+    → ((row : Cgroup) → (g row).freeze ≡ row.freeze)
     → ((above : ControllerSet) (row : Cgroup) → IsFormedRow above row → IsFormedRow above (g row))
     → IsWellFormed st → IsWellFormed (change_at path g st)
 unfolding at_path
-formed-change_at st path g same keeps =
+formed-change_at st path g same freeze keeps =
     formed-reshaped st (change_at path g st).rows (at_path path g)
     (λ q. row_at-change_at path g st q ∙ cond_map (same_path path q) g (row_at st q))
     (λ q row. cond_kept (λ (r : Cgroup). r.enabled ≡ row.enabled) (same_path path q) (g row) row (same row) refl)
+    (λ q row. cond_kept (λ (r : Cgroup). r.freeze ≡ row.freeze) (same_path path q) (g row) row (freeze row) refl)
     (λ above q row formed. cond_kept (IsFormedRow above) (same_path path q) (g row) row (keeps above row formed) formed)
 
 pub formed-with_value : (st : State) (path : Names) (file : LimitFile) (value : Limit) → accepts file value ≡ true → IsWellFormed st
     → IsWellFormed (with_value st path file value)
 formed-with_value st path file value accepted =
     formed-change_at st path (with_value_in file value) (λ row. enabled-with_value_in file value row)
+    (λ row. freeze-with_value_in file value row)
     (λ above row formed. formed_row-with_value_in above file value row accepted formed)
 
 formed-row-with_mode : (st : State) (path : Names) (name : EntryName) (mode : ℕ) → mode ≤ 511 → IsWellFormed st
     → IsWellFormed (change_at path (with_mode_in name mode) st)
 formed-row-with_mode st path name mode small =
     formed-change_at st path (with_mode_in name mode) (λ row. enabled-with_mode_in name mode row)
+    (λ row. freeze-with_mode_in name mode row)
     (λ above row formed. formed_row-with_mode_in above name mode row small formed)
 
 same_reading : (b : Bool) (r : Option Cgroup) (file : OtherFile) (mode : ℕ)
@@ -107,7 +111,9 @@ with_live st live used places used_too formed = record {
   parents = formed.parents;
   top_down = formed.top_down;
   rows = formed.rows;
+  freeze = formed.freeze;
   told = formed.told;
+  told_below_root = formed.told_below_root;
   places = places;
   used = used_too;
 }

@@ -15,7 +15,8 @@ with_rows st rows = record st { rows = rows }
 
 module _ (st : State) (m : finite.FinMap path_cmp Cgroup) (f : Names → Cgroup → Cgroup)
     (rows : (q : Names) → row_at (with_rows st m) q ≡ option_map (f q) (row_at st q))
-    (enables_same : (q : Names) (row : Cgroup) → (f q row).enabled ≡ row.enabled) where
+    (enables_same : (q : Names) (row : Cgroup) → (f q row).enabled ≡ row.enabled)
+    (freeze_same : (q : Names) (row : Cgroup) → (f q row).freeze ≡ row.freeze) where
   same_row : (q : Names) → has_row (with_rows st m) q ≡ has_row st q
   same_row q = ap is_some (rows q) ∙ is_some-mapped (f q) (row_at st q)
 
@@ -48,9 +49,13 @@ module _ (st : State) (m : finite.FinMap path_cmp Cgroup) (f : Names → Cgroup 
         let old = mapped_from (f q) (row_at st q) row (sym (rows q) ∙ is) in
         subst (λ set. IsFormedRow set row) (sym (same_above no_controllers q))
         (subst (IsFormedRow (enabled_above st q)) old.2 (keeps (enabled_above st q) q old.0 (formed.rows q old.0 old.1)));
+    freeze = λ q row is.
+        let old = mapped_from (f q) (row_at st q) row (sym (rows q) ∙ is) in
+        ap (λ (r : Cgroup). is_some r.freeze) (sym old.2) ∙ ap is_some (freeze_same q old.0) ∙ formed.freeze q old.0 old.1;
     told = λ q files is.
         let old = formed.told q files is in
         (same_row q ∙ old.0, subst (λ set. IsFormedTold set files) (sym (same_above no_controllers q)) old.1);
+    told_below_root = formed.told_below_root;
     places = λ pid process is. same_hold process.place (formed.places pid process is);
     used = formed.used;
   }

@@ -97,7 +97,7 @@ modes-with_files_of above enabled user row formed (File file) entry is =
     (file_modes formed file) held (sym (file_of-with_files_of enabled user row file) ∙ is)) entry is
 modes-with_files_of above enabled user row formed (Other file) entry is =
     elim (brought_by file) as (λ by. brought_by file ≡ by
-    → elim by [ None ↦ Some row.freeze | Some controller ↦ other_in (with_files_of enabled user row) controller ] ≡ Some entry
+    → elim by [ None ↦ row.freeze | Some controller ↦ other_in (with_files_of enabled user row) controller ] ≡ Some entry
     → entry.mode ≤ 511) [
       | None ↦ λ core is. formed.modes (Other file) entry (by_controller core ∙ is)
       | Some controller ↦ λ by is.
@@ -108,8 +108,8 @@ modes-with_files_of above enabled user row formed (Other file) entry is =
     ] refl is
   where
     by_controller : {by : Option Controller} → brought_by file ≡ by
-        → untold_in row file ≡ elim by [ None ↦ Some row.freeze | Some controller ↦ other_in row controller ]
-    by_controller same = ap (λ by. elim by [ None ↦ Some row.freeze | Some controller ↦ other_in row controller ]) same
+        → untold_in row file ≡ elim by [ None ↦ row.freeze | Some controller ↦ other_in row controller ]
+    by_controller same = ap (λ by. elim by [ None ↦ row.freeze | Some controller ↦ other_in row controller ]) same
 modes-with_files_of above enabled user row formed Dir entry is = formed.modes Dir entry is
 modes-with_files_of above enabled user row formed Procs entry is = formed.modes Procs entry is
 modes-with_files_of above enabled user row formed SubtreeControl entry is = formed.modes SubtreeControl entry is

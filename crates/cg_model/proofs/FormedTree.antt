@@ -1,5 +1,5 @@
 -- Well-formedness once a cgroup is made and once one is removed.
-use Rattle.std.proofs.Common.{◌≡◌, true, false, cond, [], refl, sym, ap, ◌∙◌, subst, true≢false, Some, None, is_some, unwrap_or}
+use Rattle.std.proofs.Common.{◌≡◌, true, false, cond, not, [], refl, sym, ap, ◌∙◌, subst, true≢false, Some, None, is_some, unwrap_or}
 use Rattle.std.proofs.lemmas.Bool.{false_from_ne_true}
 use Rattle.cg_cgroup.specs.Paths.{Names, same_path, is_root, parent, is_child}
 use Rattle.cg_cgroup.specs.Identity.{Identity}
@@ -41,6 +41,7 @@ pub record IsNewRow (st : State) (path : Names) (row : Cgroup) : Type 0 where
   pub parent_there : has_row st (parent path) ≡ true
   pub within : is_within row.enabled (enabled_at st (parent path)) ≡ true
   pub formed : IsFormedRow (enabled_at st (parent path)) row
+  pub freeze : is_some row.freeze ≡ true
 
 module _ (st : State) (path : Names) (row : Cgroup) (new_row : IsNewRow st path row) (whole : IsWellFormed st) where
   not_root : is_root path ≡ false
@@ -89,10 +90,12 @@ module _ (st : State) (path : Names) (row : Cgroup) (new_row : IsNewRow st path 
     rows = one_row (λ q r. IsFormedRow (enabled_above (with_row st path row) q) r)
         (subst (λ set. IsFormedRow set row) (sym (above_new no_controllers)) new_row.formed)
         (λ q r is. subst (λ set. IsFormedRow set r) (sym (above_kept no_controllers q r is)) (whole.rows q r is));
+    freeze = one_row (λ q r. is_some r.freeze ≡ not (is_root q)) (new_row.freeze ∙ ap not (sym not_root)) whole.freeze;
     told = λ q files is.
         let old = whole.told q files is in
         let row = some_value (row_at st q) old.0 in
         (there_still q old.0, subst (λ set. IsFormedTold set files) (sym (above_kept no_controllers q row.0 row.1)) old.1);
+    told_below_root = whole.told_below_root;
     places = λ pid process is.
         let held = may_hold-row st process.place (whole.places pid process is) in
         row-may_hold (with_row st path row) process.place held.0 (kept_row process.place (ap is_some held.1) ∙ held.1) held.2;
@@ -106,6 +109,7 @@ new_row-cgroup_made_by st path user absent there = record {
   parent_there = there;
   within = refl;
   formed = formed_row-cgroup_made_by user (enabled_at st (parent path));
+  freeze = refl;
 }
 
 -- Making a directory makes a child.
@@ -169,6 +173,7 @@ module _ (st : State) (path : Names) (not_root : is_root path ≡ false) (no_chi
     rows =
         λ q r is. let left =
         left_row q r is in subst (λ set. IsFormedRow set r) (sym (above_left no_controllers q r left.1)) (whole.rows q r left.1);
+    freeze = λ q r is. whole.freeze q r (left_row q r is).1;
     told = λ q files is.
         let left = left_told q files is in
         let old = whole.told q files left.1 in
@@ -176,6 +181,7 @@ module _ (st : State) (path : Names) (not_root : is_root path ≡ false) (no_chi
           ap is_some (row_at-without_row-other path st q left.0) ∙ old.0,
           subst (λ set. IsFormedTold set files) (sym (above_left no_controllers q row.0 row.1)) old.1,
         );
+    told_below_root = λ q files is. whole.told_below_root q files (left_told q files is).1;
     places = λ pid process is.
         let held = may_hold-row st process.place (whole.places pid process is) in
         let other =

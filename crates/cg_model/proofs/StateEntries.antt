@@ -341,8 +341,8 @@ module _ (st : State) (p : Names) (enabled : ControllerSet) (user : Identity) (q
       core : (row : Cgroup) → is_some (brought_by file) ≡ false → untold_in (with_files_of enabled user row) file ≡ untold_in row file
       core row free =
           elim (brought_by file) as (λ by. is_some by ≡ false
-          → elim by [ None ↦ Some row.freeze | Some controller ↦ other_in (with_files_of enabled user row) controller ]
-          ≡ elim by [ None ↦ Some row.freeze | Some controller ↦ other_in row controller ])
+          → elim by [ None ↦ row.freeze | Some controller ↦ other_in (with_files_of enabled user row) controller ]
+          ≡ elim by [ None ↦ row.freeze | Some controller ↦ other_in row controller ])
           [ None ↦ λ _. refl | Some controller ↦ λ free. absurd (true≢false free) ] free
 
   told_at-with_enabled-kept : (file : OtherFile) → (is_child p q && is_some (brought_by file)) ≡ false

@@ -1,10 +1,11 @@
 -- The tries: lists of operations among which one that breaks a subtree is looked for. Own.
-use Rattle.std.specs.Prelude.{ℕ, zero, suc, ◌+◌, Bool, true, false, cond, not, ◌&&◌, ◌||◌, nat_eq, nat_le, List, [], ◌∷◌, ◌++◌, map, filter, find, length, take, unwrap_or, Option, Some, None, codes}
+use Rattle.std.specs.Prelude.{ℕ, zero, suc, ◌+◌, Bool, true, false, cond, not, ◌&&◌, ◌||◌, nat_eq, nat_le, List, [], ◌∷◌, ◌++◌, map, filter, find, length, take, unwrap_or, Option, Some, None, option_and_then, codes}
 use Rattle.std.specs.List.{flat_map}
 use Rattle.std.specs.Fmt.{decimal}
 use Rattle.cg_cgroup.specs.Paths.{Names, inside, parent, path_text}
 use Rattle.cg_cgroup.specs.Identity.{Identity}
 use Rattle.cg_cgroup.specs.Users.{writes, owns, opened}
+use Rattle.cg_cgroup.specs.Values.{device_in}
 use Rattle.cg_cgroup.specs.Files.{all_files, all_others, other_kind, all_controllers, is_in_format_2, enables}
 use Rattle.cg_cgroup.specs.declared.files.Limit.{Limit}
 use Rattle.cg_cgroup.specs.declared.files.Limit.TheVariants.{Max, At}
@@ -29,9 +30,22 @@ other_value CpuWeight Max = At 100
 other_value file (At value) = Max
 other_value file Max = At 0
 
+-- the device or resource that is told in the value of a file whose lines begin with one
+abbrev pub device_of : OtherFile → Option FileText → Option (List ℕ)
+device_of file had = cond (other_kind file).of_devices (option_and_then device_in had) None
+
+abbrev pub on_device : Option (List ℕ) → List ℕ → FileText
+on_device None text = text
+on_device (Some device) text = device ++ 32 ∷ text
+
+-- the second text where the file has the first
+abbrev pub text_besides : Option FileText → FileText → FileText → FileText
+text_besides had first second = cond (same_text (Some first) had) second first
+
 -- another text than the file's, the one that loosens it where it doesn't have that
 abbrev pub other_text : OtherFile → Option FileText → FileText
-other_text file had = cond (same_text (Some (other_kind file).loose) had) (other_kind file).other (other_kind file).loose
+other_text file had =
+    text_besides had (on_device (device_of file had) (other_kind file).loose) (on_device (device_of file had) (other_kind file).other)
 
 -- each limit of the subtree to another value
 abbrev pub set_tries : State → Names → List (List Op)

@@ -66,9 +66,12 @@ pub record IsWellFormed (st : State) : Type 0 where
   -- Top-down Constraint
   pub top_down : (path : Names) (row : Cgroup) → row_at st path ≡ Some row → is_within row.enabled (available_at st path) ≡ true
   pub rows : (path : Names) (row : Cgroup) → row_at st path ≡ Some row → IsFormedRow (enabled_above st path) row
-  -- Own: it is told of the files of cgroups that are there
+  -- Core Interface Files: cgroup.freeze stands at each cgroup but the root
+  pub freeze : (path : Names) (row : Cgroup) → row_at st path ≡ Some row → is_some row.freeze ≡ not (is_root path)
+  -- Own: it is told of the files of cgroups that are there, and of none of the root's, where none stands
   pub told : (path : Names) (files : ToldFiles) → map.get st.told path ≡ Some files
       → (has_row st path ≡ true) × IsFormedTold (enabled_above st path) files
+  pub told_below_root : (path : Names) (files : ToldFiles) → map.get st.told path ≡ Some files → is_root path ≡ false
   -- No Internal Process Constraint. Organizing Processes: each live process is in one cgroup.
   pub places : (pid : ℕ) (process : Process) → process_at st pid ≡ Some process → may_hold st process.place ≡ true
   -- Own: a PID is used once, so each live one counts as used

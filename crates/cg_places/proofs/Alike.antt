@@ -60,7 +60,7 @@ cgroup_same x y e =
     both _ _ (entry_same x.subtree_control y.subtree_control) (
     both _ _ (limit_same x.max_descendants y.max_descendants) (
     both _ _ (limit_same x.max_depth y.max_depth) (
-    both _ _ (entry_same x.freeze y.freeze) (
+    both _ _ (other_same x.freeze y.freeze) (
     both _ _ (brought_same x.files y.files) (
     both _ _ (others_same x.others y.others) (set_same x.enabled y.enabled)))))))) e in
     let q = p.1.1.1 in

@@ -148,7 +148,6 @@ module _ (vocabulary : Vocabulary) (st : State) (kept : IsKept vocabulary st) wh
         others = carried.others e.0 e.1 there;
         told = back.told;
         told_values = back.values;
-        told_below = back.below;
       }
 
   process_back : (e : ℕ × Process) → process_at st e.0 ≡ Some e.1 → IsNamedProcess e.0 e.1 → IsProcessOf st (process_written e)

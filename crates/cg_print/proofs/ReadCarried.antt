@@ -149,12 +149,11 @@ some_told Two row test each so = absurd (true≢false (sym so))
 some_told Four row test each so = any_passes (λ file. is_named (Other file) row) test each all_others so
 
 module _ (st : State) (document : Members) (is : IsDocumentOf st document) where
-  told_in_text : (path : Names) (files : ToldFiles) → finite.get st.told path ≡ Some files → IsToldInText path files
+  told_in_text : (path : Names) (files : ToldFiles) → finite.get st.told path ≡ Some files → IsToldInText files
   told_in_text path files there =
       let read = told_read st document is path files there in
       let each = (row_told is.format read.0 files (sym read.1.said)).each in
       record {
-        below = read.1.below;
         some = some_told is.format read.0 (λ file. is_some (told_in files file))
             (λ file named. ap is_some (each file) ∙ read.1.values file named) read.1.tells;
         values = told_value_read st document is path files there;

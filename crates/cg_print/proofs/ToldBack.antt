@@ -4,7 +4,7 @@ use Rattle.std.specs.List.{list_any}
 use Rattle.std.specs.FinMap as finite
 use Rattle.std.proofs.lemmas.List.{ext_get_or, get_or-map, length-map}
 use Rattle.toml.specs.Data.{Members, as_table}
-use Rattle.cg_cgroup.specs.Paths.{Names, path_cmp, is_root}
+use Rattle.cg_cgroup.specs.Paths.{Names, path_cmp}
 use Rattle.cg_cgroup.specs.Options.{◌>>=◌}
 use Rattle.cg_cgroup.specs.Files.{all_others}
 use Rattle.cg_cgroup.specs.Told.{told_in, told_by}
@@ -105,18 +105,16 @@ same_by files held each =
     ∙ ap (λ number. get_or files.entries number None) (number_at k CpuMax inside)))
 
 -- what the table of a cgroup tells is what is told of its files
-pub record IsToldBack (format : Format) (path : Names) (found : Option ToldFiles) (row : Members) : Type 0 where
+pub record IsToldBack (format : Format) (found : Option ToldFiles) (row : Members) : Type 0 where
   pub told : found ≡ told_row format row
   pub values : (file : OtherFile) → is_named (Other file) row ≡ true → is_some (told_said format row file) ≡ true
-  pub below : is_root path ≡ true → tells format row ≡ false
 
 -- a table that names none tells nothing
-none_back : (format : Format) (path : Names) (row : Members) → tells format row ≡ false
-    → ((file : OtherFile) → is_named (Other file) row ≡ false) → IsToldBack format path None row
-none_back format path row none unnamed = record {
+none_back : (format : Format) (row : Members) → tells format row ≡ false
+    → ((file : OtherFile) → is_named (Other file) row ≡ false) → IsToldBack format None row
+none_back format row none unnamed = record {
   told = sym (ap (λ b. cond b (Some (told_by (told_said format row))) None) none);
   values = λ file named. absurd (true≢false (sym named ∙ unnamed file));
-  below = λ _. none;
 }
 
 none_any : (test : OtherFile → Bool) → ((file : OtherFile) → test file ≡ false) → (files : List OtherFile) → list_any test files ≡ false
@@ -124,7 +122,7 @@ none_any test fails [] = refl
 none_any test fails (file ∷ files) = ap (λ b. b || list_any test files) (fails file) ∙ none_any test fails files
 
 module _ (path : Names) (row : Cgroup) (files : ToldFiles) (ids : AllHaveIds (Some files)) (above : ControllerSet)
-    (formed : IsFormedTold above files) (is : IsToldInText path files) where
+    (formed : IsFormedTold above files) (is : IsToldInText files) where
   abbrev written : Members
   written = cgroup_table Format4 path row (Some files)
 
@@ -143,30 +141,29 @@ module _ (path : Names) (row : Cgroup) (files : ToldFiles) (ids : AllHaveIds (So
   tells_again : tells Four written ≡ true
   tells_again = (λ i. list_any (λ file. named_told Format4 path row (Some files) file i) all_others) ∙ is.some
 
-  some_back : IsToldBack Four path (Some files) written
+  some_back : IsToldBack Four (Some files) written
   some_back = record {
     told = sym (ap (λ b. cond b (Some (told_by (told_said Four written))) None) tells_again
         ∙ ap Some (same_by files (told_said Four written) said_again));
     values = λ file named. ap is_some (said_again file) ∙ sym (named_told Format4 path row (Some files) file) ∙ named;
-    below = λ root. absurd (true≢false (sym root ∙ is.below));
   }
 
 found_back : (path : Names) (row : Cgroup) (found : Option ToldFiles) → AllHaveIds found → (above : ControllerSet)
-    → ((files : ToldFiles) → found ≡ Some files → IsFormedTold above files × IsToldInText path files)
-    → IsToldBack Four path found (cgroup_table Format4 path row found)
+    → ((files : ToldFiles) → found ≡ Some files → IsFormedTold above files × IsToldInText files)
+    → IsToldBack Four found (cgroup_table Format4 path row found)
 found_back path row None ids above each =
-    none_back Four path (cgroup_table Format4 path row None)
+    none_back Four (cgroup_table Format4 path row None)
     (none_any (λ file. is_named (Other file) (cgroup_table Format4 path row None)) (named_told Format4 path row None) all_others)
     (named_told Format4 path row None)
 found_back path row (Some files) ids above each = some_back path row files ids above (each files refl).0 (each files refl).1
 
 pub told_back : (vocabulary : Vocabulary) (st : State) (path : Names) (row : Cgroup) → IsWellFormed st → AreToldInText vocabulary st
     → AllHaveIds (told_of vocabulary st path)
-    → IsToldBack (written_in vocabulary) path (finite.get st.told path) (cgroup_table vocabulary path row (told_of vocabulary st path))
+    → IsToldBack (written_in vocabulary) (finite.get st.told path) (cgroup_table vocabulary path row (told_of vocabulary st path))
 told_back Format2 st path row formed none ids =
-    subst (λ found. IsToldBack Two path found (cgroup_table Format2 path row None))
+    subst (λ found. IsToldBack Two found (cgroup_table Format2 path row None))
     (sym (ap (λ told. finite.get told path) none ∙ finite.get-empty path_cmp path))
-    (none_back Two path (cgroup_table Format2 path row None) refl (named_told Format2 path row None))
+    (none_back Two (cgroup_table Format2 path row None) refl (named_told Format2 path row None))
 told_back Format4 st path row formed are ids =
     found_back path row (finite.get st.told path) ids (enabled_above st path)
     (λ files is. ((formed.told path files is).1, are path files is))

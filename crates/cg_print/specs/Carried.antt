@@ -2,7 +2,7 @@
 use Rattle.std.specs.Prelude.{◌≡◌, ℕ, ◌==◌, ◌≤◌, ◌<◌, Bool, true, false, List, length, Option, Some, is_some}
 use Rattle.std.specs.List.{AllByRecursion, list_all, list_any, slice_split}
 use Rattle.std.specs.FinMap as map
-use Rattle.cg_cgroup.specs.Paths.{Names, is_root, IsPath}
+use Rattle.cg_cgroup.specs.Paths.{Names, IsPath}
 use Rattle.cg_cgroup.specs.Numbers.{is_pid}
 use Rattle.cg_cgroup.specs.Files.{is_of, is_beyond, all_others}
 use Rattle.cg_cgroup.specs.Cgroups.{file_of, entry_in}
@@ -81,10 +81,8 @@ written_in Format4 = Four
 abbrev pub is_value_text : FileText → Bool
 is_value_text value = list_all is_text_line (slice_split (λ b. b == 10) value)
 
--- What is told of the further limit files of the cgroup at a path can be written: it isn't the root, something is told, and each
--- value is lines that texts may have.
-pub record IsToldInText (path : Names) (files : ToldFiles) : Type 0 where
-  pub below : is_root path ≡ false
+-- What is told of the further limit files of a cgroup can be written: something is told, and each value is lines that texts may have.
+pub record IsToldInText (files : ToldFiles) : Type 0 where
   pub some : list_any (λ file. is_some (told_in files file)) all_others ≡ true
   pub values : (file : OtherFile) (told : ToldFile) (value : FileText) → told_in files file ≡ Some told → told.value ≡ Some value
       → is_value_text value ≡ true
@@ -92,7 +90,7 @@ pub record IsToldInText (path : Names) (files : ToldFiles) : Type 0 where
 -- nothing is told of these files in format 2
 abbrev pub AreToldInText : Vocabulary → State → Type 0
 AreToldInText Format2 st = st.told ≡ map.empty
-AreToldInText Format4 st = (path : Names) (files : ToldFiles) → map.get st.told path ≡ Some files → IsToldInText path files
+AreToldInText Format4 st = (path : Names) (files : ToldFiles) → map.get st.told path ≡ Some files → IsToldInText files
 
 -- Few enough cgroups and processes; no controller without a name there; what is told of further limit files can be written, and those
 -- of which nothing is told are root's; and a PID that isn't live was never used, as a text has no word for it.

@@ -1,5 +1,5 @@
 -- What lies below a path stands together, right after it, in a list of entries that rise.
-use Rattle.std.proofs.Common.{◌≡◌, ℕ, zero, suc, ◌+◌, ◌-◌, ◌<◌, ◌≤◌, Bool, true, false, cond, ◌&&◌, ◌||◌, List, [], ◌∷◌, length, take, drop, get_or, map as map_list, count_by, fold, max, refl, sym, ap, subst, ◌∙◌, arith, inl, inr}
+use Rattle.std.proofs.Common.{◌≡◌, ℕ, zero, suc, ◌+◌, ◌-◌, ◌<◌, ◌≤◌, Bool, true, false, cond, ◌&&◌, ◌||◌, List, [], ◌∷◌, ◌++◌, length, take, drop, get_or, map as map_list, count_by, fold, max, refl, sym, ap, subst, ◌∙◌, arith, inl, inr}
 use Rattle.std.proofs.lemmas.Bool.{and_parts, and_from, and_left, and_right, cases_Bool, true≢false, lt-ltb, le-ltb, eqb-true}
 use Rattle.std.proofs.lemmas.List.{get_or-drop, length-drop, length-map, take_rest}
 use Rattle.std.proofs.lemmas.List.Sums.{length-filter}
@@ -14,7 +14,8 @@ use Rattle.std.specs.Cmp.Lexicographic.{slice_cmp, nat_list_cmp_total, texts_tie
 use Rattle.std.specs.FinMap as map
 use Rattle.std.specs.FinMap.{is_sorted, nat_cmp-IsAntisymmetric, slice_cmp-IsAntisymmetric}
 use Rattle.cg_cgroup.specs.Paths.{Name, Names, path_cmp, same_name, inside, below, is_child}
-use Rattle.cg_rows.specs.Places.{IsPlace, IsGap}
+use borrow.Rule.Slice.PartMut.{put_mid}
+use Rattle.cg_rows.specs.Places.{IsPlace, IsGap, IsRange}
 use Rattle.cg_model.proofs.MapLaws.{list_any-map}
 use Rattle.cg_cgroup.proofs.PathOrder.{path_cmp_total, path_cmp-IsAntisymmetric}
 use Rattle.cg_rows.proofs.Sorted.{rises, shown_entries}
@@ -128,6 +129,24 @@ module _ {X : Type 0} (test : X → Bool) where
       (filter_early xs n
       (λ k d _ m. parted.0 (suc k) d (omega arith) (omega arith), λ k d l m. parted.1 (suc k) d (omega arith) (omega arith)))
 
+  module _ (f : X → X) (same : (x : X) → test x ≡ false → f x ≡ x) where
+    map_late : (xs : List X) (i : ℕ) → AllWithin (λ x. test x ≡ false) xs 0 i → map_list f xs ≡ take i xs ++ map_list f (drop i xs)
+    map_late xs zero none = refl
+    map_late [] (suc i) none = refl
+    map_late (x ∷ xs) (suc i) none =
+        λ k. same x (none 0 x (omega arith) (omega arith)) k
+        ∷ map_late xs i (λ k d _ m. none (suc k) d (omega arith) (omega arith)) k
+
+    map_early : (xs : List X) (n : ℕ) → AllWithin (λ x. test x ≡ false) xs n (length xs)
+        → map_list f xs ≡ map_list f (take n xs) ++ drop n xs
+    map_early [] zero none = refl
+    map_early [] (suc n) none = refl
+    map_early (x ∷ xs) zero none =
+        λ k. same x (none 0 x (omega arith) (omega arith)) k
+        ∷ map_early xs zero (λ k d _ m. none (suc k) d (omega arith) (omega arith)) k
+    map_early (x ∷ xs) (suc n) none =
+        ap (λ ys. f x ∷ ys) (map_early xs n (λ k d l m. none (suc k) d (omega arith) (omega arith)))
+
   -- a narrower test finds as much in what passes the test
   pub any_filtered : (narrow : X → Bool) → ((x : X) → narrow x ≡ true → test x ≡ true) → (xs : List X)
       → list_any narrow (filter test xs) ≡ list_any narrow xs
@@ -141,6 +160,31 @@ module _ {X : Type 0} (test : X → Bool) where
     where
       unless : (narrow : X → Bool) → ((x : X) → narrow x ≡ true → test x ≡ true) → (x : X) → test x ≡ false → narrow x ≡ false
       unless narrow implies x e = elim (cases_Bool (narrow x)) [ inl h ↦ absurd (true≢false (sym (implies x h) ∙ e)) | inr h ↦ h ]
+
+-- ---- a range of the entries whose keys pass a test
+
+module _ {K X : Type 0} (test : K → Bool) (es : List (K × X)) (i j : ℕ) (range : IsRange test es i j) where
+  range_parted : IsPartitionPoint (λ e. test e.0 ≡ true) (λ e. test e.0 ≡ false) (drop i es) (j - i)
+  range_parted = (
+    λ k d l m. subst (λ (e : K × X). test e.0 ≡ true) (sym (get_or-drop i es k d))
+        (range.between (i + k) d (omega arith) (omega arith)),
+    λ k d l m. subst (λ (e : K × X). test e.0 ≡ false) (sym (get_or-drop i es k d))
+        (range.after (i + k) d (omega (arith, range.ordered)) (omega (arith, length-drop i es))),
+  )
+
+  start_within : i ≤ length es
+  start_within = omega (arith, range.ordered, range.within)
+
+  pub filter_range : take (j - i) (drop i es) ≡ filter (λ e. test e.0) es
+  filter_range =
+      sym (filter_late (λ e. test e.0) es i range.before start_within ∙ filter_early (λ e. test e.0) (drop i es) (j - i) range_parted)
+
+  -- to change the entries of the range is to change all, where the others stay the same
+  pub map_range : (f : K × X → K × X) → ((e : K × X) → test e.0 ≡ false → f e ≡ e)
+      → put_mid i (j - i) es (map_list f (take (j - i) (drop i es))) ≡ map_list f es
+  map_range f same =
+      sym (map_late (λ e. test e.0) f same es i range.before
+      ∙ ap (λ fs. take i es ++ fs) (map_early (λ e. test e.0) f same (drop i es) (j - i) range_parted.1))
 
 -- ---- where what lies after a key begins
 
@@ -185,37 +229,36 @@ module _ {X : Type 0} where
             (subst (λ (e : Names × X). inside p e.0 ≡ true) (get_or-drop i es k d) h))
       ]
 
-  parted_below : (p : Names) (es : List (Names × X)) (i n : ℕ) → IsStart path_cmp_total p es i → n ≤ length (drop i es)
+  range_of : (p : Names) (es : List (Names × X)) (i n : ℕ) → IsStart path_cmp_total p es i → n ≤ length (drop i es)
       → IsPartitionPoint (λ e. inside p e.0 ≡ true) (λ e. inside p e.0 ≡ false) (drop i es) n
-      → IsPartitionPoint (λ e. below p e.0 ≡ true) (λ e. below p e.0 ≡ false) (drop i es) n
-  parted_below p es i n start bound parted =
-      (λ k d l m. sym (same k d (omega arith)) ∙ parted.0 k d l m, λ k d l m. sym (same k d m) ∙ parted.1 k d l m)
+      → IsRange (below p) es i (i + n)
+  range_of p es i n start bound parted = record {
+    ordered = omega arith;
+    within = omega (arith, length-drop i es);
+    before = λ k d l m. outside_until p _ (start.1 k d l m);
+    between = λ k d l m.
+        sym (below_after p _ (start.2 k d l (omega (arith, length-drop i es))))
+        ∙ subst (λ (e : Names × X). inside p e.0 ≡ true) (same k d l) (parted.0 (k - i) d (omega arith) (omega arith));
+    after = λ k d l m.
+        sym (below_after p _ (start.2 k d (omega arith) m))
+        ∙ subst (λ (e : Names × X). inside p e.0 ≡ false) (same k d (omega arith))
+        (parted.1 (k - i) d (omega arith) (omega (arith, length-drop i es)));
+  }
     where
-      same : (k : ℕ) (d : Names × X) → k < length (drop i es) → inside p (get_or (drop i es) k d).0 ≡ below p (get_or (drop i es) k d).0
-      same k d m =
-          let within : k < length es - i = subst (λ n. k < n) (length-drop i es) m in
-          subst (λ (e : Names × X). inside p e.0 ≡ below p e.0) (sym (get_or-drop i es k d))
-          (below_after p _ (start.2 (i + k) d (omega arith) (omega arith)))
+      same : (k : ℕ) (d : Names × X) → i ≤ k → get_or (drop i es) (k - i) d ≡ get_or es k d
+      same k d l = let e : i + (k - i) ≡ k = omega arith in get_or-drop i es (k - i) d ∙ ap (λ j. get_or es j d) e
 
-  pub filter_below : (p : Names) (es : List (Names × X)) (i n : ℕ) → IsStart path_cmp_total p es i → n ≤ length (drop i es)
-      → IsPartitionPoint (λ e. inside p e.0 ≡ true) (λ e. inside p e.0 ≡ false) (drop i es) n
-      → take n (drop i es) ≡ filter (λ e. below p e.0) es
-  filter_below p es i n start bound parted =
-      sym (filter_late (λ e. below p e.0) es i (λ k d l m. outside_until p _ (start.1 k d l m)) start.0
-      ∙ filter_early (λ e. below p e.0) (drop i es) n (parted_below p es i n start bound parted))
-
-  pub found_below : {m : map.FinMap path_cmp X} (p : Names) (es fs : List (Names × X)) (i n : ℕ) → map.from_sorted es ≡ m
-      → is_sorted path_cmp es ≡ true → fs ≡ es → IsStart path_cmp_total p es i
-      → n ≤ length (take (length fs - i) (drop i fs))
-      → (IsPartitionedBy (λ e. inside p e.0) (take (length fs - i) (drop i fs))
-      → IsPartitionPoint (λ e. inside p e.0 ≡ true) (λ e. inside p e.0 ≡ false) (take (length fs - i) (drop i fs)) n)
-      → take n (take (length fs - i) (drop i fs)) ≡ filter (λ e. below p e.0) (map.entries m)
-  found_below p es fs i n shows s same start bound parts =
-      let rest : take (length fs - i) (drop i fs) ≡ drop i es = take_rest fs i ∙ ap (drop i) same in
-      let parted = subst (λ (gs : List (Names × X)). IsPartitionPoint (λ e. inside p e.0 ≡ true) (λ e. inside p e.0 ≡ false) gs n) rest
-      (parts (subst (λ (gs : List (Names × X)). IsPartitionedBy (λ e. inside p e.0) gs) (sym rest) (inside_parted p es i s start))) in
-      ap (take n) rest ∙ filter_below p es i n start (subst (λ (gs : List (Names × X)). n ≤ length gs) rest bound) parted
-      ∙ ap (filter (λ e. below p e.0)) (shown_entries path_cmp_total es es shows s refl)
+  -- a binary search for the end of what is below p is right
+  pub range_found : (p : Names) (es : List (Names × X)) (i n : ℕ) → is_sorted path_cmp es ≡ true → IsStart path_cmp_total p es i
+      → n ≤ length (take (length es - i) (drop i es))
+      → (IsPartitionedBy (λ e. inside p e.0) (take (length es - i) (drop i es))
+      → IsPartitionPoint (λ e. inside p e.0 ≡ true) (λ e. inside p e.0 ≡ false) (take (length es - i) (drop i es)) n)
+      → IsRange (below p) es i (i + n)
+  range_found p es i n s start bound parts =
+      let rest : take (length es - i) (drop i es) ≡ drop i es = take_rest es i in
+      range_of p es i n start (subst (λ (gs : List (Names × X)). n ≤ length gs) rest bound)
+      (subst (λ (gs : List (Names × X)). IsPartitionPoint (λ e. inside p e.0 ≡ true) (λ e. inside p e.0 ≡ false) gs n) rest
+      (parts (subst (λ (gs : List (Names × X)). IsPartitionedBy (λ e. inside p e.0) gs) (sym rest) (inside_parted p es i s start))))
 
   pub start_of_place : (p : Names) (es fs : List (Names × X)) (i j : ℕ) → is_sorted path_cmp es ≡ true → fs ≡ es → IsPlace path_cmp p fs i
       → j ≡ i + 1 → IsStart path_cmp_total p es j
@@ -238,6 +281,30 @@ child_below : (p x : Names) → is_child p x ≡ true → below p x ≡ true
 child_below p x h =
     let parts = and_parts _ _ h in
     and_from _ _ parts.0 (lt-ltb (length p) (length x) (omega (arith, eqb-true _ _ parts.1)))
+
+child_outside : (p x : Names) → below p x ≡ false → is_child p x ≡ false
+child_outside p x e =
+    elim (cases_Bool (is_child p x)) [ inl h ↦ absurd (true≢false (sym (child_below p x h) ∙ e)) | inr h ↦ h ]
+
+-- ---- the range of what lies below a path
+
+module _ {X : Type 0} (p : Names) (es fs : List (Names × X)) (i j : ℕ) (same : fs ≡ es) (range : IsRange (below p) fs i j) where
+  fitting : IsRange (below p) es i j
+  fitting = subst (λ (hs : List (Names × X)). IsRange (below p) hs i j) same range
+
+  pub entries_below : {m : map.FinMap path_cmp X} (gs : List (Names × X)) → map.from_sorted es ≡ m → is_sorted path_cmp es ≡ true → gs ≡ es
+      → take (j - i) (drop i gs) ≡ filter (λ e. below p e.0) (map.entries m)
+  entries_below gs shows s here =
+      ap (λ hs. take (j - i) (drop i hs)) here ∙ filter_range (below p) es i j fitting
+      ∙ ap (filter (λ e. below p e.0)) (shown_entries path_cmp_total es es shows s refl)
+
+  -- to change the children in the range is to change all
+  pub children_changed : (f : X → X)
+      → put_mid i (j - i) es (map_list (λ e. (e.0, cond (is_child p e.0) (f e.1) e.1)) (take (j - i) (drop i es)))
+      ≡ map_list (λ e. (e.0, cond (is_child p e.0) (f e.1) e.1)) es
+  children_changed f =
+      map_range (below p) es i j fitting (λ e. (e.0, cond (is_child p e.0) (f e.1) e.1))
+      (λ e h. ap (λ b. (e.0, cond b (f e.1) e.1)) (child_outside p e.0 h))
 
 -- ---- the questions about what lies below a path
 

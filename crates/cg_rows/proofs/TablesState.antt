@@ -1,10 +1,10 @@
 -- The state that the tables of `Rows` show: after a changed row, and the tree of a root alone.
-use Rattle.std.proofs.Common.{◌≡◌, ℕ, true, false, List, [], ◌∷◌, Option, Some, None, is_some, refl, sym, ap, subst, ◌∙◌}
+use Rattle.std.proofs.Common.{◌≡◌, ℕ, true, false, not, List, [], ◌∷◌, Option, Some, None, is_some, refl, sym, ap, subst, ◌∙◌}
 use Rattle.std.proofs.lemmas.Bool.{true≢false}
 use Rattle.std.proofs.lemmas.Option.{none-some, same_Some}
 use Rattle.std.specs.Ordering.{nat_cmp}
 use Rattle.std.specs.FinMap as map
-use Rattle.cg_cgroup.specs.Paths.{Names, path_cmp, parent}
+use Rattle.cg_cgroup.specs.Paths.{Names, path_cmp, is_root, parent}
 use Rattle.cg_cgroup.specs.Files.{no_controllers, is_within, is_beyond}
 use Rattle.cg_cgroup.specs.Cgroups.{with_mode_in}
 use Rattle.cg_model.specs.States.{State, row_at, process_at, change_at, with_mode}
@@ -78,13 +78,19 @@ module _ (controllers : ControllerSet) (row : Cgroup) where
     row_of [] other e = subst (IsFormedRow no_controllers) (root_is other e) is_root_row.formed
     row_of (name ∷ names) other e = no_other name names other e
 
+    freeze_of : (path : Names) (other : Cgroup) → row_at alone path ≡ Some other → is_some other.freeze ≡ not (is_root path)
+    freeze_of [] other e = ap (λ (r : Cgroup). is_some r.freeze) (sym (root_is other e)) ∙ ap is_some is_root_row.freeze
+    freeze_of (name ∷ names) other e = no_other name names other e
+
     pub formed_root : IsWellFormed alone
     formed_root = record {
       root = ap is_some at_root;
       parents = parents_of;
       top_down = top_down_of;
       rows = row_of;
+      freeze = freeze_of;
       told = λ path files e. absurd (none-some files (sym (map.get-empty path_cmp path) ∙ e));
+      told_below_root = λ path files e. absurd (none-some files (sym (map.get-empty path_cmp path) ∙ e));
       places = λ pid process e. no_process pid process e;
       used = λ pid process e. no_process pid process e;
     }

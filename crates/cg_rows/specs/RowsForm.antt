@@ -1,6 +1,6 @@
 -- How a tree is kept: nobody has to believe it.
 -- How `Rows` keeps a tree: the state that its tables show, and what holds of the root that a tree begins with.
-use Rattle.std.specs.Prelude.{◌≡◌, true, []}
+use Rattle.std.specs.Prelude.{◌≡◌, true, [], None}
 use Rattle.std.specs.FinMap as map
 use Rattle.std.specs.FinSet as set
 use Rattle.cg_cgroup.specs.Paths.{path_cmp}
@@ -22,7 +22,9 @@ abbrev pub state_of_root : ControllerSet → Cgroup → State
 state_of_root controllers row =
     record { rows = map.insert map.empty [] row; told = map.empty; live = map.empty; used = set.empty; controllers = controllers }
 
--- What a root is: the limit files of a cgroup without a parent, with values and modes in range, and no more enabled than there is.
+-- What a root is: the limit files of a cgroup without a parent, with values and modes in range, no `cgroup.freeze`, and no more
+-- enabled than there is.
 pub record IsRoot (controllers : ControllerSet) (row : Cgroup) : Type 0 where
   pub enables : is_within row.enabled controllers ≡ true
   pub formed : IsFormedRow no_controllers row
+  pub freeze : row.freeze ≡ None

@@ -31,9 +31,9 @@ module _ (users : List Identity) where
   untold_spared : (row : Cgroup) → spares_others users row ≡ true → (file : OtherFile)
       → spares_entry users (untold_in row file) ≡ true
   untold_spared row h file =
-      let parts = and_parts (spares_entry users (Some row.freeze)) (list_all (spares_entry users) row.others.entries) h in
+      let parts = and_parts (spares_entry users row.freeze) (list_all (spares_entry users) row.others.entries) h in
       elim (brought_by file) as
-      (λ by. spares_entry users (elim by [ None ↦ Some row.freeze | Some controller ↦ other_in row controller ]) ≡ true) [
+      (λ by. spares_entry users (elim by [ None ↦ row.freeze | Some controller ↦ other_in row controller ]) ≡ true) [
         | None ↦ parts.0
         | Some controller ↦ get_spared row.others.entries _ parts.1
       ]

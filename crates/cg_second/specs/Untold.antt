@@ -17,7 +17,7 @@ spares_entry users (Some entry) = not (list_any (λ user. reaches user entry) us
 
 -- none of them reaches one of those files of a cgroup of which nothing is told
 abbrev pub spares_others : List Identity → Cgroup → Bool
-spares_others users row = spares_entry users (Some row.freeze) && list_all (spares_entry users) row.others.entries
+spares_others users row = spares_entry users row.freeze && list_all (spares_entry users) row.others.entries
 
 -- nothing is told of those of a cgroup, and none of the users reaches one
 abbrev pub spares_untold : State → List Identity → Names → Bool

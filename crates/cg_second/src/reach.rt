@@ -100,7 +100,7 @@ pub fn spares_untold<H: Hierarchy>(tree: &H, users: &[User], path: &Path) -> boo
 fn spares_others(users: &[User], cgroup: &Cgroup) -> bool
     ensures { result ≡ spares_others users.now cgroup.now }
 {
-    spares_entry(users, Some(cgroup.freeze)) && spares_entries(users, &cgroup.others.entries)
+    spares_entry(users, cgroup.freeze) && spares_entries(users, &cgroup.others.entries)
 }
 
 fn spares_entries(users: &[User], entries: &[Option<Entry>]) -> bool

@@ -1,5 +1,5 @@
 -- The entries that the walk leaves behind are those of the tables, each as its table says, with the files that stand.
-use Rattle.std.proofs.Common.{◌≡◌, ℕ, ◌+◌, ◌<◌, ◌≤◌, zero, suc, Bool, true, false, cond, ◌||◌, List, [], ◌∷◌, ◌++◌, length, take, get_or, filter, Option, Some, None, is_some, option_map, unwrap_or, is_lt, refl, sym, ap, subst, ◌∙◌, true≢false, arith}
+use Rattle.std.proofs.Common.{◌≡◌, ℕ, ◌+◌, ◌<◌, ◌≤◌, zero, suc, Bool, true, false, not, cond, ◌||◌, List, [], ◌∷◌, ◌++◌, length, take, get_or, filter, Option, Some, None, is_some, option_map, unwrap_or, is_lt, refl, sym, ap, subst, ◌∙◌, true≢false, arith}
 use Rattle.std.specs.Prelude.{find}
 use Rattle.std.specs.Option.{option_to_list}
 use Rattle.std.specs.List.{list_any}
@@ -10,7 +10,7 @@ use Rattle.std.proofs.lemmas.List.{take_more, get_or-take, length-take, append_a
 use Rattle.std.specs.List.Sorted.{IsStableByKey}
 use Rattle.std.proofs.lemmas.List.Sorted.{ranks_by, sorted_far}
 use Rattle.toml.specs.Data.{Members}
-use Rattle.cg_cgroup.specs.Paths.{Names, path_cmp, same_path}
+use Rattle.cg_cgroup.specs.Paths.{Names, path_cmp, same_path, is_root}
 use Rattle.cg_cgroup.specs.Files.{enables, no_controllers, stands_under, is_beyond}
 use Rattle.cg_cgroup.specs.Cgroups.{file_of, entry_in, value_in, root_file}
 use Rattle.cg_cgroup.proofs.CgroupLaws.{stands-under, entry-under}
@@ -34,6 +34,7 @@ use Rattle.cg_format.specs.declared.format.Format.{Format}
 use Rattle.cg_text.specs.declared.tree.row.Row.{Row}
 use Rattle.cg_text.specs.declared.tree.walk.Least.{Least}
 use Rattle.cg_format.proofs.Cuts.{head_of, find_filter, any_filter}
+use Rattle.cg_format.proofs.DocumentOfLaws.{freeze-stands, freeze-roots}
 use Rattle.cg_text.proofs.LeastLaws.{at_path, AreMatched, read_found, there_is, over_is, AreSameRows, same_rows, AreOnce, once_from, once_moved, over_before}
 
 -- ---- the keys of the entries
@@ -134,7 +135,13 @@ read_entry format tables number table row read above same = record {
       let sets : other ≡ above = same other (ap (over (Some no_controllers) tables) (sym own) ∙ is) in
       stands-under above root_file (fitted_to above row.cgroup) refl controller
       ∙ ap (λ (set : ControllerSet). enables set controller) (sym sets);
-  roots = record { freeze = read.freeze; others = entry-under above root_file (fitted_to above row.cgroup) refl };
+  freeze = λ path said.
+      ap is_some read.freeze ∙ freeze-stands row.path
+      ∙ ap (λ path. not (is_root path)) (sym (same_some path row.path (sym said ∙ read.path)));
+  roots = record {
+    freeze = λ entry is. freeze-roots row.path entry (sym read.freeze ∙ is);
+    others = entry-under above root_file (fitted_to above row.cgroup) refl;
+  };
 }
 
 -- ---- the entries

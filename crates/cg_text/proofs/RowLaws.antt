@@ -17,9 +17,10 @@ use Rattle.cg_cgroup.specs.Paths.{Names}
 use Rattle.cg_cgroup.specs.Files.{all_files, brought_files, format_2_entries, known_entries, entry_text, is_beyond}
 use Rattle.cg_cgroup.specs.Told.{told_by}
 use Rattle.cg_cgroup.specs.declared.other_file.OtherFile.{OtherFile}
-use Rattle.cg_cgroup.specs.Cgroups.{file_of, entry_in, value_in as value_at, root_file}
+use Rattle.cg_cgroup.specs.Cgroups.{file_of, entry_in, value_in as value_at}
 use Rattle.cg_cgroup.proofs.Options.{some_value, mapped_from, is_some-mapped}
 use Rattle.cg_cgroup.specs.declared.user.Entry.{Entry}
+use Rattle.cg_format.specs.Tables.{freeze_at}
 use Rattle.cg_cgroup.specs.declared.files.Limit.{Limit}
 use Rattle.cg_cgroup.specs.declared.controllers.ControllerSet.{ControllerSet}
 use Rattle.cg_cgroup.specs.declared.files.LimitFile.{LimitFile}
@@ -246,10 +247,11 @@ module _ (said : Entries) where
       (all_so valued (each_passes valued all) brought_files)) ∙ sym (ap (list_all is_some) read) ∙ is)) in
       no_entry_fault are ∙ ap (λ b. first (unless b (BadValue said.place))) some
 
-  pub cgroup_read : (controllers : ControllerSet) (cgroup : Cgroup) → cgroup.enabled ≡ controllers → cgroup.freeze ≡ root_file
+  pub cgroup_read : (controllers : ControllerSet) (at : Option Entry) (cgroup : Cgroup) → cgroup.enabled ≡ controllers
+      → cgroup.freeze ≡ at
       → HasOwner Dir cgroup.dir → HasOwner Procs cgroup.procs → HasOwner SubtreeControl cgroup.subtree_control
-      → ((file : LimitFile) → HasFile cgroup file) → (first (entry_faults said) ≡ None) × IsCgroupOf said controllers cgroup
-  cgroup_read controllers cgroup enabled freeze dir procs control files =
+      → ((file : LimitFile) → HasFile cgroup file) → (first (entry_faults said) ≡ None) × IsCgroupOf said controllers at cgroup
+  cgroup_read controllers at cgroup enabled freeze dir procs control files =
       let values : (file : LimitFile) → limit_in said file ≡ value_at cgroup file =
       λ file. (files file).value ∙ sym (ap (option_map (λ (f : LimitEntry). f.value)) (files file).stands) in
       let owners : (file : LimitFile) → owner_in said (File file) ≡ entry_in cgroup (File file) =
@@ -321,9 +323,10 @@ module _ (said : Entries) (row : Members) (dir : option_map (λ table. table_vie
       (all_known (owned said) (vocabulary said.format))
 
   pub row_read : (i : ℕ) (enabled : ControllerSet) (made : Row) → made.number ≡ i → path_said (codes "path") row ≡ Some made.path
-      → known_said said.format (codes "enabled") row ≡ Some enabled → IsCgroupOf said enabled made.cgroup → made.needed ≡ needed_by said
+      → known_said said.format (codes "enabled") row ≡ Some enabled → (freeze : Option Entry) → freeze ≡ freeze_at made.path
+      → IsCgroupOf said enabled freeze made.cgroup → made.needed ≡ needed_by said
       → told_in_row made ≡ told_of said → IsReadAs said.format i row made
-  row_read i enabled made number path has_enabled is needed told = record {
+  row_read i enabled made number path has_enabled freeze at is needed told = record {
     number = number;
     path = path;
     enabled = has_enabled ∙ ap (λ (set : ControllerSet). Some set) (sym is.enabled);
@@ -331,7 +334,7 @@ module _ (said : Entries) (row : Members) (dir : option_map (λ table. table_vie
     values = λ file. sym (value_is file) ∙ sym (is.values file);
     needed = needed ∙ (λ i. needed_where (λ file. named_is file i));
     files = is.files;
-    freeze = is.freeze;
+    freeze = is.freeze ∙ at;
     told = told ∙ told_is;
   }
 

@@ -10,7 +10,7 @@ use Rattle.toml.specs.Data.{Members, no_members, member}
 use Rattle.toml.specs.View.{table_view}
 use Rattle.toml.specs.declared.value.Value.{Value}
 use Rattle.cg_cgroup.specs.Files.{all_files, format_2_entries, entry_text, is_beyond, controller_of, same_controller, set_by, known_others, entry_known_as}
-use Rattle.cg_cgroup.specs.Cgroups.{file_of, entry_in, value_in as value_at, root_file}
+use Rattle.cg_cgroup.specs.Cgroups.{file_of, entry_in, value_in as value_at}
 use Rattle.cg_cgroup.specs.declared.user.Entry.{Entry}
 use Rattle.cg_cgroup.specs.declared.files.Limit.{Limit}
 use Rattle.cg_cgroup.specs.declared.files.Controller.{Controller}
@@ -28,6 +28,7 @@ use Rattle.cg_cgroup.specs.declared.cgroup.Cgroup.{Cgroup}
 use Rattle.cg_model.specs.Clauses.{unless}
 use Rattle.cg_format.specs.Form.{vocabulary}
 use Rattle.cg_format.specs.Said.{table_at, path_said, known_said, owner_said, limit_said, mode_missing, entry_said, value_said, is_named, text_said, file_said, told_row}
+use Rattle.cg_format.specs.Tables.{freeze_at}
 use Rattle.cg_format.specs.declared.format.Format.{Format}
 use Rattle.cg_format.specs.declared.fault.TreeFault.{TreeFault}
 use Rattle.cg_format.specs.declared.fault.TreeFault.TheVariants.{BadEntry, BadValue}
@@ -127,17 +128,17 @@ abbrev pub told_of : Entries → Option ToldFiles
 told_of entries = cond (tells_in entries) (Some (told_by (told_at entries))) None
 
 abbrev pub told_in_row : Row → Option ToldFiles
-told_in_row row = option_map (λ boxed. boxed.value) row.told
+told_in_row row = row.told
 
 -- ---- rows
 
--- a cgroup with all files, as these tables and the defaults say
-pub record IsCgroupOf (said : Entries) (controllers : ControllerSet) (cgroup : Cgroup) : Type 0 where
+-- a cgroup with all files that controllers bring, as these tables and the defaults say
+pub record IsCgroupOf (said : Entries) (controllers : ControllerSet) (given : Option Entry) (cgroup : Cgroup) : Type 0 where
   pub enabled : cgroup.enabled ≡ controllers
   pub entries : (name : EntryName) → is_beyond name ≡ false → entry_in cgroup name ≡ owner_in said name
   pub values : (file : LimitFile) → value_at cgroup file ≡ limit_in said file
   pub files : (file : LimitFile) → is_some (file_of cgroup file) ≡ true
-  pub freeze : cgroup.freeze ≡ root_file
+  pub freeze : cgroup.freeze ≡ given
 
 -- a row as a table says it
 pub record IsReadAs (format : Format) (i : ℕ) (table : Members) (row : Row) : Type 0 where
@@ -148,7 +149,7 @@ pub record IsReadAs (format : Format) (i : ℕ) (table : Members) (row : Row) : 
   pub values : (file : LimitFile) → value_said table file ≡ value_at row.cgroup file
   pub needed : row.needed ≡ needed_where (λ file. is_named (File file) table)
   pub files : (file : LimitFile) → is_some (file_of row.cgroup file) ≡ true
-  pub freeze : row.cgroup.freeze ≡ root_file
+  pub freeze : row.cgroup.freeze ≡ freeze_at row.path
   pub told : told_in_row row ≡ told_row format table
 
 -- rows as tables say them, the first of which has the number i

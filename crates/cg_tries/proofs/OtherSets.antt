@@ -79,9 +79,9 @@ get_unwritten user (entry ∷ entries) (suc n) h =
 untold_unwritten : (user : Identity) (row : Cgroup) → writes_untold user row ≡ false → (file : OtherFile)
     → writes_some user (untold_in row file) ≡ false
 untold_unwritten user row h file =
-    let parts = or_parts (writes user row.freeze) (list_any (writes_some user) row.others.entries) h in
+    let parts = or_parts (writes_some user row.freeze) (list_any (writes_some user) row.others.entries) h in
     elim (brought_by file) as
-    (λ by. writes_some user (elim by [ None ↦ Some row.freeze | Some controller ↦ other_in row controller ]) ≡ false) [
+    (λ by. writes_some user (elim by [ None ↦ row.freeze | Some controller ↦ other_in row controller ]) ≡ false) [
       | None ↦ parts.0
       | Some controller ↦ get_unwritten user row.others.entries _ parts.1
     ]

@@ -1,6 +1,7 @@
 -- A try of one operation breaks where it is allowed and its step breaks.
-use Rattle.std.proofs.Common.{◌≡◌, ℕ, Bool, true, false, cond, not, ◌&&◌, ◌≢◌, List, [], ◌∷◌, Some, None, is_some, option_map, nat_eq, refl, sym, ap, ◌∙◌, true≢false, arith}
-use Rattle.std.proofs.lemmas.Bool.{and_from, eqb-true, eqb-false, not-true}
+use Rattle.std.proofs.Common.{◌≡◌, ℕ, Bool, true, false, cond, not, ◌&&◌, ◌≢◌, List, [], ◌∷◌, ◌++◌, drop, Some, None, is_some, option_map, nat_eq, refl, sym, ap, ◌∙◌, true≢false, arith}
+use Rattle.std.proofs.lemmas.Bool.{and_from, eqb-true, eqb-false, not-true, false_from_ne_true}
+use Rattle.std.proofs.lemmas.List.{append_cancel_left}
 use Rattle.std.proofs.Math.Bool.{and-true}
 use Rattle.cg_cgroup.specs.Paths.{Names, inside}
 use Rattle.cg_cgroup.specs.Identity.{Identity}
@@ -42,7 +43,7 @@ use Rattle.cg_model.specs.declared.verdict.Clause.{Clause}
 use Rattle.cg_model.specs.declared.verdict.Clause.TheVariants.{Gone, Limits}
 use Rattle.cg_model.proofs.LimitLaws.{same_limits-is}
 use Rattle.cg_model.proofs.BrokenLaws.{broken-whole}
-use Rattle.cg_model.specs.Tries.{other_value, other_text}
+use Rattle.cg_model.specs.Tries.{other_value, device_of, on_device, text_besides, other_text}
 use Rattle.cg_model.specs.Escapes.{breaks}
 use Rattle.cg_tries.specs.Escapes.{IsUnbroken}
 use Rattle.cg_tries.specs.Finding.{allowed}
@@ -159,18 +160,31 @@ set_try st user subtree file value whole is = where_allowed st user subtree (Set
 two_texts : (file : OtherFile) → same_name (other_kind file).loose (other_kind file).other ≡ false
 two_texts file = not-true _ (each_other (λ file. not (same_name (other_kind file).loose (other_kind file).other)) refl file)
 
--- of the two the one that isn't the file's
-pub text_differs : (file : OtherFile) (had : Option FileText) → had ≢ Some (other_text file had)
-text_differs file None is = cc
-text_differs file (Some text) is =
-    elim (same_name (other_kind file).loose text) as (λ b. same_name (other_kind file).loose text ≡ b
-    → Some text ≢ Some (cond b (other_kind file).other (other_kind file).loose)) [
-      | false ↦ λ apart is.
-          true≢false (sym ((bytes_decides (other_kind file).loose text).1 (sym (same_some text (other_kind file).loose is))) ∙ apart)
+-- on a device too
+apart_on : (device : Option (List ℕ)) (one other : List ℕ) → same_name one other ≡ false
+    → same_name (on_device device one) (on_device device other) ≡ false
+apart_on None one other apart = apart
+apart_on (Some device) one other apart =
+    false_from_ne_true (same_name (device ++ 32 ∷ one) (device ++ 32 ∷ other)) (λ same.
+    let rest = ap (drop 1) (append_cancel_left device (32 ∷ one) (32 ∷ other)
+    ((bytes_decides (device ++ 32 ∷ one) (device ++ 32 ∷ other)).0 same)) in
+    true≢false (sym ((bytes_decides one other).1 rest) ∙ apart))
+
+-- of two texts that differ, the one that isn't the file's
+besides_differs : (had : Option FileText) (first second : FileText) → same_name first second ≡ false
+    → had ≢ Some (text_besides had first second)
+besides_differs None first second two is = cc
+besides_differs (Some text) first second two is =
+    elim (same_name first text) as (λ b. same_name first text ≡ b → Some text ≢ Some (cond b second first)) [
+      | false ↦ λ apart is. true≢false (sym ((bytes_decides first text).1 (sym (same_some text first is))) ∙ apart)
       | true ↦ λ same is.
-          true≢false (sym ((bytes_decides (other_kind file).loose (other_kind file).other).1
-          ((bytes_decides (other_kind file).loose text).0 same ∙ same_some text (other_kind file).other is)) ∙ two_texts file)
+          true≢false (sym ((bytes_decides first second).1 ((bytes_decides first text).0 same ∙ same_some text second is)) ∙ two)
     ] refl is
+
+pub text_differs : (file : OtherFile) (had : Option FileText) → had ≢ Some (other_text file had)
+text_differs file had =
+    besides_differs had (on_device (device_of file had) (other_kind file).loose) (on_device (device_of file had) (other_kind file).other)
+    (apart_on (device_of file had) (other_kind file).loose (other_kind file).other (two_texts file))
 
 text_set : (st : State) (subtree : Names) (file : OtherFile) (told : ToldFile) (value : FileText) → file_told st subtree file ≡ Some told
     → told_text (with_text st subtree file value) subtree file ≡ Some value

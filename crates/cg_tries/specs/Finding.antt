@@ -59,7 +59,7 @@ writes_some user entry = elim entry [ None ↦ false | Some entry ↦ writes use
 
 -- the user writes one of those files where nothing is told of them
 abbrev pub writes_untold : Identity → Cgroup → Bool
-writes_untold user row = writes user row.freeze || list_any (writes_some user) row.others.entries
+writes_untold user row = writes_some user row.freeze || list_any (writes_some user) row.others.entries
 
 abbrev pub first_other_set : State → Identity → Names → Option (List Op)
 first_other_set st user subtree = first_given (other_set_of st user subtree) all_others

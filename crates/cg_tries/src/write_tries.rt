@@ -7,8 +7,9 @@ ghost use Rattle.cg_cgroup.specs.Files.{enables};
 ghost use Rattle.cg_model.specs.States.{row_at};
 ghost use Rattle.cg_model.specs.WellFormed.{enabled_at};
 ghost use Rattle.cg_model.specs.Limits.{same_text};
-ghost use Rattle.cg_model.specs.Tries.{other_value, other_text};
+ghost use Rattle.cg_model.specs.Tries.{other_value, other_text, device_of, on_device};
 ghost use Rattle.cg_tries.specs.Finding.{if_allowed, set_of, first_listed_set, other_set_from, other_set_of, writes_some, writes_untold, first_other_set, first_set, control_of, told_control_of, first_control, first_write};
+ghost use Rattle.std.specs.String.{string_bytes};
 
 use crate::asker::Asker;
 use cg_cgroup::cgroup::Cgroup;
@@ -17,12 +18,14 @@ use cg_cgroup::memory::NoMemory;
 use cg_cgroup::other_file::OtherFile;
 use cg_cgroup::told::{FileText, ToldFiles};
 use cg_cgroup::user::{Entry, User};
+use cg_cgroup::value::device_in;
 use cg_model::changes::{Change, Changes};
 use cg_model::hierarchy::Hierarchy;
 use cg_model::operation::Op;
 use cg_model::operations::Operations;
 use cg_model::told::is_told;
 use cg_ops::refusal;
+use std::alloc::Global;
 
 /// An operation alone, where nothing refuses it.
 fn if_allowed<H: Hierarchy>(asker: &Asker<H>, op: Op) -> Result<Option<Operations>, NoMemory>
@@ -89,14 +92,39 @@ fn has_text(had: Option<&FileText>, text: &str) -> bool
     }
 }
 
-/// Another text than the file's, the one that loosens it where it doesn't have that.
-fn other_text(file: OtherFile, had: Option<&FileText>) -> &'static str
-    ensures { result.now ≡ other_text file (option_copied had.entry) }
+/// The device or resource that is told in the value of a file whose lines begin with one.
+fn device_of(file: OtherFile, had: Option<&FileText>) -> Option<&str>
+    ensures { option_copied result ≡ device_of file (option_copied had.entry) }
 {
-    if has_text(had, file.loose()) {
-        file.other()
+    match had {
+        Some(value) if file.is_of_devices() => device_in(&value.text),
+        _ => None,
+    }
+}
+
+/// A text, behind the name of a device where there is one.
+fn on_device(alloc: Global, device: Option<&str>, text: &str) -> Result<String, NoMemory>
+    ensures { IfOk result (λ made. string_bytes made ≡ on_device (option_copied device.entry) text.now) }
+{
+    let Some(device) = device else {
+        return Ok(String::from_str(alloc, text)?);
+    };
+    let mut line = String::from_str(alloc, device)?;
+    line.push(' ')?;
+    line.push_str(text)?;
+    Ok(line)
+}
+
+/// Another text than the file's, the one that loosens it where it doesn't have that.
+fn other_text(alloc: Global, file: OtherFile, had: Option<&FileText>) -> Result<String, NoMemory>
+    ensures { IfOk result (λ made. string_bytes made ≡ other_text file (option_copied had.entry)) }
+{
+    let device = device_of(file, had);
+    let loose = on_device(alloc, device, file.loose())?;
+    if has_text(had, &loose) {
+        on_device(alloc, device, file.other())
     } else {
-        file.loose()
+        Ok(loose)
     }
 }
 
@@ -114,7 +142,7 @@ fn set_from<H: Hierarchy>(
         return Ok(None);
     }
     let at = asker.subtree.try_clone(asker.alloc)?;
-    let text = String::from_str(asker.alloc, other_text(file, had))?;
+    let text = other_text(asker.alloc, file, had)?;
     let value = FileText { text };
     Ok(Some(Operations::only(asker.alloc, Op::SetOther { at, file, value })?))
 }
@@ -164,7 +192,7 @@ fn writes_any(user: &User, entries: &[Option<Entry>]) -> bool
 fn writes_untold(user: &User, cgroup: &Cgroup) -> bool
     ensures { result ≡ writes_untold user.now cgroup.now }
 {
-    user.may_write(&cgroup.freeze) || writes_any(user, &cgroup.others.entries)
+    writes_some(user, &cgroup.freeze) || writes_any(user, &cgroup.others.entries)
 }
 
 /// The first file beyond `LimitFile` of the subtree that the user may set to another text.

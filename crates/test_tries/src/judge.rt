@@ -9,6 +9,7 @@ use cg_cgroup::path::{Path, PathFault};
 use cg_cgroup::process::Pid;
 use cg_cgroup::told::{FileText, ToldFiles};
 use cg_cgroup::user::User;
+use cg_cgroup::value::device_in;
 use cg_model::changes::{Change, Changes};
 use cg_model::files::entry_at;
 use cg_model::hierarchy::Hierarchy;
@@ -203,11 +204,36 @@ fn other_value(file: LimitFile, value: Limit) -> Limit {
     }
 }
 
+/// A text of a file, behind the device that its value tells of.
+fn on_device(
+    alloc: Global,
+    file: OtherFile,
+    had: Option<&FileText>,
+    text: &str,
+) -> Result<FileText, NoMemory> {
+    let mut line = String::new(alloc);
+    if let Some(had) = had {
+        if let Some(device) = device_in(&had.text) {
+            if file.is_of_devices() {
+                line.push_str(device)?;
+                line.push(' ')?;
+            }
+        }
+    }
+    line.push_str(text)?;
+    Ok(FileText { text: line })
+}
+
 /// Another text than that of a file, the one that loosens it where it doesn't have that.
-fn other_text(file: OtherFile, had: Option<&FileText>) -> &'static str {
+fn other_text(
+    alloc: Global,
+    file: OtherFile,
+    had: Option<&FileText>,
+) -> Result<FileText, NoMemory> {
+    let loose = on_device(alloc, file, had, file.loose())?;
     match had {
-        Some(had) if had.text.as_str() == file.loose() => file.other(),
-        _ => file.loose(),
+        Some(value) if value.text == loose.text => on_device(alloc, file, had, file.other()),
+        _ => Ok(loose),
     }
 }
 
@@ -218,10 +244,7 @@ fn other_sets(alloc: Global, tree: &Rows, subtree: &Path) -> Result<Vec<Vec<Op>>
     for file in OtherFile::ALL {
         if entry_at(tree, subtree, subtree.depth(), EntryName::Other(file)).is_some() {
             let at = subtree.try_clone(alloc)?;
-            let text = other_text(file, text(told, file));
-            let value = FileText {
-                text: String::from_str(alloc, text)?,
-            };
+            let value = other_text(alloc, file, text(told, file))?;
             tries.push(only(alloc, Op::SetOther { at, file, value })?)?;
         }
     }

@@ -67,7 +67,14 @@ fn set(alloc: Global, random: &mut Random, tree: &Rows) -> Result<Op, NoMemory> 
 fn set_other(alloc: Global, random: &mut Random, tree: &Rows) -> Result<Op, NoMemory> {
     let at = path_of(alloc, random, tree)?;
     let file = random.one_of(&OtherFile::ALL, OtherFile::CpuMax);
-    let text = random.one_of(&[file.loose(), file.other(), "0"], "max");
+    let texts = [
+        file.loose(),
+        file.other(),
+        "8:0 max",
+        "8:0 target=max",
+        "8:0",
+    ];
+    let text = random.one_of(&texts, "max");
     let value = FileText {
         text: String::from_str(alloc, text)?,
     };
@@ -206,7 +213,11 @@ fn tree(alloc: Global, random: &mut Random, users: &[User]) -> Result<Rows, Path
         return Err(PathFault::BadPath);
     };
     let all = available(random);
-    let mut tree = Rows::new(alloc, all, Cgroup::made_by(keeper, ControllerSet::none()))?;
+    let root = Cgroup {
+        freeze: None,
+        ..Cgroup::made_by(keeper, ControllerSet::none())
+    };
+    let mut tree = Rows::new(alloc, all, root)?;
     for number in [3, 1, 4] {
         populate(alloc, &mut tree, number, keeper.uid())?;
     }

@@ -2,8 +2,10 @@
 use crate::said::answer_said;
 use crate::trial::{Ended, Trial, answered};
 use cg_cgroup::memory::NoMemory;
+use cg_cgroup::other_file::OtherFile;
 use cg_cgroup::path::Path;
 use cg_cgroup::process::Pid;
+use cg_model::files::told_at;
 use cg_model::hierarchy::Hierarchy;
 use std::alloc::Global;
 use std::fmt::Debug;
@@ -46,8 +48,10 @@ fn have_same_rows<H: Hierarchy>(tree: &H, other: &H, paths: &[Path]) -> bool {
         if tree.get(path, len).copied() != other.get(path, len).copied() {
             return false;
         }
-        if tree.told(path, len) != other.told(path, len) {
-            return false;
+        for file in OtherFile::ALL {
+            if told_at(tree, path, len, file) != told_at(other, path, len, file) {
+                return false;
+            }
         }
     }
     true

@@ -43,7 +43,10 @@ pub fn made_new(trial: &mut Trial<'_>) -> Ended {
     let alloc = trial.alloc;
     let kind = trial.words.next()?;
     let user = trial.words.user()?;
-    let root = Cgroup::made_by(&user, ControllerSet::none());
+    let root = Cgroup {
+        freeze: None,
+        ..Cgroup::made_by(&user, ControllerSet::none())
+    };
     trial.begin()?;
     match kind {
         "rows" => match new_rows(alloc, root) {

@@ -4,7 +4,7 @@ ghost use Rattle.std.specs.List.{filter};
 ghost use Rattle.std.specs.FinMap as map;
 ghost use Rattle.std.specs.FinMap.{is_sorted};
 ghost use Rattle.cg_cgroup.specs.Paths.{path_cmp, below};
-ghost use Rattle.cg_rows.specs.Places.{IsPlace, IsGap};
+ghost use Rattle.cg_rows.specs.Places.{IsPlace, IsGap, IsRange};
 
 pub mod enable;
 pub mod tell;
@@ -59,6 +59,20 @@ fn search<V>(entries: &[(Path, V)], path: &Path) -> Result<usize, usize>
     search_prefix(entries, path, path.depth())
 }
 
+/// Where the entries below the path of the first `len` names of `path` stand: the place of the first, and that after the last.
+fn range_below<V>(entries: &[(Path, V)], path: &Path, len: usize) -> (usize, usize)
+    requires sorted { is_sorted path_cmp entries.now ≡ true }
+    requires within { len ≤ length path.now }
+    ensures { IsRange (below (take len path.now)) entries.now result.0 result.1 }
+{
+    let start = match search_prefix(entries, path, len) {
+        Ok(at) => at + 1,
+        Err(at) => at,
+    };
+    let count = entries[start..].partition_point(|entry| path.holds(len, &entry.0));
+    (start, start + count)
+}
+
 impl<V> PathTable<V> {
     /// An empty table.
     pub fn new(alloc: Global) -> Self
@@ -99,13 +113,8 @@ impl<V> PathTable<V> {
         requires { len ≤ length path.now }
         ensures { result.now ≡ filter (λ e. below (take len path.now) e.0) (map.entries self.now) }
     {
-        let start = match search_prefix(&self.entries, path, len) {
-            Ok(at) => at + 1,
-            Err(at) => at,
-        };
-        let rest = &self.entries[start..];
-        let end = rest.partition_point(|entry| path.holds(len, &entry.0));
-        &rest[..end]
+        let (start, end) = range_below(&self.entries, path, len);
+        &self.entries[start..end]
     }
 }
 

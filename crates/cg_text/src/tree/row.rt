@@ -11,6 +11,7 @@ ghost use Rattle.cg_model.specs.Clauses.{first, unless};
 ghost use Rattle.cg_format.specs.declared.fault.Place.TheVariants.{Cgroup as AtCgroup};
 ghost use Rattle.cg_format.specs.declared.fault.TreeFault.TheVariants.{BadEntry, BadValue};
 ghost use Rattle.cg_format.specs.declared.format.TheConstants.{MOST_ROWS_OF_4};
+ghost use Rattle.cg_format.specs.Tables.{freeze_at};
 ghost use Rattle.cg_format.specs.TextFaults.{each_cgroup, row_faults};
 ghost use Rattle.cg_text.specs.Faults.{Passes, or_fault};
 ghost use Rattle.cg_text.specs.Rows.{table_in, owner_in, limit_in, entry_with, is_file_of, names, needs, needed_by, file_in, entry_faults, IsCgroupOf, IsReadAs, AreReadAs};
@@ -18,6 +19,7 @@ ghost use Rattle.cg_text.specs.Rows.{has_beyond, names_other, is_owned, has_text
 
 use crate::tree::form::row_number;
 use crate::tree::said::{known_at, limit_of, owner_of, path_at, table_at, text_said};
+use crate::tree::walk::is_root;
 use cg_cgroup::brought::BroughtFiles;
 use cg_cgroup::cgroup::{Cgroup, LimitEntry};
 use cg_cgroup::files::{BROUGHT_COUNT, Controller, ControllerSet, EntryName, Limit, LimitFile};
@@ -31,7 +33,7 @@ use cg_format::format::Format;
 use std::alloc::Global;
 use toml::{Table, Value};
 
-/// A cgroup as its row says it, with all limit files, whether or not they stand.
+/// A cgroup as its row says it, with all limit files that controllers bring, whether or not they stand.
 #[derive(Debug, Drop)]
 pub struct Row {
     pub number: u32,
@@ -40,7 +42,7 @@ pub struct Row {
     /// The controllers whose files the row names.
     pub needed: ControllerSet,
     /// What the row tells of the limit files beyond `LimitFile`, where it names one.
-    pub told: Option<Box<ToldFiles>>,
+    pub told: Option<ToldFiles>,
 }
 
 /// What is written of a cgroup's entries, and where.
@@ -164,8 +166,8 @@ impl<'a> Entries<'a> {
     }
 
     /// The cgroup that has these entries, or the first fault of an entry, and then of a value.
-    fn cgroup(self, enabled: ControllerSet) -> Result<Cgroup, TreeFault>
-        ensures { Passes (IsCgroupOf self.entry enabled) (first (entry_faults self.entry)) result }
+    fn cgroup(self, enabled: ControllerSet, freeze: Option<Entry>) -> Result<Cgroup, TreeFault>
+        ensures { Passes (IsCgroupOf self.entry enabled freeze) (first (entry_faults self.entry)) result }
     {
         let files = self.brought();
         let dir = self.owner(EntryName::Dir)?;
@@ -187,7 +189,7 @@ impl<'a> Entries<'a> {
             subtree_control,
             max_descendants,
             max_depth,
-            freeze: Entry::ROOT_FILE,
+            freeze,
             files: BroughtFiles { entries: files },
             others: OtherFiles::none(),
             enabled,
@@ -274,7 +276,7 @@ impl<'a> Entries<'a> {
         ensures { Passes (λ files. files ≡ told_by (told_at self.entry))
             (first (unless (list_all (has_text self.entry) all_others) (BadValue self.entry.place))) result }
     {
-        let mut files = ToldFiles::none();
+        let mut files = ToldFiles::none(alloc)?;
         for at in 0..OTHER_COUNT {
             self.tell(alloc, OtherFile::ALL[at], &mut files)?;
         }
@@ -282,16 +284,16 @@ impl<'a> Entries<'a> {
     }
 
     /// What is told of each, where one is named.
-    fn told(self, alloc: Global, tells: bool) -> Result<Option<Box<ToldFiles>>, TreeFault>
+    fn told(self, alloc: Global, tells: bool) -> Result<Option<ToldFiles>, TreeFault>
         requires { tells ≡ tells_in self }
-        ensures { Passes (λ told. option_map (λ boxed. boxed.value) told ≡ told_of self.entry)
+        ensures { Passes (λ told. told ≡ told_of self.entry)
             (first (unless (have_texts_in self.entry) (BadValue self.entry.place))) result }
     {
         if !tells {
             return Ok(None);
         }
         let files = self.told_of_all(alloc)?;
-        Ok(Some(Box::new(alloc, files)?))
+        Ok(Some(files))
     }
 }
 
@@ -324,6 +326,16 @@ fn are_there(files: &[Option<LimitEntry>]) -> bool
     files.iter().all(|file| file.is_some())
 }
 
+/// `cgroup.freeze` of the cgroup at a path: root's, and none at the root.
+fn freeze_at(path: &Path) -> Option<Entry>
+    ensures { result ≡ freeze_at path.now }
+{
+    if is_root(path) {
+        return None;
+    }
+    Some(Entry::ROOT_FILE)
+}
+
 /// The row of a cgroup's table, or its first fault.
 fn row_of(alloc: Global, format: Format, number: u32, table: &Table) -> Result<Row, TreeFault>
     ensures { Passes (IsReadAs format number (table_view table.now))
@@ -342,7 +354,7 @@ fn row_of(alloc: Global, format: Format, number: u32, table: &Table) -> Result<R
     if !entries.others_are_owned(tells) {
         return Err(TreeFault::BadEntry(place));
     }
-    let cgroup = entries.cgroup(enabled)?;
+    let cgroup = entries.cgroup(enabled, freeze_at(&path))?;
     let told = entries.told(alloc, tells)?;
     Ok(Row {
         number,

@@ -1,6 +1,7 @@
 //! What a table says at its keys, as far as it is in range.
 ghost use Rattle.std.specs.Prelude.{◌≡◌, ℕ, List, [], ◌∷◌, false, map, filter_map, Some, IfOk, option_and_then};
 ghost use Rattle.std.specs.String.{string_bytes};
+ghost use Rattle.std.specs.Fmt.{signed_decimal};
 ghost use Rattle.std.specs.Option.{option_map, option_map_or, option_copied};
 ghost use Rattle.std.specs.Ordering.{is_eq, nat_cmp};
 ghost use Rattle.std.specs.Cmp.Lexicographic.{slice_cmp};
@@ -8,7 +9,7 @@ ghost use Rattle.cg_model.specs.Clauses.{first, absent};
 ghost use Rattle.toml.specs.Data.{get_member, as_array, as_str};
 ghost use Rattle.toml.specs.View.{view, array_view, table_view};
 ghost use Rattle.cg_format.specs.Form.{vocabulary};
-ghost use Rattle.cg_format.specs.Said.{id_read, mode_read, pid_read, controllers_said, known_said, elements_at, text_at, integer_at, table_at, format_said, path_said, owner_said, limit_of, limit_said, is_text_line, lines_text, integer_text, text_of, text_said};
+ghost use Rattle.cg_format.specs.Said.{id_read, mode_read, pid_read, controllers_said, known_said, elements_at, text_at, integer_at, table_at, format_said, path_said, owner_said, limit_of, limit_said, is_text_line, lines_text, text_of, text_said};
 ghost use Rattle.cg_text.specs.Faults.{Passes};
 ghost use Rattle.cg_text.specs.Rows.{written, line_added};
 
@@ -286,7 +287,7 @@ fn text_of_line(alloc: Global, line: &str) -> Result<Option<FileText>, NoMemory>
 
 /// The decimal digits of an integer.
 fn text_of_integer(alloc: Global, number: i64) -> Result<FileText, NoMemory>
-    ensures { IfOk result (λ text. text ≡ integer_text number) }
+    ensures { IfOk result (λ text. text ≡ signed_decimal number) }
 {
     Ok(FileText {
         text: number.to_string(alloc)?,

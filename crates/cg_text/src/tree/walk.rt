@@ -112,23 +112,13 @@ fn is_told(told: &ToldFiles, file: OtherFile) -> bool
     told.get(file).is_some()
 }
 
-/// Whether a file stands under a parent that enables `over`.
-fn is_brought(file: OtherFile, over: ControllerSet) -> bool
-    ensures { result ≡ stands_by over (brought_by file) }
-{
-    match file.controller() {
-        Some(controller) => over.contains(controller),
-        None => true,
-    }
-}
-
 /// Whether each file of which something is told stands under a parent that enables `over`.
 fn are_brought(told: &ToldFiles, over: ControllerSet) -> bool
     ensures { result ≡ list_all (λ file. not (is_some (told_in told.now file)) || stands_by over (brought_by file)) all_others }
 {
     OtherFile::ALL
         .iter()
-        .all(|file| !is_told(told, *file) || is_brought(*file, over))
+        .all(|file| !is_told(told, *file) || file.stands_under(over))
 }
 
 /// Whether what is told of at a path stands under a parent that enables `over`.
@@ -139,8 +129,8 @@ fn tell_standing(path: &Path, over: ControllerSet, told: &ToldFiles) -> bool
 }
 
 /// Whether what is told of at a path doesn't stand under what is over it, where that is known.
-fn tells_past(path: &Path, told: &Option<Box<ToldFiles>>, over: Option<ControllerSet>) -> bool
-    ensures { result ≡ tells_past path.now (option_map (λ boxed. boxed.value) told.now) over }
+fn tells_past(path: &Path, told: &Option<ToldFiles>, over: Option<ControllerSet>) -> bool
+    ensures { result ≡ tells_past path.now told.now over }
 {
     match (told, over) {
         (Some(told), Some(over)) => !tell_standing(path, over, told),
@@ -224,13 +214,13 @@ fn tell(
     told: &mut Vec<(Path, ToldFiles)>,
     alloc: Global,
     path: &Path,
-    here: Option<Box<ToldFiles>>,
+    here: Option<ToldFiles>,
 ) -> Result<(), NoMemory>
     ensures { OnOk result (told.new.items
-        ≡ told.old.items ++ option_to_list (option_map (λ files. (path.now, files)) (option_map (λ boxed. boxed.value) here))) }
+        ≡ told.old.items ++ option_to_list (option_map (λ files. (path.now, files)) here)) }
 {
     if let Some(files) = here {
-        told.push((path.try_clone(alloc)?, Box::into_inner(files)))?;
+        told.push((path.try_clone(alloc)?, files))?;
     }
     Ok(())
 }

@@ -44,7 +44,7 @@ fn other_files_come_and_go(rt: HostRuntime) -> Result<(), Fail> {
     let memory = ControllerSet::none().with(Controller::Memory, true);
     let mut cgroup = Cgroup::made_by(&maker, memory);
     let made = Entry::made_by(&maker, Mode::FILE);
-    assert_eq!(rt; cgroup.freeze, made);
+    assert_eq!(rt; cgroup.freeze, Some(made));
     assert_eq!(rt; cgroup.other(Controller::Memory), Some(made));
     assert_eq!(rt; cgroup.other(Controller::Io), None);
     cgroup.refit(memory.with(Controller::Io, true), &other);

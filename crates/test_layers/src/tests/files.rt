@@ -1,6 +1,7 @@
 //! Controllers, limit files and the names of entries.
 use cg_cgroup::files::{Controller, ControllerSet, EntryName, Limit, LimitFile, Vocabulary};
 use cg_cgroup::other_file::OtherFile;
+use cg_cgroup::value::device_in;
 
 /// The limit files in their order, by the names that the kernel gives them.
 pub const NAMED: [(LimitFile, &str); 8] = [
@@ -100,4 +101,24 @@ fn sets_of_controllers(rt: HostRuntime) {
     assert!(rt; some.contains(Controller::Memory) && !some.contains(Controller::Pids));
     assert!(rt; none.is_empty() && !some.is_empty());
     assert!(rt; none.is_within(&some) && !some.is_within(&none));
+}
+
+#[test]
+fn devices_stand_first(rt: HostRuntime) {
+    let values = [
+        ("8:0 rbps=1 wbps=max", Some("8:0")),
+        (
+            "drm/0000:03:00.0/vram0 5\nmxl 6",
+            Some("drm/0000:03:00.0/vram0"),
+        ),
+        ("max", None),
+        ("8:0", None),
+        ("", None),
+        ("sev\nsev_es 1", None),
+        (" 8:0", None),
+        ("\t8:0 1", None),
+    ];
+    for (value, device) in values {
+        assert_eq!(rt; device_in(value), device, "{value}");
+    }
 }

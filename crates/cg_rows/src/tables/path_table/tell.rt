@@ -6,7 +6,7 @@ ghost use Rattle.cg_cgroup.specs.Told.{nothing_told, telling, told_under};
 ghost use Rattle.cg_model.specs.States.{change_each};
 
 use crate::tables::kin::is_child;
-use crate::tables::path_table::{PathTable, search};
+use crate::tables::path_table::{PathTable, range_below, search};
 use cg_cgroup::files::ControllerSet;
 use cg_cgroup::memory::NoMemory;
 use cg_cgroup::other_file::OtherFile;
@@ -35,7 +35,8 @@ impl PathTable<ToldFiles> {
     pub fn keep(&mut self, path: &Path, enabled: ControllerSet)
         ensures { self.new ≡ change_each (λ q files. cond (is_child path.now q) (told_under enabled files) files) self.old }
     {
-        keep_all(&mut self.entries, path, enabled);
+        let (start, end) = range_below(&self.entries, path, path.depth());
+        keep_all(&mut self.entries[start..end], path, enabled);
     }
 
     /// Tells of a file of a cgroup. Fails where memory is wanted.
@@ -56,7 +57,7 @@ impl PathTable<ToldFiles> {
             }
             Err(at) => {
                 let path = path.try_clone(alloc)?;
-                let mut files = ToldFiles::none();
+                let mut files = ToldFiles::none(alloc)?;
                 files.set(file, told);
                 self.entries.insert(at, (path, files))?;
                 Ok(())

@@ -50,7 +50,7 @@ fn plain() -> Cgroup {
         subtree_control: file(0),
         max_descendants: limit(0, Limit::Max),
         max_depth: limit(0, Limit::Max),
-        freeze: file(0),
+        freeze: Some(file(0)),
         files: BroughtFiles::none(),
         others: OtherFiles::none(),
         enabled: ControllerSet::none(),
@@ -155,6 +155,7 @@ fn the_delegation_example(rt: HostRuntime) -> Result<(), Fail> {
         (
             "/",
             Cgroup {
+                freeze: None,
                 enabled: MEMORY,
                 ..plain()
             },
@@ -203,6 +204,7 @@ fn a_delegated_parent(rt: HostRuntime) -> Result<(), Fail> {
         (
             "/",
             Cgroup {
+                freeze: None,
                 enabled: MEMORY,
                 ..plain()
             },

@@ -2,8 +2,10 @@
 use cg_cgroup::cgroup::Cgroup;
 use cg_cgroup::files::{Controller, ControllerSet};
 use cg_cgroup::memory::NoMemory;
+use cg_cgroup::other_file::OtherFile;
 use cg_cgroup::path::Path;
 use cg_cgroup::process::Pid;
+use cg_model::files::told_at;
 use cg_model::hierarchy::Hierarchy;
 use std::alloc::Global;
 use std::process::Abort;
@@ -63,11 +65,13 @@ fn hold_paths<A: Hierarchy, B: Hierarchy>(rt: &impl Abort, one: &A, other: &B, p
             answers_on(other, path, len),
             "{path:?} {len}"
         );
-        assert_eq!(rt;
-            one.told(path, len),
-            other.told(path, len),
-            "{path:?} {len}"
-        );
+        for file in OtherFile::ALL {
+            assert_eq!(rt;
+                told_at(one, path, len, file),
+                told_at(other, path, len, file),
+                "{path:?} {len}"
+            );
+        }
     }
 }
 

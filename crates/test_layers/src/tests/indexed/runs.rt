@@ -123,7 +123,10 @@ fn run_anew(
     random: &mut Random,
     paths: &[Path],
 ) -> Result<u64, Fail> {
-    let root = Cgroup::made_by(&users.0, ControllerSet::none());
+    let root = Cgroup {
+        freeze: None,
+        ..Cgroup::made_by(&users.0, ControllerSet::none())
+    };
     let mut rows = Rows::new(alloc, ALL, root)?;
     let mut indexed = Indexed::new(alloc, ALL, root)?;
     begin(alloc, &mut rows, &mut indexed, users.0.uid())?;

@@ -22,6 +22,9 @@ const UNTOLD: &str = "
 1000 set /b cgroup.freeze 1: refused no-such-cgroup /b
 1000 chmod /b cgroup.freeze 666: refused no-such-cgroup /b
 /b cgroup.freeze: not there
+/ cgroup.freeze: not there
+1000 set / cgroup.freeze 1: refused no-such-file / cgroup.freeze
+1000 chmod / cgroup.freeze 666: refused no-such-file / cgroup.freeze
 1000 control / +io: ok
 / io.max: not there
 /s io.max: 1000:0 644 as it is

@@ -117,12 +117,20 @@ pub fn cgroup_of(owners: Owners, above: ControllerSet) -> Cgroup
         subtree_control: entry(owners.subtree_control, Mode::FILE),
         max_descendants: limit_file(uid, LimitFile::MaxDescendants),
         max_depth: limit_file(uid, LimitFile::MaxDepth),
-        freeze: entry(uid, Mode::FILE),
+        freeze: Some(entry(uid, Mode::FILE)),
         files: BroughtFiles {
             entries: files_under(above, uid),
         },
         others: OtherFiles::under(above, entry(uid, Mode::FILE)),
         enabled: ControllerSet::none(),
+    }
+}
+
+/// A root with default modes and values, and group 0.
+fn root_of(owners: Owners) -> Cgroup {
+    Cgroup {
+        freeze: None,
+        ..cgroup_of(owners, ControllerSet::none())
     }
 }
 
@@ -354,7 +362,7 @@ pub fn root_alone(
     controllers: ControllerSet,
     owners: Owners,
 ) -> Result<Rows, NoMemory> {
-    Rows::new(alloc, controllers, cgroup_of(owners, ControllerSet::none()))
+    Rows::new(alloc, controllers, root_of(owners))
 }
 
 /// A tree with a root alone, of finished tables.
@@ -446,6 +454,5 @@ pub fn nested(rt: &impl Abort, alloc: Global) -> Result<Rows, Fail> {
 
 /// The same tree, from finished tables.
 pub fn nested_of_tables(rt: &impl Abort, alloc: Global) -> Result<Rows, Fail> {
-    let root = cgroup_of(Owners::KEPT, ControllerSet::none());
-    nest(rt, alloc, of_tables(alloc, MEMORY, root)?)
+    nest(rt, alloc, of_tables(alloc, MEMORY, root_of(Owners::KEPT))?)
 }

@@ -73,5 +73,5 @@ returns c =
           ∙ ten_passed _ _ _ _ _ _ (sym c.others_are_owned.ensures ∙ c.if-not-others_are_owned.false) c.in_ok-cgroup.ensures.0
           ∙ c.in_ok-told.ensures.0,
       row_read said row c.table_at.ensures c.table_at-2.ensures c.args.number _ _ refl path
-          enabled c.in_ok-cgroup.ensures.1 c.needed.ensures c.in_ok-told.ensures.1,
+          enabled _ c.freeze_at.ensures c.in_ok-cgroup.ensures.1 c.needed.ensures c.in_ok-told.ensures.1,
     )

@@ -1,18 +1,8 @@
-use Rattle.std.proofs.Common.{take, rules}
-use Rattle.std.proofs.lemmas.Fn.{always_returns_same}
-use Rattle.cg_cgroup.specs.Paths.{inside}
-use Rattle.cg_cgroup.proofs.PathOrder.{path_cmp_total}
-use Rattle.cg_rows.proofs.Below.{IsStart, found_below, start_of_place, start_of_gap}
+use Rattle.std.proofs.Common.{take}
+use Rattle.cg_rows.proofs.Below.{entries_below}
 use Rattle.cg_rows.proofs.tables.path_table.PathTable.below.Goals as goal
-use Rattle.cg_rows.proofs.tables.path_table.PathTable.below.Goals.{in-Ok, in-Err}
 
 pub returns : goal.returns
 returns g c =
-    let p = take c.args.len c.args.path.now in
-    let start : IsStart path_cmp_total p c.self.inside.entries.items c.match-search_prefix.start =
-    elim c.match-search_prefix.branch [
-      | in-Ok w ↦ start_of_place p _ _ _ _ c.self.invariant c.deref.ensures.value w.in-Ok.ensures w.start-is
-      | in-Err w ↦ start_of_gap p _ _ _ _ c.deref.ensures.value w.in-Err.ensures w.start-is
-    ] in
-    found_below p _ _ _ _ c.self.view_is c.self.invariant c.deref-2.ensures.value start c.partition_point-end.ensures.bound
-    (c.partition_point-end.ensures.partitioned (λ e. inside p e.0) (always_returns_same _ _ _ (λ a r f' k. search rules)))
+    entries_below (take c.args.len c.args.path.now) _ _ _ _ c.deref.ensures.value c.range_below-start.ensures _ c.self.view_is
+    c.self.invariant c.deref-2.ensures.value

@@ -49,7 +49,8 @@ returns-then-not-are_there c = λ _.
 
 pub returns : goal.returns
 returns c =
-    cgroup_read c.args.self c.args.enabled _ refl refl c.in_ok-dir.ensures c.in_ok-procs.ensures c.in_ok-subtree_control.ensures
+    cgroup_read c.args.self c.args.enabled c.args.freeze _ refl refl c.in_ok-dir.ensures c.in_ok-procs.ensures
+    c.in_ok-subtree_control.ensures
     (has_each c.args.self _ c.brought-files.ensures (sym c.are_there.ensures ∙ c.if-not-are_there.false)
     (has_file c.args.self _ MaxDescendants _ _ refl c.in_ok-max_descendants.ensures c.in_ok-max_descendants-2.ensures)
     (has_file c.args.self _ MaxDepth _ _ refl c.in_ok-max_depth.ensures c.in_ok-max_depth-2.ensures))

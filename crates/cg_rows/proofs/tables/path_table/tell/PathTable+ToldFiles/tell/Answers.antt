@@ -40,5 +40,5 @@ returns-in_ok-insert-in-Err-clause-ok c =
     inserted path_cmp_total c.args.path.now c.set-in-Err.new.self _ _ _ _ c.self.view_is c.self.invariant c.deref.ensures.value
     c.in-Err.ensures (new_items c)
     ∙ ap (map.insert c.args.self.now c.args.path.now) (c.set-in-Err.ensures
-    ∙ ap (telling c.args.file (Some c.args.told)) c.none-files.ensures
+    ∙ ap (telling c.args.file (Some c.args.told)) c.in_ok-files-in-Err.ensures
     ∙ ap (λ o. telling c.args.file (Some c.args.told) (unwrap_or o nothing_told)) none)
