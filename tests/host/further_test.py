@@ -27,7 +27,7 @@ from zirofen_host.profile import CONTROLLERS, FURTHER_FILES, LIMIT_FILES, TEXT_F
 from zirofen_host.show import steps, view
 
 VALUE = r"\(codes \"[^\"]+\"\)"
-ROW = re.compile(rf"^other_kind \w+ = row (\d+) \(codes \"([^\"]+)\"\) (?:None|\(Some (\w+)\)) {VALUE} {VALUE}$", re.M)
+ROW = re.compile(rf"^other_kind \w+ = (?:\w+ \()?\w+ (\d+) \(codes \"([^\"]+)\"\) (?:None|\(Some (\w+)\)) {VALUE} {VALUE}(?:\).*)?$", re.M)
 LONG = "7" * 4095
 # what a kernel has in a file, behind it what a text has
 VALUES = (

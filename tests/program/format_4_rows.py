@@ -64,6 +64,22 @@ TOLD_OF_1000 = ("pair 1000 /p/s", *GUARDS_OF_S, "holds parent-control /p cgroup.
                 "holds parent-dir /p dir 0:0 755", *WITHIN, "contained")
 ADVISED = ("fails parent-control /p cgroup.subtree_control 1001:0 644 owner", "chown /p cgroup.subtree_control 0:0")
 
+# of a further limit file that is the user's: its value as the text has it, and the text to which the user sets it, which for some files
+# stands behind the device that the value names first
+DEVICE, TOO_LONG = 255 * "d", 256 * "d"
+LOOSE, TURNED = "rbps=max wbps=max riops=max wiops=max", "rbps=2 wbps=2 riops=2 wiops=2"
+SETS = (
+    ("io.max", None, LOOSE), ("io.max", "max", LOOSE), ("io.max", "8:0 rbps=1", f"8:0 {LOOSE}"), ("io.max", f"8:0 {LOOSE}", f"8:0 {TURNED}"),
+    ("io.max", [f"8:0 {LOOSE}", "8:16 rbps=1"], f"8:0 {LOOSE}"), ("io.max", LOOSE, f"rbps=max {LOOSE}"),
+    ("io.latency", None, "target=max"), ("io.latency", "target=max", "target=1"), ("io.latency", "8:0 target=5", "8:0 target=max"),
+    ("rdma.max", "mlx5_0 hca_handle=2 hca_object=2000", "mlx5_0 hca_handle=max hca_object=max"),
+    ("rdma.max", "mlx5_0 hca_handle=max hca_object=max", "mlx5_0 hca_handle=0 hca_object=0"),
+    ("dmem.low", "drm/0000:03:00.0/vram0 1", "drm/0000:03:00.0/vram0 max"), ("dmem.max", "a max", "a 0"), ("dmem.min", "a 0", "a max"),
+    ("misc.max", None, "max"), ("misc.max", "max", "0"), ("misc.max", 0, "max"), ("misc.max", "sev", "max"), ("misc.max", "sev 1", "sev max"),
+    ("misc.max", ["sev", "foo 1"], "max"), ("misc.max", ["sev 1", "foo 1"], "sev max"), ("misc.max", f"{DEVICE} max", f"{DEVICE} 0"),
+    ("misc.max", f"{TOO_LONG} max", "max"), ("io.weight", "8:0 50", "default 10000"), ("io.weight", "default 10000", "default 9999"),
+    ("memory.swap.max", "8:0 max", "max"), ("memory.swap.max", "max", "0"), ("cpu.max", 5, "max 100000"))
+
 # User 1003 writes what /q enables, and turns nothing: /q/s uses io, and the root enables nothing else
 HELD = b"""format = 4
 controllers = ["dmem", "io"]
@@ -137,6 +153,24 @@ def operation_lines():
     for word in "perf_event", "IO", "io.max", "cpusets", "":
         tree = of_root(4, NINE, root=owned).encode("ascii")
         yield Case(replayed("1000"), 3, fault="fault: line 1 bad-word", given=tree, piped=f"control / +{word}\n".encode("ascii"))
+
+
+def lines_at_the_root():
+    """No further limit file stands there, cgroup.freeze neither."""
+    for name in "cgroup.freeze", "io.max":
+        for line in f"set / {name} 0", f"chmod / {name} 644":
+            yield Case(replayed("1000"), 0, [f"refused no-such-file / {name}"], given=of_root(4, NINE).encode("ascii"), piped=lines([line]))
+
+
+def sets():
+    """Of a further limit file that is the user's the escape, and that it is one."""
+    for name, value, text in SETS:
+        more = "" if value is None else f", value = {json.dumps(value)}"
+        tree = of_root(4, NINE, row("/a", f'files."{name}" = {{ uid = 1000{more} }}'), f"enabled = {json.dumps(NINE)}").encode("ascii")
+        escape = f"set /a {name} {text}"
+        for command in "check", "settle":
+            yield Case(asked(command, "1000", "/a"), 1, ["escapes", escape], given=tree)
+        yield Case(replayed("1000", "--subtree", "/a"), 1, ["ok", "broken 1 limits"], given=tree, piped=lines([escape]))
 
 
 def is_read(tree, *more):
@@ -240,5 +274,5 @@ def large_texts():
 
 
 def rows():
-    for table in answers, operation_lines, tree_faults, sizes, large_texts:
+    for table in answers, operation_lines, lines_at_the_root, sets, tree_faults, sizes, large_texts:
         yield from table()

@@ -3,6 +3,8 @@ alone, as rules.py is.
 """
 # a value of an operation line, and each line of one of a tree text
 LONGEST_VALUE, LONGEST_LINE = 3800, 4095
+# the name of a device or of a resource
+LONGEST_DEVICE = 255
 SIZES = ("16GB", "16MB", "1GB", "1MB", "2GB", "2MB", "32MB", "512MB", "64KB")
 # each further limit file, in the order used everywhere: the controller that brings it, and the value that loosens it
 FURTHER_FILES = {
@@ -21,9 +23,9 @@ FURTHER_FILES = {
     "dmem.max": ("dmem", "max"),
     "dmem.min": ("dmem", "max"),
     **{f"hugetlb.{size}.{end}": ("hugetlb", "max") for size in SIZES for end in ("max", "rsvd.max")},
-    "io.bfq.weight": ("io", "1000"),
-    "io.latency": ("io", "max"),
-    "io.max": ("io", "max"),
+    "io.bfq.weight": ("io", "default 1000"),
+    "io.latency": ("io", "target=max"),
+    "io.max": ("io", "rbps=max wbps=max riops=max wiops=max"),
     "io.prio.class": ("io", "no-change"),
     "io.weight": ("io", "default 10000"),
     "memory.swap.high": ("memory", "max"),
@@ -31,19 +33,30 @@ FURTHER_FILES = {
     "memory.zswap.max": ("memory", "max"),
     "memory.zswap.writeback": ("memory", "1"),
     "misc.max": ("misc", "max"),
-    "rdma.max": ("rdma", "max"),
+    "rdma.max": ("rdma", "hca_handle=max hca_object=max"),
 }
 # the text that is tried where the file has the one that loosens it: of those that aren't here 0
 ELSE = {
     "cgroup.freeze": "1", "cpu.idle": "1", "cpu.max": "max 50000", "cpu.max.burst": "1", "cpu.uclamp.max": "50", "cpu.weight.nice": "-19",
-    "cpuset.cpus.partition": "root", "io.bfq.weight": "999", "io.prio.class": "none-to-rt", "io.weight": "default 9999",
+    "cpuset.cpus.partition": "root", "io.bfq.weight": "default 999", "io.latency": "target=1", "io.max": "rbps=2 wbps=2 riops=2 wiops=2",
+    "io.prio.class": "none-to-rt", "io.weight": "default 9999", "rdma.max": "hca_handle=0 hca_object=0",
 }
+# those whose lines begin with the name of a device or of a resource
+OF_DEVICES = {"dmem.low", "dmem.max", "dmem.min", "io.latency", "io.max", "misc.max", "rdma.max"}
+
+
+def device_of(file, value):
+    """The device that the value of a further limit file tells of first, or "" where it tells of none or isn't told."""
+    first, _, rest = (value or "").partition(" ")
+    is_device = file in OF_DEVICES and is_word(first) and len(first) <= LONGEST_DEVICE and rest != ""
+    return first if is_device else ""
 
 
 def other_text(file, value):
-    """The text to which a try sets a further limit file that has this value, or None where none is told."""
-    loose = FURTHER_FILES[file][1]
-    return ELSE.get(file, "0") if value == loose else loose
+    """The text to which a try sets a further limit file that has this value, which is None where none is told."""
+    device = device_of(file, value)
+    loose, other = (f"{device} {text}" if device else text for text in (FURTHER_FILES[file][1], ELSE.get(file, "0")))
+    return other if value == loose else loose
 
 
 def is_value(text):

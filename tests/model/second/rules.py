@@ -153,8 +153,8 @@ def files_at(state, path):
 
 
 def further_at(state, path):
-    """The further limit files that belong at a path, in their order: at the root those that no controller brings."""
-    return [file for file, (controller, _) in FURTHER_FILES.items() if controller is None or controller in brought(state, path)]
+    """The further limit files that belong at a path, in their order: at the root none."""
+    return [file for file, (controller, _) in FURTHER_FILES.items() if path and (controller is None or controller in brought(state, path))]
 
 
 def told_at(state, path):

@@ -156,8 +156,8 @@ def state_of(form, controllers, rows, processes):
 
 
 def nameable(bare, path):
-    """The limit files that a row may name: those that stand there, and of further ones none at the root."""
-    return [*rules.files_at(bare, path), *(rules.further_at(bare, path) if path else [])]
+    """The limit files that a row may name, which are those that stand there."""
+    return [*rules.files_at(bare, path), *rules.further_at(bare, path)]
 
 
 def cgroup_of(bare, path, row):

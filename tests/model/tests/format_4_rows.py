@@ -54,6 +54,7 @@ pid = 20
 uid = 1000
 at = "/p/s"
 '''
+NINE = ("cpuset", "cpu", "io", "memory", "hugetlb", "pids", "rdma", "misc", "dmem")
 # no controller at all
 TWO = 'format = 2\ncontrollers = []\ncgroup = [{ path = "/" }, { path = "/s" }]\n'
 WEIGHT = '"cpu.weight" = { value = 50 }'
@@ -80,6 +81,9 @@ def valued(value):
     return told(f'"io.max" = {{ value = {value} }}')
 
 
+# the text that loosens io.max, behind the device that its value tells of first, and the other one
+LOOSE, TURNED = "rbps=max wbps=max riops=max wiops=max", "rbps=2 wbps=2 riops=2 wiops=2"
+SET_LOOSE = f"set /s io.max {LOOSE}"
 OWN_CONTROL = behind(ENABLED, 'files = { "cgroup.subtree_control" = { uid = 1000 } }')
 SHUT_CONTROL = behind(ENABLED, 'files = { "cgroup.subtree_control" = { uid = 1000, mode = 0o444 } }')
 GROUPS_CONTROL = behind(ENABLED, 'files = { "cgroup.subtree_control" = { gid = 50, mode = 0o664 } }')
@@ -194,14 +198,15 @@ ANSWERS = [
     (H, [OWN_CONTROL], "advise --uid 1000 --subtree /s",
      ["fails parent-control / cgroup.subtree_control 1000:0 644 owner", "chown / cgroup.subtree_control 0:0"], 1),
     # further limit files of the subtree that a text tells of
-    (H, [told('"io.max" = { uid = 1000 }')], CHECK, ["escapes", "set /s io.max max"], 1),
-    (H, [told('"io.max" = { uid = 1000, mode = 0o444 }')], CHECK, ["escapes", "chmod /s io.max 644", "set /s io.max max"], 1),
-    (H, [told('"io.max" = { gid = 50, mode = 0o664 }')], "check --uid 1000 --gid 5 --gid 50 --subtree /s", ["escapes", "set /s io.max max"], 1),
+    (H, [told('"io.max" = { uid = 1000 }')], CHECK, ["escapes", SET_LOOSE], 1),
+    (H, [told('"io.max" = { uid = 1000, mode = 0o444 }')], CHECK, ["escapes", "chmod /s io.max 644", SET_LOOSE], 1),
+    (H, [told('"io.max" = { gid = 50, mode = 0o664 }')], "check --uid 1000 --gid 5 --gid 50 --subtree /s", ["escapes", SET_LOOSE], 1),
     (H, [told('"io.max" = { gid = 50, mode = 0o664 }')], CHECK, ["contained"], 0),
-    (H, [told('"io.max" = { mode = 0o646 }')], "audit --uid 1001 --subtree /s", ["pair 1001 /s", "escapes", "set /s io.max max"], 1),
+    (H, [told('"io.max" = { mode = 0o646 }')], "audit --uid 1001 --subtree /s", ["pair 1001 /s", "escapes", SET_LOOSE], 1),
     *((H, [told(f'"{name}" = {{ uid = 1000, value = {value} }}')], CHECK, ["escapes", f"set /s {name} {other}"], 1) for name, value, other in (
-        ("io.max", '"8:0 rbps=1"', "max"), ("io.max", '"max"', "0"), ("io.max", '["max"]', "0"), ("io.max", '["max", "max"]', "max"),
-        ("io.max", "0", "max"), ("cpu.idle", "0", "1"), ("cpu.idle", '["0"]', "1"), ("cpu.idle", '"00"', "0"), ("cpu.idle", "1", "0"),
+        ("io.max", '"8:0 rbps=1"', f"8:0 {LOOSE}"), ("io.max", '"max"', LOOSE), ("io.weight", '"default 10000"', "default 9999"),
+        ("io.weight", '["default 10000"]', "default 9999"), ("io.weight", '["default 10000", "default 10000"]', "default 10000"),
+        ("io.max", "0", LOOSE), ("cpu.idle", "0", "1"), ("cpu.idle", '["0"]', "1"), ("cpu.idle", '"00"', "0"), ("cpu.idle", "1", "0"),
         ("cpu.max", '"max 100000"', "max 50000"), ("cpu.max", "5", "max 100000"), ("cpu.weight.nice", "-20", "-19"), ("cpuset.cpus", '"0-3,5"', "0-1"),
         ("cgroup.freeze", "1", "0"))),
     # the eight come first, and then the others by their names
@@ -209,14 +214,14 @@ ANSWERS = [
     (H, [told('"cpuset.mems" = { uid = 1000 }', '"cpu.uclamp.min" = { uid = 1000 }')], CHECK, ["escapes", "set /s cpu.uclamp.min max"], 1),
     (H, [told('"cpuset.mems" = { uid = 1000, mode = 0o400 }', '"cpu.idle" = { uid = 1000, mode = 0o444 }')], CHECK,
      ["escapes", "chmod /s cpu.idle 644", "chmod /s cpuset.mems 600", "set /s cpu.idle 0"], 1),
-    (H, [told('"io.max" = { uid = 1000 }'), OWN_CONTROL], CHECK, ["escapes", "set /s io.max max"], 1),
+    (H, [told('"io.max" = { uid = 1000 }'), OWN_CONTROL], CHECK, ["escapes", SET_LOOSE], 1),
     (H, [behind('path = "/t"', 'files = { "io.max" = { uid = 1000 } }')], CHECK, ["contained"], 0),
     (H, [told('"io.max" = { uid = 1000, value = 5 }')], "advise --uid 1000 --subtree /s",
      ["fails limit-file /s io.max 1000:0 644 owner", "chown /s io.max 0:0"], 1),
     (H, [told('"io.max" = { gid = 5, mode = 0o666 }', '"cgroup.freeze" = { uid = 1000, mode = 0o606 }')], "advise --uid 1001:5 --uid 1000 --subtree /s",
      ["fails limit-file /s cgroup.freeze 1000:0 606 owner", "fails limit-file /s cgroup.freeze 1000:0 606 others", "chown /s cgroup.freeze 0:0",
       "chmod /s cgroup.freeze 604", "fails limit-file /s io.max 0:5 666 group", "fails limit-file /s io.max 0:5 666 others", "chmod /s io.max 644"], 1),
-    (H, [told('"io.max" = { uid = 1000 }')], "settle --uid 1000 --subtree /s", ["escapes", "set /s io.max max"], 1),
+    (H, [told('"io.max" = { uid = 1000 }')], "settle --uid 1000 --subtree /s", ["escapes", SET_LOOSE], 1),
     (H, [told('"io.max" = { uid = 1000 }')], "advise --settle --uid 1001 --uid 1000 --subtree /s",
      ["fails limit-file /s io.max 1000:0 644 owner", "chown /s io.max 0:0"], 1),
     (P, [('path = "/p/s"', 'path = "/p/s"\nfiles = { "io.weight" = {}, "io.max" = { gid = 5, mode = 0o640, value = "max" } }')],
@@ -232,6 +237,35 @@ ANSWERS = [
     (P, [('enabled = ["io"]', 'enabled = ["io", "memory"]')], "settle --uid 1000 --subtree /p/s", ["contained"], 0),
     (P, [], "settle --uid 1000 --subtree /p/s", ["unsettled common-ancestor /p"], 2),
     (P, [], "explain --uid 1000 --subtree /p/s", TOLD_OF_P, 2),
+]
+# the root has all nine controllers and enables them
+EVERY = f"""format = 4
+controllers = {[*NINE]}
+cgroup = [{{ path = '/', enabled = {[*NINE]} }}, {{ path = '/s' }}]
+"""
+# of EVERY with a value of a file of the subtree, which is the user's, the text to which CHECK sets it
+DEVICE, TOO_LONG = 255 * "d", 256 * "d"
+DEVICES = [
+    ("io.max", f'"8:0 {LOOSE}"', f"8:0 {TURNED}"), ("io.max", f'["8:0 {LOOSE}"]', f"8:0 {TURNED}"), ("io.max", f'"8:0 {TURNED}"', f"8:0 {LOOSE}"),
+    ("io.max", '"8:0 max"', f"8:0 {LOOSE}"), ("io.max", f'["8:0 {LOOSE}", "8:16 rbps=1"]', f"8:0 {LOOSE}"),
+    ("io.max", '["8:16 rbps=1", "8:0 rbps=1"]', f"8:16 {LOOSE}"), ("io.max", f'"{LOOSE}"', f"rbps=max {LOOSE}"), ("io.max", '"8:0"', LOOSE),
+    ("io.max", f'"rbps=max {LOOSE}"', f"rbps=max {TURNED}"), ("io.max", "5", LOOSE), ("io.max", '["8:0", "8:16 rbps=1"]', LOOSE),
+    ("io.latency", '"target=max"', "target=1"), ("io.latency", '"target=1"', "target=max"), ("io.latency", '"8:0"', "target=max"),
+    ("io.latency", '"8:0 target=75000"', "8:0 target=max"), ("io.latency", '"8:0 target=max"', "8:0 target=1"),
+    ("rdma.max", '"mlx5_0 hca_handle=2 hca_object=2000"', "mlx5_0 hca_handle=max hca_object=max"),
+    ("rdma.max", '"mlx5_0 hca_handle=max hca_object=max"', "mlx5_0 hca_handle=0 hca_object=0"),
+    ("rdma.max", '"hca_handle=max hca_object=max"', "hca_handle=max hca_handle=max hca_object=max"),
+    *((name, f'"drm/0000:03:00.0/vram0 {value}"', f"drm/0000:03:00.0/vram0 {text}") for name in ("dmem.low", "dmem.max", "dmem.min")
+      for value, text in (("1048576", "max"), ("max", "0"), ("0", "max"))),
+    *(("misc.max", value, text) for value, text in (
+        ('"sev 1"', "sev max"), ('"sev max"', "sev 0"), ('"sev 0"', "sev max"), ('"max"', "0"), ('["max"]', "0"), ('"0"', "max"), ('"sev"', "max"),
+        ('"max max"', "max 0"), ('"sev max 1"', "sev max"), ('"! 1"', "! max"), ('["sev 1", "foo 2"]', "sev max"), ('["sev max", "foo 2"]', "sev max"),
+        ('["sev max", "sev max"]', "sev max"), ('["sev", "foo 1"]', "max"), ('["sev", "sev max"]', "max"), ('["max", "max"]', "max"),
+        ('["sev", "foo"]', "max"), (f'"{DEVICE} 1"', f"{DEVICE} max"), (f'"{DEVICE} max"', f"{DEVICE} 0"), (f'["{DEVICE} max", "1"]', f"{DEVICE} max"),
+        (f'"{DEVICE}"', "max"), (f'"{TOO_LONG} 1"', "max"), (f'"{TOO_LONG} max"', "max"), (f'["{TOO_LONG} 1", "sev 1"]', "max"))),
+    # of these no line begins with a device
+    ("io.weight", '"8:0 50"', "default 10000"), ("io.bfq.weight", '"8:0 1000"', "default 1000"), ("io.prio.class", '"8:0 no-change"', "no-change"),
+    ("memory.swap.max", '"8:0 max"', "max"), ("hugetlb.2MB.max", '"8:0 max"', "max"), ("cpu.max", '"8:0 max 100000"', "max 100000"),
 ]
 # of H operations, one after another, each with its outcome, by AS_ONE; at the end the subtree is kept
 OUTCOMES = [
@@ -265,7 +299,7 @@ OUTCOMES = [
 OUTCOMES_OF_FURTHER = [
     ("set /x cpu.max max", "refused no-such-cgroup /x"),
     ("set / cpu.max max 100000", "refused no-such-file / cpu.max"),
-    ("set / cgroup.freeze 0", "refused no-access / cgroup.freeze"),
+    ("set / cgroup.freeze 0", "refused no-such-file / cgroup.freeze"),
     ("set /s cpu.max max 100000", "refused no-access /s cpu.max"),
     ("set /s cgroup.freeze 0", "refused no-access /s cgroup.freeze"),
     ("set /s rdma.max max", "refused no-such-file /s rdma.max"),
@@ -275,7 +309,7 @@ OUTCOMES_OF_FURTHER = [
     ("set /s/a cgroup.freeze 1", "refused no-access /s/a cgroup.freeze"),
     ("chmod /x io.max 644", "refused no-such-cgroup /x"),
     ("chmod / io.max 600", "refused no-such-file / io.max"),
-    ("chmod / cgroup.freeze 600", "refused not-owner / cgroup.freeze"),
+    ("chmod / cgroup.freeze 600", "refused no-such-file / cgroup.freeze"),
     ("chmod /s misc.max 600", "refused no-such-file /s misc.max"),
     ("chmod /s io.weight 666", "refused not-owner /s io.weight"),
     ("control /s +memory +io", "ok"),
@@ -328,6 +362,8 @@ VERDICTS = [
         ("-5", "-5", "kept"), ("0x10", "16", "kept"), ('"a b"', "a b", "kept"), ('["a b"]', "a b", "kept"), ('["a", "b"]', "a b", "broken 1 limits"),
         ('["a", "b"]', "a", "broken 1 limits"), ('["a", "a"]', "a", "broken 1 limits"), ("5", "max", "broken 1 limits"))),
     ([told('"io.max" = { uid = 1000 }')], ["set /s io.max max"], ["ok", "broken 1 limits"]),
+    *(([told(f'"io.max" = {{ uid = 1000, value = "8:0 {LOOSE}" }}')], [f"set /s io.max {text}"], ["ok", verdict]) for text, verdict in (
+        (f"8:0 {LOOSE}", "kept"), (LOOSE, "broken 1 limits"), (f"8:16 {LOOSE}", "broken 1 limits"), (f"8:0 {TURNED}", "broken 1 limits"))),
     ([told('"io.max" = { gid = 7, mode = 0o664, value = 5 }')], ["set /s io.max 5", "chmod /s io.max 600", "set /s io.max 6"],
      ["ok", "refused not-owner /s io.max", "ok", "broken 3 limits"]),
     ([told('"io.max" = { uid = 1000, value = ["a", "b"] }')], ["chmod /s io.max 444", "set /s io.max 1", "chmod /s io.max 644"],

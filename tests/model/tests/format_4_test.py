@@ -61,10 +61,10 @@ class RowsTest(unittest.TestCase):
             self.assertEqual(said, (["refused no-access / cgroup.subtree_control", "kept"], 0), line)
 
     def test_words_of_further_files(self):
-        for name, (controller, _) in FURTHER_FILES.items():
-            for line, bar in ((f"set / {name} max", "no-access"), (f"chmod / {name} 644", "not-owner")):
-                refusal = f"refused {'no-such-file' if controller else bar} / {name}"
-                self.assertEqual(ask(rows.AS_ONE, rows.H.encode(), [line]), ([refusal, "kept"], 0))
+        for name in FURTHER_FILES:
+            for line in (f"set / {name} max", f"chmod / {name} 644"):
+                for tree in (rows.H, rows.EVERY):
+                    self.assertEqual(ask(rows.AS_ONE, tree.encode(), [line]), ([f"refused no-such-file / {name}", "kept"], 0))
                 self.assertEqual(ask(rows.AS_ONE, rows.TWO.encode(), [line]), (["fault: line 1 bad-word"], 3))
         for value in rows.VALUES:
             line = f"set / io.max {value}"
@@ -73,8 +73,7 @@ class RowsTest(unittest.TestCase):
             self.assertEqual(commands.spelling(("set", (), "io.max", value)), line)
 
     def test_each_further_file_has_a_key_where_it_stands(self):
-        every = format_4.ALL_CONTROLLERS
-        text = f"format = 4\ncontrollers = {[*every]}\ncgroup = [{{ path = '/', enabled = {[*every]} }}, {{ path = '/s' }}]\n"
+        every, text = format_4.ALL_CONTROLLERS, rows.EVERY
         for name, (controller, loose) in FURTHER_FILES.items():
             key = f"files = {{ '{name}' = {{ uid = 1000 }} }}"
             self.assertEqual(ask(rows.CHECK, changed(text, [("'/s'", f"'/s', {key}")])), (["escapes", f"set /s {name} {loose}"], 1))
@@ -82,6 +81,13 @@ class RowsTest(unittest.TestCase):
             other = changed(text, [("'/s'", f"'/s', {key}"), (f"enabled = {[*every]}", f"enabled = {[c for c in every if c != controller]}")])
             expected = (["fault: tree no-such-file cgroup 2"], 3) if controller else (["escapes", f"set /s {name} {loose}"], 1)
             self.assertEqual(ask(rows.CHECK, other), expected)
+
+    def test_devices_of_further_files(self):
+        for name, value, text in rows.DEVICES:
+            tree = changed(rows.EVERY, [("'/s'", f"'/s', files = {{ '{name}' = {{ uid = 1000, value = {value} }} }}")])
+            escape = f"set /s {name} {text}"
+            self.assertEqual(ask(rows.CHECK, tree), (["escapes", escape], 1), (name, value))
+            self.assertEqual(ask(rows.AS_ONE, tree, [escape]), (["ok", "broken 1 limits"], 1), (name, value))
 
     def test_upgrade_of_told_files(self):
         for value, written in rows.TOLD_VALUES:

@@ -10,8 +10,7 @@ from second.rules import Entry
 import format_4_rows as rows
 
 ONE, TOP, CHILD = (1000, (7,)), ("s",), ("s", "a")
-NINE = rules.ALL_CONTROLLERS
-OF_NINE = f"format = 4\ncontrollers = {[*NINE]}\ncgroup = [{{ path = '/', enabled = {[*NINE]} }}, {{ path = '/s' }}]\n"
+NINE, OF_NINE = rules.ALL_CONTROLLERS, rows.EVERY
 
 
 def tree(text=rows.H):
@@ -46,14 +45,19 @@ class FilesTest(unittest.TestCase):
 
     def test_where_files_stand(self):
         state = tree(OF_NINE)
-        self.assertEqual(rules.further_at(state, ()), ["cgroup.freeze"])
-        self.assertEqual(rules.entry_of(state, (), "cgroup.freeze"), Entry())
+        self.assertEqual(rules.further_at(state, ()), [])
         self.assertEqual(rules.further_at(state, TOP), list(FURTHER_FILES))
         self.assertEqual(rules.further_at(tree(), CHILD), ["cgroup.freeze"])
         for controller in NINE:
             some = tree(OF_NINE.replace(f"enabled = {[*NINE]}", f"enabled = ['{controller}']"))
             found = [name for name in FURTHER_FILES if name.startswith((f"{controller}.", "cgroup."))]
             self.assertEqual(rules.further_at(some, TOP), found)
+
+    def test_at_the_root_none_stands_for_anybody(self):
+        for name in FURTHER_FILES:
+            for user in ((0, ()), (0, (0,)), ONE):
+                self.assertEqual(rules.bars(tree(OF_NINE), user, ("set", (), name, "0")), [f"no-such-file / {name}"])
+                self.assertEqual(rules.bars(tree(OF_NINE), user, ("chmod", (), name, 0o644)), [f"no-such-file / {name}"])
 
     def test_values_of_a_text(self):
         for value, text in ((5, "5"), (-5, "-5"), ("5", "5"), (["5"], "5"), ("a b", "a b"), (["a", "b"], "a\nb")):
@@ -126,20 +130,35 @@ class SubtreeTest(unittest.TestCase):
         found = [name for guard, _, name in rules.guarded(state, TOP) if guard == "limit-file"]
         self.assertEqual(found, [*rules.files_at(state, TOP), "io.max"])
         self.assertEqual(rules.failures(state, ONE, TOP), [("limit-file", TOP, "io.max")])
-        self.assertEqual(rules.answer(state, ONE, TOP), ("escapes", [("set", TOP, "io.max", "max")]))
+        self.assertEqual(rules.answer(state, ONE, TOP), ("escapes", [("set", TOP, "io.max", rows.LOOSE)]))
         self.assertEqual(rules.answer(opened("io.max", 0o444), ONE, TOP),
-                         ("escapes", [("chmod", TOP, "io.max", 0o644), ("set", TOP, "io.max", "max")]))
+                         ("escapes", [("chmod", TOP, "io.max", 0o644), ("set", TOP, "io.max", rows.LOOSE)]))
         self.assertFalse(lasting.second_row_holds(state, [ONE], TOP))
         self.assertTrue(lasting.second_row_holds(tree(), [ONE], TOP))
 
     def test_another_value_is_tried(self):
-        for name, value, other in (("io.max", None, "max"), ("io.max", "1", "max"), ("io.max", "max", "0"), ("cpu.idle", None, "0"),
+        for name, value, other in (("io.max", None, rows.LOOSE), ("io.max", "1", rows.LOOSE), ("misc.max", "max", "0"), ("cpu.idle", None, "0"),
                                    ("cpu.idle", "0", "1"), ("cpu.idle", "max", "0"), ("cpu.max", "max", "max 100000"),
                                    ("cpu.max", "max 100000", "max 50000"), ("cpuset.cpus.partition", "root", "member")):
             self.assertEqual(rules.other_value(name, value), other, (name, value))
         for name, (_, loose) in FURTHER_FILES.items():
             self.assertEqual(rules.other_value(name, None), loose)
             self.assertNotEqual(rules.other_value(name, loose), loose)
+
+    def test_the_device_of_a_value(self):
+        for value, device in ((None, ""), ("", ""), (" ", ""), (" 1", ""), ("8:0", ""), ("8:0 ", ""), ("8:0 1", "8:0"), ("8:0  1", "8:0"), ("8:0 \n", "8:0"),
+                              ("8:0\n8:16 1", ""), ("8:0 1\n8:16 1", "8:0"), ("8:0\t1 1", ""), ("\x7f 1", ""), ("\xe9 1", ""), ("! 1", "!"),
+                              ("~/ 1", "~/"), (255 * "d" + " 1", 255 * "d"), (256 * "d" + " 1", ""), (255 * "d", "")):
+            for name in FURTHER_FILES:
+                self.assertEqual(further.device_of(name, value), device if name in further.OF_DEVICES else "", (name, value))
+
+    def test_the_text_that_is_tried_stands_behind_the_device(self):
+        self.assertEqual(len(further.OF_DEVICES), 7)
+        for name in further.OF_DEVICES:
+            loose, other = FURTHER_FILES[name][1], further.ELSE.get(name, "0")
+            for value, text in (("a 1", loose), (f"a {loose}", other), (f"a {other}", loose), (f"a {loose}\nb 1", loose), (f"a {loose} ", loose)):
+                self.assertEqual(rules.other_value(name, value), f"a {text}", (name, value))
+            self.assertEqual(rules.other_value(name, f"a\n{loose}"), loose, name)
 
 
 if __name__ == "__main__":

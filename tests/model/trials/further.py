@@ -3,7 +3,7 @@ import itertools
 
 from second import rules
 from second.controllers import ALL_CONTROLLERS
-from second.further import FURTHER_FILES, LONGEST_LINE, LONGEST_VALUE, is_value, other_text
+from second.further import ELSE, FURTHER_FILES, LONGEST_DEVICE, LONGEST_LINE, LONGEST_VALUE, OF_DEVICES, is_value, other_text
 from second.rules import text_of
 from trials import trees
 from trials.spelling import Raw
@@ -14,6 +14,9 @@ NONE = ["memory.oom.group", "memory.reclaim", "pids.peak", "pids.current", "io.c
         "hugetlb.2MB", "hugetlb.2mb.max", "hugetlb.2MB.rsvd", "hugetlb.2MB.current", "rdma.current", "misc.capacity", "dmem.current"]
 VALUES = ["max", "0", "1", "05", "-5", "+5", "default 50", "50000 100000", "8:0 rbps=1048576 wiops=120", "0-3,5", "a b c d", "~", "\\",
           "'\"", "max max", "cpu.max 1", "member"]
+# devices and resources; the last is a byte too long
+DEVICES = ["8:0", "253:16", "sev", "mlx5_0", "drm/0000:03:00.0/vram0", "max", "default", *2 * [LONGEST_DEVICE * "d"],
+           *2 * [(LONGEST_DEVICE + 1) * "d"]]
 # what no value is; the last are a byte too long
 BAD_VALUES = ["", " ", "1 ", " 1", *3 * ["1  2"], "1\t2", "1\x1f", *6 * ["\x7f", "1 \x7f"], "\xe9", "1\r", "1\0",
               (LONGEST_VALUE + 1) * "x", "x" + (LONGEST_VALUE // 2) * " x"]
@@ -84,6 +87,8 @@ def share_one(rng, tree, path, file):
     trees.share(rng, tree, path, file)
     if rng.random() < 0.3:
         loose = FURTHER_FILES[file][1]
+        if file in OF_DEVICES and rng.random() < 0.7:
+            loose = f"{rng.choice(DEVICES)} {loose}"
         tree.entry(path, file)["value"] = rng.choice([loose, [loose]])
 
 
@@ -104,6 +109,8 @@ def tell_one(rng, tree, path, file):
 def some_told(rng, file):
     """A value as a text tells it."""
     loose, chance = FURTHER_FILES[file][1], rng.random()
+    if file in OF_DEVICES and rng.random() < 0.6:
+        return told_of_device(rng, file)
     if chance < 0.25:
         digits = loose.removeprefix("-").isdigit()
         return rng.choice([loose, loose, other_text(file, loose), "0", [loose], int(loose) if digits else loose])
@@ -114,6 +121,15 @@ def some_told(rng, file):
     if chance < 0.7:
         return rng.choice(VALUES)
     return [rng.choice([*VALUES, loose]) for _ in range(rng.choice([1, 1, 2, 2, 3, 8]))]
+
+
+def told_of_device(rng, file):
+    """A value of a file whose lines begin with a device: at times with a line of another one, or with a first line of one word."""
+    device, other = rng.choice(DEVICES), rng.choice(DEVICES)
+    loose = FURTHER_FILES[file][1]
+    line = f"{device} {rng.choice([loose, loose, ELSE.get(file, '0'), rng.choice(VALUES)])}"
+    return rng.choice([*5 * [line], [line], *2 * [[line, f"{other} {loose}"]], [f"{other} 1", line], [device, line], [device, f"{other} 1"],
+                       [device, "1"], device, loose, loose])
 
 
 # Faults of a document that tells of them
@@ -192,6 +208,17 @@ def make_room(rng, tree):
         tree.entry(tree.subtree[:-1], rules.CONTROL)["uid"] = tree.user[0]
 
 
+def open_device(rng, tree):
+    """Lets the user reach a file of the subtree, or be near to it, whose lines mostly begin with a device; its value is one of such a file."""
+    make_room(rng, tree)
+    file = rng.choice([file for file in files_of(tree, tree.subtree) if file in (*OF_DEVICES, "io.weight") or rng.random() < 0.03]
+                      or ["cgroup.freeze"])
+    tree.entry(tree.subtree, file).clear()
+    trees.share(rng, tree, tree.subtree, file)
+    if rng.random() < 0.9:
+        tree.entry(tree.subtree, file)["value"] = told_of_device(rng, file)
+
+
 def some_operations(rng, state, user):
     """At times operations that belong together: a further limit file that a user or a text told of goes and comes back, a set or a chmod of
     each in turn, be it there or not, or sets of one to what it has."""
@@ -229,7 +256,8 @@ def told_and_back(rng, state, parent, child, file):
 def every_file(rng, parent, controllers):
     child, files = parent + ("new",), rng.sample(list(FURTHER_FILES), len(FURTHER_FILES))
     deeds = [("chmod", child, file, 0o600) if rng.random() < 0.2 else ("set", child, file, some_text(rng, file)) for file in files]
-    return [("set", (), "cgroup.freeze", "0"), ("control", parent, tuple(("+", c) for c in controllers)), ("mkdir", child), *deeds]
+    at_root = rng.choice([("set", (), "cgroup.freeze", "0"), ("chmod", (), "cgroup.freeze", 0o644)])
+    return [at_root, ("control", parent, tuple(("+", c) for c in controllers)), ("mkdir", child), *deeds]
 
 
 def gone_and_back(rng, parent, controllers):

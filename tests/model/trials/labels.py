@@ -3,7 +3,7 @@ import re
 
 from second import commands, documents, rules
 from second.controllers import CONTROLLERS
-from second.further import FURTHER_FILES, LONGEST_LINE, LONGEST_VALUE, text_told
+from second.further import FURTHER_FILES, LONGEST_DEVICE, LONGEST_LINE, LONGEST_VALUE, OF_DEVICES, text_told
 from trials.cases import OPS, TREE, state_of
 from trials.format_4 import FORMAT_4, FURTHER
 
@@ -42,12 +42,17 @@ WIDE = ["upgrade", "a bad word", "read past 4096 rows", "read past 16777216 byte
         *(f"set of a further file: {outcome}" for outcome in CLAUSES["set"] if outcome != "bad-value"),
         *(f"chmod of a further file: {outcome}" for outcome in CLAUSES["chmod"]),
         *(f"a set or a chmod of {name}: ok" for name in FURTHER_FILES),
+        *(f"{kind} of cgroup.freeze at the root: no-such-file" for kind in ("set", "chmod")),
         "a further file in a line for another", "a value of several words", f"a value of {LONGEST_VALUE} bytes",
         *(f"a text tells of {name}" for name in FURTHER_FILES), *(f"a text tells {kind}" for kind in VALUES_TOLD),
         f"a text tells a line of {LONGEST_LINE} bytes", "a further file in another's text",
         "fault: no-such-file of a further file at the root",
         *(f"fault: {what} of a row with a further file" for what in OF_NAMED),
         "escapes by a set of a further file", "escapes by an opened set of a further file", "escapes by a set of a further file that was loose",
+        *(f"escapes by a set of {name} on a device" for name in sorted(OF_DEVICES)), "escapes by a set on a device that was loose",
+        "escapes by a set without a device", "escapes by a set without a device that was loose",
+        f"escapes by a set on a device of {LONGEST_DEVICE} bytes", f"a text tells of a device of {LONGEST_DEVICE + 1} bytes",
+        "a text tells of a device behind a line of one word",
         "a set of a further file to what a text tells",
         "broken limits by a set of a further file", "explain: a further file holds", "explain: a further file fails",
         *(f"advise: {change} of a further file" for change in ("chown", "chmod")),
@@ -174,6 +179,13 @@ def told_labels(document):
             yield f"a text tells of {name}"
             yield f"a text tells {kind_told(table)}"
             yield f"a text tells a line of {len(str(table.get('value')))} bytes"
+            yield from device_labels(text_told(table["value"])) if name in OF_DEVICES and "value" in table else []
+
+
+def device_labels(value):
+    first, _, rest = value.partition(" ")
+    yield f"a text tells of a device of {len(first) if rest else 0} bytes"
+    yield "a text tells of a device behind a line of one word" if "\n" in first and rest else ""
 
 
 def kind_told(table):
@@ -188,7 +200,7 @@ def wide_answers(case, lines):
     for words in lines:
         if words[0] == "set" and words[2] in FURTHER_FILES:
             yield f"escapes by {opened} set of a further file"
-            yield "escapes by a set of a further file that was loose" if " ".join(words[3:]) != FURTHER_FILES[words[2]][1] else ""
+            yield from set_labels(words[2], words[3:])
         if case.words[:1] == ["advise"] and words[0] in ("chown", "chmod") and words[2] in FURTHER_FILES:
             yield f"advise: {words[0]} of a further file"
         if case.words[:1] == ["explain"] and words[1:2] == ["limit-file"] and words[3] in FURTHER_FILES:
@@ -199,6 +211,19 @@ def wide_answers(case, lines):
             yield f"explain: a controller of its own is {words[-1]}"
     if case.words[:1] == ["settle"] and lines:
         yield f"settle: {lines[0][0]}"
+
+
+def set_labels(file, words):
+    """Of an escape by a set of a further limit file whether it was loose, and the device before the text."""
+    loose, text = FURTHER_FILES[file][1], " ".join(words)
+    was_loose = "" if text.endswith(loose) else " that was loose"
+    yield f"escapes by a set of a further file{was_loose}"
+    if file in OF_DEVICES and len(words) > len(loose.split(" ")):
+        yield f"escapes by a set of {file} on a device"
+        yield f"escapes by a set on a device{was_loose}"
+        yield f"escapes by a set on a device of {len(words[0])} bytes"
+    elif file in OF_DEVICES:
+        yield f"escapes by a set without a device{was_loose}"
 
 
 def wide_replay(case, lines, fault):
@@ -225,6 +250,7 @@ def wide_operation(operation, outcome):
         yield f"control of its controllers: {outcome}"
         return
     yield f"{kind} of a further file: {outcome}"
+    yield f"{kind} of cgroup.freeze at the root: {outcome}" if words[:2] == [(), "cgroup.freeze"] else ""
     if outcome == "ok":
         yield f"a set or a chmod of {words[1]}: ok"
     if kind == "set" and " " in words[2]:

@@ -374,6 +374,39 @@ OF_FURTHER_4 = {
     "memory.swap.max comes with no controller": ('"memory.swap.max": ("memory",', '"memory.swap.max": (None,'),
     "cpuset.mems comes with cpu": ('"cpuset.mems": ("cpuset",', '"cpuset.mems": ("cpu",'),
 }
+# of the texts that are tried, and the device before them
+DEVICE, CUT = "is_device = file in OF_DEVICES and is_word(first)", 'first, _, rest = (value or "").partition(" ")'
+TURNED_BY = "return other if value == loose else loose"
+DEVICE_FILES = '"dmem.low", "dmem.max", "dmem.min", "io.latency", "io.max", "misc.max", "rdma.max"'
+NOT_THERE = 'f"{device} {text}" if device else text for text'
+OF_DEVICES_4 = {
+    "no file has devices": ('return first if is_device else ""', 'return ""'),
+    "every further limit file has devices": (DEVICE, DEVICE.replace("file in OF_DEVICES and ", "")),
+    **{f"{name} has no devices": (DEVICE_FILES, DEVICE_FILES.replace(f'"{name}"', '""')) for name in sorted(further.OF_DEVICES)},
+    "io.weight has devices": (DEVICE_FILES, f'{DEVICE_FILES}, "io.weight"'),
+    "a device is one with nothing behind it": (' and rest != ""', ""),
+    "a device may have the end of a line in it": (DEVICE, DEVICE.replace("is_word(first)", 'first != ""')),
+    "a device ends with a line as well": (CUT, CUT.replace(".partition", '.replace("\\n", " ").partition')),
+    "a device is the last line's": (CUT, CUT.replace(".partition", '.split("\\n")[-1].partition')),
+    "a device is the first one that a line has behind it": (
+        CUT, CUT.replace('(value or "")', 'next((line for line in (value or "").split("\\n") if " " in line), "")')),
+    "a device is all but the last word": (CUT, CUT.replace(".partition", ".rpartition")),
+    "a device of 255 bytes is none": ("len(first) <= LONGEST_DEVICE", "len(first) < LONGEST_DEVICE"),
+    "a device may have 256 bytes": ("LONGEST_DEVICE = 255", "LONGEST_DEVICE = 256"),
+    "a device is told of in the text that loosens alone": (TURNED_BY, f'{TURNED_BY.replace("return other", "return ELSE.get(file, chr(48))")}'),
+    "a device is told of in the other text alone": (TURNED_BY, TURNED_BY.replace("else loose", "else FURTHER_FILES[file][1]")),
+    "a value with a device is compared with the text without it": (TURNED_BY, TURNED_BY.replace("== loose", "== FURTHER_FILES[file][1]")),
+    "a value is compared with the text alone too": (
+        TURNED_BY, TURNED_BY.replace("== loose", 'in (loose, FURTHER_FILES[file][1])')),
+    "a line of several is compared with the text": (TURNED_BY, TURNED_BY.replace("value ==", '(value or "").split("\\n")[0] ==')),
+    "a text stands behind its device without a space": (NOT_THERE, NOT_THERE.replace("{device} {text}", "{device}{text}")),
+    "io.latency is loosened by max": ('("io", "target=max")', '("io", "max")'),
+    "io.max is loosened by max": ('("io", "rbps=max wbps=max riops=max wiops=max")', '("io", "max")'),
+    "rdma.max is loosened by max": ('("rdma", "hca_handle=max hca_object=max")', '("rdma", "max")'),
+    "io.latency is turned by 0": ('"io.latency": "target=1", ', ""),
+    "io.max is turned by 0": ('"io.max": "rbps=2 wbps=2 riops=2 wiops=2",', ""),
+    "rdma.max is turned by 0": (', "rdma.max": "hca_handle=0 hca_object=0",', ","),
+}
 # of what a text tells
 AS_LINES = "list(map(str, value if isinstance(value, list) else [value]))"
 OF_FURTHER_TOLD_4 = {
@@ -395,6 +428,7 @@ OF_FURTHER_TOLD_4 = {
 OF_KEYS, ARRAYS = "return FURTHER_FILES if form == 4 else {}", "number(value) or is_a(value, str) or texts(value)"
 NOWHERE = '    first("no-such-file cgroup", numbered, lambda each: limits'
 TELLS = 'text_told(files[name]["value"])) for name in told if "value" in files[name])'
+NAMEABLE = "*rules.further_at(bare, path)]"
 OF_TEXTS_TOLD_4 = {
     "texts of any format name further limit files": (OF_KEYS, "return FURTHER_FILES"),
     "no text names a further limit file": (OF_KEYS, "return {}"),
@@ -407,9 +441,9 @@ OF_TEXTS_TOLD_4 = {
     "a further limit file of a text is as it is": (TELLS, TELLS.replace('"value" in files[name]', "False")),
     "a further limit file that a text tells no value of isn't told of": (
         "told = [name for name in files if name in FURTHER_FILES]", 'told = [name for name in files if name in FURTHER_FILES and "value" in files[name]]'),
-    "cgroup.freeze has a key at the root": ("(rules.further_at(bare, path) if path else [])", "rules.further_at(bare, path)"),
+    "cgroup.freeze has a key at the root": (NAMEABLE, '*(rules.further_at(bare, path) or ["cgroup.freeze"])]'),
     "a text names further limit files wherever it is": ("{*rules.ALL_FILES}", "rules.LIMIT_FILES.keys()"),
-    "a text names cgroup.freeze alone": ("(rules.further_at(bare, path) if path else [])", '["cgroup.freeze"] * bool(path)'),
+    "a text names cgroup.freeze alone": (NAMEABLE, '*["cgroup.freeze"] * bool(path)]'),
     "files of the eight are looked for first": (
         NOWHERE, '    first("no-such-file cgroup", numbered, lambda each: not limits[each[0]] & rules.LIMIT_FILES.keys() '
                  "<= set(rules.files_at(bare, paths[each[0]])))\n" + NOWHERE),
@@ -418,7 +452,8 @@ OF_TEXTS_TOLD_4 = {
     "the value of a further limit file isn't tested": ("return not is_told(value)", "return False"),
     "a value of a further limit file is tested as one of the eight": ("return not is_told(value)", "return not rules.MAX == value and not number(value)"),
 }
-BROUGHT = "FURTHER_FILES.items() if controller is None or controller in brought(state, path)]"
+STAND = "controller is None or controller in brought(state, path)"
+BROUGHT = f"FURTHER_FILES.items() if path and ({STAND})]"
 CHMOD = "    return with_cgroup(state, path, replace(old, entries={**old.entries, name: entry}))"
 COME = "**{one: made_by(user, FILE_MODE) for one in came}"
 OF_RULES_FURTHER_4 = {
@@ -432,13 +467,14 @@ OF_RULES_FURTHER_4 = {
         "told = [file for file in told_at(state, path) if file in further_at(state, path)]", "told = []"),
     "the three controllers alone bring further limit files": (
         BROUGHT, BROUGHT.replace("in brought(state, path)", "in brought(state, path) & {*CONTROLLERS}")),
-    "cgroup.freeze isn't at the root": (BROUGHT, BROUGHT.replace("controller is None", "path and controller is None")),
-    "further limit files are at the root": (
-        BROUGHT, BROUGHT.replace("brought(state, path)", "(brought if path else available)(state, path)")),
+    "cgroup.freeze is at the root": (BROUGHT, BROUGHT.replace("path and ", "")),
+    "cgroup.freeze is at the children of the root alone": (BROUGHT, BROUGHT.replace("is None or", "is None and len(path) < 2 or")),
+    "a controller's further limit files are at the root": (
+        BROUGHT, BROUGHT.replace("path and ", "(path or controller) and ").replace("brought(state", "(brought if path else available)(state")),
     "further limit files are where the root has their controller": (
         BROUGHT, BROUGHT.replace("brought(state, path)", "(state.controllers if path else ())")),
     "cgroup.freeze is where a controller is": (
-        BROUGHT, BROUGHT.replace("controller is None or", "controller is None and (not path or brought(state, path)) or")),
+        BROUGHT, BROUGHT.replace("controller is None or", "controller is None and brought(state, path) or")),
     "a chmod of a further limit file has no effect": (CHMOD, "    if name in FURTHER_FILES:\n        return state\n" + CHMOD),
     "a chmod of a further limit file is of all of its controller": (
         CHMOD, CHMOD.replace("name: entry}", "name: entry}, untold={**old.untold, **{FURTHER_FILES[one][0]: entry for one in [name] "
@@ -488,7 +524,8 @@ KINDS = [("documents", "may", OF_DOCUMENTS), ("rules", "may", OF_RULES), ("lasti
 KINDS_4 = [("controllers", FORMAT_4, OF_CONTROLLERS_4), ("rules", FORMAT_4, OF_RULES_4), ("texts", FORMAT_4, OF_TEXTS_4),
            ("documents", FORMAT_4, OF_DOCUMENTS_4), ("commands", FORMAT_4, OF_COMMANDS_4), ("lasting", "settle", OF_LASTING_4),
            ("explained", "explain", OF_EXPLAINED_4), ("further", FORMAT_4, OF_FURTHER_4), ("rules", FORMAT_4, OF_RULES_FURTHER_4),
-           ("commands", FORMAT_4, OF_COMMANDS_FURTHER_4), ("further", FORMAT_4, OF_FURTHER_TOLD_4), ("texts", FORMAT_4, OF_TEXTS_TOLD_4)]
+           ("commands", FORMAT_4, OF_COMMANDS_FURTHER_4), ("further", FORMAT_4, OF_FURTHER_TOLD_4), ("texts", FORMAT_4, OF_TEXTS_TOLD_4),
+           ("further", FORMAT_4, OF_DEVICES_4)]
 KINDS += KINDS_4
 MUTANTS = {name: (module, *turn) for module, _, turns in KINDS for name, turn in turns.items()}
 

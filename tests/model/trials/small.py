@@ -40,7 +40,7 @@ def with_told(rng, state):
     cgroups = {}
     for path, cgroup in state.cgroups.items():
         told = [file for file in rules.further_at(state, path) if path and rng.random() < 0.06]
-        values = {file: rng.choice(["1", MAX, FURTHER_FILES[file][1], "1\n2"]) for file in told if rng.random() < 0.6}
+        values = {file: rng.choice(["1", MAX, FURTHER_FILES[file][1], f"1 {FURTHER_FILES[file][1]}", "1\n2", "1\n2 3"]) for file in told if rng.random() < 0.6}
         entries = {file: random_entry(rng, 0.15) for file in told}
         cgroups[path] = replace(cgroup, entries={**cgroup.entries, **entries}, values={**cgroup.values, **values})
     return replace(state, cgroups=cgroups)
