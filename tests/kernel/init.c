@@ -25,6 +25,7 @@
 #define PROCS "cgroup.procs"
 #define CONTROL "cgroup.subtree_control"
 #define LONGEST 8192
+#define MOST_BYTES 256
 #define MOST_WORDS 64
 #define MOST_PROCESSES 256
 #define MOST_LINES 1024
@@ -50,8 +51,9 @@ struct user {
 static struct process processes[MOST_PROCESSES];
 static int process_count;
 static int births[2];
-static char *files[MOST_WORDS];
-static int file_count;
+/* those that are told of in each case, and behind them those of one case */
+static char *files[2 * MOST_WORDS];
+static int file_count, lasting_count;
 static char *others[MOST_WORDS];
 static int other_count;
 static char *before[MOST_LINES];
@@ -232,9 +234,14 @@ static int control(char **words)
     return write_text(words[1], CONTROL, strcat(text, "\n"));
 }
 
+/* set PATH FILE VALUE, of one word or several */
 static int set(char **words)
 {
-    return write_text(words[1], words[2], words[3]);
+    char text[LONGEST] = "";
+
+    for (int at = 3; words[at]; at++)
+        strcat(strcat(text, at > 3 ? " " : ""), words[at]);
+    return write_text(words[1], words[2], text);
 }
 
 static int change_mode(char **words)
@@ -383,15 +390,30 @@ static void read_text(char *text, size_t most, int folder, const char *name)
         close(file);
 }
 
+/* Adds what a file shows, without the newline at its end, and as one word: a space, a newline and a percent sign as %XX. */
+static void add_value(char *line, int folder, const char *name)
+{
+    char value[MOST_BYTES];
+    int file = openat(folder, name, O_RDONLY | O_CLOEXEC), length = strlen(line);
+    ssize_t count = file < 0 ? 0 : read(file, value, sizeof value);
+
+    if (file >= 0)
+        close(file);
+    if (count > 0 && value[count - 1] == '\n')
+        count--;
+    for (ssize_t at = 0; at < count; at++)
+        length += sprintf(line + length, strchr(" \n%", value[at]) ? "%%%02X" : "%c", value[at]);
+}
+
 static void add_file(char *line, int folder, const char *name)
 {
-    char before_it[64], value[64];
+    char before_it[64];
 
     snprintf(before_it, sizeof before_it, "%s=", name);
-    if (!add_entry(line, folder, name, before_it))
+    if (strlen(line) > LONGEST - 4 * MOST_BYTES || !add_entry(line, folder, name, before_it))
         return;
-    read_text(value, sizeof value, folder, name);
-    strcat(strcat(line, ":"), value);
+    strcat(line, ":");
+    add_value(line, folder, name);
 }
 
 /* Adds NAME of a file, and of no directory, that stands in a folder. */
@@ -586,18 +608,22 @@ static int keep_words(char **kept, char **words, int count)
     return count - 1;
 }
 
-/* case NUMBER | state | files NAME .. | others NAME .. | user UID GID .. | an operation | a line of building */
+/* case NUMBER | state | files NAME .. | watch NAME .. | others NAME .. | user UID GID .. | an operation | a line of building */
 static void take(char **words, int count)
 {
     int wrong;
 
     if (strcmp(words[0], "case") == 0) {
+        while (file_count > lasting_count)
+            free(files[--file_count]);
         clear();
         fprintf(out, "case %s\n", words[1]);
     } else if (strcmp(words[0], "state") == 0) {
         tell_state();
     } else if (strcmp(words[0], "files") == 0) {
-        file_count = keep_words(files, words, count);
+        file_count = lasting_count = keep_words(files, words, count);
+    } else if (strcmp(words[0], "watch") == 0) {
+        file_count = lasting_count + keep_words(files + lasting_count, words, count);
     } else if (strcmp(words[0], "others") == 0) {
         other_count = keep_words(others, words, count);
     } else if (strcmp(words[0], "user") == 0) {

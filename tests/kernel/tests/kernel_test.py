@@ -60,9 +60,9 @@ class KernelTest(unittest.TestCase):
             self.assertEqual(machine.compile_init(os.path.join(room, "init")), "")
 
     def test_classes_are_those_of_the_list(self):
-        names = {*classes.RULES, *classes.VALUES, *classes.LEFT_OUT}
+        names = {*classes.RULES, *classes.VALUES, *classes.SHOWN, *classes.LEFT_OUT}
         self.assertEqual(sorted(classes.listed()), sorted(names))
-        self.assertFalse({*classes.RULES, *classes.VALUES} & classes.LEFT_OUT.keys())
+        self.assertFalse({*classes.RULES, *classes.VALUES, *classes.SHOWN} & classes.LEFT_OUT.keys())
 
     def test_recorded_run_is_explained(self):
         found = [each for _, _, compared in self.compared() for each in compared.differences]
@@ -187,9 +187,9 @@ class KernelTest(unittest.TestCase):
         kept = [("memory.max", 100, 0), ("memory.low", rules.MOST, rules.MAX), (rules.DEPTH, 2147483647, rules.MAX),
                 ("memory.max", 4097, 4096)]
         for each in kept:
-            self.assertEqual(classes.kind_of_value(*each), "range of values", each)
+            self.assertEqual(classes.kind_of_value(*each, {}), "range of values", each)
         for each in [("memory.max", 4096, 0), ("pids.max", 5, 6), (rules.DEPTH, 5, rules.MAX), ("memory.max", rules.MAX, 0)]:
-            self.assertIsNone(classes.kind_of_value(*each), each)
+            self.assertIsNone(classes.kind_of_value(*each, {}), each)
 
     def test_removal_of_a_file_is_explained(self):
         for name, number, kind in [("memory.stat", errno.EACCES, "name of a file"), ("memory.stat", errno.EPERM, None),

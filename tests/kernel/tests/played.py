@@ -1,11 +1,13 @@
 """The second model in the places of a kernel and of the program, for tests of what runs them."""
 import errno
 from dataclasses import replace
+from urllib.parse import quote
 
 from second import commands, rules, settled, texts
-from second.rules import text_of
 from second.controllers import ALL_CONTROLLERS
-from trial import advice, comparing, script
+from second.further import FURTHER_FILES
+from second.rules import text_of
+from trial import advice, comparing, script, shown
 
 CONTROLLERS = [name for name in ALL_CONTROLLERS if name != "dmem"]
 BARE = f"""format = 4
@@ -44,7 +46,7 @@ class Kernel:
     """What init would write of a script."""
 
     def __init__(self):
-        self.said, self.told, self.state, self.user = [], set(), None, None
+        self.said, self.told, self.state, self.user, self.watched, self.shown = [], set(), None, None, [], {}
 
     def run(self, lines):
         self.said = ["controllers " + " ".join(CONTROLLERS)]
@@ -55,10 +57,44 @@ class Kernel:
 
     def start(self, line, _rest):
         self.said.append(line)
-        self.told, self.state = set(), texts.tree_of(BARE)
+        self.told, self.state, self.watched, self.shown = set(), texts.tree_of(BARE), [], {}
+
+    def watch(self, _line, rest):
+        self.watched = [file for file in rest.split(" ") if file in shown.TAKERS]
 
     def build(self, line, _rest):
-        self.state = rules.next_state(self.state, (0, (0,)), commands.operation_of(line.encode(), 4))
+        number = self.number_of((0, (0,)), commands.operation_of(line.encode(), 4))
+        self.said += [f"! {number} {line}"] if number else []
+
+    def number_of(self, user, operation):
+        """Carries an operation out; its error number."""
+        path, file = (operation[1:3] + (None,))[:2]
+        refusal = rules.step(self.state, user, operation)[1]
+        if refusal:
+            return min(comparing.NUMBERS[refusal.split(" ")[0]])
+        if operation[0] == "set" and (file in FURTHER_FILES or file == shown.WEIGHT):
+            turned = shown.turned_by(file, operation[3], self.shown_at(path))
+            if turned is None:
+                return errno.EINVAL
+            self.shown.setdefault(path, {}).update(turned)
+        self.state = rules.next_state(self.state, user, operation)
+        self.shown = {path: {file: text for file, text in self.shown[path].items() if file in rules.further_at(self.state, path)}
+                      for path in self.shown if path in self.state.cgroups}
+        return 0
+
+    def shown_at(self, path):
+        first = {file: text for file, text in shown.FIRST.items() if file in rules.further_at(self.state, path)}
+        return {**first, **self.shown.get(path, {})}
+
+    def line_of(self, path, row):
+        """A cgroup's, with what it has of the further limit files that are watched."""
+        further = [file for file in self.watched if path and file in rules.further_at(self.state, path)]
+        texts_there = self.shown_at(path)
+        values = {**row.values, **{file: texts_there.get(file, "") for file in further}}
+        if shown.IDLE in texts_there and shown.WEIGHT in values:
+            values[shown.WEIGHT] = (*shown.weights_of(texts_there), values[shown.WEIGHT])[texts_there[shown.IDLE] != "1"]
+        entries = {name: rules.entry_of(self.state, path, name) for name in (*rules.STANDING, *values)}
+        return line_of(path, entries, values, row.enabled, rules.brought(self.state, path))
 
     def process(self, _line, rest):
         pid, uid, path = rest.split(" ")
@@ -83,27 +119,28 @@ class Kernel:
         if rest.split(" ")[0] not in rules.BARS:
             self.said += [f"o {errno.EPERM}", "."]
             return
-        self.state, refusal = rules.step(self.state, self.user, commands.operation_of(rest.encode(), 4))
-        self.said.append(f"o {min(comparing.NUMBERS[refusal.split(' ')[0]]) if refusal else 0}")
-        if refusal and line.startswith("try"):
+        number = self.number_of(self.user, commands.operation_of(rest.encode(), 4))
+        self.said.append(f"o {number}")
+        if number and line.startswith("try"):
             self.said.append(".")
         else:
             self.tell()
 
     def tell(self, *_):
         now = {f"p {pid} {uid} {text_of(path)}" for pid, (uid, path) in self.state.live.items()}
-        now |= {line_of(path, row, rules.brought(self.state, path)) for path, row in self.state.cgroups.items()}
+        now |= {self.line_of(path, row) for path, row in self.state.cgroups.items()}
         self.said += ["-" + line for line in self.told - now] + ["+" + line for line in now - self.told] + ["."]
         self.told = now
 
 
-def line_of(path, row, brought):
-    spelled = {name: f"{entry.uid}:{entry.gid}:{entry.mode:o}" for name, entry in row.entries.items()}
-    words = [spelled[name] for name in rules.STANDING] + [f"{name}={spelled[name]}:{value}" for name, value in row.values.items()]
+def line_of(path, entries, values, enabled, brought):
+    spelled = {name: f"{entry.uid}:{entry.gid}:{entry.mode:o}" for name, entry in entries.items()}
+    words = [spelled[name] for name in rules.STANDING]
+    words += [f"{name}={spelled[name]}:{quote(str(value), safe=':=')}" for name, value in values.items()]
     words += [script.OTHERS[name] for name in sorted(brought & script.OTHERS.keys())]
-    return " ".join(["c", text_of(path), ",".join(sorted(row.enabled)) or "-", *words])
+    return " ".join(["c", text_of(path), ",".join(sorted(enabled)) or "-", *words])
 
 
-TAKERS = {"case": Kernel.start, "mkdir": Kernel.build, "control": Kernel.build, "set": Kernel.build, "process": Kernel.process,
+TAKERS = {"case": Kernel.start, "watch": Kernel.watch, "mkdir": Kernel.build, "control": Kernel.build, "set": Kernel.build, "process": Kernel.process,
           "own": Kernel.own, "user": Kernel.name, "mend": Kernel.mend, "do": Kernel.operate, "try": Kernel.operate,
           "state": Kernel.tell, "files": lambda *_: None, "others": lambda *_: None}

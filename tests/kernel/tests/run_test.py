@@ -23,7 +23,7 @@ def loaded():
 
 
 class RunTest(unittest.TestCase):
-    def run_with(self, room, *words, kernel=lambda _kernel, script, _seconds: (played.Kernel().run(script), "")):
+    def run_with(self, room, *words, kernel=lambda _kernel, script, _seconds, _wide: (played.Kernel().run(script), "")):
         """The status of a call and what it writes."""
         run = loaded()
         patches = [unittest.mock.patch.object(asking, "report_of", played.report_of),
@@ -47,7 +47,8 @@ class RunTest(unittest.TestCase):
                 report = text.read()
             for part in ("## 6.1\n", "## 6.12\n", "- Operations: 7 cases", "- Contained: 2 cases", "- Settled, escapes: 2 lists",
                          "- Settled, contained: 2 pairs", "- Controllers: cpuset, cpu, io, memory, hugetlb, pids, rdma, misc.",
-                         "- Of format 4: operations ", "one controller 16", "- Unexplained: 0."):
+                         "- Of format 4: operations ", "one controller 16", "- Further limit files: the kernel has 19 of the 43",
+                         "- Further limit files, operations: 2 cases", "- Unexplained: 0."):
                 self.assertIn(part, report)
             self.assertTrue(all(name in report.replace("\n  ", " ") for name in tally.WRONG))
 
@@ -59,7 +60,7 @@ class RunTest(unittest.TestCase):
             self.assertIn("not found: is right", said.replace("\n  ", " "))
 
     def test_what_a_kernel_lets_through_is_found(self):
-        def kernel(_kernel, script, _seconds):
+        def kernel(_kernel, script, _seconds, _wide):
             return played.Kernel().run(script).replace("o 1\n", "o 0\n"), ""
         with tempfile.TemporaryDirectory() as room:
             status, said = self.run_with(room, "--seed", "1", "--cases", "2", "--kernel", "6", kernel=kernel)
@@ -68,7 +69,7 @@ class RunTest(unittest.TestCase):
             self.assertTrue(os.listdir(os.path.join(room, "differing")))
 
     def test_a_boot_that_is_cut_fails(self):
-        def kernel(_kernel, script, _seconds):
+        def kernel(_kernel, script, _seconds, _wide):
             return played.Kernel().run(script).removesuffix("end\n"), ""
         with tempfile.TemporaryDirectory() as room:
             status, said = self.run_with(room, "--seed", "1", "--cases", "2", "--kernel", "6", kernel=kernel)

@@ -6,6 +6,7 @@ from dataclasses import replace
 from second import commands, rules
 from second.rules import text_of
 from trial import asking, making, mutants
+from trial.shown import WEIGHT
 from trials import spelling, trees
 from trials.format_4 import FURTHER
 
@@ -33,7 +34,7 @@ def changed(state, lines):
 def with_owner(state, path, name, value):
     uid, gid = map(int, value.split(":"))
     row = state.cgroups[path]
-    entries = {**row.entries, name: replace(row.entries[name], uid=uid, gid=gid)}
+    entries = {**row.entries, name: replace(rules.entry_of(state, path, name), uid=uid, gid=gid)}
     return rules.with_cgroup(state, path, replace(row, entries=entries))
 
 
@@ -43,13 +44,15 @@ CHANGES = {"chown": with_owner,
 
 
 def text_of_state(state):
-    """The text of a tree that a kernel has."""
+    """The text of a tree that a kernel has; the weight 0 of what is idle is written as 1."""
     call = []
-    commands.upgrade(None, state, None, None, call)
+    rows = {path: replace(row, values={file: 1 if (file, value) == (WEIGHT, 0) else value for file, value in row.values.items()})
+            for path, row in state.cgroups.items()}
+    commands.upgrade(None, replace(state, cgroups=rows), None, None, call)
     return spelling.document(random.Random(0), call[0]).decode().removeprefix("\ufeff")
 
 
-def cases_of(rng, program, tree, text, state):
+def cases_of(rng, program, tree, text, state, tries=TRIES):
     """The escape of a pair that isn't contained, where it has one, and a case in which what is advised is carried out before it."""
     user, top = tree.user, tree.subtree
     mends = asking.advise(program, text, user, top)
@@ -59,7 +62,7 @@ def cases_of(rng, program, tree, text, state):
     after = changed(state, mends)
     for _, step in steps:
         after = rules.step(after, user, step)[0]
-    case = making.Case("advice", text, steps, [top], state, mends, making.tries_of(rng, tree, after, [user], TRIES))
+    case = making.Case("advice", text, steps, [top], state, mends, making.tries_of(rng, tree, after, [user], tries))
     return [making.Case("escapes", text, steps, [top], state), case] if steps else [case]
 
 

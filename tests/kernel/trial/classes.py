@@ -1,8 +1,9 @@
 """Where a running kernel differs: a rule for each entry of docs/MODEL.md's list, by the name that stands in bold before it.
 
 A rule of outcomes is asked of a difference of outcomes, and says whether the entry explains it. A rule of values is asked of a
-value that a kernel keeps otherwise than it was written. An entry with neither never comes up, since the cases are made so
-that it can't, or aren't compared in it: `LEFT_OUT` says how.
+value of the eight limit files that a kernel keeps otherwise than it was written; those of further ones are held against shown.py, and
+`SHOWN` has the entries of these. Any other entry never comes up, since the cases are made so that it can't, or aren't compared in it:
+`LEFT_OUT` says how.
 """
 import errno
 import os
@@ -11,11 +12,15 @@ from dataclasses import dataclass
 
 from second import rules
 from second.controllers import ALL_CONTROLLERS
+from second.further import FURTHER_FILES
+from trial import shown
 
 LIST = os.path.join(os.path.dirname(os.path.abspath(__file__)), "../../../docs/MODEL.md")
 PAGE = 4096
 PAGES_FROM = 2 ** 63 - PAGE
 SMALL = 2 ** 21
+# of a process that doesn't do what it is asked for
+NO_ANSWER = 255
 # of the nine those that bar internal processes on a kernel
 DOMAIN = frozenset(["io", "memory", "hugetlb", "rdma", "misc", "dmem"])
 GREATEST = {rules.DESCENDANTS: 2147483647, rules.DEPTH: 2147483647, "pids.max": 4194304}
@@ -54,18 +59,61 @@ def value_taken(outcome):
     if outcome.step[0] != "set":
         return False
     _, _, file, value = outcome.step
+    if file in FURTHER_FILES:
+        return False
     if outcome.said == f"refused bad-value {file}":
         return outcome.number == 0 and file.startswith("memory.") and value >= 2 ** 63
     return outcome.refuses(errno.EINVAL, errno.ERANGE) and value != rules.MAX and value > GREATEST.get(file, rules.MOST)
 
 
-def value_kept(file, written, kept):
+def text_refused(outcome):
+    """A text that a further limit file doesn't take, at least beside what the others of its cgroup have."""
+    if outcome.step[0] != "set" or outcome.step[2] not in FURTHER_FILES:
+        return False
+    if not outcome.refuses(errno.EINVAL, errno.ERANGE, errno.ENODEV, errno.EOPNOTSUPP) or is_idle(outcome):
+        return False
+    now = outcome.there.cgroups[outcome.step[1]].values
+    return shown.turned_by(*outcome.step[2:], now) is None or among_partitions(outcome)
+
+
+def among_partitions(outcome):
+    """CPUs that another cgroup has for itself."""
+    names = ("cpuset.cpus.exclusive", shown.PARTITION)
+    return outcome.step[2].startswith("cpuset.cpus") and any(
+        cgroup.values.get(name, "member") != "member" for cgroup in outcome.there.cgroups.values() for name in names)
+
+
+def is_idle(outcome):
+    """Whether a set is one of the weight of what is idle."""
+    return outcome.step[2] in shown.OF_WEIGHT and outcome.there.cgroups[outcome.step[1]].values.get(shown.IDLE) == "1"
+
+
+def weight_of_the_idle(outcome):
+    """What turns the weight is refused while its cgroup is idle."""
+    return outcome.step[0] == "set" and outcome.refuses(errno.EINVAL) and is_idle(outcome)
+
+
+def file_is_unknown(outcome):
+    """A further limit file that the kernel doesn't have anywhere, or at its root."""
+    if outcome.step[0] not in ("set", "chmod") or outcome.step[2] not in FURTHER_FILES or outcome.number != errno.ENOENT:
+        return False
+    _, path, file, _ = outcome.step
+    there = outcome.there.cgroups
+    return path in there and (not path or not any(file in cgroup.entries for cgroup in there.values()))
+
+
+def value_kept(file, written, kept, _now):
     """The greatest of `cgroup.max.*` is kept as `max`; memory is kept in whole pages, and what is near to 2^63 as `max`."""
     if file in (rules.DESCENDANTS, rules.DEPTH):
         return written == GREATEST[file] and kept == rules.MAX
     if not file.startswith("memory.") or written == rules.MAX:
         return False
     return kept == (written // PAGE * PAGE if written < PAGES_FROM else rules.MAX)
+
+
+def weight_turned(file, _written, kept, now):
+    """`cpu.weight` is what the nice value or the idleness of its cgroup makes it."""
+    return file == shown.WEIGHT and kept in shown.weights_of(now)
 
 
 def name_of_file(outcome):
@@ -110,8 +158,11 @@ def folder_in_the_way(outcome):
 
 
 def effect_of_limits(outcome):
-    """A fork that a full pids.max refuses, or what memory a limit of almost nothing refuses, there or above."""
+    """A fork that a full pids.max refuses or that what is frozen doesn't do, or what memory a limit of almost nothing refuses, there
+    or above; and what brings processes to where partitions have all CPUs."""
     there = outcome.there
+    if outcome.step[0] in ("move", "control") and outcome.refuses(errno.ENOSPC):
+        return any(cgroup.values.get(shown.PARTITION) in ("root", "isolated") for cgroup in there.cgroups.values())
     if outcome.step[0] not in ("fork", "mkdir", "control"):
         return False
     place = outcome.state.live[outcome.step[1]][1] if outcome.step[0] == "fork" and outcome.said == "ok" else outcome.step[1]
@@ -119,6 +170,8 @@ def effect_of_limits(outcome):
     if outcome.step[0] == "fork" and outcome.refuses(errno.EAGAIN):
         places = [place for _, place in there.live.values()]
         return any(limit_of(there, path, "pids.max") <= sum(rules.inside(at, path) for at in places) for path in above)
+    if outcome.step[0] == "fork" and outcome.refuses(NO_ANSWER):
+        return any(there.cgroups[path].values.get("cgroup.freeze") == "1" for path in above)
     return outcome.refuses(errno.ENOMEM) and any(limit_of(there, path, "memory.max") < SMALL for path in above)
 
 
@@ -135,20 +188,19 @@ RULES = {
     "directory in the way": folder_in_the_way,
     "capabilities of the moved": capabilities_of_the_moved,
     "effects of limits": effect_of_limits,
+    "any value": text_refused,
+    "file that turns another": weight_of_the_idle,
+    "unknown file": file_is_unknown,
 }
-VALUES = {"range of values": value_kept}
-NO_FURTHER = "no case names a further limit file"
+VALUES = {"range of values": value_kept, "file that turns another": weight_turned}
+# of what a kernel shows of further limit files after a set: comparing.further_differences says where
+SHOWN = ("read back", "one line of several")
 LEFT_OUT = {
-    "weight of the idle": "no case writes cpu.idle before its weights are compared",
+    "weight of the idle": "no tree has the weight 0, which the program refuses",
     "long writes": "no line of a case is as long",
     "zombies": "the init waits for what has ended",
     "setgid directories": "no case has a mode past 0777",
     "no identity": "the cases have 4294967294 in its place",
-    "any value": NO_FURTHER,
-    "read back": NO_FURTHER,
-    "one line of several": NO_FURTHER,
-    "file that turns another": NO_FURTHER,
-    "unknown file": NO_FURTHER,
 }
 
 
@@ -164,6 +216,6 @@ def kind_of(outcome):
     return next((name for name, explains in RULES.items() if explains(outcome)), None)
 
 
-def kind_of_value(file, written, kept):
-    """The entry that explains how a value is kept, or None."""
-    return next((name for name, explains in VALUES.items() if explains(file, written, kept)), None)
+def kind_of_value(file, written, kept, now):
+    """The entry that explains how a value is kept in a cgroup that shows this now, or None."""
+    return next((name for name, explains in VALUES.items() if explains(file, written, kept, now)), None)

@@ -3,8 +3,9 @@ import errno
 from dataclasses import dataclass, replace
 
 from second import commands, rules
+from second.further import FURTHER_FILES
 from second.rules import text_of
-from trial import advice, asking, classes, script, mutants
+from trial import advice, asking, classes, script, mutants, shown
 
 # the error numbers by which a kernel refuses what the program does, by the first word of the refusal
 NUMBERS = {
@@ -44,17 +45,33 @@ def same_outcome(said, number):
 
 
 def values_of(state):
-    return {(path, file): value for path, cgroup in state.cgroups.items() for file, value in cgroup.values.items()}
+    """Those of the eight limit files."""
+    return {(path, file): value for path, cgroup in state.cgroups.items() for file, value in cgroup.values.items()
+            if file in rules.LIMIT_FILES}
 
 
-def without_values(state):
-    return {path: (cgroup.entries, cgroup.enabled, sorted(cgroup.values)) for path, cgroup in state.cgroups.items()}
+def without_values(state, watched=()):
+    """Owners and modes, with those of the further limit files that are watched, be they told of or not, and what stands."""
+    return {path: (entries_of(state, path, watched), cgroup.enabled, sorted(set(cgroup.values) & set(rules.LIMIT_FILES)))
+            for path, cgroup in state.cgroups.items()}
 
 
-def state_differences(number, model, there):
-    """What of a state differs: rows, entries and places have no entry that explains them, values may."""
+def entries_of(state, path, watched):
+    further = [file for file in watched if path and file in rules.further_at(state, path)]
+    return {**{name: entry for name, entry in state.cgroups[path].entries.items() if name not in FURTHER_FILES},
+            **{file: rules.entry_of(state, path, file) for file in further}}
+
+
+def there_of(state):
+    """The same of a kernel's state, which has what it watched."""
+    return {path: (cgroup.entries, cgroup.enabled, sorted(set(cgroup.values) & set(rules.LIMIT_FILES)))
+            for path, cgroup in state.cgroups.items()}
+
+
+def state_differences(number, model, there, watched=()):
+    """What of a state differs: rows, entries and places have no entry that explains them, values of the eight limit files may."""
     found = []
-    mine, its = without_values(model), without_values(there)
+    mine, its = without_values(model, watched), there_of(there)
     for path in sorted(mine.keys() | its.keys()):
         if mine.get(path) != its.get(path):
             found.append(Difference(number, None, f"{text_of(path)}: {mine.get(path)} is {its.get(path)}"))
@@ -63,7 +80,7 @@ def state_differences(number, model, there):
     written, kept = values_of(model), values_of(there)
     for path, file in sorted(written.keys() & kept.keys()):
         if written[path, file] != kept[path, file]:
-            kind = classes.kind_of_value(file, written[path, file], kept[path, file])
+            kind = classes.kind_of_value(file, written[path, file], kept[path, file], there.cgroups[path].values)
             found.append(Difference(number, kind, f"{text_of(path)} {file}: {written[path, file]} is {kept[path, file]}"))
     return found
 
@@ -74,20 +91,89 @@ def compare(case, answers, record):
         return Compared(0, [Difference(0, None, f"not built or carried out: {record.faults[:3]}, {len(record.states)} states")])
     if len(answers) < len(case.steps):
         return Compared(0, [Difference(0, None, f"{len(answers)} answers to {len(case.steps)} steps")])
-    found = state_differences(0, case.state, record.states[0])
+    watched = standing_of(case, record)
+    found = state_differences(0, case.state, record.states[0], watched) + told_differences(case.state, record.states[0])
     told, model = {each.what for each in found}, case.state
     for number, ((user, step), said, number_said) in enumerate(zip(case.steps, answers, record.numbers), 1):
         if not same_outcome(said, number_said):
             kind = classes.kind_of(classes.Outcome(model, user, step, said, number_said, record.states[number - 1]))
             what = f"{commands.spelling(step)}: {said}, and there {errno.errorcode.get(number_said, number_said)}"
             return Compared(number, found + [Difference(number, kind, what)])
+        new = further_differences(number, model, step if said == "ok" else (), *record.states[number - 1:number + 1])
         model = rules.step(model, user, step)[0]
-        new = [each for each in state_differences(number, model, record.states[number]) if each.what not in told]
+        new += [each for each in state_differences(number, model, record.states[number], watched) if each.what not in told]
         told |= {each.what for each in new}
         found += new
         if any(each.kind is None for each in new):
             return Compared(number, found)
     return Compared(len(case.steps), found)
+
+
+def standing_of(case, record):
+    """Of the further limit files that a case watches those that stand somewhere on the kernel: the others it doesn't have."""
+    standing = {name for state in record.states for cgroup in state.cgroups.values() for name in cgroup.entries}
+    return [file for file in script.watched(case) if file in standing]
+
+
+def told_differences(model, there):
+    """What a kernel shows of further limit files otherwise than it was told while the tree was built."""
+    found = []
+    for path, cgroup in model.cgroups.items():
+        for file in [file for file in cgroup.values if file in FURTHER_FILES and path in there.cgroups]:
+            value, text, now = cgroup.values[file], there.cgroups[path].values.get(file, ""), {}
+            for line in value.split("\n"):
+                now.update(shown.turned_by(file, line, now) or {})
+            if not shown.are_alike(file, value, text):
+                kind = "read back" if shown.are_alike(file, now.get(file), text) else None
+                found.append(Difference(0, kind, f"{text_of(path)} {file}: {value!r} is {text!r}"))
+    return found
+
+
+def further_differences(number, model, step, before, after):
+    """What a kernel shows of the further limit files after a step that was let through, where it shows another text than it was to by
+    the rules of shown.py, or where that is another one than was set."""
+    found, turned = [], {}
+    if step[:1] == ("set",) and (step[2] in FURTHER_FILES or step[2] == shown.WEIGHT):
+        now = before.cgroups[step[1]].values
+        turned = shown.turned_by(step[2], step[3], now)
+        if turned is None:
+            return [Difference(number, None, f"{commands.spelling(step)}: let through, and a kernel was to refuse it")]
+        found += kind_of_set(number, model, step, now, turned)
+    for path, file in sorted(further_of(after)):
+        text, was = after.cgroups[path].values.get(file, ""), shown.FIRST.get(file, "")
+        if (path, file) in further_of(before):
+            was = before.cgroups[path].values.get(file, "")
+        if step[1:2] == (path,):
+            was = turned.get(file, was)
+        if shown.is_turned_elsewhere(file, was, text):
+            found.append(Difference(number, "file that turns another", f"{text_of(path)} {file}: {was!r} is {text!r}"))
+        elif not shown.are_alike(file, was, text):
+            found.append(Difference(number, None, f"{text_of(path)} {file}: was to be {was!r}, and is {text!r}"))
+    return found
+
+
+def further_of(state):
+    return {(path, file) for path, cgroup in state.cgroups.items() for file in cgroup.entries if file in FURTHER_FILES}
+
+
+def kind_of_set(number, model, step, now, turned):
+    """The entry that a set falls under where a kernel shows other than its text, or shows it already."""
+    _, path, file, text = step
+    what, found = commands.spelling(step), []
+    if [name for name in turned if name != file and name in now and now[name] != turned[name]]:
+        found.append(Difference(number, "file that turns another", f"{what}: turns {turned}"))
+    if file in FURTHER_FILES and not shown.are_alike(file, turned[file], str(text)):
+        kind = "one line of several" if file == "io.max" else "read back"
+        found.append(Difference(number, kind, f"{what}: is shown as {turned[file]!r}"))
+    elif file in FURTHER_FILES and now.get(file) == text and model.cgroups[path].values.get(file) != text:
+        found.append(Difference(number, "read back", f"{what}: stands there already"))
+    return found
+
+
+def turned_entries(case, record, top):
+    """The limit files of a subtree's top whose owner or mode isn't what it was at the first."""
+    first, *rest = [state.cgroups[top].entries for state in record.states[len(case.mends):] if top in state.cgroups]
+    return sorted({file for file in rules.ALL_FILES for entries in rest if entries.get(file) != first.get(file)})
 
 
 def tells_apart(turn, case, answers, record):
@@ -122,4 +208,5 @@ def compare_advice(program, case, record):
 def changes_differences(case, mends, record):
     """What of the state that a kernel has after a case's changes isn't the tree with these changes."""
     there = record.states[len(case.mends)]
-    return [each for each in state_differences(0, advice.changed(case.state, mends), there) if not each.kind]
+    model, watched = advice.changed(case.state, mends), standing_of(case, record)
+    return [each for each in state_differences(0, model, there, watched) + told_differences(model, there) if not each.kind]

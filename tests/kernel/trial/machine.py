@@ -14,6 +14,12 @@ NEEDED = {QEMU: "qemu-system-x86", "apt-cache": "apt", "dpkg-deb": "dpkg", "cc":
 # on a busy host the timer of an emulated machine can be too late for the kernel's check of it, which ends the boot
 WORDS = "console=ttyS0 quiet loglevel=1 panic=-1 cgroup_no_v1=all mitigations=off no_timer_check"
 FOLDERS = ["dev", "proc", "sys"]
+# a second CPU and a second node of memory, pages of 1 GB, and two discs of a kind that these kernels have no module for
+CPUS = ["-smp", "1"]
+WIDE = ["-smp", "2", "-cpu", "qemu64,+pdpe1gb"] + [
+    word for at in (0, 1) for word in ("-object", f"memory-backend-ram,id=m{at},size=256M", "-numa", f"node,memdev=m{at},cpus={at}",
+                                       "-drive", f"driver=null-co,size=1M,read-zeroes=on,if=none,id=d{at}",
+                                       "-device", f"nvme,drive=d{at},serial=d{at}")]
 
 
 class Missing(Exception):
@@ -75,8 +81,8 @@ def archive(files):
     return bytes(data)
 
 
-def run(kernel, script, seconds):
-    """What the init writes of a script in one boot, and the console's text."""
+def run(kernel, script, seconds, wide=False):
+    """What the init writes of a script in one boot, of the wide machine or the other one, and the console's text."""
     with tempfile.TemporaryDirectory() as room:
         said = compile_init(os.path.join(room, "init"))
         if said:
@@ -86,7 +92,7 @@ def run(kernel, script, seconds):
         files = [(name, 0o040755, b"") for name in FOLDERS] + [("init", 0o100755, init), ("cases", 0o100644, script.encode())]
         with open(os.path.join(room, "archive"), "wb") as out:
             out.write(archive(files))
-        words = [QEMU, "-accel", "tcg", "-smp", "1", "-m", "512", "-nodefaults", "-display", "none", "-no-reboot",
+        words = [QEMU, "-accel", "tcg", *(WIDE if wide else CPUS), "-m", "512", "-nodefaults", "-display", "none", "-no-reboot",
                  "-kernel", kernel, "-initrd", os.path.join(room, "archive"), "-append", WORDS,
                  "-serial", f"file:{room}/console", "-serial", f"file:{room}/said"]
         try:

@@ -81,7 +81,7 @@ def settle(rng, tree, controllers):
         settle_entry(row.setdefault("dir", {}), 0o755, SEARCH)
         for name, entry in row.get("files", {}).items():
             settle_entry(entry, 0o644, 0)
-            if "value" in entry:
+            if "value" in entry and name in rules.LIMIT_FILES:
                 entry["value"] = settled_value(rng, name, entry["value"])
 
 

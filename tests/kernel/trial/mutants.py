@@ -1,9 +1,10 @@
 """Mutants of the program: each turns one clause of what the program says of a case. Comparing has to find every one of them.
 
-Those of `MUTANTS`, and of `OF_FORMAT_4` in trees of that format, say other outcomes of the operations, and are held against what a
-kernel made of them. The changes that those of `ADVICE` advise are carried out on a kernel in place of the program's.
+Those of `MUTANTS`, and of `OF_FORMAT_4` and `OF_FURTHER` in trees of that format, say other outcomes of the operations, and are held
+against what a kernel made of them. The changes that those of `ADVICE` advise are carried out on a kernel in place of the program's.
 """
 from second import rules
+from second.further import FURTHER_FILES
 from trials.format_4 import FURTHER
 
 
@@ -84,6 +85,35 @@ OF_FORMAT_4 = {
     "disables another controller that a child uses": lets_further("child-uses"),
     "enables another controller that isn't available": lets_further("not-available"),
 }
+
+
+def lets_of_further(kind, word):
+    """A program that has a clause for other entries alone: what is refused by it for a further limit file is let through."""
+    def turn(_state, _user, step, said):
+        return "ok" if step[0] == kind and step[2] in FURTHER_FILES and said.startswith(f"refused {word}") else said
+    return turn
+
+
+def untold_of_root(state, _user, step, said):
+    """Takes for root's every further limit file of which nothing was told."""
+    if said != "ok" or step[0] != "set" or step[2] not in FURTHER_FILES or step[2] in state.cgroups[step[1]].entries:
+        return said
+    return f"refused no-access {rules.text_of(step[1])} {step[2]}"
+
+
+OF_FURTHER = {
+    "lets anyone set a further limit file": lets_of_further("set", "no-access"),
+    "lets anyone set the mode of a further limit file": lets_of_further("chmod", "not-owner"),
+    "takes further limit files that a user brings for root's": untold_of_root,
+}
+# says contained where no other guard fails than that of a further limit file
+FORGETS = "check forgets further limit files"
+
+
+def forgets(state, user, top):
+    """Whether that program says contained of a pair that this one says otherwise of."""
+    failures = rules.failures(state, user, top)
+    return bool(failures) and all(name in FURTHER_FILES for _, _, name in failures)
 
 
 def answers_of(turn, case, answers):

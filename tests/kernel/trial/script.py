@@ -1,9 +1,12 @@
 """The lines that tests/kernel/init.c takes and writes: from a case to a script, and from what was said to a record."""
 from dataclasses import dataclass, field
+from urllib.parse import unquote
 
 from second import commands, rules
 from second.controllers import ALL_CONTROLLERS
+from second.further import FURTHER_FILES
 from second.rules import text_of
+from trial import shown
 
 # a file of each controller that has no limit file here, which stands at the children of a cgroup that enables it
 OTHERS = {"cpuset": "cpuset.cpus", "io": "io.max", "hugetlb": "hugetlb.2MB.max", "rdma": "rdma.max", "misc": "misc.max",
@@ -27,9 +30,20 @@ def spelled(step):
     return commands.spelling(step) if step[0] in rules.BARS else " ".join(map(str, step))
 
 
+def watched(case):
+    """The further limit files that a case names, in their order, and with one of those that turn `cpu.weight` the other one."""
+    named = {name for cgroup in case.state.cgroups.values() for name in cgroup.entries}
+    named |= {step[2] for _, step in [*case.steps, *case.tries] if step[0] in ("set", "chmod")}
+    if named & {shown.IDLE, shown.NICE}:
+        named |= {shown.IDLE, shown.NICE}
+    return [file for file in FURTHER_FILES if file in named] if case.state.form == 4 else []
+
+
 def lines_of(number, case):
     """A case's lines: the tree, what root changes of it, what users do and what they try."""
-    lines = [f"case {number}", *building_lines(case), "state", *(f"mend {line}" for line in case.mends)]
+    watch = watched(case)
+    lines = [f"case {number}", *(["watch " + " ".join(watch)] if watch else []), *building_lines(case), "state"]
+    lines += [f"mend {line}" for line in case.mends]
     for verb, deeds in (("do", case.steps), ("try", case.tries)):
         for user, step in deeds:
             lines += ["user " + " ".join(map(str, [user[0], *user[1]])), f"{verb} {spelled(step)}"]
@@ -46,14 +60,21 @@ def building_lines(case):
             lines.append(f"control {text_of(path)} " + " ".join(f"+{name}" for name in sorted(cgroup.enabled)))
     lines += [f"process {pid} {uid} {text_of(path)}" for pid, (uid, path) in sorted(state.live.items())]
     for path, cgroup in rows:
-        lines += [f"set {text_of(path)} {file} {value}" for file, value in cgroup.values.items()
-                  if value != rules.default_of(file)]
+        lines += value_lines(path, cgroup)
         lines += [f"own {text_of(path)} {name} {entry.uid} {entry.gid} {entry.mode:o}" for name, entry in cgroup.entries.items()]
         if case.tries:
             # a delegation that hands over the one hands over the other; the model has no cgroup.threads
             procs = cgroup.entries[rules.PROCS]
             lines.append(f"own {text_of(path)} cgroup.threads {procs.uid} {procs.gid} {procs.mode:o}")
     return lines
+
+
+def value_lines(path, cgroup):
+    """The values of a cgroup's files: of the eight those that aren't there anyway, and of further ones a line for each of theirs."""
+    lines = [f"set {text_of(path)} {file} {value}" for file, value in cgroup.values.items()
+             if file in rules.LIMIT_FILES and value != rules.default_of(file)]
+    return lines + [f"set {text_of(path)} {file} {line}" for file in FURTHER_FILES if file in cgroup.values
+                    for line in cgroup.values[file].split("\n")]
 
 
 def is_whole(case, record):
@@ -64,6 +85,19 @@ def is_whole(case, record):
 
 def script_of(cases):
     return "\n".join([head()] + [line for number, case in enumerate(cases) for line in lines_of(number, case)]) + "\n"
+
+
+def standing_script():
+    """What has a kernel tell of the further limit files that it has."""
+    enabling = [f"control / +{name}" for name in ALL_CONTROLLERS]
+    lines = [head(), "case 0", "watch " + " ".join(FURTHER_FILES), *enabling, "mkdir /a", "state"]
+    return "\n".join(lines) + "\n"
+
+
+def standing_in(said):
+    """The further limit files that a kernel tells of, in their order."""
+    found, _ = records_of(said)
+    return tuple(file for file in FURTHER_FILES if found and file in found[0].states[0].cgroups[("a",)].entries)
 
 
 def controllers_of(said):
@@ -128,8 +162,12 @@ def cgroup_of(words):
         name, is_limit, rest = word.partition("=")
         if not is_limit:
             continue
-        *entry, value = rest.split(":")
-        entries[name], values[name] = entry_of(entry), int(value) if value.isdigit() else value
+        *entry, value = rest.split(":", 3)
+        entries[name] = entry_of(entry)
+        if name in rules.LIMIT_FILES:
+            values[name] = int(value) if value.isdigit() else value
+        elif value:
+            values[name] = unquote(value)
     return rules.Cgroup(entries, values, frozenset(enabled.split(",")) & frozenset(ALL_CONTROLLERS))
 
 

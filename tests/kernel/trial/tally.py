@@ -1,26 +1,33 @@
 """What a run of a kernel came to: each case is taken by its kind, and what isn't as it should be is kept."""
 import collections
+import errno
 import json
 import os
 
 from second.controllers import ALL_CONTROLLERS
-from trial import asking, comparing, made, script, settled, mutants
+from second.further import FURTHER_FILES
+from trial import asking, comparing, further, made, script, settled, shown, mutants
 from trials.format_4 import FURTHER
 
 OF_OPERATIONS = {**mutants.MUTANTS, **mutants.OF_FORMAT_4}
-WRONG = [*OF_OPERATIONS, *mutants.ADVICE]
+OF_FURTHER = [*mutants.OF_FURTHER, mutants.FORGETS]
+WRONG = [*OF_OPERATIONS, *mutants.ADVICE, *OF_FURTHER]
 
 
 class Tally:
     def __init__(self, kernel, program, folder):
         self.kernel, self.program, self.folder = kernel, program, folder
         self.counts, self.kinds, self.breaks = collections.Counter(), collections.Counter(), collections.defaultdict(collections.Counter)
-        self.failures, self.told, self.seconds, self.controllers = 0, {}, 0, ()
+        self.failures, self.told, self.seconds, self.controllers, self.files = 0, {}, 0, (), ()
+        # by what came of a set of a further limit file in which an escape ends the texts of each file; "as it is" marks those of a file
+        # of whose value the tree's text tells nothing, and so no device
+        self.sets = collections.defaultdict(lambda: collections.defaultdict(set))
         # by the kind of a step the controllers at which a kernel bars it for internal processes, where they alone are enabled
         self.barring = {"move": set(), "control": set()}
         self.takers = {"operations": self.operations, made.ALONE: self.alone, "escapes": self.escapes, "contained": self.contained,
                        "advice": self.advice, "wrong advice": self.wrong_advice, settled.ESCAPES: self.escapes,
-                       settled.CONTAINED: self.contained}
+                       settled.CONTAINED: self.contained, further.OPERATIONS: self.operations, further.ESCAPES: self.escapes,
+                       further.CONTAINED: self.contained, further.ADVICE: self.advice, further.NEIGHBOURS: self.neighbours}
 
     def take(self, case, name, record):
         self.counts[f"{case.kind} cases"] += 1
@@ -69,9 +76,9 @@ class Tally:
         answers = asking.replay(self.program, case)
         found = self.compared(case, name, answers, record)
         if all(each.kind for each in found.differences):
-            for wrong, turn in OF_OPERATIONS.items():
+            for wrong, turn in (mutants.OF_FURTHER if case.kind == further.OPERATIONS else OF_OPERATIONS).items():
                 if wrong not in self.told and comparing.tells_apart(turn, case, answers, record):
-                    self.told[wrong] = self.counts["operations cases"]
+                    self.told[wrong] = self.counts[f"{case.kind} cases"]
 
     def escapes(self, case, name, record):
         answers = asking.replay(self.program, case)
@@ -82,9 +89,37 @@ class Tally:
         self.breaks[case.kind][" ".join(there.split(" ")[::2])] += 1
         self.counts[f"{case.kind} as said"] += there == answers[-1]
         self.counts["further escapes"] += turns_further(case.steps[-1][1])
+        self.take_set(case, record, there)
         # a value that the kernel keeps as `max` isn't changed by a write of `max`
         if answers[-1] == "kept" or there != answers[-1] and not found.differences:
             self.fail(case, name, f"the program says {answers[-1]}, and there it is {there}")
+
+    def take_set(self, case, record, there):
+        """Notes an escape that ends in a set of a further limit file, and whether check could forget these."""
+        user, step = case.steps[-1]
+        if step[0] != "set" or step[2] not in FURTHER_FILES:
+            return
+        number = record.numbers[-1]
+        is_told = step[2] in case.state.cgroups[step[1]].values
+        what = "changes" if there != "kept" else "refused" if number else "nothing"
+        marks = ([] if is_told else ["as it is"]) + ([errno.errorcode[number]] if number else [])
+        self.sets[what][step[2]].add(f"`{step[3]}`" + (f" ({', '.join(marks)})" if marks else ""))
+        if there != "kept" and mutants.forgets(case.state, user, case.subtrees[0]):
+            self.told.setdefault(mutants.FORGETS, self.counts[f"{case.kind} cases"])
+
+    def neighbours(self, case, name, record):
+        """The program says contained, and on a kernel what a neighbour has turns the subtree's own partition, and nothing else."""
+        (user, _), top = case.steps[0], case.subtrees[0]
+        said, _ = asking.check(self.program, case.text, user, top)
+        self.compared(case, name, asking.replay(self.program, case), record)
+        if said != "contained" or len(record.states) != 2:
+            self.fail(case, name, f"check says {said}, {len(record.states)} states")
+            return
+        before, after = (state.cgroups[top].values for state in record.states)
+        turned = sorted(file for file in before.keys() | after.keys() if before.get(file) != after.get(file))
+        self.counts["partitions turned"] += turned == [shown.PARTITION]
+        if turned not in ([], [shown.PARTITION]) or comparing.turned_entries(case, record, top):
+            self.fail(case, name, f"turns {turned} of the subtree")
 
     def contained(self, case, name, record):
         if not script.is_whole(case, record):
@@ -98,22 +133,22 @@ class Tally:
         self.counts[f"{case.kind} steps of a third let through"] += sum(
             user == settled.THIRD and not number for (user, _), number in zip(case.tries, record.numbers))
         for top in case.subtrees:
-            there = comparing.break_of(case, record, top)
-            if there != "kept":
-                self.fail(case, name, f"{top}: {there}")
+            there, turned = comparing.break_of(case, record, top), comparing.turned_entries(case, record, top)
+            if there != "kept" or turned:
+                self.fail(case, name, f"{top}: {there}, owners and modes of {turned}")
 
     def advice(self, case, name, record):
         found = comparing.compare_advice(self.program, case, record)
         if found.faults:
             self.fail(case, name, found.faults[0])
             return
-        self.counts["advice changes"] += len(case.mends)
-        self.counts["advice escapes"] += bool(case.steps)
-        self.counts["advice escapes refused"] += found.refused > 0
-        self.counts["advice escape steps"] += len(case.steps)
-        self.counts["advice escape steps refused"] += found.refused
-        self.counts["advice steps"] += len(case.tries)
-        self.counts["advice steps let through"] += record.numbers[len(case.mends) + len(case.steps):].count(0)
+        self.counts[f"{case.kind} changes"] += len(case.mends)
+        self.counts[f"{case.kind} escapes"] += bool(case.steps)
+        self.counts[f"{case.kind} escapes refused"] += found.refused > 0
+        self.counts[f"{case.kind} escape steps"] += len(case.steps)
+        self.counts[f"{case.kind} escape steps refused"] += found.refused
+        self.counts[f"{case.kind} steps"] += len(case.tries)
+        self.counts[f"{case.kind} steps let through"] += record.numbers[len(case.mends) + len(case.steps):].count(0)
 
     def wrong_advice(self, case, name, record):
         """It has to break on the kernel itself, whatever the program says of it."""
@@ -140,6 +175,35 @@ def settled_lines(tally):
         f"break at the step and by the clause that the program says. There: {listed(tally.breaks[escapes])}.",
         f"- Settled, contained: {of[f'{contained} pairs']} pairs, {of[f'{contained} steps']} steps of the user and of a third, of which "
         f"the kernel let {of[f'{contained} steps let through']} through, {of[f'{contained} steps of a third let through']} of the third's."]
+
+
+def lines_of_files(tally):
+    """What came of the further limit files."""
+    of, named = tally.counts, "- Further limit files"
+    if not of[f"{further.OPERATIONS} cases"]:
+        return []
+    return [
+        f"{named}: the kernel has {len(tally.files)} of the {len(FURTHER_FILES)}.",
+        f"{named}, operations: {of[f'{further.OPERATIONS} cases']} cases, {of[f'{further.OPERATIONS} steps']} operations compared with their "
+        "states.",
+        f"{named}, escapes: {of[f'{further.ESCAPES} cases']} lists of {of[f'{further.ESCAPES} steps']} operations, "
+        f"{of[f'{further.ESCAPES} as said']} of which break at the step and by the clause that the program says. There: "
+        f"{listed(tally.breaks[further.ESCAPES])}.",
+        f"{named}, contained: {of[f'{further.CONTAINED} cases']} cases, {of[f'{further.CONTAINED} pairs']} pairs of a user and a subtree, "
+        f"{of[f'{further.CONTAINED} steps']} steps, of which the kernel let {of[f'{further.CONTAINED} steps let through']} through.",
+        f"{named}, advice: {of[f'{further.ADVICE} cases']} pairs advised, {of[f'{further.ADVICE} changes']} changes carried out. Of "
+        f"{of[f'{further.ADVICE} escapes']} escapes {of[f'{further.ADVICE} escapes refused']} were refused afterwards.",
+        f"{named}, neighbours: {of['partitions turned']} of {of[f'{further.NEIGHBOURS} cases']} contained partitions were turned invalid by "
+        "`cpuset.cpus` of a cgroup beside them.",
+        f"{named}, mutants of the program: {len(tally.told.keys() & OF_FURTHER)} of {len(OF_FURTHER)} found.", *table_of_sets(tally)]
+
+
+def table_of_sets(tally):
+    """Of each further limit file that the kernel has the texts of the sets in which printed escapes end, by what came of them there."""
+    columns = ["changes", "nothing", "refused"]
+    rows = ["| `" + file + "` | " + " | ".join(", ".join(sorted(tally.sets[column].get(file, []))) for column in columns) + " |"
+            for file in tally.files]
+    return ["", "| The set that ends an escape, of | changes it | changes nothing | is refused |", "|---|---|---|---|", *rows, ""]
 
 
 def further_lines(tally):
@@ -177,4 +241,4 @@ def lines_of(tally):
     return [f"## {tally.kernel}", "", f"- Controllers: {in_order(tally.controllers)}.",
             *(line for kind, line in kinds.items() if of[f"{kind} cases"]), *settled_lines(tally), *further_lines(tally),
             f"- Differences by kind: {listed(tally.kinds)}.", f"- Unexplained: {tally.failures}.",
-            *(found if of["operations cases"] else []), f"- Time: {tally.seconds:.0f} s.", ""]
+            *(found if of["operations cases"] else []), *lines_of_files(tally), f"- Time: {tally.seconds:.0f} s.", ""]
