@@ -30,7 +30,7 @@ HEAD = 4096
 SMALL = 2
 # bytes of memory that a run of the program takes at most: for each byte of a text that is written here, and for each of its cgroups
 # and processes besides
-OF_BYTE, OF_ROW = 16, 3072
+OF_BYTE, OF_ROW = 48, 8192
 # so long the program is asked in large texts, before it is in small ones
 LARGE_SECONDS = 150
 
