@@ -2,7 +2,7 @@
 use Rattle.std.proofs.Common.{◌≡◌, ℕ, ◌<◌, Bool, true, false, not, ◌||◌, cond, refl, sym, ap, subst, ◌∙◌, arith, eqb-true, true≢false}
 use Rattle.std.proofs.Common.{List, [], ◌∷◌, length, map, get_or, zero, suc}
 use Rattle.std.specs.Prelude.{slice_set}
-use Rattle.std.proofs.lemmas.Bool.{and_parts, and_from}
+use Rattle.std.proofs.lemmas.Bool.{and_parts, and_from, not-true}
 use Rattle.std.proofs.lemmas.List.{get_or-set_same, get_or-set_other}
 use Rattle.std.specs.List.{list_all, list_any, AllByRecursion}
 use mathlib.Core.Bool.{beq}
@@ -148,13 +148,9 @@ flag_set set new controller on is =
           | false ↦ λ e. get_or-set_other set.flags number (controller_kind other).number on false (grind (arith, e))
         ] refl
 
-pub not_true : (b : Bool) → not b ≡ true → b ≡ false
-not_true true h = absurd (true≢false (sym h))
-not_true false h = refl
-
 pub enables_nothing-enables : (set : ControllerSet) → enables_nothing set ≡ true → (controller : Controller)
     → enables set controller ≡ false
-enables_nothing-enables set h controller = not_true _ (each_controller (λ controller. not (enables set controller)) h controller)
+enables_nothing-enables set h controller = not-true _ (each_controller (λ controller. not (enables set controller)) h controller)
 
 pub enables_nothing-none : (set : ControllerSet) → ((controller : Controller) → enables set controller ≡ false) → enables_nothing set ≡ true
 enables_nothing-none set h = all_controllers_pass (λ controller. not (enables set controller)) (λ controller. ap not (h controller))

@@ -2,7 +2,7 @@
 use Rattle.std.proofs.Common.{true≢false, ◌≡◌, ℕ, ◌≤◌, Bool, true, false, not, cond, ◌||◌, List, [], ◌∷◌, ◌++◌, codes, Option, Some, None, is_some, option_map, option_and_then, unwrap_or, refl, sym, ap, subst, ◌∙◌, eqb-true, eq-eqb, arith}
 use Rattle.std.specs.Prelude.{find, count_by, nat_eq}
 use Rattle.std.specs.Bool.{passes}
-use Rattle.std.proofs.lemmas.Bool.{and_parts}
+use Rattle.std.proofs.lemmas.Bool.{and_parts, not-true}
 use Rattle.std.specs.List.{AllByRecursion, list_all, list_any}
 use Rattle.std.specs.Map.{lookup}
 use Rattle.std.specs.Ordering.{nat_cmp}
@@ -14,7 +14,6 @@ use Rattle.cg_cgroup.specs.Files.{all_others, is_beyond, brought_by, no_controll
 use Rattle.cg_cgroup.specs.Told.{told_in}
 use Rattle.cg_cgroup.specs.Cgroups.{other_in, file_of, entry_in, root_file}
 use Rattle.cg_cgroup.proofs.CgroupLaws.{accepts-default_value}
-use Rattle.cg_cgroup.proofs.ControllerLaws.{not_true}
 use Rattle.cg_cgroup.proofs.Options.{some_value, none_value, same_some, is_some-mapped}
 use Rattle.cg_cgroup.proofs.AllOthers.{each_other}
 use Rattle.cg_cgroup.proofs.PathOrder.{same_path-is, same_path_refl, same_path-ties}
@@ -131,7 +130,7 @@ implied a b h so = grind arith
 below_root : (format : Format) (row : Members) (path : Names) (above : ControllerSet) (files : ToldFiles)
     → told_row format row ≡ Some files → tell_standing path above (told_row format row) ≡ true → is_root path ≡ false
 below_root format row path above files is stands =
-    not_true (is_root path) (and_parts (not (is_root path)) _ (ap (tell_standing path above) (sym is) ∙ stands)).0
+    not-true (is_root path) (and_parts (not (is_root path)) _ (ap (tell_standing path above) (sym is) ∙ stands)).0
 
 formed_told : (format : Format) (row : Members) (path : Names) (above : ControllerSet) (files : ToldFiles)
     → told_row format row ≡ Some files → tell_standing path above (told_row format row) ≡ true → IsFormedTold above files

@@ -15,7 +15,8 @@ use Rattle.cg_cgroup.specs.declared.told.ToldFile.{ToldFile}
 use Rattle.cg_cgroup.specs.declared.told.ToldFiles.{ToldFiles}
 use Rattle.cg_cgroup.proofs.Options.{mapped_from, same_some}
 use Rattle.cg_cgroup.proofs.CgroupLaws.{same_other-true}
-use Rattle.cg_cgroup.proofs.ControllerLaws.{enables-set_by, not_true}
+use Rattle.std.proofs.lemmas.Bool.{not-true}
+use Rattle.cg_cgroup.proofs.ControllerLaws.{enables-set_by}
 use Rattle.cg_cgroup.proofs.ToldLaws.{told_in-telling}
 use Rattle.cg_cgroup.proofs.PathOrder.{path_cmp_total, same_path-is}
 use Rattle.cg_model.proofs.StateLaws.{path_tie}
@@ -53,7 +54,7 @@ module _ (st : State) (whole : IsWellFormed st) (path : Names) where
         there = ap is_some row.1;
         below_root = elim (brought_by file) as
             (λ by. elim by [ None ↦ row.0.freeze | Some controller ↦ other_in row.0 controller ] ≡ Some entry → is_root path ≡ false) [
-              | None ↦ λ is. not_true (is_root path) (sym (whole.freeze path row.0 row.1) ∙ ap is_some is)
+              | None ↦ λ is. not-true (is_root path) (sym (whole.freeze path row.0 row.1) ∙ ap is_some is)
               | Some controller ↦ λ is. brought_below_root controller (sym (formed.others controller) ∙ ap is_some is)
             ] row.2;
         brought = elim (brought_by file) as (λ by. brought_by file ≡ by
