@@ -20,7 +20,7 @@ use Rattle.cg_model.specs.Clauses.{unless, present, first}
 use Rattle.cg_model.proofs.ClauseLaws.{first_none, first_some}
 use Rattle.cg_format.specs.Said.{controllers_said, has_path, is_named}
 use Rattle.cg_format.specs.TextFaults.{each, is_there, over, tell_standing, names_standing, cgroup_faults}
-use Rattle.cg_text.specs.Rows.{told_in_row, IsReadAs, AreReadAs}
+use Rattle.cg_text.specs.Rows.{IsReadAs, AreReadAs}
 use Rattle.cg_text.specs.Walk.{has_met, enabled_by, over_in, entries_from, is_orphan, is_past, names_past, is_not_within, has_no_file, IsLeast, least_fault, has_root, HasTested, AreInOrder}
 use Rattle.cg_format.specs.declared.fault.Place.{Place}
 use Rattle.cg_format.specs.declared.fault.Place.TheVariants.{Cgroup as AtCgroup}
@@ -325,7 +325,7 @@ files_within format i table row above read =
     all_within (λ file. is_named (File file) table) above ∙ ap (λ set. is_within set above) (sym read.needed)
 
 standing_is : (format : Format) (i : ℕ) (table : Members) (row : Row) (above : ControllerSet) → IsReadAs format i table row
-    → names_standing format row.path above table ≡ (is_within row.needed above && tell_standing row.path above (told_in_row row))
+    → names_standing format row.path above table ≡ (is_within row.needed above && tell_standing row.path above row.told)
 standing_is format i table row above read =
     λ j. files_within format i table row above read j && tell_standing row.path above (sym read.told j)
 
@@ -336,11 +336,11 @@ both_fault false true fault = refl
 both_fault false false fault = refl
 
 names_fault : (row : Row) (found : Option ControllerSet) (fault : TreeFault)
-    → first (present found (λ above. unless (is_within row.needed above && tell_standing row.path above (told_in_row row)) fault))
+    → first (present found (λ above. unless (is_within row.needed above && tell_standing row.path above row.told) fault))
     ≡ cond (names_past row found) (Some fault) None
 names_fault row None fault = refl
 names_fault row (Some above) fault =
-    both_fault (is_within row.needed above) (tell_standing row.path above (told_in_row row)) fault
+    both_fault (is_within row.needed above) (tell_standing row.path above row.told) fault
 
 -- the faults in their order
 in_turn : (twice orphan within files : Option ℕ) (root : Bool) (a b c d e : Option TreeFault)

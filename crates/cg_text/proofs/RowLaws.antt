@@ -36,7 +36,7 @@ use Rattle.cg_format.specs.Said.{entry_said, value_said, is_named, text_said, fi
 use Rattle.cg_format.specs.TextFaults.{row_faults, has_values}
 use Rattle.cg_text.specs.Faults.{or_fault, Passes}
 use Rattle.cg_text.specs.Rows.{table_in, owner_in, limit_in, entry_with, names, needed_where, needed_by, file_in, entry_faults, IsCgroupOf, IsReadAs, AreReadAs}
-use Rattle.cg_text.specs.Rows.{others_of, are_owned_in, have_texts_in, told_of, told_in_row}
+use Rattle.cg_text.specs.Rows.{others_of, are_owned_in, have_texts_in, told_of}
 use Rattle.cg_text.proofs.FurtherLaws.{two, all_known}
 use Rattle.cg_format.specs.declared.fault.Place.TheVariants.{Cgroup as AtCgroup}
 use Rattle.cg_format.specs.declared.fault.TreeFault.{TreeFault}
@@ -325,7 +325,7 @@ module _ (said : Entries) (row : Members) (dir : option_map (λ table. table_vie
   pub row_read : (i : ℕ) (enabled : ControllerSet) (made : Row) → made.number ≡ i → path_said (codes "path") row ≡ Some made.path
       → known_said said.format (codes "enabled") row ≡ Some enabled → (freeze : Option Entry) → freeze ≡ freeze_at made.path
       → IsCgroupOf said enabled freeze made.cgroup → made.needed ≡ needed_by said
-      → told_in_row made ≡ told_of said → IsReadAs said.format i row made
+      → made.told ≡ told_of said → IsReadAs said.format i row made
   row_read i enabled made number path has_enabled freeze at is needed told = record {
     number = number;
     path = path;

@@ -16,7 +16,7 @@ use Rattle.cg_format.specs.Said.{has_path, told_row}
 use Rattle.cg_format.specs.Tables.{AreToldOf}
 use Rattle.cg_format.specs.declared.format.Format.{Format}
 use Rattle.cg_format.proofs.Cuts.{head_of, find_filter}
-use Rattle.cg_text.specs.Rows.{told_in_row, AreReadAs}
+use Rattle.cg_text.specs.Rows.{AreReadAs}
 use Rattle.cg_text.specs.Walk.{told_from, HasTested, least_fault, AreInOrder}
 use Rattle.cg_text.specs.declared.tree.row.Row.{Row}
 use Rattle.cg_text.specs.declared.tree.walk.Least.{Least}
@@ -36,7 +36,7 @@ below_told path [] late apart = refl
 below_told path (row ∷ rows) late apart =
     let parts = or_parts (same_path path row.path) (list_any (at_path path) rows) apart in
     let later = below_told path rows (λ k d inside. late (suc k) d (omega arith)) parts.1 in
-    elim (told_in_row row) as (λ told. below_all path_cmp path (told_before row rows told) ≡ true) [
+    elim row.told as (λ told. below_all path_cmp path (told_before row rows told) ≡ true) [
       | None ↦ later
       | Some files ↦ and_from _ _ (less path row.path (late zero row (omega arith)) parts.0) later
     ]
@@ -48,7 +48,7 @@ told_rise [] rise once = refl
 told_rise (row ∷ rows) rise once =
     let parts = once_tail row rows once in
     let later = told_rise rows (λ i j d l inside. rise (suc i) (suc j) d (omega arith) (omega arith)) parts.1 in
-    elim (told_in_row row) as (λ told. is_sorted path_cmp (told_before row rows told) ≡ true) [
+    elim row.told as (λ told. is_sorted path_cmp (told_before row rows told) ≡ true) [
       | None ↦ later
       | Some files ↦ and_from _ _
           (below_told row.path rows (λ k d inside. rise zero (suc k) d (omega arith) (omega arith)) parts.0) later
@@ -61,17 +61,17 @@ told_unmet path [] apart = refl
 told_unmet path (row ∷ rows) apart =
     let parts = or_parts (same_path path row.path) (list_any (at_path path) rows) apart in
     let later = told_unmet path rows parts.1 in
-    elim (told_in_row row) as (λ told. lookup (same_path path) (told_before row rows told) ≡ None) [
+    elim row.told as (λ told. lookup (same_path path) (told_before row rows told) ≡ None) [
       | None ↦ later
       | Some files ↦ ap (λ b. cond b (Some files) (lookup (same_path path) (told_from rows))) parts.0 ∙ later
     ]
 
 -- a row that tells nothing has none behind it that does
 here_told : (path : Names) (row : Row) (rows : List Row) → AreOnce (row ∷ rows) → same_path path row.path ≡ true
-    → lookup (same_path path) (told_from (row ∷ rows)) ≡ told_in_row row
+    → lookup (same_path path) (told_from (row ∷ rows)) ≡ row.told
 here_told path row rows once at =
     let apart = ap (λ path. list_any (at_path path) rows) (same_path-is path row.path at) ∙ (once_tail row rows once).0 in
-    elim (told_in_row row) as (λ told. lookup (same_path path) (told_before row rows told) ≡ told) [
+    elim row.told as (λ told. lookup (same_path path) (told_before row rows told) ≡ told) [
       | None ↦ told_unmet path rows apart
       | Some files ↦ ap (λ b. cond b (Some files) (lookup (same_path path) (told_from rows))) at
     ]
@@ -79,17 +79,17 @@ here_told path row rows once at =
 later_told : (path : Names) (row : Row) (rows : List Row) → same_path path row.path ≡ false
     → lookup (same_path path) (told_from (row ∷ rows)) ≡ lookup (same_path path) (told_from rows)
 later_told path row rows other =
-    elim (told_in_row row) as (λ told. lookup (same_path path) (told_before row rows told) ≡ lookup (same_path path) (told_from rows)) [
+    elim row.told as (λ told. lookup (same_path path) (told_before row rows told) ≡ lookup (same_path path) (told_from rows)) [
       | None ↦ refl
       | Some files ↦ ap (λ b. cond b (Some files) (lookup (same_path path) (told_from rows))) other
     ]
 
 told_found : (path : Names) (rows : List Row) → AreOnce rows
-    → lookup (same_path path) (told_from rows) ≡ option_and_then told_in_row (find (at_path path) rows)
+    → lookup (same_path path) (told_from rows) ≡ option_and_then (λ (row : Row). row.told) (find (at_path path) rows)
 told_found path [] once = refl
 told_found path (row ∷ rows) once =
     elim (same_path path row.path) as (λ b. same_path path row.path ≡ b
-    → lookup (same_path path) (told_from (row ∷ rows)) ≡ option_and_then told_in_row (cond b (Some row) (find (at_path path) rows))) [
+    → lookup (same_path path) (told_from (row ∷ rows)) ≡ option_and_then (λ (row : Row). row.told) (cond b (Some row) (find (at_path path) rows))) [
       | true ↦ λ at. here_told path row rows once at
       | false ↦ λ other. later_told path row rows other ∙ told_found path rows (once_tail row rows once).1
     ] refl
@@ -97,7 +97,7 @@ told_found path (row ∷ rows) once =
 -- ---- the tables
 
 told_matched : (format : Format) (table : Option Members) (row : Option Row) → AreMatched format table row
-    → option_and_then told_in_row row ≡ option_and_then (told_row format) table
+    → option_and_then (λ (row : Row). row.told) row ≡ option_and_then (told_row format) table
 told_matched format None None are = refl
 told_matched format (Some table) (Some row) are = are.1.told
 told_matched format table row are = absurd are
@@ -115,7 +115,7 @@ told_of_tables format tables rows sorted controllers least root read order stabl
           once;
       each = λ path.
           told_found path sorted once
-          ∙ ap (option_and_then told_in_row)
+          ∙ ap (option_and_then (λ (row : Row). row.told))
           (find_filter (at_path path) sorted ∙ ap head_of (same path) ∙ sym (find_filter (at_path path) rows))
           ∙ told_matched format (find (has_path path) tables) (find (at_path path) rows) (read_found format path 1 tables rows read);
     }

@@ -127,9 +127,6 @@ told_with (Some told) file files = telling file (Some told) files
 abbrev pub told_of : Entries → Option ToldFiles
 told_of entries = cond (tells_in entries) (Some (told_by (told_at entries))) None
 
-abbrev pub told_in_row : Row → Option ToldFiles
-told_in_row row = row.told
-
 -- ---- rows
 
 -- a cgroup with all files that controllers bring, as these tables and the defaults say
@@ -150,7 +147,7 @@ pub record IsReadAs (format : Format) (i : ℕ) (table : Members) (row : Row) : 
   pub needed : row.needed ≡ needed_where (λ file. is_named (File file) table)
   pub files : (file : LimitFile) → is_some (file_of row.cgroup file) ≡ true
   pub freeze : row.cgroup.freeze ≡ freeze_at row.path
-  pub told : told_in_row row ≡ told_row format table
+  pub told : row.told ≡ told_row format table
 
 -- rows as tables say them, the first of which has the number i
 abbrev pub AreReadAs : Format → ℕ → List Members → List Row → Type 0

@@ -16,7 +16,6 @@ use Rattle.cg_format.specs.TextFaults.{tell_standing}
 use Rattle.cg_format.specs.declared.fault.Place.TheVariants.{Cgroup as AtCgroup}
 use Rattle.cg_format.specs.declared.fault.TreeFault.{TreeFault}
 use Rattle.cg_format.specs.declared.fault.TreeFault.TheVariants.{Duplicate, NoRoot, NoParent, TopDown, NoSuchFile}
-use Rattle.cg_text.specs.Rows.{told_in_row}
 use Rattle.cg_text.specs.declared.tree.row.Row.{Row}
 use Rattle.cg_text.specs.declared.tree.walk.Above.{Above}
 use Rattle.cg_text.specs.declared.tree.walk.Least.{Least}
@@ -52,7 +51,7 @@ entries_from met (row ∷ rows) = (row.path, fitted_to (unwrap_or (over_in no_co
 
 -- what rows tell of the limit files beyond `LimitFile`
 abbrev pub told_here : Row → Option (Names × ToldFiles)
-told_here row = option_map (λ files. (row.path, files)) (told_in_row row)
+told_here row = option_map (λ files. (row.path, files)) row.told
 
 abbrev pub told_from : List Row → List (Names × ToldFiles)
 told_from rows = filter_map told_here rows
@@ -73,7 +72,7 @@ abbrev pub tells_past : Names → Option ToldFiles → Option ControllerSet → 
 tells_past path told over = elim over [ None ↦ false | Some above ↦ not (tell_standing path above told) ]
 
 abbrev pub names_past : Row → Option ControllerSet → Bool
-names_past row over = is_past row.needed over || tells_past row.path (told_in_row row) over
+names_past row over = is_past row.needed over || tells_past row.path row.told over
 
 abbrev pub has_no_file : List Row → Row → Bool
 has_no_file met row = names_past row (over_in no_controllers met row.path)
