@@ -89,7 +89,8 @@ told_found : (path : Names) (rows : List Row) → AreOnce rows
 told_found path [] once = refl
 told_found path (row ∷ rows) once =
     elim (same_path path row.path) as (λ b. same_path path row.path ≡ b
-    → lookup (same_path path) (told_from (row ∷ rows)) ≡ option_and_then (λ (row : Row). row.told) (cond b (Some row) (find (at_path path) rows))) [
+    → lookup (same_path path) (told_from (row ∷ rows))
+    ≡ option_and_then (λ (row : Row). row.told) (cond b (Some row) (find (at_path path) rows))) [
       | true ↦ λ at. here_told path row rows once at
       | false ↦ λ other. later_told path row rows other ∙ told_found path rows (once_tail row rows once).1
     ] refl
