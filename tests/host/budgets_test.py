@@ -372,6 +372,67 @@ class LinesTest(ThreeTest):
         self.assertEqual(self.lines(self.report())[-1], "4 asked: 1 fault, 1 escapes, 2 contained")
 
 
+class EntriesTest(ThreeTest):
+    """What lets others in to what somebody made."""
+
+    def setUp(self):
+        super().setUp()
+        for number in range(9):
+            self.host.cgroup(f"/alice/c{number}", owners=owned(1000), more=("cgroup.kill",),
+                             modes={"memory.max": 0o646, "cgroup.kill": 0o646})
+
+    def told_of(self, found):
+        """What is told of what alice made, and her faults."""
+        return ([each["path"] for key in ("entries", "opened") for each in found[key] if each["path"].startswith("/alice/")],
+                [(each["who"], each["subtrees"], each["fault"], each["made_by"]) for each in found["faults"]])
+
+    def test_no_more_is_told_than_the_budget_says(self):
+        paths = [f"/alice/c{number}" for number in range(9)]
+        whole = self.report()
+        self.assertEqual(self.told_of(whole), ([*paths, *paths], []))
+        # of each cgroup an answer about everybody, and then what is opened; what is over is dropped, and so is all behind it
+        for most, told in ((18, [*paths, *paths]), (17, [*paths, *paths[:8]]), (9, paths), (5, paths[:5]), (0, [])):
+            self.small("ENTRIES", most)
+            found = self.report()
+            self.others(found)
+            why = f"uid 1000 has over {most} entries that let somebody in: not all are told"
+            self.assertEqual(self.told_of(found), (told, [("alice(1000)", ["/alice"], why, "alice(1000)")] if most < 18 else []), most)
+            self.assertEqual((found["status"], self.rows(found)), (1, self.rows(whole)))
+
+    def test_advice_isnt_asked_of_what_is_over(self):
+        self.small("ENTRIES", 5)
+        asked, advise = [], asking.Program.advise
+
+        def advising(of, pairs):
+            asked.extend(pairs)
+            return advise(of, pairs)
+        with mock.patch.object(asking.Program, "advise", advising):
+            self.report()
+        self.assertEqual(sum(pair.subtree.startswith(b"/alice/") for pair in asked), 5)
+
+    def test_what_is_anothers_is_told(self):
+        """Also inside of what somebody made, and where an entry of theirs lets in to it."""
+        self.host.cgroup("/alice/c0", owners=owned(1000), modes={"cgroup.procs": 0o646})
+        self.host.cgroup("/alice/c0/roots", owners={**owned(1003), "cgroup.max.depth": 1003}, marks=("trusted.delegate",))
+        self.small("ENTRIES", 0)
+        found = self.report()
+        self.others(found)
+        entries = [each for each in found["entries"] if each["path"].startswith("/alice")]
+        self.assertEqual([(each["path"], each["entry"]) for each in entries], [
+            ("/alice", "cgroup.procs"), ("/alice/c0", "cgroup.procs"), ("/alice/c0", "cgroup.subtree_control"), ("/alice/c0", "dir"),
+            ("/alice/c0/roots", "cgroup.max.depth")])
+        self.assertEqual({path for each in entries for path in each["subtrees"]}, {"/alice/c0/roots"})
+
+    def test_whose_subtrees_have_no_answer(self):
+        """What they made stands in the line, where they hold nothing that is asked about."""
+        self.host.cgroup("/alice", enabled="memory", modes={"dir": 0o777, "cgroup.procs": 0o666, "cgroup.subtree_control": 0o666})
+        self.small("ENTRIES", 0)
+        found = self.report()
+        self.others(found)
+        (fault,) = [each for each in found["faults"] if each["who"] == "alice(1000)"]
+        self.assertEqual(fault["subtrees"], [f"/alice/c{number}" for number in range(9)])
+
+
 class LooksTest(ThreeTest):
     """Each look stands alone."""
 
@@ -468,6 +529,30 @@ class LargeTest(ThreeTest):
         self.assertEqual([(each["subtrees"], each["fault"], each["made_by"]) for each in found["faults"]],
                          [(["/alice"], why, "alice(1000)")])
         self.assertEqual(found["status"], 1)
+
+    def test_a_text_of_too_many_bytes(self):
+        """What is inside of whoever has most is left out, by how long it is and not by how many cgroups it is."""
+        for number in range(3):
+            self.host.cgroup(f"/alice/c{number}", owners={**owned(1000), "cgroup.freeze": 1000}, values={"cgroup.freeze": "7" * 2000})
+        for number in range(9):
+            self.host.cgroup(f"/bob/c{number}", owners=owned(1001))
+        words = ["snapshot", "--with-host", "--plain-folder", "--mount", self.host.mount, "--proc", self.host.proc, "--accounts",
+                 self.host.etc]
+        out, warned = [], []
+
+        def taken(longest):
+            with small_texts(longest=longest), mock.patch("zirofen_host.fault.write", lambda parts: out.append("".join(parts))), \
+                    mock.patch("zirofen_host.fault.warn", warned.append), self.host.owned():
+                self.assertEqual(command.main(words), 0)
+            return out.pop()
+        whole = len(taken(100000))
+        self.assertGreater(whole, 6000)
+        self.assertEqual(len(taken(whole)), whole)
+        self.assertEqual([line for line in warned if line.startswith("large")], [])
+        text = taken(whole - 1)
+        self.assertEqual([line for line in warned if line.startswith("large")],
+                         [f"large: /alice: uid 1000 has 3 cgroups in /alice, left out: a text has {whole - 1} bytes at most"])
+        self.assertEqual([text.count(f"path = '/{name}/") for name in ("alice", "bob")], [0, 9])
 
 
 class ScalingTest(HostTest):

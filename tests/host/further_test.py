@@ -6,7 +6,7 @@ import unittest
 from dataclasses import replace
 from unittest import mock
 
-from check_test import HostTest, owned
+from check_test import MARK, HostTest, owned
 from made_up import DELEGATED, TOP, MadeUpTest, path
 from plan_test import changed, snapshot_of
 from shown import made
@@ -18,12 +18,12 @@ from zirofen_host.collect.bounded import Budget
 from zirofen_host.collect.model import Entry, User
 from zirofen_host.collect.snapshot import note_lines, tree_text
 from zirofen_host.collect.tree import read_tree, tree_text as text_of_tree
-from zirofen_host.fault import Fault
+from zirofen_host.fault import Fault, plain
 from zirofen_host.files import Kind, kind_of
 from zirofen_host.judge import check, rules, shell
 from zirofen_host.judge.may import may
 from zirofen_host.options import AskOptions
-from zirofen_host.profile import CONTROLLERS, FURTHER_FILES, LIMIT_FILES, TEXT_FORMATS
+from zirofen_host.profile import CONTROLLERS, FURTHER_FILES, KEYED, LIMIT_FILES, TEXT_FORMATS
 from zirofen_host.show import steps, view
 
 VALUE = r"\(codes \"[^\"]+\"\)"
@@ -52,6 +52,23 @@ class TableTest(unittest.TestCase):
         self.assertEqual([(int(number), name, by.lower() or None) for number, name, by in found],
                          [(number, *each) for number, each in enumerate(FURTHER_FILES.items())])
         self.assertEqual((len(found), list(FURTHER_FILES)), (43, sorted(FURTHER_FILES)))
+
+    def test_they_are_those_of_the_model(self):
+        """What docs/MODEL.md says of each: its name, the controller that brings it, and whether its lines begin with a device."""
+        with open(f"{TOP}/docs/MODEL.md", encoding="utf-8") as text:
+            section = text.read().partition("### Further limit files")[2].partition("## Definitions")[0]
+        found, controller = [], None
+        for names, stands in re.findall(r"^\| (`.*?) \| (.*?) \|", section, re.M):
+            if stands != "the same":
+                controller = stands.split("`")[1] if "`" in stands else None
+            first, _, sizes = names.partition(" where SIZE is ")
+            found += [(name.replace("SIZE", size), controller) for size in re.findall(r"`(\w+)`", sizes) or [""]
+                      for name in re.findall(r"`([^`]+)`", first)]
+        self.assertEqual(found, list(FURTHER_FILES.items()))
+        (keyed,) = re.findall(r"^- Each line of (.*?) begins with the name of a device or of a resource", section, re.M)
+        names = [name.replace("*", ".+") for name in re.findall(r"`([^`]+)`", keyed)]
+        devices = [file for name in names for file in FURTHER_FILES if re.fullmatch(name, file)]
+        self.assertEqual(devices, sorted((*KEYED, "io.latency", "io.max")))
 
     def test_what_others_say_of_them(self):
         self.assertEqual({kind_of(file) for file in FURTHER_FILES}, {Kind.LIMIT, Kind.ACTS})
@@ -94,6 +111,11 @@ class SnapshotTest(MadeUpTest):
             old = self.host.snapshot(tree_format=2)
             self.assertEqual(self.files(old), [])
             self.assertEqual([note.kind for note in old.notes], ["controller"])
+
+    def test_odd_modes_are_one_note_of_a_cgroup(self):
+        self.host.cgroup("/a", more=FURTHER_FILES, owners=dict.fromkeys(FURTHER_FILES, 1000), modes=dict.fromkeys(FURTHER_FILES, 0o4644))
+        self.assertEqual(note_lines(self.host.snapshot()), [
+            "mode: /a: " + "; ".join(f"{file} has mode 0o4644, written as 0o644" for file in FURTHER_FILES)])
 
     def test_values(self):
         for text, written in VALUES:
@@ -234,6 +256,28 @@ class CheckTest(HostTest):
             "/up.slice/svc hugetlb.128KB.max by everybody"])
         self.assertEqual(self.let_in(found), [("/up.slice/svc", "memory.swap.max", [("owner", 1000)], ["/up.slice/svc"])])
 
+    def test_what_stands_beside_a_partition(self):
+        """Whoever sets the CPUs of a cgroup beside a partition makes it invalid, and reaches no guard of it: the file has a line of its
+        own, an answer about the cgroup that it is of or what is opened."""
+        partition = {"cpuset.cpus": "0-1", "cpuset.cpus.partition": "root"}
+        self.host.cgroup("/", enabled="cpuset")
+        self.host.cgroup("/up.slice", enabled="cpuset", values=partition)
+        self.host.cgroup("/up.slice/a.service", owners=owned(1000), values=partition, marks=(MARK,))
+        self.host.cgroup("/up.slice/b.service", owners=of_user("cpuset.cpus", uid=1001), values={"cpuset.cpus": "2"}, marks=(MARK,))
+        self.host.cgroup("/up.slice/kept.service", owners={"cpuset.cpus": 1001}, values={"cpuset.cpus": "3"})
+        self.host.cgroup("/up.slice/in.slice", more=("cpuset.cpus",), modes={"cpuset.cpus": 0o646})
+        self.host.cgroup("/up.slice/other", owners={"cpuset.cpus": (0, 50)}, modes={"cpuset.cpus": 0o664}, more=("cpuset.cpus",))
+        found = self.report()
+        self.assertEqual(([row[2:] for row in self.rows(found) if row[3] == "/up.slice/a.service"], self.let_in(found)), (
+            [("contained", "/up.slice/a.service")],
+            [("/up.slice/b.service", "cpuset.cpus", [("owner", 1001)], ["/up.slice/b.service"]),
+             ("/up.slice/other", "cpuset.cpus", [("group", 50)], ["/up.slice/other"])]))
+        opened = ["/up.slice/in.slice cpuset.cpus by everybody", "/up.slice/kept.service cpuset.cpus by bob(1001)"]
+        self.assertEqual(self.opened(found), opened)
+        self.assertEqual([line.split(" by ")[0] for line in self.opened(self.report(tree_format=2))], [
+            "/up.slice/b.service cpuset.cpus", "/up.slice/in.slice cpuset.cpus", "/up.slice/kept.service cpuset.cpus",
+            "/up.slice/other cpuset.cpus"])
+
     def test_what_is_inside_of_theirs_is_theirs(self):
         self.host.cgroup("/svc", owners=owned(1000), enabled="cpu memory")
         self.host.cgroup("/svc/in", owners=of_user("cpu.max", "memory.swap.max"), more=("cpu.max", "memory.swap.max"))
@@ -297,6 +341,17 @@ class CheckTest(HostTest):
         told = steps.steps_of(host, "/svc", ["set /svc cpu.max max 100000"])
         self.assertEqual(told.breaks, steps.Breaks(steps.LIMITS, changes=(steps.Change("cpu.max", "5 100000", "max 100000"),)))
         self.assertEqual(told.told[0][4:], [" from 5 100000", " to max 100000"])
+
+    def test_values_of_several_lines(self):
+        """They are shown in one, and what nobody has set isn't shown: each resource has a line."""
+        self.host.cgroup("/svc", owners=of_user("io.max"), more=("io.max",),
+                         values={"io.max": "8:0 rbps=1 wbps=max\n8:16 rbps=2", "misc.max": "a max\nb max", "dmem.max": "a max\nb\x1b 7"})
+        found = self.report(json=True)
+        for shown, escape in ((view.visible, "\\u001b"), (plain, "\\x1b")):
+            host = view.host_of(made(found), shown)
+            self.assertEqual(host.limits("/svc"), [("dmem.max", f"a max b{escape} 7"), ("io.max", "8:0 rbps=1 wbps=max 8:16 rbps=2")])
+        told = steps.steps_of(host, "/svc", ["set /svc io.max 8:0 rbps=max"])
+        self.assertEqual(told.told[0][4:], [" from 8:0 rbps=1 wbps=max 8:16 rbps=2", " to 8:0 rbps=max"])
 
 
 class CommandsTest(MadeUpTest):

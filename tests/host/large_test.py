@@ -1,4 +1,5 @@
 """Tests of hosts that are too large for one text, and of hosts that change while they are walked over."""
+import errno
 import io
 import os
 import shutil
@@ -9,10 +10,10 @@ import unittest
 from unittest import mock
 
 import made_up_program
-from check_test import BY_GROUP, MARK, HostTest, InTurn, owned
+from check_test import BY_GROUP, MARK, REAL_PROGRAM, HostTest, InTurn, owned
 from made_up import MEMORY, path, small_texts
 from zirofen_host import fault, progress
-from zirofen_host.profile import TEXT_FORMATS, text_of
+from zirofen_host.profile import CONTROLLERS, FURTHER_FILES, TEXT_FORMATS, text_of
 from zirofen_host.collect import bounded, walk
 from zirofen_host.ask import program as asking
 from zirofen_host.ask import texts
@@ -151,6 +152,22 @@ class LargeTest(HostTest):
         packed = packed_in(300, [some[0], path(f"/1/{'n' * 200}")])
         self.assertEqual((packed.texts, packed.refused[some[0]]),
                          ([], "what it needs goes into no tree text: its paths and limits are too long"))
+
+    def test_whose_making_it_is_that_is_too_large(self):
+        """Of most of it, and not of who holds what it is inside of."""
+        self.host.cgroup("/alice", owners=owned(1000))
+        self.host.cgroup("/alice/in", owners=owned(1000))
+        self.host.cgroup("/alice/bobs", owners=owned(1001), marks=(MARK,))
+        for number in range(9):
+            self.host.cgroup(f"/alice/bobs/c{number}", owners={**owned(1001), "cgroup.freeze": 1001}, values={"cgroup.freeze": "0"})
+        self.host.cgroup("/carol", owners={**owned(1002), "memory.max": 1002})
+        for most, why in (({"rows": 10}, "{} cgroups, and a tree text has 10 at most"), ({"longest": texts.HEAD + 1300}, texts.TOO_LONG)):
+            with small_texts(**most):
+                found = self.report()
+            self.assertEqual([(each["subtrees"], each["fault"], each["made_by"]) for each in found["faults"]],
+                             [([place], why.format(count), "bob(1001)") for place, count in (("/alice", 13), ("/alice/bobs", 12))]
+                             if "rows" in most else [(["/alice", "/alice/bobs"], why, "bob(1001)")])
+            self.assertEqual(found["status"], 1)
 
     def test_progress_is_told_at_a_terminal(self):
         class Terminal(io.StringIO):
@@ -306,6 +323,24 @@ class BesideTest(HostTest):
         self.assertEqual(settled, [["/alice", "/bob", "/carol"], self.paths[2:5], self.paths[5:8]])
 
 
+class MemoryTest(unittest.TestCase):
+    @unittest.skipUnless(REAL_PROGRAM, "the program isn't built")
+    def test_a_run_takes_no_more_than_is_reckoned_with(self):
+        """Of cgroups with each further limit file in few bytes, and with none: it answers, and with a quarter of that it doesn't."""
+        for files, count in ((FURTHER_FILES, 700), ((), 3000)):
+            entry, top = Entry(1000, 0, 0o644), Row(path("/a"), files={"cgroup.procs": Entry(1000, 0, 0o644)}, enabled=CONTROLLERS)
+            below = [Row(path(f"/a/{number}"), Entry(1000, 0, 0o755), dict.fromkeys(files, entry)) for number in range(count)]
+            rows = {row.path: row for row in (Row(path("/"), enabled=CONTROLLERS), top, *below)}
+            (text,) = texts.texts_of(Tree(CONTROLLERS, rows, (), TEXT_FORMATS[4]), [path("/a")]).texts
+            with tempfile.NamedTemporaryFile("w", encoding="ascii") as out:
+                out.write(text.written(()))
+                out.flush()
+                for most, status in ((text.memory, 0), (text.memory // 4, 3)):
+                    said = subprocess.run(["prlimit", f"--as={most}", REAL_PROGRAM, "check", "--uid", "1000", "--subtree", "/a", "--tree",
+                                           out.name], capture_output=True, text=True)
+                    self.assertEqual((said.returncode, said.stderr), (status, "fault: memory\n" if status else ""), (len(files), most))
+
+
 class SlowTest(unittest.TestCase):
     def test_how_long_the_program_is_asked_in_a_large_text(self):
         with tempfile.TemporaryDirectory() as folder:
@@ -420,6 +455,40 @@ class BusyTest(HostTest):
         lines = self.lines(found)
         self.assertTrue(lines[-1].startswith("only faults of their holders' own making; "), lines[-1])
         self.assertIn(f"fault: everybody of /alice: {ALL_THE_TIME}, of alice(1000)'s own making", lines)
+
+    def test_a_file_that_goes_each_time_it_is_read(self):
+        """Behind its listing, or behind its opening: it is a change of whoever disables its controller, and no file that can't be read."""
+        listed, read, place = bounded.list_folder, walk.text_of, f"{self.host.mount}/alice/in"
+
+        def is_in(folder):
+            return os.path.samestat(os.stat(folder), os.stat(place))
+
+        def listing(folder, most):
+            found = listed(folder, most)
+            if is_in(folder):
+                os.remove(f"{place}/memory.max")
+            return found
+
+        def reading(folder, file):
+            if file == "memory.max" and is_in(folder):
+                raise OSError(errno.ENODEV, os.strerror(errno.ENODEV))
+            return read(folder, file)
+        for module, name, played in ((bounded, "list_folder", listing), (walk, "text_of", reading)):
+            with self.subTest(name), mock.patch.object(module, name, played):
+                found = self.busy(lambda _: self.host.cgroup("/alice/in", owners=owned(1000, 1000)), b"/alice/in")
+                self.one_is_spoiled(found)
+                self.assertEqual(len(self.walks), 10)
+
+    def test_a_file_of_the_root_that_goes(self):
+        listed = bounded.list_folder
+
+        def listing(folder, most):
+            found = listed(folder, most)
+            if os.path.samestat(os.stat(folder), os.stat(self.host.mount)):
+                os.remove(f"{self.host.mount}/cgroup.controllers")
+            return found
+        with mock.patch.object(bounded, "list_folder", listing), self.assertRaisesRegex(fault.Fault, "mount isn't a cgroup: .*controllers"):
+            self.host.snapshot()
 
     def test_a_cgroup_that_goes_each_time_it_is_read(self):
         def act(_):

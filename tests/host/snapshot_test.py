@@ -12,7 +12,7 @@ from made_up import DELEGATED, KERNEL_THREAD, TOP, MadeUpTest, path
 from zirofen_host import command, files
 from zirofen_host.collect import mount, walk
 from zirofen_host.fault import Fault
-from zirofen_host.profile import LIMIT_FILES, TEXT_FORMATS, USUAL, text_of
+from zirofen_host.profile import FURTHER_FILES, LIMIT_FILES, TEXT_FORMATS, USUAL, text_of
 from zirofen_host.collect.mount import Mounts
 from zirofen_host.collect.snapshot import note_lines, tree_text
 from zirofen_host.collect.tree import read_tree, tree_text as text_of_tree
@@ -60,6 +60,16 @@ at = '/'
 """
 
 
+def as_taken(tree, text_format):
+    """A tree as a snapshot in a format has it: of the further limit files with those that the format names and somebody but root
+    reaches."""
+    def told(row, parts):
+        return {name: part for name, part in parts.items()
+                if name not in FURTHER_FILES or (name in text_format.further and row.entry(name).is_reached)}
+    rows = {place: replace(row, files=told(row, row.files), values=told(row, row.values)) for place, row in tree.rows.items()}
+    return replace(tree, rows=rows, format=text_format)
+
+
 class SnapshotTest(MadeUpTest):
     def body(self, snapshot):
         """The text behind its head, which is as it is in this format."""
@@ -103,7 +113,7 @@ class SnapshotTest(MadeUpTest):
                 self.host.tree(tree)
                 for number, each in TEXT_FORMATS.items():
                     taken = self.host.snapshot(tree_format=number)
-                    self.assertEqual(text_of_tree(taken.tree, []), text_of_tree(replace(tree, format=each), []))
+                    self.assertEqual(text_of_tree(taken.tree, []), text_of_tree(as_taken(tree, each), []))
                     others = {name for row in tree.rows.values() for name in row.enabled} - set(each.controllers)
                     self.assertEqual({kind for kind, _ in self.kinds(taken)}, {"controller"} if others else set())
 
@@ -187,6 +197,16 @@ class SnapshotTest(MadeUpTest):
                       note_lines(taken))
         self.assertTrue(all(line.isprintable() and line.isascii() for line in lines))
 
+    def test_a_name_of_a_file_that_stands_nowhere(self):
+        """Of a controller that nothing enables yet, and of which a text takes the name."""
+        self.host.cgroup("/")
+        for name in ("io.max", "hugetlb.2MB.max", "rdma.current", "io.mine"):
+            self.host.cgroup(f"/a.{name}" if name == "io.mine" else f"/{name}")
+        taken = self.host.snapshot()
+        self.assertEqual((len(taken.tree.rows), note_lines(taken)), (5, [
+            f"file-name: /{name}: named as a file: a controller with that file can't be enabled above"
+            for name in ("hugetlb.2MB.max", "io.max", "rdma.current")]))
+
     def test_long_paths(self):
         host = self.host
         host.cgroup("/")
@@ -244,8 +264,7 @@ class SnapshotTest(MadeUpTest):
             "controller: /: left out, with how many cgroups enable each: cpuset (2)",
             "file-name: /idle/memory.stat: named as a file: a controller with that file can't be enabled above",
             "file: /extra/below: memory.max left out: the parent doesn't enable memory",
-            "mode: /set: cgroup.procs has mode 0o1644, written as 0o644",
-            "mode: /set: dir has mode 0o2755, written as 0o755",
+            "mode: /set: dir has mode 0o2755, written as 0o755; cgroup.procs has mode 0o1644, written as 0o644",
             "no-file: /worker/thread: cgroup.max.depth isn't there, and is written with its default, max",
             "pid: /: 0 left out: a process of another PID namespace, or no PID of the format",
             "processes: /worker: 2 left out: the cgroup enables cpu pids",

@@ -43,6 +43,11 @@ ANSWERS = (
     ("build-io-cpuset", "check --uid 1001 --subtree /build.slice/nightly", 1, "escapes|control /build.slice -io"),
     ("build-io-cpuset", "replay --tree {tree} --uid 1001 --subtree /build.slice/nightly --ops {others}", 1,
      "refused not-available dmem|refused child-uses cpuset|ok|broken 3 limits"),
+    # further limit files that the text names
+    ("service-limits-handed-over", "check --uid 880 --gid 880 --subtree /system.slice/transcode.service", 1,
+     "escapes|set /system.slice/transcode.service cpu.max max 100000"),
+    ("service-limits-handed-over", "replay --tree {tree} --uid 880 --gid 880 --subtree /system.slice/transcode.service --ops {limits}", 1,
+     "ok|ok|ok|broken 2 limits"),
 )
 
 # each on the tree of the delegation
@@ -134,7 +139,7 @@ ASKED = (
     ("delegation", "upgrade", 0),
     ("delegation-ancestor-group", "upgrade --tree {tree}", 0),
     ("three-delegations", "upgrade", 0),
-    ("build-io-cpuset", "upgrade", 0),
+    ("service-limits", "upgrade", 0),
     ("delegation", "advise --uid 1000 --subtree /c0", 0),
     ("delegation-ancestor-owned", "advise --tree {tree} --uid 1000 --subtree /c0", 1),
     ("delegation-over-limit", "advise --uid 1000 --subtree /c0", 1),
@@ -194,7 +199,7 @@ def with_help(program, row):
 def named(top, folder):
     """What stands for the names in braces."""
     names = {"folder": folder, "groups": ",".join(33 * ["7"]), "filled": f"{top}/examples/delegation-filled.ops",
-             "chown": f"{top}/examples/host-service-chown.ops"}
+             "chown": f"{top}/examples/host-service-chown.ops", "limits": f"{top}/examples/service-limits.ops"}
     for name, text in OPERATIONS.items():
         names[name] = f"{folder}/{name}.ops"
         with open(names[name], "w", encoding="ascii") as file:

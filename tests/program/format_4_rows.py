@@ -70,7 +70,9 @@ DEVICE, TOO_LONG = 255 * "d", 256 * "d"
 LOOSE, TURNED = "rbps=max wbps=max riops=max wiops=max", "rbps=2 wbps=2 riops=2 wiops=2"
 SETS = (
     ("io.max", None, LOOSE), ("io.max", "max", LOOSE), ("io.max", "8:0 rbps=1", f"8:0 {LOOSE}"), ("io.max", f"8:0 {LOOSE}", f"8:0 {TURNED}"),
-    ("io.max", [f"8:0 {LOOSE}", "8:16 rbps=1"], f"8:0 {LOOSE}"), ("io.max", LOOSE, f"rbps=max {LOOSE}"),
+    ("io.max", [f"8:0 {LOOSE}", "8:16 rbps=1"], f"8:0 {TURNED}"), ("io.max", LOOSE, f"rbps=max {LOOSE}"),
+    ("misc.max", ["res_a max", "res_b 4"], "res_a 0"), ("misc.max", ["res_a 4", "res_a max"], "res_a 0"),
+    ("misc.max", ["res_a 4", "res_b max"], "res_a max"), ("io.weight", ["default 10000", "8:16 200"], "default 9999"),
     ("io.latency", None, "target=max"), ("io.latency", "target=max", "target=1"), ("io.latency", "8:0 target=5", "8:0 target=max"),
     ("rdma.max", "mlx5_0 hca_handle=2 hca_object=2000", "mlx5_0 hca_handle=max hca_object=max"),
     ("rdma.max", "mlx5_0 hca_handle=max hca_object=max", "mlx5_0 hca_handle=0 hca_object=0"),

@@ -12,6 +12,8 @@ EMPTY_ANCESTOR, EMPTY_DIRECTORY, NESTED = "empty-ancestor-writable", "empty-pare
 PROCS_OWNED, NO_PROCESS = "parent-procs-owned", "parent-procs-no-process"
 # of format 4
 OTHERS, OTHERS_SUBTREE = "build-io-cpuset", "/build.slice/nightly"
+# the same, and it names further limit files
+FURTHER, FURTHER_SUBTREE = "service-limits", "/system.slice/transcode.service"
 NO_PARENT, INTERNAL_PROCESS = "fault-no-parent", "fault-internal-process"
 
 # the tree, the lines and what is said of each, the verdict
@@ -115,8 +117,8 @@ def steps(kind):
 def text_trials():
     yield "read_tree", DELEGATION, ["text", "read_tree"], "/ /c0 /c0/c00 /c0/c01 /c1 /c1/c10 10 11 "
     yield "read_text", PREFIX, ["text", "read_text"], "Format2 / "
-    yield ("read_text", OTHERS, ["text", "read_text"],
-           f"Format4 / /build.slice {OTHERS_SUBTREE} {OTHERS_SUBTREE}/job1 /build.slice/release 700 800 ")
+    yield ("read_text", FURTHER, ["text", "read_text"],
+           f"Format4 / /system.slice {FURTHER_SUBTREE} {FURTHER_SUBTREE}/job1 {FURTHER_SUBTREE}/main 520 531 ")
     for tree in (DELEGATION, OTHERS):
         yield "read_tree_input", tree, ["text", "read_tree_input"], "Ok(true)"
     for tree, fault in ((NO_PARENT, "NoParent(Cgroup(2))"), (INTERNAL_PROCESS, "InternalProcess(Process(1))")):

@@ -9,8 +9,8 @@ import re
 
 from device_rows import ANSWERS, ASKED, FAULTS
 from trial_rows import CHECKS, REPLAYS, lines
-from zirofen_host.profile import (CONTROL_FILES, LIMIT_FILES, LONGEST_PATH, MOST_GROUPS, TEXT_FORMATS, accepts, is_root, path_of,
-                                  text_of)
+from zirofen_host.profile import (CONTROL_FILES, FURTHER_FILES, LIMIT_FILES, LONGEST_PATH, MOST_GROUPS, TEXT_FORMATS, accepts, is_root,
+                                  path_of, text_of)
 from zirofen_host.collect.tree import Row, Tree, tree_text
 from zirofen_host.collect.model import Entry, Placed
 
@@ -24,6 +24,8 @@ LARGEST_ID, LARGEST_PID, LARGEST_MODE = 2**32 - 1, 4194303, 0o777
 GROUP_WRITES = 0o020
 STRANGER = 4242
 DEEP, WIDE = 100, 2050
+# lines of further limit files, each of which is spelled in another way, and the longest
+LINES = ("max 100000", 'a"b', "a\\b", "it's", "'\"", "'''\\", "'''\"\"\"\\", 4095 * "7")
 # cgroups whose text, as `upgrade` writes it, is some 20 MB long
 LARGE = 45000
 SOME_USERS, SOME_PATHS, SOME_PIDS = 3, 4, 3
@@ -64,6 +66,18 @@ def limited():
         rows.append(owned(f"/{name}", 1000, values={file: bound(file, bounds) for file in LIMIT_FILES} if bounds else {}))
         rows.append(owned(f"/{name}/in", 1000))
     return tree_of(rows, [(1, 1000, "/least/in"), (LARGEST_PID, 1000, "/most")])
+
+
+def told():
+    """Every further limit file with a line, with several, and as it is; of root, of a user, and with a group that writes."""
+    owners = itertools.cycle((Entry(0, 0, 0o644), Entry(1000, 1000, 0o644), Entry(0, 1000, 0o664)))
+    lines, rows = itertools.cycle(LINES), [Row("/", enabled=NINE)]
+    for name, count in (("line", 1), ("lines", 3), ("as-it-is", 0)):
+        row = owned(f"/{name}", 1000, 1000)
+        files = {**row.files, **{file: next(owners) for file in FURTHER_FILES}}
+        values = {file: "\n".join(next(lines) for _ in range(count)) for file in FURTHER_FILES if count}
+        rows.append(dataclasses.replace(row, files=files, values=values))
+    return tree_of(rows, [(1, 1000, "/line")], 4)
 
 
 def grouped():
@@ -149,6 +163,7 @@ def edge_trees():
         text = tree_text(tree, [])
         yield f"{name}, format 2", text
         yield f"{name}, format 1", text.replace("format = 2", "format = 1", 1)
+    yield "further limit files", tree_text(told(), [])
     yield "groups", tree_text(grouped(), [])
     yield "all modes", tree_text(with_modes(lambda mode: True), [])
     yield "a controller less at each level", tree_text(nested(), [])

@@ -26,7 +26,7 @@ sys.path.insert(0, f"{TOP}/host")
 from device_rows import named as operation_files  # noqa: E402
 from upgrade_rows import (BEFORE_LARGE, LARGE_BEGINNING, LARGE_MOVE, OPS, Asked, asked_of, asked_of_all, edge_trees,  # noqa: E402
                           large_text)
-from zirofen_host.profile import CONTROL_FILES, CONTROLLERS, LIMIT_FILES, TEXT_FORMATS, path_of  # noqa: E402
+from zirofen_host.profile import CONTROL_FILES, CONTROLLERS, FURTHER_FILES, LIMIT_FILES, TEXT_FORMATS, path_of  # noqa: E402
 from zirofen_host.collect.tree import read_tree  # noqa: E402
 
 try:
@@ -57,12 +57,22 @@ def is_limit(file):
     return is_entry(file, "value") and (file["value"] == "max" or type(file["value"]) is int)
 
 
+def is_further(file):
+    """A further limit file may have no value; else it is a line, or an array of several."""
+    if "value" not in file:
+        return is_entry(file)
+    value = file["value"]
+    is_lines = type(value) is list and len(value) > 1 and all(type(line) is str for line in value)
+    return is_entry(file, "value") and (type(value) is str or is_lines)
+
+
 def is_row(row, tree):
     """Whether a cgroup's table has every key: its directory, and exactly the files that stand."""
     limits = tree.limit_files(path_of(row["path"]))
     files = row["files"]
     return (set(row) == {"path", "enabled", "dir", "files"} and is_entry(row["dir"]) and set(files) == {*CONTROL_FILES, *limits}
-            and all(is_entry(files[name]) for name in CONTROL_FILES) and all(is_limit(files[name]) for name in limits))
+            and all(is_entry(files[name]) for name in CONTROL_FILES)
+            and all((is_further if name in FURTHER_FILES else is_limit)(files[name]) for name in limits))
 
 
 def is_in_order(names):
@@ -81,10 +91,10 @@ def is_whole(document, tree, number):
 
 def meaning(tree):
     """All that a tree says, with what its text leaves out."""
-    rows = {}
+    rows, defaults = {}, {name: default for name, (_, default) in LIMIT_FILES.items()}
     for path, row in tree.rows.items():
         entries = {name: row.entry(name) for name in ("dir", *CONTROL_FILES, *tree.limit_files(path))}
-        values = {name: row.values.get(name, LIMIT_FILES[name][1]) for name in tree.limit_files(path)}
+        values = {name: row.values.get(name, defaults.get(name)) for name in tree.limit_files(path)}
         rows[path] = entries, values, {*row.enabled}
     return {*tree.controllers}, rows, sorted(tree.processes)
 

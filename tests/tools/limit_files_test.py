@@ -1,8 +1,14 @@
-"""Tests of limit_files.py."""
+"""Tests of limit_files.py, and of the table of further limit files in docs/MODEL.md."""
+import os
+import re
 import unittest
 
 from limit_files import File, kinds_of, model_row, table_below
 
+TOP = os.path.dirname(os.path.dirname(os.path.dirname(os.path.abspath(__file__))))
+# a row of a further limit file: its name, its controller, the text that loosens it, and the other one
+FURTHER = re.compile(r"^other_kind \w+ = (?:by_device \()?row \d+ \(codes \"([^\"]+)\"\) (?:None|\(Some (\w+)\)) "
+                     r"\(codes \"([^\"]+)\"\) \(codes \"([^\"]+)\"\)\)?$", re.M)
 KINDS = """
 usual number name controller default = record {
   number = number;
@@ -40,6 +46,28 @@ class LimitFiles(unittest.TestCase):
 
     def test_words_for_another_rows_cell_are_put_in_full(self):
         self.assertEqual([row[1] for row in table_below(TABLE, "File")], ["every cgroup", "children", "children", "every cgroup"])
+
+
+def of_top(path: str) -> str:
+    with open(f"{TOP}/{path}", encoding="utf-8") as text:
+        return text.read()
+
+
+def names_in(cell: str) -> list[str]:
+    """The files that the first cell of a row of MODEL.md names, each alone or for each SIZE in turn."""
+    files, _, sizes = cell.partition(", where SIZE is ")
+    names = re.findall("`([^`]+)`", files)
+    return [name.replace("SIZE", size) for size in re.findall("`([^`]+)`", sizes) or ["SIZE"] for name in names]
+
+
+class FurtherFiles(unittest.TestCase):
+    def test_the_table_of_the_docs_is_that_of_the_definition(self) -> None:
+        found = FURTHER.findall(of_top("crates/cg_cgroup/specs/OtherKinds.antt"))
+        stands = {by: f"children of a cgroup that enables `{by.lower()}`" if by else "every cgroup but the root" for _, by, _, _ in found}
+        wanted = [[name, stands[by], f"`{loose}`", f"`{other}`"] for name, by, loose, other in found]
+        rows = table_below(of_top("docs/MODEL.md"), "Further limit file")
+        self.assertEqual([[name, *cells] for names, *cells in rows for name in names_in(names)], wanted)
+        self.assertEqual(len(wanted), 43)
 
 
 if __name__ == "__main__":

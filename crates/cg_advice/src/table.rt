@@ -11,7 +11,7 @@ use crate::pair::Stand;
 use crate::ways::Ways;
 use cg_cgroup::memory::NoMemory;
 use cg_cgroup::path::Path;
-use cg_guards::table::{guarded_count, guarded_entry};
+use cg_guards::table::{Top, guarded_count, guarded_entry};
 use cg_model::hierarchy::Hierarchy;
 use std::alloc::Global;
 use std::collections::BTreeMap;
@@ -76,9 +76,10 @@ fn stands_of<'a, H: Hierarchy>(
     ensures spots { IfOk result (λ stands. map spot_of stands.items ≡ spots (H.state tree.now) subtree.now) }
     ensures ways { IfOk result (λ stands. All (λ stand. stand.ways ≡ no_ways) stands.items) }
 {
+    let top = Top::of(tree, subtree);
     let mut stands = Vec::new(alloc);
     for place in 0..guarded_count(subtree) {
-        let Some(at) = guarded_entry(tree, subtree, place) else {
+        let Some(at) = guarded_entry(tree, subtree, top, place) else {
             continue;
         };
         let ways = Ways::none();

@@ -50,7 +50,7 @@ others_under enabled entry = others_by (λ controller. cond (enables enabled con
 abbrev pub root_file : Entry
 root_file = record { uid = 0; gid = 0; mode = 420 }
 
--- the entry of a limit file beyond `LimitFile` of which nothing is told, where it is there
+-- Own: the entry of a limit file beyond `LimitFile` of which nothing is told, where it is there, is one for all of a controller.
 abbrev pub untold_in : Cgroup → OtherFile → Option Entry
 untold_in row file = elim (brought_by file) [ None ↦ row.freeze | Some controller ↦ other_in row controller ]
 

@@ -117,7 +117,7 @@ entry_text (Other file) = other_name file
 abbrev pub entry_named : List ℕ → Option EntryName
 entry_named text = find (λ name. same_name text (entry_text name)) all_entries
 
--- the limit files beyond `LimitFile` that texts and operation lines of a vocabulary name
+-- Own: the limit files beyond `LimitFile` that texts and operation lines of a vocabulary name.
 abbrev pub known_others : Vocabulary → List OtherFile
 known_others Format2 = []
 known_others Format4 = all_others

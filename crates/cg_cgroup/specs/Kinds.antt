@@ -11,7 +11,7 @@ use Rattle.cg_cgroup.specs.declared.files.LimitFile.TheVariants.{MaxDescendants,
 abbrev pub all_controllers : List Controller
 all_controllers = Cpuset ∷ Cpu ∷ Io ∷ Memory ∷ Hugetlb ∷ Pids ∷ Rdma ∷ Misc ∷ Dmem ∷ []
 
--- Own: those that texts of formats 1 and 2, and operation lines, know: the ones that bring a limit file.
+-- Own: those that texts of formats 1 and 2, and operation lines beside them, know: the ones that bring a `LimitFile`.
 abbrev pub format_2_controllers : List Controller
 format_2_controllers = Cpu ∷ Memory ∷ Pids ∷ []
 

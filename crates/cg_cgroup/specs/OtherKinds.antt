@@ -18,7 +18,7 @@ all_others =
     IoPrioClass ∷ IoWeight ∷ MemorySwapHigh ∷ MemorySwapMax ∷ MemoryZswapMax ∷ MemoryZswapWriteback ∷ MiscMax ∷ RdmaMax ∷ []
 
 -- Such a file: its number in that order, its name, the controller that brings it, whether each of its lines begins with a device or a
--- resource, and two values, without that, of which the first holds nothing, or little.
+-- resource, and two values without that: one that loosens the file, and another.
 pub record OtherKind : Type 0 where
   pub number : ℕ
   pub name : List ℕ
@@ -34,7 +34,7 @@ row number name controller loose other =
 abbrev by_device : OtherKind → OtherKind
 by_device kind = record kind { of_devices = true }
 
--- Core Interface Files; CPU, Memory, IO, Cpuset, HugeTLB, RDMA, Misc, Device memory.
+-- Core Interface Files; CPU, Memory, IO, Cpuset, HugeTLB, RDMA, Misc, DMEM. Own: both texts.
 abbrev pub other_kind : OtherFile → OtherKind
 other_kind Freeze = row 0 (codes "cgroup.freeze") None (codes "0") (codes "1")
 other_kind CpuIdle = row 1 (codes "cpu.idle") (Some Cpu) (codes "0") (codes "1")

@@ -27,7 +27,7 @@ telling file told files = record {
   whole = length-set files.entries (other_kind file).number told ∙ files.whole;
 }
 
--- what is left of it below a cgroup that enables these
+-- Enabling and Disabling: what is left of it below a cgroup that enables these. Own: what is told goes with its file.
 abbrev pub told_under : ControllerSet → ToldFiles → ToldFiles
 told_under enabled files = told_by (λ file. cond (stands_by enabled (brought_by file)) (told_in files file) None)
 

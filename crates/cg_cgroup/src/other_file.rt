@@ -283,7 +283,7 @@ impl OtherFile {
         }
     }
 
-    /// A value that holds nothing, or little; behind the name of a device where each of its lines begins with one.
+    /// A value that loosens the file; behind the name of a device where each of its lines begins with one.
     pub fn loose(self) -> &'static str
         ensures { result.now ≡ (other_kind self).loose }
     {

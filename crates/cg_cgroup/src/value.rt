@@ -1,7 +1,7 @@
 //! The texts that values of limit files beyond `LimitFile` are, line by line.
 ghost use Rattle.std.specs.Prelude.{◌≡◌, option_copied};
 ghost use Rattle.std.specs.List.{list_all};
-ghost use Rattle.cg_cgroup.specs.Values.{is_graphic, is_value_word, is_one_line, device_in};
+ghost use Rattle.cg_cgroup.specs.Values.{is_graphic, is_value_word, is_one_line, has_value_line, device_in};
 
 /// The greatest number of bytes of a device's or a resource's name.
 const LONGEST_DEVICE: usize = 255;
@@ -30,6 +30,13 @@ pub fn is_one_line(text: &str) -> bool
     ensures { result ≡ is_one_line text.now }
 {
     text.split(' ').all(|word| is_value_word(word))
+}
+
+/// Whether a line is one of a value's.
+pub fn has_value_line(value: &str, line: &str) -> bool
+    ensures { result ≡ has_value_line value.now line.now }
+{
+    value.split('\n').any(|own| own == line)
 }
 
 /// The device or the resource whose line a value's first one is: its first word, where others are behind it.

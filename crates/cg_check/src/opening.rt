@@ -9,7 +9,7 @@ use cg_cgroup::memory::NoMemory;
 use cg_cgroup::path::Path;
 use cg_cgroup::user::{Entry, Mode, User};
 use cg_guards::asked::{asked_count, asked_place};
-use cg_guards::table::guarded_entry;
+use cg_guards::table::{Top, guarded_entry};
 use cg_model::guard::GuardedEntry;
 use cg_model::hierarchy::Hierarchy;
 use cg_model::operation::Op;
@@ -26,11 +26,12 @@ pub fn opening<H: Hierarchy>(
     requires { is_root subtree.now ≡ false }
     ensures { IfOk result (λ chmods. chmods ≡ opening (H.state tree.now) user.now subtree.now) }
 {
+    let top = Top::of(tree, subtree);
     let passes = leaves_others(tree, user, subtree);
     let mut chmods = Operations::new(alloc);
     for turn in 0..asked_count(subtree, passes) {
         let place = asked_place(subtree, passes, turn);
-        let Some(at) = guarded_entry(tree, subtree, place) else {
+        let Some(at) = guarded_entry(tree, subtree, top, place) else {
             continue;
         };
         open_entry(alloc, user, subtree, &at, &mut chmods)?;

@@ -2,6 +2,7 @@
 use Rattle.std.proofs.Common.{◌≡◌, ℕ, zero, suc, ◌+◌, ◌≤◌, Bool, true, false, cond, not, ◌&&◌, List, [], ◌∷◌, ◌++◌, length, length-append, map, filter, take, Option, Some, None, is_some, option_and_then, refl, ap, ◌∙◌, arith, flat_map, nat_le, nat_eq, Ordering, ◌-◌, ◌||◌, codes, decimal, sym, subst, true≢false, unwrap_or, option_map, find}
 use Rattle.std.proofs.lemmas.Bool.{leb-true, le-leb, and_parts, and_from, false_from_ne_true}
 use Rattle.std.proofs.Math.Bool.{or-true}
+use Rattle.std.specs.Option.{option_map_or}
 use Rattle.std.specs.List.{AllByRecursion, list_any}
 use Rattle.std.specs.Ordering.{eq_by_cmp, is_eq}
 use Rattle.std.specs.Cmp.{IsTotalOrder, tied_itself, nat_cmp_total}
@@ -14,9 +15,9 @@ use Rattle.cg_cgroup.specs.Numbers.{is_pid}
 use Rattle.cg_cgroup.specs.Users.{writes, owns, reaches, opened}
 use Rattle.cg_cgroup.specs.Files.{all_files, all_others, other_kind, same_entry}
 use Rattle.cg_cgroup.specs.declared.files.Vocabulary.{Vocabulary}
-use Rattle.cg_cgroup.specs.Values.{is_value_word, is_one_line, device_in}
+use Rattle.cg_cgroup.specs.Values.{is_value_word, is_one_line, has_value_line}
 use Rattle.cg_cgroup.proofs.AllOthers.{each_other}
-use Rattle.cg_cgroup.proofs.DeviceLines.{one_line_behind, device_word}
+use Rattle.cg_cgroup.proofs.DeviceLines.{one_line_behind}
 use Rattle.cg_cgroup.proofs.CgroupLaws.{same_entry-true}
 use Rattle.cg_cgroup.proofs.ControllerLaws.{told-known, vocabulary-least}
 use Rattle.cg_cgroup.proofs.Options.{mapped_from, same_some}
@@ -41,7 +42,7 @@ use Rattle.cg_model.specs.Bars.{set_other_bars}
 use Rattle.cg_model.specs.Clauses.{unless, present}
 use Rattle.cg_model.specs.Effects.{alters_entry}
 use Rattle.cg_model.specs.Held.{by_user}
-use Rattle.cg_model.specs.Limits.{same_text, fits_descendants, fits_depth}
+use Rattle.cg_model.specs.Limits.{fits_descendants, fits_depth}
 use Rattle.cg_model.specs.Steps.{after, after_all}
 use Rattle.cg_model.specs.declared.outcome.Refusal.TheVariants.{NoAccess}
 use Rattle.cg_model.specs.declared.operation.Op.{Op}
@@ -52,7 +53,7 @@ use Rattle.cg_model.specs.Escapes.{breaks, first_escape}
 use Rattle.cg_tries.specs.Escapes.{IsUnbroken}
 use Rattle.cg_tries.specs.Finding.{allowed}
 use Rattle.cg_tries.proofs.Controls.{all-control_tries}
-use Rattle.cg_tries.proofs.Single.{nothing_bars}
+use Rattle.cg_tries.proofs.Single.{nothing_bars, device_of_word}
 use Rattle.cg_tries.proofs.ProbeNames.{is_name-probe, length-probe}
 use Rattle.cg_model.specs.Answers.{answer}
 use Rattle.cg_model.specs.declared.answer.Answer.TheVariants.{Escapes}
@@ -151,19 +152,6 @@ loose_short = each_other (λ file. is_short_line (other_kind file).loose) refl
 other_short : (file : OtherFile) → is_short_line (other_kind file).other ≡ true
 other_short = each_other (λ file. is_short_line (other_kind file).other) refl
 
-device_of_word : (file : OtherFile) (had : Option FileText) (device : List ℕ) → device_of file had ≡ Some device
-    → (is_value_word device ≡ true) × (length device ≤ 255)
-device_of_word file had device is =
-    elim (other_kind file).of_devices as
-    (λ b. cond b (option_and_then device_in had) None ≡ Some device → (is_value_word device ≡ true) × (length device ≤ 255)) [
-      | false ↦ λ is. cc
-      | true ↦ λ is. told had is
-    ] is
-  where
-    told : (had : Option FileText) → option_and_then device_in had ≡ Some device → (is_value_word device ≡ true) × (length device ≤ 255)
-    told None is = cc
-    told (Some value) is = device_word value device is
-
 value_on : (found : Option (List ℕ)) → ((device : List ℕ) → found ≡ Some device → (is_value_word device ≡ true) × (length device ≤ 255))
     → (text : List ℕ) → is_short_line text ≡ true → is_line_value (on_device found text) ≡ true
 unfolding is_line_value
@@ -184,7 +172,7 @@ text_value file had =
     let on = value_on (device_of file had) (device_of_word file had) in
     let first = on_device (device_of file had) (other_kind file).loose in
     let second = on_device (device_of file had) (other_kind file).other in
-    elim (same_text (Some first) had) as (λ b. is_line_value (cond b second first) ≡ true) [
+    elim (option_map_or (λ value. has_value_line value first) had false) as (λ b. is_line_value (cond b second first) ≡ true) [
       | true ↦ on (other_kind file).other (other_short file)
       | false ↦ on (other_kind file).loose (loose_short file)
     ]

@@ -10,7 +10,7 @@ use cg_cgroup::memory::NoMemory;
 use cg_cgroup::path::Path;
 use cg_cgroup::user::{Entry, User};
 use cg_guards::asked::{asked_count, asked_place};
-use cg_guards::table::guarded_entry;
+use cg_guards::table::{Top, guarded_entry};
 use cg_model::files::told_at;
 use cg_model::guard::GuardedEntry;
 use cg_model::hierarchy::Hierarchy;
@@ -37,10 +37,11 @@ pub fn first_row<H: Hierarchy>(
     ensures row { IfOk result (λ row. row.items ≡ first_row (H.state tree.now) user.now subtree.now) }
     ensures shown { IfOk result (λ row. All (λ told. IsShown subtree.now told.at) row.items) }
 {
+    let top = Top::of(tree, subtree);
     let passes = spares_untold(tree, std::slice::from_ref(user), subtree);
     let mut row = Vec::new(alloc);
     for turn in 0..asked_count(subtree, passes) {
-        let Some(at) = guarded_entry(tree, subtree, asked_place(subtree, passes, turn)) else {
+        let Some(at) = guarded_entry(tree, subtree, top, asked_place(subtree, passes, turn)) else {
             continue;
         };
         let by = class_of(user, &at.entry);

@@ -1,9 +1,10 @@
 -- The lines of a value that a text tells: cut at the newlines they are lines again, and make the same value.
 use Rattle.std.proofs.Common.{◌≡◌, ℕ, zero, suc, ◌+◌, ◌<◌, ◌≤◌, ◌/◌, ◌%◌, ℤ, pos, negsuc, Bool, true, false, not, cond, List, [], ◌∷◌, ◌++◌, length, Option, Some, None, is_some, option_map, option_and_then, refl, sym, ap, ◌∙◌, true≢false, eqb-true, eq-eqb, ltb-true, lt-ltb, le-leb, arith}
-use Rattle.std.specs.Prelude.{◌==◌, ◌&&◌, nat_lt, nat_le, if◌then◌else◌, filter_map, codes}
-use Rattle.std.specs.List.{list_all, slice_split, onto_first, join_with_byte}
+use Rattle.std.specs.Prelude.{◌==◌, nat_lt, nat_le, if◌then◌else◌, filter_map, codes}
+use Rattle.std.specs.List.{list_all, slice_split, onto_first, join_with_byte, All}
 use Rattle.std.specs.Fmt.{digit_glyph, digits_onto, digits, decimal, signed_decimal}
 use Rattle.std.proofs.lemmas.Bool.{and_from, and_parts, not-true}
+use Rattle.std.proofs.lemmas.List.Elements.{All-head, All-tail}
 use Rattle.std.proofs.lemmas.List.Splits.{slice_split-cons_yes, slice_split-cons_no, length-slice_split, join_with_byte-slice_split}
 use Rattle.toml.specs.Data.{Data, string, integer, array, Members, get_member, as_str}
 use Rattle.cg_cgroup.specs.Values.{is_graphic, is_value_word, is_one_line}
@@ -13,6 +14,7 @@ use Rattle.cg_cgroup.specs.declared.user.Entry.{Entry}
 use Rattle.cg_cgroup.specs.declared.files.EntryName.TheVariants.{Other}
 use Rattle.cg_cgroup.specs.declared.other_file.OtherFile.{OtherFile}
 use Rattle.std.proofs.lemmas.Option.{cond_some}
+use Rattle.cg_cgroup.proofs.DeviceLines.{unbroken}
 use Rattle.cg_cgroup.proofs.Options.{same_some, mapped_from}
 use Rattle.cg_format.specs.Form.{elements}
 use Rattle.cg_format.specs.Said.{is_text_line, lines_text, text_of, text_said, owner_said, file_said, told_said, table_of}
@@ -50,64 +52,20 @@ module _ (c : ℕ) where
 
 -- ---- a line has no newline
 
-abbrev is_printed : ℕ → Bool
-is_printed b = nat_lt 31 b
-
-printed_graphic : (b : ℕ) → is_graphic b ≡ true → is_printed b ≡ true
-printed_graphic b so =
-    let above : 32 < b = ltb-true 32 b (and_parts (nat_lt 32 b) (nat_lt b 127) so).0 in
-    lt-ltb 31 b (omega (arith, above))
-
-printed_other : (b : ℕ) → is_printed b ≡ true → is_other 10 b ≡ true
-printed_other b so =
-    elim (b == 10) as (λ e. (b == 10) ≡ e → not e ≡ true) [
-      | true ↦ λ is. absurd (ten b (eqb-true b 10 is) (ltb-true 31 b so))
-      | false ↦ λ _. refl
-    ] refl
-  where
-    ten : (b : ℕ) → b ≡ 10 → 31 < b → ⊥
-    ten b is above = absurd (omega (arith, is, above))
-
 all_as : (p q : ℕ → Bool) → ((b : ℕ) → p b ≡ true → q b ≡ true) → (bs : List ℕ) → list_all p bs ≡ true → list_all q bs ≡ true
 all_as p q each [] all = refl
 all_as p q each (b ∷ bs) all =
     let parts = and_parts (p b) (list_all p bs) all in
     and_from (q b) (list_all q bs) (each b parts.0) (all_as p q each bs parts.1)
 
-graphic_parts : (b : ℕ) (parts : List (List ℕ)) → 0 < length parts → list_all (list_all is_graphic) (onto_first b parts) ≡ true
-    → (is_graphic b ≡ true) × (list_all (list_all is_graphic) parts ≡ true)
-graphic_parts b [] some all = absurd (omega (arith, some))
-graphic_parts b (part ∷ parts) some all =
-    let both = and_parts (is_graphic b && list_all is_graphic part) (list_all (list_all is_graphic) parts) all in
-    let first = and_parts (is_graphic b) (list_all is_graphic part) both.0 in
-    (first.0, and_from (list_all is_graphic part) (list_all (list_all is_graphic) parts) first.1 both.1)
-
-printed_words : (line : List ℕ) → list_all (list_all is_graphic) (slice_split (is_byte 32) line) ≡ true → list_all is_printed line ≡ true
-printed_words [] all = refl
-printed_words (b ∷ line) all =
-    elim (b == 32) as (λ e. (b == 32) ≡ e
-    → list_all (list_all is_graphic) (cond e ([] ∷ slice_split (is_byte 32) line) (onto_first b (slice_split (is_byte 32) line))) ≡ true
-    → list_all is_printed (b ∷ line) ≡ true) [
-      | true ↦ λ is all.
-          let space : is_printed b ≡ true = ap is_printed (eqb-true b 32 is) in
-          and_from (is_printed b) (list_all is_printed line) space (printed_words line all)
-      | false ↦ λ _ all.
-          let parts = graphic_parts b (slice_split (is_byte 32) line) (omega (arith, length-slice_split (is_byte 32) line)) all in
-          and_from (is_printed b) (list_all is_printed line) (printed_graphic b parts.0) (printed_words line parts.1)
-    ] refl all
-
-words_graphic : (words : List (List ℕ)) → list_all is_value_word words ≡ true → list_all (list_all is_graphic) words ≡ true
-words_graphic [] all = refl
-words_graphic (word ∷ words) all =
-    let parts = and_parts (is_value_word word) (list_all is_value_word words) all in
-    and_from (list_all is_graphic word) (list_all (list_all is_graphic) words)
-    (and_parts (nat_lt 0 (length word)) (list_all is_graphic word) parts.0).1 (words_graphic words parts.1)
+other_bytes : (line : List ℕ) → All (λ (b : ℕ). (b == 10) ≡ false) line → list_all (is_other 10) line ≡ true
+other_bytes [] all = refl
+other_bytes (b ∷ line) all =
+    and_from (is_other 10 b) (list_all (is_other 10) line) (ap not (All-head (λ (b : ℕ). (b == 10) ≡ false) b line all))
+    (other_bytes line (All-tail (λ (b : ℕ). (b == 10) ≡ false) b line all))
 
 line_unbroken : (line : List ℕ) → is_text_line line ≡ true → list_all (is_other 10) line ≡ true
-line_unbroken line is =
-    let one : is_one_line line ≡ true = (and_parts (nat_le (length line) 4095) (is_one_line line) is).1 in
-    all_as is_printed (is_other 10) printed_other line
-    (printed_words line (words_graphic (slice_split (is_byte 32) line) one))
+line_unbroken line is = other_bytes line (unbroken line (and_parts (nat_le (length line) 4095) (is_one_line line) is).1)
 
 lines_unbroken : (lines : List (List ℕ)) → list_all is_text_line lines ≡ true → list_all (list_all (is_other 10)) lines ≡ true
 lines_unbroken [] all = refl

@@ -5,9 +5,10 @@ ghost use Rattle.std.specs.List.{list_all};
 ghost use Rattle.cg_cgroup.specs.Paths.{is_root};
 ghost use Rattle.cg_model.specs.Guards.{guarded_entries, standing};
 ghost use Rattle.cg_guards.specs.GuardedUsers.{is_alike};
+ghost use Rattle.cg_guards.specs.Standing.{IsTop};
 ghost use Rattle.cg_guards.specs.Asked.{asked_entries, is_covered, are_covered, passes_others};
 
-use crate::table::{guarded_count, guarded_entry};
+use crate::table::{Top, guarded_count, guarded_entry};
 use cg_cgroup::cgroup::Cgroup;
 use cg_cgroup::files::LimitFile;
 use cg_cgroup::other_file::OtherFile;
@@ -45,14 +46,16 @@ pub fn asked_count(subtree: &Path, passes: bool) -> usize
 pub fn asked_entry<H: Hierarchy>(
     tree: &H,
     subtree: &Path,
+    top: Top<'_>,
     passes: bool,
     turn: usize,
 ) -> Option<GuardedEntry>
     requires not_root { is_root subtree.now ≡ false }
+    requires top { IsTop (H.state tree.now) subtree.now top }
     requires within { turn < length (asked_entries passes subtree.now) }
     ensures { result ≡ option_and_then (standing (H.state tree.now) subtree.now) (slice_get (asked_entries passes subtree.now) turn) }
 {
-    guarded_entry(tree, subtree, asked_place(subtree, passes, turn))
+    guarded_entry(tree, subtree, top, asked_place(subtree, passes, turn))
 }
 
 /// The place of the entry that is asked in a turn, among all on which a guard stands.

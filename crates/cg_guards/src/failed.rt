@@ -10,6 +10,7 @@ ghost use Rattle.cg_model.specs.Limits.{is_within_limit, fits_descendants, fits_
 ghost use Rattle.cg_model.specs.Guards.{guarded_entries, entry_failures, failures, IsSubtree};
 
 use crate::asked::{asked_count, asked_entry, passes_others};
+use crate::table::Top;
 use cg_cgroup::cgroup::Cgroup;
 use cg_cgroup::files::Limit;
 use cg_cgroup::path::Path;
@@ -69,9 +70,10 @@ pub fn failed_entry<H: Hierarchy>(tree: &H, user: &User, subtree: &Path) -> Opti
     requires { is_root subtree.now ≡ false }
     ensures { result ≡ first (flat_map (entry_failures (H.state tree.now) user.now subtree.now) (guarded_entries subtree.now)) }
 {
+    let top = Top::of(tree, subtree);
     let passes = passes_others(tree, subtree);
     for turn in 0..asked_count(subtree, passes) {
-        let Some(at) = asked_entry(tree, subtree, passes, turn) else {
+        let Some(at) = asked_entry(tree, subtree, top, passes, turn) else {
             continue;
         };
         if user.reaches(&at.entry) {

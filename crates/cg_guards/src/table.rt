@@ -1,13 +1,17 @@
 //! The entries on which guards stand, one after another in the order of the guards.
-ghost use Rattle.std.specs.Prelude.{◌≡◌, ◌≤◌, ◌<◌, Some, false, length, slice_get, option_and_then, IfSome};
+ghost use Rattle.std.specs.Prelude.{◌≡◌, ◌≤◌, ◌<◌, Some, false, length, take, slice_get, option_and_then, option_copied, IfSome};
 ghost use Rattle.std.specs.Option.{option_map};
 ghost use Rattle.cg_cgroup.specs.Paths.{is_root};
+ghost use Rattle.cg_model.specs.States.{entry_at};
 ghost use Rattle.cg_model.specs.Guards.{guarded_entries, standing};
-ghost use Rattle.cg_guards.specs.Standing.{spotted, guarded_files, parent_guards};
+ghost use Rattle.cg_guards.specs.Standing.{spotted, guarded_files, parent_guards, IsTop, told_in_top, entry_in_top};
 
+use cg_cgroup::cgroup::Cgroup;
 use cg_cgroup::files::{EntryName, LimitFile};
 use cg_cgroup::other_file::OtherFile;
 use cg_cgroup::path::Path;
+use cg_cgroup::told::{ToldFile, ToldFiles};
+use cg_cgroup::user::Entry;
 use cg_model::files::entry_at;
 use cg_model::guard::{Guard, GuardedEntry};
 use cg_model::hierarchy::Hierarchy;
@@ -20,6 +24,47 @@ struct Spot {
     name: EntryName,
 }
 
+/// A subtree's own cgroup, on whose entries most guards stand: looked up once for all of them.
+#[derive(Clone, Copy)]
+pub struct Top<'a> {
+    pub cgroup: Option<&'a Cgroup>,
+    /// What is told of its limit files beyond `LimitFile`.
+    pub told: Option<&'a ToldFiles>,
+}
+
+impl<'a> Top<'a> {
+    /// The cgroup of a subtree.
+    pub fn of<H: Hierarchy>(tree: &'a H, subtree: &Path) -> Top<'a>
+        ensures { IsTop (H.state tree.now) subtree.now result }
+    {
+        let len = subtree.depth();
+        Top {
+            cgroup: tree.get(subtree, len),
+            told: tree.told(subtree, len),
+        }
+    }
+
+    /// The owner, group and mode of an entry, where it is there.
+    fn entry(self, name: EntryName) -> Option<Entry>
+        ensures { result ≡ entry_in_top self.entry name }
+    {
+        let EntryName::Other(file) = name else {
+            return self.cgroup?.entry(name);
+        };
+        match self.told_of(file) {
+            Some(told) => Some(told.entry),
+            None => self.cgroup?.untold(file),
+        }
+    }
+
+    /// What is told of a limit file beyond `LimitFile`.
+    fn told_of(self, file: OtherFile) -> Option<&'a ToldFile>
+        ensures { option_copied result ≡ told_in_top self.entry file }
+    {
+        self.told?.get(file)
+    }
+}
+
 /// How many entries a guard of a subtree may stand on.
 pub fn guarded_count(subtree: &Path) -> usize
     ensures { result ≡ length (guarded_entries subtree.now) }
@@ -29,8 +74,14 @@ pub fn guarded_count(subtree: &Path) -> usize
 
 /// The entry on which the guard of a place stands, counted from 0 in the order of the guards; `None` where the entry isn't
 /// there, and past the last place.
-pub fn guarded_entry<H: Hierarchy>(tree: &H, subtree: &Path, place: usize) -> Option<GuardedEntry>
-    requires { is_root subtree.now ≡ false }
+pub fn guarded_entry<H: Hierarchy>(
+    tree: &H,
+    subtree: &Path,
+    top: Top<'_>,
+    place: usize,
+) -> Option<GuardedEntry>
+    requires not_root { is_root subtree.now ≡ false }
+    requires top { IsTop (H.state tree.now) subtree.now top }
     ensures entry { result ≡ option_and_then (standing (H.state tree.now) subtree.now) (slice_get (guarded_entries subtree.now) place) }
     ensures within { IfSome result (λ at. at.len ≤ length subtree.now) }
     ensures mode { IfSome result (λ at. at.entry.mode ≤ 511) }
@@ -38,13 +89,31 @@ pub fn guarded_entry<H: Hierarchy>(tree: &H, subtree: &Path, place: usize) -> Op
     let spot = spot_at(subtree, place)?;
     // tells that the tree is well-formed
     let _ = tree.controllers();
-    let entry = entry_at(tree, subtree, spot.len, spot.name)?;
+    let entry = entry_of(tree, subtree, top, spot.len, spot.name)?;
     Some(GuardedEntry {
         guard: spot.guard,
         len: spot.len,
         name: spot.name,
         entry,
     })
+}
+
+/// The owner, group and mode of an entry of the subtree's cgroup, or of one above it.
+fn entry_of<H: Hierarchy>(
+    tree: &H,
+    subtree: &Path,
+    top: Top<'_>,
+    len: usize,
+    name: EntryName,
+) -> Option<Entry>
+    requires within { len ≤ length subtree.now }
+    requires top { IsTop (H.state tree.now) subtree.now top }
+    ensures { result ≡ entry_at (H.state tree.now) (take len subtree.now) name }
+{
+    if len == subtree.depth() {
+        return top.entry(name);
+    }
+    entry_at(tree, subtree, len, name)
 }
 
 /// The guard of a place, and the entry on which it stands.

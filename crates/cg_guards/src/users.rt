@@ -9,6 +9,7 @@ ghost use Rattle.cg_guards.specs.Reach.{is_out_of_reach, AreCovered};
 use crate::asked::{asked_count, asked_entry, is_alike, passes_others};
 use crate::failed::is_over;
 use crate::identities::Identities;
+use crate::table::Top;
 use cg_cgroup::path::Path;
 use cg_cgroup::user::{Entry, User};
 use cg_model::hierarchy::Hierarchy;
@@ -37,9 +38,10 @@ pub fn guarded_users<'a, H: Hierarchy>(
         return &users[..0];
     }
     let mut left = users;
+    let top = Top::of(tree, subtree);
     let passes = passes_others(tree, subtree);
     for turn in 0..asked_count(subtree, passes) {
-        let Some(at) = asked_entry(tree, subtree, passes, turn) else {
+        let Some(at) = asked_entry(tree, subtree, top, passes, turn) else {
             continue;
         };
         if is_asked(*asked, &at.entry) || is_out_of_reach(identities, &at.entry) {

@@ -103,10 +103,19 @@ fn word_said(
         return Ok(None);
     }
     let said = none_said(alloc, name, names.as_slice())?;
-    if operation == "control" && Controller::from_name(name).is_some() {
+    if is_of_format_4(operation, name) {
         return Ok(Some(format!(in alloc; "{said}; with format = 4 it is one")?));
     }
     Ok(Some(said))
+}
+
+/// Whether a word that is no name in lines of format 2 is one in those of format 4.
+fn is_of_format_4(operation: &str, name: &str) -> bool {
+    match operation {
+        "control" => Controller::from_name(name).is_some(),
+        "set" | "chmod" => OtherFile::from_name(name).is_some(),
+        _ => false,
+    }
 }
 
 /// The names of which one has to stand at a place of an operation's line.

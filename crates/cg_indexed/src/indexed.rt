@@ -29,7 +29,9 @@ use std::marker::Model;
 /// A tree of cgroups with its processes, found through their paths' texts, with kept counts.
 ///
 /// A look-up takes time in the logarithm of the tree's size, a change of the tree time in a cgroup's depth, and a change
-/// of what a cgroup enables a walk over the links of all cgroups where it has any below it. Counts are read.
+/// of what a cgroup enables a walk over the links of all cgroups where it has any below it. Counts are read. What is told of
+/// limit files beyond `LimitFile` is a sorted list: its entries behind a cgroup's own move, a path and a pointer each, where it
+/// is the first to be told of that cgroup, and where that is removed.
 #[derive(Drop)]
 pub struct Indexed {
     cgroups: Cgroups,

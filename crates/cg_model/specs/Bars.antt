@@ -71,7 +71,7 @@ control_bars st user at changes =
 abbrev pub row_above : State → Names → Option Cgroup
 row_above st path = cond (is_root path) None (row_at st (parent path))
 
--- Model of Delegation: whether a user writes the parent's directory, where there is one.
+-- Whether a user writes the parent's directory, where there is one.
 abbrev pub writes_above : State → Identity → Names → Bool
 writes_above st user path = elim (row_above st path) [ None ↦ true | Some row ↦ writes user row.dir ]
 
@@ -87,7 +87,7 @@ abbrev pub limit_bars : State → Names → ℕ → List Refusal
 limit_bars st path zero = []
 limit_bars st path (suc len) = level_bars st path len ++ limit_bars st path len
 
--- Organizing Processes; Model of Delegation: write access to the parent's directory.
+-- Organizing Processes. Own: write access to the parent's directory.
 abbrev pub mkdir_bars : State → Identity → Names → List Refusal
 mkdir_bars st user path =
     present (row_at st path) (λ row. Exists ∷ [])

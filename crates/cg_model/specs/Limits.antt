@@ -49,6 +49,7 @@ same_value None None = true
 same_value (Some limit) (Some other) = same_limit limit other
 same_value value other = false
 
+-- Own: values of a limit file beyond `LimitFile` are compared as texts.
 abbrev pub same_text : Option FileText → Option FileText → Bool
 same_text None None = true
 same_text (Some text) (Some other) = same_name text other

@@ -132,6 +132,7 @@ telling_at st path file f = elim (file_told st path file) [
   | Some told ↦ told_as st path file (f told)
 ]
 
+-- Own: a set replaces the value whole.
 abbrev pub with_text : State → Names → OtherFile → FileText → State
 with_text st path file value = record st { told = telling_at st path file (with_value_told value) }
 

@@ -1,11 +1,12 @@
 -- The tries: lists of operations among which one that breaks a subtree is looked for. Own.
 use Rattle.std.specs.Prelude.{ℕ, zero, suc, ◌+◌, Bool, true, false, cond, not, ◌&&◌, ◌||◌, nat_eq, nat_le, List, [], ◌∷◌, ◌++◌, map, filter, find, length, take, unwrap_or, Option, Some, None, option_and_then, codes}
+use Rattle.std.specs.Option.{option_map_or}
 use Rattle.std.specs.List.{flat_map}
 use Rattle.std.specs.Fmt.{decimal}
 use Rattle.cg_cgroup.specs.Paths.{Names, inside, parent, path_text}
 use Rattle.cg_cgroup.specs.Identity.{Identity}
 use Rattle.cg_cgroup.specs.Users.{writes, owns, opened}
-use Rattle.cg_cgroup.specs.Values.{device_in}
+use Rattle.cg_cgroup.specs.Values.{has_value_line, device_in}
 use Rattle.cg_cgroup.specs.Files.{all_files, all_others, other_kind, all_controllers, is_in_format_2, enables}
 use Rattle.cg_cgroup.specs.declared.files.Limit.{Limit}
 use Rattle.cg_cgroup.specs.declared.files.Limit.TheVariants.{Max, At}
@@ -14,7 +15,6 @@ use Rattle.cg_cgroup.specs.declared.files.LimitFile.TheVariants.{CpuWeight}
 use Rattle.cg_cgroup.specs.declared.files.Controller.{Controller}
 use Rattle.cg_model.specs.States.{State, place_at, paths_of, pids_of, value_at, file_told}
 use Rattle.cg_model.specs.WellFormed.{has_row}
-use Rattle.cg_model.specs.Limits.{same_text}
 use Rattle.cg_cgroup.specs.declared.other_file.OtherFile.{OtherFile}
 use Rattle.cg_cgroup.specs.declared.told.FileText.{FileText}
 use Rattle.cg_model.specs.Clauses.{present}
@@ -38,11 +38,11 @@ abbrev pub on_device : Option (List ℕ) → List ℕ → FileText
 on_device None text = text
 on_device (Some device) text = device ++ 32 ∷ text
 
--- the second text where the file has the first
+-- the second text where the first is a line of the file's
 abbrev pub text_besides : Option FileText → FileText → FileText → FileText
-text_besides had first second = cond (same_text (Some first) had) second first
+text_besides had first second = cond (option_map_or (λ value. has_value_line value first) had false) second first
 
--- another text than the file's, the one that loosens it where it doesn't have that
+-- another text than the file's, the one that loosens it where it has no such line
 abbrev pub other_text : OtherFile → Option FileText → FileText
 other_text file had =
     text_besides had (on_device (device_of file had) (other_kind file).loose) (on_device (device_of file had) (other_kind file).other)
@@ -56,7 +56,7 @@ set_tries st subtree =
 abbrev pub change_of : Bool → Controller → Change
 change_of on controller = record { on = on; controller = controller }
 
--- those that bring a limit file are told of, and what else the root has
+-- those that bring a `LimitFile` are told of, and what else the root has
 abbrev pub is_told : State → Controller → Bool
 is_told st controller = is_in_format_2 controller || enables st.controllers controller
 

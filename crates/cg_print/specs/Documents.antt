@@ -58,7 +58,7 @@ table_of_file found = option_map (λ held. table (limit_table held)) found
 abbrev pub with_file : Cgroup → Members → LimitFile → Members
 with_file row keys file = with_optional (file_name file) (table_of_file (file_of row file)) keys
 
--- the two control files, and those of the ten limit files that stand
+-- the two control files, and those of the eight limit files that stand
 unfoldable pub limits_table : Cgroup → Members
 limits_table row =
     fold (with_file row)

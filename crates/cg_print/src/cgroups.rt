@@ -90,7 +90,7 @@ fn put_file(
     Ok(())
 }
 
-/// The table of a cgroup's control files and those of its ten limit files that stand, whose values are ones that they accept.
+/// The table of a cgroup's control files and those of its eight limit files that stand, whose values are ones that they accept.
 fn limits_table(alloc: Global, cgroup: &Cgroup) -> Result<Table, NoMemory>
     requires { (file : LimitFile) (held : LimitEntry) → file_of cgroup.now file ≡ Some held → accepts file held.value ≡ true }
     ensures written { IfOk result (λ keys. table_view keys ≡ limits_table cgroup.now) }

@@ -75,8 +75,8 @@ IsFull st users lasting path =
     × ((Bounds st users (take len path) MaxDescendants most × (most ≤ lasting_below st lasting (take len path)))
     ⊎ (Bounds st users (take len path) MaxDepth most × (most ≤ length path - len)))
 
--- No user moves a process to a cgroup: nobody writes its cgroup.procs, or it goes on enabling memory. Of all controllers memory
--- alone keeps a kernel from taking processes in.
+-- No user moves a process to a cgroup: nobody writes its cgroup.procs, or it goes on enabling memory. Of the controllers that
+-- keep a kernel from taking processes in, memory alone is looked at.
 abbrev pub TakesNone : State → List Identity → Lasting → Names → Type 0
 TakesNone st users lasting path =
     (is_reached st users path Procs ≡ false) ⊎ ((is_root path ≡ false) × IsNeverDisabled st users lasting path Memory)

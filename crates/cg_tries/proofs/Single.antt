@@ -1,5 +1,5 @@
 -- A try of one operation breaks where it is allowed and its step breaks.
-use Rattle.std.proofs.Common.{◌≡◌, ℕ, Bool, true, false, cond, not, ◌&&◌, ◌≢◌, List, [], ◌∷◌, ◌++◌, drop, Some, None, is_some, option_map, nat_eq, refl, sym, ap, ◌∙◌, true≢false, arith}
+use Rattle.std.proofs.Common.{◌≡◌, ℕ, ◌≤◌, length, Bool, true, false, cond, not, ◌&&◌, ◌≢◌, List, [], ◌∷◌, ◌++◌, drop, Some, None, is_some, option_map, nat_eq, refl, sym, ap, ◌∙◌, true≢false, arith}
 use Rattle.std.proofs.lemmas.Bool.{and_from, eqb-true, eqb-false, not-true, false_from_ne_true}
 use Rattle.std.proofs.lemmas.List.{append_cancel_left}
 use Rattle.std.proofs.Math.Bool.{and-true}
@@ -13,6 +13,7 @@ use Rattle.cg_cgroup.specs.declared.files.LimitFile.TheVariants.{CpuWeight}
 use Rattle.std.specs.Prelude.{Option, codes, unwrap_or, option_and_then}
 use Rattle.std.specs.Cmp.Lexicographic.{bytes_decides}
 use Rattle.cg_cgroup.specs.Paths.{same_name}
+use Rattle.cg_cgroup.specs.Values.{is_value_word, is_one_line, has_value_line, device_in}
 use Rattle.cg_cgroup.specs.Files.{other_kind}
 use Rattle.cg_cgroup.specs.Told.{file_untold, with_value_told}
 use Rattle.cg_cgroup.specs.declared.other_file.OtherFile.{OtherFile}
@@ -21,6 +22,7 @@ use Rattle.cg_cgroup.specs.declared.told.ToldFile.{ToldFile}
 use Rattle.cg_cgroup.specs.declared.user.Entry.{Entry}
 use Rattle.cg_model.proofs.StateTold.{told_at-telling}
 use Rattle.cg_cgroup.proofs.AllOthers.{each_other}
+use Rattle.cg_cgroup.proofs.DeviceLines.{one_line_behind, device_word, only_line}
 use Rattle.cg_cgroup.proofs.Options.{mapped_from, same_some}
 use Rattle.cg_cgroup.proofs.PathOrder.{same_path_refl}
 use Rattle.cg_cgroup.proofs.CgroupLaws.{same_file-refl, same_other-refl}
@@ -170,20 +172,47 @@ apart_on (Some device) one other apart =
     ((bytes_decides (device ++ 32 ∷ one) (device ++ 32 ∷ other)).0 same)) in
     true≢false (sym ((bytes_decides one other).1 rest) ∙ apart))
 
--- of two texts that differ, the one that isn't the file's
-besides_differs : (had : Option FileText) (first second : FileText) → same_name first second ≡ false
-    → had ≢ Some (text_besides had first second)
-besides_differs None first second two is = cc
-besides_differs (Some text) first second two is =
-    elim (same_name first text) as (λ b. same_name first text ≡ b → Some text ≢ Some (cond b second first)) [
-      | false ↦ λ apart is. true≢false (sym ((bytes_decides first text).1 (sym (same_some text first is))) ∙ apart)
-      | true ↦ λ same is.
-          true≢false (sym ((bytes_decides first second).1 ((bytes_decides first text).0 same ∙ same_some text second is)) ∙ two)
+pub device_of_word : (file : OtherFile) (had : Option FileText) (device : List ℕ) → device_of file had ≡ Some device
+    → (is_value_word device ≡ true) × (length device ≤ 255)
+device_of_word file had device is =
+    elim (other_kind file).of_devices as
+    (λ b. cond b (option_and_then device_in had) None ≡ Some device → (is_value_word device ≡ true) × (length device ≤ 255)) [
+      | false ↦ λ is. cc
+      | true ↦ λ is. told had is
+    ] is
+  where
+    told : (had : Option FileText) → option_and_then device_in had ≡ Some device → (is_value_word device ≡ true) × (length device ≤ 255)
+    told None is = cc
+    told (Some value) is = device_word value device is
+
+-- a line of words is one on a device too
+line_on : (file : OtherFile) (had : Option FileText) (text : List ℕ) → is_one_line text ≡ true
+    → is_one_line (on_device (device_of file had) text) ≡ true
+line_on file had text one = on (device_of file had) (device_of_word file had)
+  where
+    on : (found : Option (List ℕ)) → ((device : List ℕ) → found ≡ Some device → (is_value_word device ≡ true) × (length device ≤ 255))
+        → is_one_line (on_device found text) ≡ true
+    on None word = one
+    on (Some device) word = one_line_behind device text (word device refl).0 one
+
+-- of two lines that differ, the one that the file doesn't have alone
+besides_differs : (had : Option FileText) (first second : FileText) → is_one_line first ≡ true → is_one_line second ≡ true
+    → same_name first second ≡ false → had ≢ Some (text_besides had first second)
+besides_differs None first second one other two is = cc
+besides_differs (Some text) first second one other two is =
+    elim (has_value_line text first) as (λ b. has_value_line text first ≡ b → Some text ≢ Some (cond b second first)) [
+      | false ↦ λ apart is.
+          true≢false (sym (ap (λ t. has_value_line t first) (same_some text first is) ∙ only_line first first one
+          ∙ (bytes_decides first first).1 refl) ∙ apart)
+      | true ↦ λ has is.
+          true≢false (sym has ∙ ap (λ t. has_value_line t first) (same_some text second is) ∙ only_line second first other ∙ two)
     ] refl is
 
 pub text_differs : (file : OtherFile) (had : Option FileText) → had ≢ Some (other_text file had)
 text_differs file had =
     besides_differs had (on_device (device_of file had) (other_kind file).loose) (on_device (device_of file had) (other_kind file).other)
+    (line_on file had (other_kind file).loose (each_other (λ file. is_one_line (other_kind file).loose) refl file))
+    (line_on file had (other_kind file).other (each_other (λ file. is_one_line (other_kind file).other) refl file))
     (apart_on (device_of file had) (other_kind file).loose (other_kind file).other (two_texts file))
 
 text_set : (st : State) (subtree : Names) (file : OtherFile) (told : ToldFile) (value : FileText) → file_told st subtree file ≡ Some told

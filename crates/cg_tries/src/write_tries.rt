@@ -1,12 +1,13 @@
 //! Tries of one write: the limits of a subtree, what its parent enables, its removal.
 ghost use Rattle.std.specs.Prelude.{◌≡◌, false, IfOk, Some, option_copied};
 ghost use Rattle.std.specs.List.{list_any};
+ghost use Rattle.std.specs.Option.{option_map_or};
 ghost use Rattle.std.specs.FinMap as map;
 ghost use Rattle.cg_cgroup.specs.Paths.{is_root, parent};
+ghost use Rattle.cg_cgroup.specs.Values.{has_value_line};
 ghost use Rattle.cg_cgroup.specs.Files.{enables};
 ghost use Rattle.cg_model.specs.States.{row_at};
 ghost use Rattle.cg_model.specs.WellFormed.{enabled_at};
-ghost use Rattle.cg_model.specs.Limits.{same_text};
 ghost use Rattle.cg_model.specs.Tries.{other_value, other_text, device_of, on_device};
 ghost use Rattle.cg_tries.specs.Finding.{if_allowed, set_of, first_listed_set, other_set_from, other_set_of, writes_some, writes_untold, first_other_set, first_set, control_of, told_control_of, first_control, first_write};
 ghost use Rattle.std.specs.String.{string_bytes};
@@ -18,7 +19,7 @@ use cg_cgroup::memory::NoMemory;
 use cg_cgroup::other_file::OtherFile;
 use cg_cgroup::told::{FileText, ToldFiles};
 use cg_cgroup::user::{Entry, User};
-use cg_cgroup::value::device_in;
+use cg_cgroup::value::{device_in, has_value_line};
 use cg_model::changes::{Change, Changes};
 use cg_model::hierarchy::Hierarchy;
 use cg_model::operation::Op;
@@ -82,12 +83,12 @@ fn first_listed_set<H: Hierarchy>(
     Ok(None)
 }
 
-/// Whether a file has this text, as far as its value is told.
-fn has_text(had: Option<&FileText>, text: &str) -> bool
-    ensures { result ≡ same_text (Some text.now) (option_copied had.entry) }
+/// Whether a file has this line, as far as its value is told.
+fn has_line_of(had: Option<&FileText>, line: &str) -> bool
+    ensures { result ≡ option_map_or (λ value. has_value_line value line.now) (option_copied had.entry) false }
 {
     match had {
-        Some(value) => text == value.text.as_str(),
+        Some(value) => has_value_line(&value.text, line),
         None => false,
     }
 }
@@ -115,13 +116,13 @@ fn on_device(alloc: Global, device: Option<&str>, text: &str) -> Result<String, 
     Ok(line)
 }
 
-/// Another text than the file's, the one that loosens it where it doesn't have that.
+/// Another text than the file's, the one that loosens it where it has no such line.
 fn other_text(alloc: Global, file: OtherFile, had: Option<&FileText>) -> Result<String, NoMemory>
     ensures { IfOk result (λ made. string_bytes made ≡ other_text file (option_copied had.entry)) }
 {
     let device = device_of(file, had);
     let loose = on_device(alloc, device, file.loose())?;
-    if has_text(had, &loose) {
+    if has_line_of(had, &loose) {
         on_device(alloc, device, file.other())
     } else {
         Ok(loose)

@@ -224,7 +224,7 @@ fn on_device(
     Ok(FileText { text: line })
 }
 
-/// Another text than that of a file, the one that loosens it where it doesn't have that.
+/// Another text than that of a file, the one that loosens it where it has no such line.
 fn other_text(
     alloc: Global,
     file: OtherFile,
@@ -232,7 +232,9 @@ fn other_text(
 ) -> Result<FileText, NoMemory> {
     let loose = on_device(alloc, file, had, file.loose())?;
     match had {
-        Some(value) if value.text == loose.text => on_device(alloc, file, had, file.other()),
+        Some(value) if value.text.lines().any(|line| line == loose.text.as_str()) => {
+            on_device(alloc, file, had, file.other())
+        }
         _ => Ok(loose),
     }
 }

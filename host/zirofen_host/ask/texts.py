@@ -31,6 +31,8 @@ SMALL = 2
 # bytes of memory that a run of the program takes at most: for each byte of a text that is written here, and for each of its cgroups
 # and processes besides
 OF_BYTE, OF_ROW = 48, 8192
+# why a subtree goes into no text
+TOO_MANY, TOO_LONG = "cgroups, and a tree text has", "what it needs goes into no tree text: its paths and limits are too long"
 # so long the program is asked in large texts, before it is in small ones
 LARGE_SECONDS = 150
 
@@ -232,8 +234,13 @@ def why_refused(layout: Layout, path: CgroupPath, most: TextFormat) -> str:
     start, end = layout.span(path)
     count = end - start + len(list(ancestors(path)))
     if count > most.most_rows:
-        return f"{count} cgroups, and a tree text has {most.most_rows} at most"
-    return "what it needs goes into no tree text: its paths and limits are too long"
+        return f"{count} {TOO_MANY} {most.most_rows} at most"
+    return TOO_LONG
+
+
+def is_too_large(why: str) -> bool:
+    """Whether that is why a subtree goes into no text."""
+    return why == TOO_LONG or TOO_MANY in why
 
 
 @dataclass(frozen=True)

@@ -76,6 +76,8 @@ INSIDES, ROOTS = 64, 256
 # of the program
 USERS = Budget("uids to ask of", 4096)
 RUNS = Budget("questions that differ in whom they ask of", 256)
+# of a report: entries that let somebody in to what a holder made below their own delegation, each for each whom it lets in
+ENTRIES = Budget("entries that let somebody in", 16384)
 # of the lines of a report, for what is below a holder's own delegation
 LINES = Budget("lines", 16)
 # runs of the program for advice, of a whole host, one in each text

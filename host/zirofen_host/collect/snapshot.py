@@ -14,6 +14,7 @@ from zirofen_host.collect.mount import Mounts, read_kernel_list, refuse_what_is_
 from zirofen_host.collect.processes import Reader, lacking_notes
 from zirofen_host.collect.tree import tree_text as text_of_tree
 from zirofen_host.fault import Fault
+from zirofen_host.files import KINDS
 from zirofen_host.options import PROC, Options
 from zirofen_host.profile import (CONTROL_FILES, FURTHER_FILES, KERNEL_LIST, LIMIT_FILES, ROOT, CgroupPath, TextFormat, accepts, is_inside,
                                   is_line, is_root, parent_of, shown, text_of, topmost)
@@ -22,7 +23,8 @@ ANY_MODE = 0o777
 LARGEST_PID = 4194303
 # letters of a value that a note shows
 SHOWN = 64
-RESERVED = {name.encode() for name in (*CONTROL_FILES, *LIMIT_FILES)}
+# names of files that may stand nowhere yet
+KNOWN = {name.encode() for name in (*KINDS, *FURTHER_FILES)}
 
 Cgroups = Mapping[CgroupPath, Cgroup]
 # the subtrees that are asked of, by a snapshot that may have changed while it was taken, and by what changed
@@ -38,7 +40,7 @@ def name_notes(walked: walk.Walk) -> Iterator[Note]:
     for path, count in sorted(walked.left_out.items()):
         inside = "" if count == 1 else f", and {count - 1} cgroups inside"
         yield Note("name", shown(path), f"left out{inside}: no name of the format, or too long a path")
-    files = {*map(os.fsencode, {file for found in walked.found.values() for file in found.files}), *RESERVED}
+    files = {*map(os.fsencode, {file for found in walked.found.values() for file in found.files}), *KNOWN}
     for path in sorted({*walked.found, *walked.left_out}):
         if path.rpartition(b"/")[2] in files:
             yield Note("file-name", shown(path), "named as a file: a controller with that file can't be enabled above")
@@ -71,6 +73,8 @@ class Bending:
         self.cgroups = cgroups
         self.text_format = text_format
         self.notes: List[Note] = []
+        # what is told of modes of the cgroup whose row is made
+        self.modes: List[str] = []
         # the further limit files that are told of, by the table of files that cgroups with the same ones share
         self.reached: Dict[int, List[str]] = {}
 
@@ -80,8 +84,9 @@ class Bending:
     def row(self, path: CgroupPath, found: Cgroup) -> Row:
         if found.kind != "domain":
             self.note("type", path, f"{found.kind}: threaded mode is left out")
-        directory = self.plain(path, "dir", found.directory)
-        files = {file: self.plain(path, file, found.files[file]) for file in CONTROL_FILES}
+        self.modes = []
+        directory = self.plain("dir", found.directory)
+        files = {file: self.plain(file, found.files[file]) for file in CONTROL_FILES}
         values: Dict[str, Value] = {}
         parent = parent_of(path)
         available = self.cgroups[parent].enabled if parent else ()
@@ -91,15 +96,17 @@ class Bending:
                 if stands and parent:
                     self.note("no-file", path, f"{file} isn't there, and is written with its default, {default}")
             elif stands:
-                files[file] = self.plain(path, file, found.files[file])
+                files[file] = self.plain(file, found.files[file])
                 values[file] = self.value(path, file, found.texts[file])
             else:
                 self.note("file", path, f"{file} left out: the parent doesn't enable {controller}")
         for file in self.further(path, found, available):
-            files[file] = self.plain(path, file, found.files[file])
+            files[file] = self.plain(file, found.files[file])
             value = self.further_value(path, file, found.further.get(file, ""))
             if value is not None:
                 values[file] = value
+        if self.modes:
+            self.note("mode", path, "; ".join(self.modes))
         return Row(path, directory, files, values, tuple(name for name in self.text_format.controllers if name in found.enabled))
 
     def further(self, path: CgroupPath, found: Cgroup, available: Sequence[str]) -> List[str]:
@@ -124,11 +131,12 @@ class Bending:
             self.note("value", path, f"{file} is {cut}, and is written without it: the format has no such value")
         return None
 
-    def plain(self, path: CgroupPath, name: str, entry: Entry) -> Entry:
-        """An entry without what its mode has beside read, write and search."""
+    def plain(self, name: str, entry: Entry) -> Entry:
+        """An entry without what its mode has beside read, write and search: its owner may give such a mode to each of many files, and
+        it is told in one note of a cgroup."""
         if entry.mode <= ANY_MODE:
             return entry
-        self.note("mode", path, f"{name} has mode 0o{entry.mode:o}, written as 0o{entry.mode & ANY_MODE:03o}")
+        self.modes.append(f"{name} has mode 0o{entry.mode:o}, written as 0o{entry.mode & ANY_MODE:03o}")
         return Entry(entry.uid, entry.gid, entry.mode & ANY_MODE)
 
     def value(self, path: CgroupPath, file: str, text: str) -> Value:

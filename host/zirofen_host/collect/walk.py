@@ -2,11 +2,12 @@
 
 What changes while it is walked over, or can't be read, is told of alone: the rest of what was found stands.
 """
+import contextlib
 import errno
 import os
 import stat
 import sys
-from typing import (Callable, Collection, Dict, FrozenSet, Iterable, List, Mapping, NamedTuple, Optional, Sequence, Set, Tuple,
+from typing import (Callable, Collection, Dict, FrozenSet, Iterable, Iterator, List, Mapping, NamedTuple, Optional, Sequence, Set, Tuple,
                     TypeVar)
 
 from zirofen_host import progress
@@ -35,7 +36,7 @@ Whys = Mapping[CgroupPath, str]
 
 
 class Vanished(Exception):
-    """A cgroup went while it was read."""
+    """A cgroup, or a file of it, went while it was read."""
 
 
 class Unread(Exception):
@@ -161,9 +162,11 @@ class Walk:
             self.charge(self.bytes, len(path))
             found, names = self.read_files(path, folder, directory)
             return found, self.children(path, folder, names)
-        except (OSError, ValueError) as error:
+        except (OSError, ValueError, Vanished) as error:
             if path == ROOT:
                 raise Fault(f"{shown(self.mount)} isn't a cgroup: {error}") from None
+            if isinstance(error, Vanished):
+                raise
             if isinstance(error, ValueError):
                 raise Unread(f"can't read it: {error}") from None
             # it went, or a file was opened and then its cgroup went
@@ -185,16 +188,17 @@ class Walk:
     def read_files(self, path: CgroupPath, folder: int, directory: Owned) -> Tuple[Cgroup, List[bytes]]:
         """A cgroup, and the names of the folders in it."""
         pairs, names = [], []
-        for name, is_folder in bounded.list_folder(folder, bounded.NAMES).names:
-            if is_folder:
-                names.append(os.fsencode(name))
-                continue
-            status = os.lstat(name, dir_fd=folder)
-            if stat.S_ISREG(status.st_mode):
-                name, owned = sys.intern(name), owned_of(status)
-                pairs.append((name, owned))
-                if may_set(name):
-                    self.places[status.st_dev, status.st_ino] = path, name
+        with still_listed():
+            for name, is_folder in bounded.list_folder(folder, bounded.NAMES).names:
+                if is_folder:
+                    names.append(os.fsencode(name))
+                    continue
+                status = os.lstat(name, dir_fd=folder)
+                if stat.S_ISREG(status.st_mode):
+                    name, owned = sys.intern(name), owned_of(status)
+                    pairs.append((name, owned))
+                    if may_set(name):
+                        self.places[status.st_dev, status.st_ino] = path, name
         files = self.once.files_of(tuple(pairs))
         for file in CONTROL_FILES:
             if file not in files:
@@ -202,7 +206,8 @@ class Walk:
         return self.cgroup(folder, files, directory, self.further if path != ROOT else NONE), names
 
     def cgroup(self, folder: int, files: Mapping[str, Entry], directory: Owned, further: FrozenSet[str]) -> Cgroup:
-        texts = self.once.texts_of(tuple((file, text_of(folder, file)) for file in LIMIT_FILES if file in files))
+        with still_listed():
+            texts = self.once.texts_of(tuple((file, text_of(folder, file)) for file in LIMIT_FILES if file in files))
         # each is a number or a word: a kernel writes it
         self.charge(self.bytes, sum(map(len, texts.values())) + len(texts))
         kind = self.text(folder, "cgroup.type") if "cgroup.type" in files else "domain"
@@ -342,6 +347,18 @@ def is_alike(found: Optional[Cgroup], before: Optional[Cgroup]) -> bool:
 
 def key_of(found: Cgroup) -> Tuple[object, ...]:
     return found.directory, found.files, found.texts, found.enabled, found.available, found.kind, found.marks
+
+
+@contextlib.contextmanager
+def still_listed() -> Iterator[None]:
+    """Looks at files that a folder has: one that went since then is no file that can't be read, as whoever enables its controller and
+    disables it again and again has it go in each walk. The cgroup is told of as one that went, until it stays as it is."""
+    try:
+        yield
+    except OSError as error:
+        if error.errno in (errno.ENOENT, errno.ENODEV):
+            raise Vanished(str(error)) from None
+        raise
 
 
 def reached_in(files: Mapping[str, Entry]) -> List[str]:

@@ -41,7 +41,7 @@ class Checked:
     @cached_property
     def openings(self) -> List[Tuple[Place, Entry, List[LetIn]]]:
         """What stands open and no answer speaks of."""
-        return list(find_openings(self.snapshot, self.questions))
+        return list(find_openings(self.snapshot, self.questions, self.judged.spent))
 
     @cached_property
     def held(self) -> Mapping[int, Sequence[CgroupPath]]:

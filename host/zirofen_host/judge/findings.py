@@ -1,11 +1,12 @@
 """The findings of a report, made of what the answers come to."""
-from collections import defaultdict
+from collections import Counter, defaultdict
 from typing import DefaultDict, Dict, Iterable, List, Mapping, Optional, Set, Tuple, Union
 
 from zirofen_host.ask.program import ESCAPES
 from zirofen_host.ask.questions import unit_of
+from zirofen_host.ask.texts import is_too_large
 from zirofen_host.collect.model import GROUP, OTHERS, OWNER, Entry, User
-from zirofen_host.collect.tree import in_order
+from zirofen_host.collect.tree import in_order, row_text
 from zirofen_host.collect.walk import CHANGED, MANAGERS_MARK
 from zirofen_host.judge import long_lists
 from zirofen_host.judge.advised import Advised
@@ -18,7 +19,7 @@ from zirofen_host.judge.model import (ABSENT, AboveFinding, Absent, DiffersFindi
 from zirofen_host.judge.names import Names
 from zirofen_host.judge.opened import GROUP_WRITES, OTHERS_WRITE, WHO_IS_FIRST, what_differs
 from zirofen_host.judge.shell import closing_commands
-from zirofen_host.profile import CgroupPath, ancestors, shown, text_of, topmost
+from zirofen_host.profile import CgroupPath, ancestors, is_inside, shown, text_of, topmost
 
 NO_CLOSING: Mapping[CgroupPath, Tuple[str, ...]] = {}
 
@@ -123,13 +124,27 @@ def fault_findings(checked: Checked, advised: Advised) -> Iterable[FaultFinding]
 
 
 def faults_of_budgets(checked: Checked) -> Iterable[FaultFinding]:
-    """Whoever has more processes than are looked at may have groups that aren't known: a fault of what they hold."""
+    """Whoever has more processes than are looked at may have groups that aren't known: a fault of what they hold. So is it where more
+    lets somebody in to what they made than is told."""
+    holders, spent = checked.questions.holders, checked.judged.spent
     for person, why in sorted(checked.snapshot.over.items()):
-        held = [path for path in checked.questions.subtrees
-                if any(checked.holds.payer(uid) == person for uid in checked.questions.holders[path].uids)]
+        held = held_by(checked, person, checked.questions.subtrees)
         if held:
-            yield FaultFinding(checked.names.user(person), person, (), f"{why}: not all were looked at",
-                               texts_of(in_order(topmost(held))), checked.names.user(person))
+            yield fault_of_budget(checked, person, f"{why}: not all were looked at", held)
+    for person in spent.over():
+        made = held_by(checked, person, holders) or [path for path in checked.snapshot.cgroups if checked.holds.within(path) == person]
+        yield fault_of_budget(checked, person, f"{spent.budget.told(person)}: not all are told", made)
+
+
+def held_by(checked: Checked, person: int, paths: Iterable[CgroupPath]) -> List[CgroupPath]:
+    """Those of some subtrees that a person holds, by whichever of their uids."""
+    holders = checked.questions.holders
+    return [path for path in paths if any(checked.holds.payer(uid) == person for uid in holders[path].uids)]
+
+
+def fault_of_budget(checked: Checked, person: int, why: str, paths: Iterable[CgroupPath]) -> FaultFinding:
+    name = checked.names.user(person)
+    return FaultFinding(name, person, (), why, texts_of(in_order(topmost(paths))), name)
 
 
 def makers_below(checked: Checked) -> Mapping[CgroupPath, Set[Optional[str]]]:
@@ -147,8 +162,19 @@ def makers_of(checked: Checked, below: Mapping[CgroupPath, Set[Optional[str]]], 
     all the time. What is above it, or what root alone has, is of nobody's making, and so is what can't be read."""
     if why.startswith("fault:") or not checked.snapshot.changing.keys().isdisjoint(ancestors(path)):
         return None
-    makers = below.get(path) or {holder_at(checked, path)}
+    largest = maker_of_most(checked, path) if is_too_large(why) else None
+    makers = below.get(path) or {largest or holder_at(checked, path)}
     return None if None in makers else some(sorted(filter(None, makers)))
+
+
+def maker_of_most(checked: Checked, path: CgroupPath) -> Optional[str]:
+    """Whose making most of what is inside of a subtree is that root handed over: who holds it may have made little of that."""
+    tree, made = checked.snapshot.tree, Counter[int]()
+    for place in tree.rows if checked.holds.within(path) is None else ():
+        person = checked.holds.within(place) if is_inside(place, path) else None
+        if person is not None:
+            made[person] += len(row_text(tree.rows[place], tree.format))
+    return checked.names.user(min(made, key=lambda person: (-made[person], person))) if made else None
 
 
 def is_by_somebody(why: str) -> bool:

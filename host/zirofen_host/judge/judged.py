@@ -6,6 +6,8 @@ from typing import DefaultDict, Dict, FrozenSet, Iterable, List, Mapping, NamedT
 from zirofen_host.ask.model import Answer, Answers, Pair
 from zirofen_host.ask.program import worst
 from zirofen_host.ask.questions import Questions
+from zirofen_host.collect import bounded
+from zirofen_host.collect.bounded import Spent
 from zirofen_host.collect.model import GROUP, OTHERS, OWNER, Entry, User
 from zirofen_host.fault import FAULT
 from zirofen_host.profile import ANYBODY, CgroupPath, is_inside, parts_of
@@ -65,13 +67,21 @@ class Judged:
     own: Mapping[Tuple[int, CgroupPath], Own]
     # those that some entry lets in, to be advised of
     let_in: Sequence[Pair]
+    # what is told of entries, by whose making it is
+    spent: Spent
 
 
 def judge(questions: Questions, answers: Answers) -> Judged:
-    found = uncontained(questions, answers)
-    let_in = [each for each in found if each.answer.status != FAULT and not each.handed]
+    found, spent = uncontained(questions, answers), Spent(bounded.ENTRIES, questions.accounts.payer)
+    let_in = [each for each in found if each.answer.status != FAULT and not each.handed and is_told(questions, each.pair, spent)]
     return Judged(entries_of(questions, let_in), faults_of(found), above_of(questions, answers, found), own_of(questions, found),
-                  [each.pair for each in let_in])
+                  [each.pair for each in let_in], spent)
+
+
+def is_told(questions: Questions, pair: Pair, spent: Spent) -> bool:
+    """Whether what lets somebody in to a subtree is told: of what somebody made there may be any number."""
+    maker = questions.makers.within(pair.subtree)
+    return maker is None or not spent.is_over(maker) and spent.take(maker, len(failing(questions, pair)))
 
 
 def uncontained(questions: Questions, answers: Answers) -> List[Uncontained]:

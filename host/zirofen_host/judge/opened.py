@@ -9,6 +9,7 @@ from dataclasses import dataclass, replace
 from typing import AbstractSet, DefaultDict, Dict, FrozenSet, Iterable, Iterator, List, Mapping, Tuple
 
 from zirofen_host.ask.questions import Questions
+from zirofen_host.collect.bounded import Spent
 from zirofen_host.collect.model import GROUP, OTHERS, OWNER, Entry, Snapshot, User
 from zirofen_host.collect.walk import MANAGERS_MARK
 from zirofen_host.files import PRESSURE, is_known, may_set
@@ -65,15 +66,15 @@ def unknown_files(snapshot: Snapshot) -> Mapping[str, bool]:
     return {name: bool(mode) for name, (_, mode) in sorted(most.items())}
 
 
-def find_openings(snapshot: Snapshot, questions: Questions) -> Iterator[Tuple[Place, Entry, List[LetIn]]]:
-    """Every opening, with whom it lets in."""
+def find_openings(snapshot: Snapshot, questions: Questions, spent: Spent) -> Iterator[Tuple[Place, Entry, List[LetIn]]]:
+    """Every opening, with whom it lets in, but for what is over the budget of whoever made its cgroup."""
     looked = Looked(snapshot, questions, set(questions.subtrees), unknown_files(snapshot))
     for path in sorted(snapshot.cgroups, key=parts_of):
         found = snapshot.cgroups[path]
         for name, entry in sorted({"dir": found.directory, **found.files}.items()):
             if entry.is_reached and looked.covers(Place(path, name)):
                 whom = whom_of(snapshot, questions, Place(path, name), entry)
-                if whom:
+                if whom and spent.take(questions.makers.within(path) or 0):
                     yield Place(path, name), entry, whom
 
 

@@ -77,13 +77,16 @@ def numbers(found: Iterable[int]) -> str:
 
 
 def group_class(checked: Checked) -> Iterator[Told]:
-    """What only a group keeps its members from is no wall where they can drop it."""
-    guarded = {(each.path, each.name) for path in checked.questions.subtrees for each in checked.questions.guarded(path)}
-    for path, name in sorted(guarded):
-        entry = checked.snapshot.tree.rows[path].entry(name)
-        if entry.gid and entry.mode & 0o002 and not entry.mode & 0o020:
-            yield of_cgroup(checked, "group-class", path,
-                            f"only {checked.names.group(entry.gid)} keeps its members from {name}, which they can drop")
+    """What only a group keeps its members from is no wall where they can drop it: a line for each group at a cgroup."""
+    walls: DefaultDict[Tuple[CgroupPath, int], Set[str]] = defaultdict(set)
+    for subtree in checked.questions.subtrees:
+        for _, path, name in checked.questions.guarded(subtree):
+            entry = checked.snapshot.tree.rows[path].entry(name)
+            if entry.gid and entry.mode & 0o002 and not entry.mode & 0o020:
+                walls[path, entry.gid].add(name)
+    for (path, gid), names in sorted(walls.items()):
+        yield of_cgroup(checked, "group-class", path,
+                        f"only {checked.names.group(gid)} keeps its members from {' '.join(sorted(names))}, which they can drop")
 
 
 def subordinates(checked: Checked) -> Iterator[Told]:

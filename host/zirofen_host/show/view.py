@@ -60,8 +60,13 @@ def seen(value: object, shown: Callable[[str], str]) -> object:
 
 
 def with_texts(made: Made, shown: Callable[[str], str]) -> Made:
-    """A part of a report with its texts shown."""
-    return dataclasses.replace(made, **{name: seen(each, shown) for name, each in vars(made).items()})
+    """A part of a report with its texts shown; the lines of a limit's value stay lines."""
+    shown_here = by_lines(shown) if isinstance(made, ReportFile) else shown
+    return dataclasses.replace(made, **{name: seen(each, shown_here) for name, each in vars(made).items()})
+
+
+def by_lines(shown: Callable[[str], str]) -> Callable[[str], str]:
+    return lambda text: "\n".join(map(shown, text.split("\n")))
 
 
 def present(parts: Union[Tuple[One, ...], Absent]) -> Tuple[One, ...]:

@@ -35,7 +35,7 @@ FURTHER_FILES = {
     "misc.max": ("misc", "max"),
     "rdma.max": ("rdma", "hca_handle=max hca_object=max"),
 }
-# the text that is tried where the file has the one that loosens it: of those that aren't here 0
+# the text that is tried where a line of the file is the one that loosens it: of those that aren't here 0
 ELSE = {
     "cgroup.freeze": "1", "cpu.idle": "1", "cpu.max": "max 50000", "cpu.max.burst": "1", "cpu.uclamp.max": "50", "cpu.weight.nice": "-19",
     "cpuset.cpus.partition": "root", "io.bfq.weight": "default 999", "io.latency": "target=1", "io.max": "rbps=2 wbps=2 riops=2 wiops=2",
@@ -56,7 +56,7 @@ def other_text(file, value):
     """The text to which a try sets a further limit file that has this value, which is None where none is told."""
     device = device_of(file, value)
     loose, other = (f"{device} {text}" if device else text for text in (FURTHER_FILES[file][1], ELSE.get(file, "0")))
-    return other if value == loose else loose
+    return other if loose in (value or "").split("\n") else loose
 
 
 def is_value(text):

@@ -205,7 +205,9 @@ ANSWERS = [
     (H, [told('"io.max" = { mode = 0o646 }')], "audit --uid 1001 --subtree /s", ["pair 1001 /s", "escapes", SET_LOOSE], 1),
     *((H, [told(f'"{name}" = {{ uid = 1000, value = {value} }}')], CHECK, ["escapes", f"set /s {name} {other}"], 1) for name, value, other in (
         ("io.max", '"8:0 rbps=1"', f"8:0 {LOOSE}"), ("io.max", '"max"', LOOSE), ("io.weight", '"default 10000"', "default 9999"),
-        ("io.weight", '["default 10000"]', "default 9999"), ("io.weight", '["default 10000", "default 10000"]', "default 10000"),
+        ("io.weight", '["default 10000"]', "default 9999"), ("io.weight", '["default 10000", "default 10000"]', "default 9999"),
+        ("io.weight", '["default 10000", "8:16 200"]', "default 9999"), ("io.weight", '["8:16 200", "default 10000"]', "default 9999"),
+        ("io.weight", '["default 100", "8:16 200"]', "default 10000"),
         ("io.max", "0", LOOSE), ("cpu.idle", "0", "1"), ("cpu.idle", '["0"]', "1"), ("cpu.idle", '"00"', "0"), ("cpu.idle", "1", "0"),
         ("cpu.max", '"max 100000"', "max 50000"), ("cpu.max", "5", "max 100000"), ("cpu.weight.nice", "-20", "-19"), ("cpuset.cpus", '"0-3,5"', "0-1"),
         ("cgroup.freeze", "1", "0"))),
@@ -247,7 +249,8 @@ cgroup = [{{ path = '/', enabled = {[*NINE]} }}, {{ path = '/s' }}]
 DEVICE, TOO_LONG = 255 * "d", 256 * "d"
 DEVICES = [
     ("io.max", f'"8:0 {LOOSE}"', f"8:0 {TURNED}"), ("io.max", f'["8:0 {LOOSE}"]', f"8:0 {TURNED}"), ("io.max", f'"8:0 {TURNED}"', f"8:0 {LOOSE}"),
-    ("io.max", '"8:0 max"', f"8:0 {LOOSE}"), ("io.max", f'["8:0 {LOOSE}", "8:16 rbps=1"]', f"8:0 {LOOSE}"),
+    ("io.max", '"8:0 max"', f"8:0 {LOOSE}"), ("io.max", f'["8:0 {LOOSE}", "8:16 rbps=1"]', f"8:0 {TURNED}"),
+    ("io.max", f'["8:16 rbps=1", "8:0 {LOOSE}"]', f"8:16 {LOOSE}"), ("io.max", f'["8:16 rbps=1", "8:16 {LOOSE}"]', f"8:16 {TURNED}"),
     ("io.max", '["8:16 rbps=1", "8:0 rbps=1"]', f"8:16 {LOOSE}"), ("io.max", f'"{LOOSE}"', f"rbps=max {LOOSE}"), ("io.max", '"8:0"', LOOSE),
     ("io.max", f'"rbps=max {LOOSE}"', f"rbps=max {TURNED}"), ("io.max", "5", LOOSE), ("io.max", '["8:0", "8:16 rbps=1"]', LOOSE),
     ("io.latency", '"target=max"', "target=1"), ("io.latency", '"target=1"', "target=max"), ("io.latency", '"8:0"', "target=max"),
@@ -259,9 +262,12 @@ DEVICES = [
       for value, text in (("1048576", "max"), ("max", "0"), ("0", "max"))),
     *(("misc.max", value, text) for value, text in (
         ('"sev 1"', "sev max"), ('"sev max"', "sev 0"), ('"sev 0"', "sev max"), ('"max"', "0"), ('["max"]', "0"), ('"0"', "max"), ('"sev"', "max"),
-        ('"max max"', "max 0"), ('"sev max 1"', "sev max"), ('"! 1"', "! max"), ('["sev 1", "foo 2"]', "sev max"), ('["sev max", "foo 2"]', "sev max"),
-        ('["sev max", "sev max"]', "sev max"), ('["sev", "foo 1"]', "max"), ('["sev", "sev max"]', "max"), ('["max", "max"]', "max"),
-        ('["sev", "foo"]', "max"), (f'"{DEVICE} 1"', f"{DEVICE} max"), (f'"{DEVICE} max"', f"{DEVICE} 0"), (f'["{DEVICE} max", "1"]', f"{DEVICE} max"),
+        ('"max max"', "max 0"), ('"sev max 1"', "sev max"), ('"! 1"', "! max"), ('["sev 1", "foo 2"]', "sev max"), ('["sev max", "foo 2"]', "sev 0"),
+        ('["res_a max", "res_b 4"]', "res_a 0"), ('["res_a 4", "res_b 4", "res_a max"]', "res_a 0"), ('["res_a 4", "res_b max"]', "res_a max"),
+        ('["res_a 4", "max"]', "res_a max"), ('["sev max 1", "foo max"]', "sev max"),
+        ('["sev max", "sev max"]', "sev 0"), ('["sev", "foo 1"]', "max"), ('["sev", "sev max"]', "max"), ('["max", "max"]', "0"),
+        ('["sev", "max"]', "0"),
+        ('["sev", "foo"]', "max"), (f'"{DEVICE} 1"', f"{DEVICE} max"), (f'"{DEVICE} max"', f"{DEVICE} 0"), (f'["{DEVICE} max", "1"]', f"{DEVICE} 0"),
         (f'"{DEVICE}"', "max"), (f'"{TOO_LONG} 1"', "max"), (f'"{TOO_LONG} max"', "max"), (f'["{TOO_LONG} 1", "sev 1"]', "max"))),
     # of these no line begins with a device
     ("io.weight", '"8:0 50"', "default 10000"), ("io.bfq.weight", '"8:0 1000"', "default 1000"), ("io.prio.class", '"8:0 no-change"', "no-change"),

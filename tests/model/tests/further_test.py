@@ -156,9 +156,24 @@ class SubtreeTest(unittest.TestCase):
         self.assertEqual(len(further.OF_DEVICES), 7)
         for name in further.OF_DEVICES:
             loose, other = FURTHER_FILES[name][1], further.ELSE.get(name, "0")
-            for value, text in (("a 1", loose), (f"a {loose}", other), (f"a {other}", loose), (f"a {loose}\nb 1", loose), (f"a {loose} ", loose)):
+            for value, text in (("a 1", loose), (f"a {loose}", other), (f"a {other}", loose), (f"a {loose} ", loose), (f"a {loose} 1", loose)):
                 self.assertEqual(rules.other_value(name, value), f"a {text}", (name, value))
-            self.assertEqual(rules.other_value(name, f"a\n{loose}"), loose, name)
+
+    def test_the_other_text_is_tried_where_a_line_is_the_one_that_loosens(self):
+        for name, (_, loose) in FURTHER_FILES.items():
+            other = further.ELSE.get(name, "0")
+            for lines, text in (([loose], other), ([other], loose), ([loose, "b 1"], other), ([loose, loose], other), (["b", loose], other),
+                                (["b", "c 1", loose, "d 1"], other), (["b", f"{loose} 1"], loose), (["b", f"1 {loose}"], loose)):
+                if name not in further.OF_DEVICES or " " not in lines[0]:
+                    self.assertEqual(rules.other_value(name, "\n".join(lines)), text, (name, lines))
+
+    def test_the_other_text_is_tried_where_a_line_is_the_one_that_loosens_the_device(self):
+        for name in further.OF_DEVICES:
+            loose, other = FURTHER_FILES[name][1], further.ELSE.get(name, "0")
+            for lines, text in (([f"a {loose}", "b 1"], other), ([f"a {loose}", f"a {loose}"], other), (["a 1", f"a {loose}"], other),
+                                (["a 1", "b 1", f"a {loose}", "c"], other), (["a 1", f"b {loose}"], loose), (["a 1", loose], loose),
+                                (["a 1", f"a {loose} 1"], loose), ([f"a {loose} 1", "b 1"], loose)):
+                self.assertEqual(rules.other_value(name, "\n".join(lines)), f"a {text}", (name, lines))
 
 
 if __name__ == "__main__":

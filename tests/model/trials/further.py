@@ -83,13 +83,12 @@ def tell(rng, tree):
 
 
 def share_one(rng, tree, path, file):
-    """Lets the user reach it, or be near to it, at times where it has the text that loosens it."""
+    """Lets the user reach it, or be near to it, at times where it has the text that loosens it, alone or among other lines."""
     trees.share(rng, tree, path, file)
     if rng.random() < 0.3:
-        loose = FURTHER_FILES[file][1]
-        if file in OF_DEVICES and rng.random() < 0.7:
-            loose = f"{rng.choice(DEVICES)} {loose}"
-        tree.entry(path, file)["value"] = rng.choice([loose, [loose]])
+        device = f"{rng.choice(DEVICES)} " if file in OF_DEVICES and rng.random() < 0.7 else ""
+        line, other = device + FURTHER_FILES[file][1], device + rng.choice(VALUES)
+        tree.entry(path, file)["value"] = rng.choice([line, [line], [line, other], [other, line]])
 
 
 def files_of(tree, path):
@@ -124,12 +123,13 @@ def some_told(rng, file):
 
 
 def told_of_device(rng, file):
-    """A value of a file whose lines begin with a device: at times with a line of another one, or with a first line of one word."""
+    """A value of a file whose lines begin with a device: at times with a line of another one or one more of the same, or with a first line
+    of one word."""
     device, other = rng.choice(DEVICES), rng.choice(DEVICES)
     loose = FURTHER_FILES[file][1]
-    line = f"{device} {rng.choice([loose, loose, ELSE.get(file, '0'), rng.choice(VALUES)])}"
-    return rng.choice([*5 * [line], [line], *2 * [[line, f"{other} {loose}"]], [f"{other} 1", line], [device, line], [device, f"{other} 1"],
-                       [device, "1"], device, loose, loose])
+    line = f"{device} {rng.choice([*3 * [loose], ELSE.get(file, '0'), rng.choice(VALUES)])}"
+    return rng.choice([*5 * [line], [line], *2 * [[line, f"{other} {loose}"]], [f"{other} 1", line], *2 * [[f"{device} 1", line]],
+                       [f"{other} 1", loose], [device, line], [device, f"{other} 1"], [device, "1"], device, loose, loose])
 
 
 # Faults of a document that tells of them
@@ -209,10 +209,11 @@ def make_room(rng, tree):
 
 
 def open_device(rng, tree):
-    """Lets the user reach a file of the subtree, or be near to it, whose lines mostly begin with a device; its value is one of such a file."""
+    """Lets the user reach a file of the subtree, or be near to it, whose lines mostly begin with a device, and more often one whose other text
+    is a row of its own; its value is one of such a file."""
     make_room(rng, tree)
-    file = rng.choice([file for file in files_of(tree, tree.subtree) if file in (*OF_DEVICES, "io.weight") or rng.random() < 0.03]
-                      or ["cgroup.freeze"])
+    able = [file for file in files_of(tree, tree.subtree) if file in (*OF_DEVICES, "io.weight") or rng.random() < 0.03] or ["cgroup.freeze"]
+    file = rng.choices(able, [2 if file in ELSE else 1 for file in able])[0]
     tree.entry(tree.subtree, file).clear()
     trees.share(rng, tree, tree.subtree, file)
     if rng.random() < 0.9:

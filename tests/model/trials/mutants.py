@@ -376,7 +376,9 @@ OF_FURTHER_4 = {
 }
 # of the texts that are tried, and the device before them
 DEVICE, CUT = "is_device = file in OF_DEVICES and is_word(first)", 'first, _, rest = (value or "").partition(" ")'
-TURNED_BY = "return other if value == loose else loose"
+TOLD_LINES = '(value or "").split("\\n")'
+IS_LOOSE = f"loose in {TOLD_LINES}"
+TURNED_BY = f"return other if {IS_LOOSE} else loose"
 DEVICE_FILES = '"dmem.low", "dmem.max", "dmem.min", "io.latency", "io.max", "misc.max", "rdma.max"'
 NOT_THERE = 'f"{device} {text}" if device else text for text'
 OF_DEVICES_4 = {
@@ -395,10 +397,13 @@ OF_DEVICES_4 = {
     "a device may have 256 bytes": ("LONGEST_DEVICE = 255", "LONGEST_DEVICE = 256"),
     "a device is told of in the text that loosens alone": (TURNED_BY, f'{TURNED_BY.replace("return other", "return ELSE.get(file, chr(48))")}'),
     "a device is told of in the other text alone": (TURNED_BY, TURNED_BY.replace("else loose", "else FURTHER_FILES[file][1]")),
-    "a value with a device is compared with the text without it": (TURNED_BY, TURNED_BY.replace("== loose", "== FURTHER_FILES[file][1]")),
+    "a value with a device is compared with the text without it": (TURNED_BY, TURNED_BY.replace("loose in", "FURTHER_FILES[file][1] in")),
     "a value is compared with the text alone too": (
-        TURNED_BY, TURNED_BY.replace("== loose", 'in (loose, FURTHER_FILES[file][1])')),
-    "a line of several is compared with the text": (TURNED_BY, TURNED_BY.replace("value ==", '(value or "").split("\\n")[0] ==')),
+        TURNED_BY, TURNED_BY.replace(IS_LOOSE, "{loose, FURTHER_FILES[file][1]} & {*%s}" % TOLD_LINES)),
+    "the whole value is compared with the text": (TURNED_BY, TURNED_BY.replace(IS_LOOSE, "value == loose")),
+    "of several lines the first is compared with the text": (TURNED_BY, TURNED_BY.replace(TOLD_LINES, f"{TOLD_LINES}[:1]")),
+    "of several lines the last is compared with the text": (TURNED_BY, TURNED_BY.replace(TOLD_LINES, f"{TOLD_LINES}[-1:]")),
+    "a line is the text that it has in it": (TURNED_BY, TURNED_BY.replace(TOLD_LINES, '(value or "")')),
     "a text stands behind its device without a space": (NOT_THERE, NOT_THERE.replace("{device} {text}", "{device}{text}")),
     "io.latency is loosened by max": ('("io", "target=max")', '("io", "max")'),
     "io.max is loosened by max": ('("io", "rbps=max wbps=max riops=max wiops=max")', '("io", "max")'),

@@ -1,5 +1,5 @@
 //! Keys that are missing, unknown or of the wrong type: what is to be written, and what holds where one is left out.
-use crate::names::listed;
+use crate::names::{listed, near_name};
 use crate::trees::places::shown_value;
 use cg_cgroup::files::Vocabulary;
 use cg_cgroup::other_file::OtherFile;
@@ -7,7 +7,6 @@ use cg_text::tree::takes::Takes;
 use cg_text::tree::told::keys::Kind;
 use cg_text::tree::told::{At, Told};
 use std::alloc::{AllocError, Global};
-use text_places::near::nearest_of;
 use text_places::shown::quoted;
 use toml::{Table, Value};
 
@@ -38,7 +37,7 @@ pub(super) fn unknown_said(
             "there is no key {shown}: a name with dots is quoted, as \"{name}\""
         );
     }
-    let Some(near) = nearest_of(alloc, key, keys.as_slice())? else {
+    let Some(near) = near_name(alloc, key, keys.as_slice())? else {
         let names = listed(alloc, akin(alloc, key, keys)?.as_slice())?;
         return format!(in alloc;
             "there is no key {shown}: left out, what it says counts in no answer; there are{names}"

@@ -1,5 +1,5 @@
 //! Rows that don't go together, and texts that name nothing.
-use crate::names::{controller_names, listed};
+use crate::names::{controller_names, listed, near_name};
 use crate::paths::why_missing;
 use crate::trees::places::shown_value;
 use cg_cgroup::files::{Controller, Vocabulary};
@@ -23,7 +23,7 @@ pub(super) fn controller_said(
             "'{shown}' of {key} isn't cpu, memory or pids: left out, its limits count in no answer; format = 4 has it"
         );
     }
-    if let Some(name) = nearest_of(alloc, text, names.as_slice())? {
+    if let Some(name) = near_name(alloc, text, names.as_slice())? {
         return format!(in alloc;
             "'{shown}' of {key} is no controller: write {name}; left out, its limits count in no answer"
         );
