@@ -3,6 +3,7 @@ import collections
 import json
 import os
 import random
+import re
 import sys
 import tomllib
 import unittest
@@ -112,6 +113,14 @@ class TrialsTest(unittest.TestCase):
         with programs.Room("/bin/sh", 256 * 1024) as room:
             self.assertEqual(room.run(cases.Case(["-c", "ulimit -s; exit 3"])), (b"256\n", 3, b""))
             self.assertEqual(room.run(cases.Case(["-c", "kill -SEGV $$"]))[1], -11)
+
+    def test_a_text_that_is_not_read_has_labels(self):
+        for tree in (b"format = 4\ncgroup = 5\n", b"format = 4\ncgroup = [5]\n", b"format = 4\n[[cgroup]]\nfiles = 5\n", b"=", b""):
+            for words in (["check", "--uid", "1000", "--subtree", "/a"], ["replay", "--uid", "1000", "--subtree", "/a", "--ops", cases.OPS]):
+                case = cases.Case(words, tree, {cases.OPS: b"exit 11\n"})
+                expected = case.expected()
+                self.assertEqual(expected[:2], ([], 3), tree)
+                self.assertIn(re.sub(r" \d+$", "", expected[2]), labels.labels_of(case, expected), tree)
 
     def test_all_that_is_wanted_can_be_said(self):
         self.assertEqual(len(set(labels.wanted(ALL))), len(labels.wanted(ALL)))

@@ -226,11 +226,16 @@ def set_labels(file, words):
         yield f"escapes by a set without a device{was_loose}"
 
 
+def values_told(document):
+    """What a text that is read tells as the value of a further limit file, by its cgroup and name."""
+    return {(row["path"], name): text_told(table["value"]) for row in document.get("cgroup", [])
+            for name, table in named_in(row).items() if "value" in table}
+
+
 def wide_replay(case, lines, fault):
     spelled = case.files.get(OPS, b"").split(b"\n")
     further = [None if commands.operation_of(line) else commands.operation_of(line, 4) for line in spelled]
-    told = {(row["path"], name): text_told(table["value"]) for row in document_of(case).get("cgroup", []) if lines
-            for name, table in named_in(row).items() if "value" in table}
+    told = values_told(document_of(case)) if lines else {}
     for operation, line in zip(further, lines):
         if operation:
             yield from wide_operation(operation, outcome_of(operation, line))
