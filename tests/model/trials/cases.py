@@ -67,7 +67,8 @@ def random_case(seed, number, known):
         further.make_room(rng, tree)
         further.tell(rng, tree)
         data = spelling.document(rng, tree.document(rng))
-    if wide and not large and command.split(" ")[0] in ("check", "settle", "audit") and tree.form == 4 and tree.subtree and rng.random() < 0.7:
+    if (wide and not large and command.split(" ")[0] in ("check", "settle", "audit") and tree.form == 4 and tree.subtree
+            and rng.random() < 0.7 and state_of(data)):
         further.open_device(rng, tree)
         data = spelling.document(rng, tree.document(rng))
     case = Case(MAKERS[command](rng, tree, state_of(data)))
