@@ -1,5 +1,6 @@
 -- What is said over bytes of a user and a subtree, by what was read.
 use Rattle.std.proofs.Common.{◌≡◌, ◌≢◌, ℕ, Bool, true, false, cond, nat_eq, List, Option, Some, None, Result, Ok, Err, IsErrAnd, refl}
+use Rattle.std.specs.Option.{ok_or}
 use Rattle.std.proofs.Common.{ap, sym, ◌∙◌, subst}
 use Rattle.cg_cgroup.specs.Paths.{Names, path_at}
 use Rattle.cg_cgroup.specs.Users.{user_of}
@@ -9,7 +10,7 @@ use Rattle.cg_model.specs.Checks.{checked}
 use Rattle.cg_format.specs.Readings.{Reading}
 use Rattle.cg_format.specs.declared.fault.TreeFault.{TreeFault}
 use Rattle.cg_format.specs.declared.fault.TreeFault.TheVariants.{NoMemory as TreeNoMemory}
-use Rattle.cg_cli.specs.Arguments.{or_fault, user_read, path_read}
+use Rattle.cg_cli.specs.Arguments.{user_read, path_read}
 use Rattle.cg_cli.specs.Asking.{read_takes_memory, IsMet}
 use Rattle.cg_cli.specs.Containment.{in_call, answer_report, subtree_report, asked_report, check_report}
 use Rattle.cg_faults.specs.Faults.{lifted}
@@ -19,7 +20,7 @@ use Rattle.cg_faults.specs.declared.fault.CliFault.{CliFault}
 use Rattle.cg_faults.specs.declared.fault.CliFault.TheVariants.{Uid, Gids, BadPath, Write, NoMemory}
 use Rattle.cg_cli.proofs.ReportLaws.{handed_on, same_Ok, call_takes, report_takes, tree_takes, tree_met, met_reports}
 
-same_user : (root : Bool) (found : Option Identity) (user who : Identity) → cond root (Err Uid) (or_fault found Gids) ≡ Ok user
+same_user : (root : Bool) (found : Option Identity) (user who : Identity) → cond root (Err Uid) (ok_or found Gids) ≡ Ok user
     → found ≡ Some who → user ≡ who
 same_user true found user who is found_is = let never : ⊥ = cc in absurd never
 same_user false None user who is found_is = let never : ⊥ = cc in absurd never
@@ -29,16 +30,16 @@ pub containment_takes : (st : State) (user : Identity) (path : Names) → takes_
 containment_takes st user path =
     report_takes (in_call (checked st user path)) (answer_report path) (λ found. refl) (call_takes (checked st user path))
 
-or_fault_takes : {A : Type 0} (found : Option A) → read_takes_memory (or_fault found BadPath) ≡ true
-or_fault_takes None = refl
-or_fault_takes (Some x) = refl
+ok_or_takes : {A : Type 0} (found : Option A) → read_takes_memory (ok_or found BadPath) ≡ true
+ok_or_takes None = refl
+ok_or_takes (Some x) = refl
 
-no_write : {A P : Type 0} (found : Option A) → or_fault found BadPath ≡ Err Write → P
+no_write : {A P : Type 0} (found : Option A) → ok_or found BadPath ≡ Err Write → P
 no_write None is = let never : ⊥ = cc in absurd never
 no_write (Some x) is = let never : ⊥ = cc in absurd never
 
 path_met : (text : List ℕ) (fault : CliFault) → (fault ≢ NoMemory → path_read text ≡ Err fault) → IsMet (path_read text) fault
-path_met text NoMemory is = or_fault_takes (path_at text)
+path_met text NoMemory is = ok_or_takes (path_at text)
 path_met text Write is = no_write (path_at text) (is (λ same. cc))
 path_met text fault is = is (λ same. cc)
 
@@ -90,5 +91,5 @@ module _ (tree : Reading) (uid : ℕ) (gids subtree : List ℕ) (user : Identity
   of_bytes P holds other who named of_other of_who of_named =
       let a : st ≡ other = let same = sym of_text ∙ of_other in cc in
       let b : user ≡ who = same_user (nat_eq uid 0) (user_of uid gids) user who of_user of_who in
-      let c : path ≡ named = same_Ok _ _ (sym of_path ∙ ap (λ o. or_fault o BadPath) of_named) in
+      let c : path ≡ named = same_Ok _ _ (sym of_path ∙ ap (λ o. ok_or o BadPath) of_named) in
       subst (λ s. P s who named) a (subst (λ u. P st u named) b (subst (P st user) c holds))

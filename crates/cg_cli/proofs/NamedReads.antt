@@ -1,5 +1,6 @@
 -- What an audit reads before it asks: users, subtrees and a tree, or the first fault.
 use Rattle.std.proofs.Common.{◌≡◌, ◌≢◌, ℕ, Bool, true, false, cond, nat_eq, List, [], ◌∷◌, Option, Some, None, Result, Ok, Err, refl}
+use Rattle.std.specs.Option.{ok_or}
 use Rattle.std.proofs.Common.{ap, sym, ◌∙◌, subst}
 use Rattle.cg_cgroup.specs.Paths.{Names, path_at}
 use Rattle.cg_cgroup.specs.Users.{user_of}
@@ -8,7 +9,7 @@ use Rattle.cg_model.specs.States.{State}
 use Rattle.cg_format.specs.Readings.{Reading}
 use Rattle.cg_format.specs.declared.fault.TreeFault.{TreeFault}
 use Rattle.cg_format.specs.declared.fault.TreeFault.TheVariants.{NoMemory as TreeNoMemory}
-use Rattle.cg_cli.specs.Arguments.{or_fault, user_read, path_read}
+use Rattle.cg_cli.specs.Arguments.{user_read, path_read}
 use Rattle.cg_cli.specs.Asking.{read_in_turn, named_read, read_takes_memory, IsMet, IsKeptOnce}
 use Rattle.cg_cli.specs.Audits.{read_before, each_read, users_read, paths_read}
 use Rattle.cg_faults.specs.Faults.{lifted}
@@ -33,11 +34,11 @@ each_fault P read each [] fault is = let never : ⊥ = cc in absurd never
 each_fault P read each (x ∷ xs) fault is =
     before_fault P (read x) (each_read read xs) fault (each x fault) (each_fault P read each xs fault) is
 
-or_fault_is : {A : Type 0} (found : Option A) (stated fault : CliFault) → or_fault found stated ≡ Err fault → fault ≡ stated
-or_fault_is None stated fault is = cc
-or_fault_is (Some x) stated fault is = let never : ⊥ = cc in absurd never
+ok_or_is : {A : Type 0} (found : Option A) (stated fault : CliFault) → ok_or found stated ≡ Err fault → fault ≡ stated
+ok_or_is None stated fault is = cc
+ok_or_is (Some x) stated fault is = let never : ⊥ = cc in absurd never
 
-user_fault : (root : Bool) (found : Option Identity) (fault : CliFault) → cond root (Err Uid) (or_fault found Gids) ≡ Err fault
+user_fault : (root : Bool) (found : Option Identity) (fault : CliFault) → cond root (Err Uid) (ok_or found Gids) ≡ Err fault
     → fault ≢ Write
 user_fault true found fault is = λ same. cc
 user_fault false None fault is = λ same. cc
@@ -48,7 +49,7 @@ users_fault given fault is =
     each_fault (λ f. f ≢ Write) (λ ids. user_read ids.0 ids.1) (λ ids f. user_fault (nat_eq ids.0 0) (user_of ids.0 ids.1) f) given fault is
 
 paths_fault : (texts : List (List ℕ)) (fault : CliFault) → paths_read texts ≡ Err fault → fault ≡ BadPath
-paths_fault texts fault is = each_fault (λ f. f ≡ BadPath) path_read (λ text f. or_fault_is (path_at text) BadPath f) texts fault is
+paths_fault texts fault is = each_fault (λ f. f ≡ BadPath) path_read (λ text f. ok_or_is (path_at text) BadPath f) texts fault is
 
 takes_by_faults : {A : Type 0} (read : Result A CliFault) → ((fault : CliFault) → read ≡ Err fault → takes_memory (Err fault) ≡ true)
     → read_takes_memory read ≡ true

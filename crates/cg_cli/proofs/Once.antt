@@ -1,5 +1,6 @@
 -- Lists read one after another, of which each element counts where it is named first.
 use Rattle.std.proofs.Common.{◌≡◌, ℕ, Bool, true, false, not, ◌||◌, ◌&&◌, nat_eq, cond, Bor, List, [], ◌∷◌, ◌++◌, Some, None, Result, Ok, Err, refl, sym, ap, ◌∙◌, append-nil}
+use Rattle.std.specs.Option.{ok_or}
 use Rattle.std.specs.List.{list_any}
 use Rattle.std.proofs.lemmas.List.Folds.{list_any-append}
 use Rattle.std.specs.Ordering.{nat_cmp, is_eq, ordering_then}
@@ -9,7 +10,7 @@ use Rattle.std.specs.Cmp.Lexicographic.{slice_cmp, pointwise, texts_ties, lists_
 use Rattle.cg_cgroup.specs.Identity.{Identity}
 use Rattle.cg_cgroup.specs.Users.{is_user}
 use Rattle.cg_cgroup.specs.Paths.{Names, path_cmp, same_path}
-use Rattle.cg_cli.specs.Arguments.{or_fault, user_read}
+use Rattle.cg_cli.specs.Arguments.{user_read}
 use Rattle.cg_model.specs.Once.{once}
 use Rattle.cg_model.proofs.OnceLaws.{once_more}
 use Rattle.cg_cli.specs.Once.{same_user}
@@ -88,7 +89,7 @@ meets who key = nat_eq who.uid key.0 && pointwise nat_eq who.gids key.1.now
 pub user_is : (uid : ℕ) (gids : List ℕ) (who : Identity) → Ok who ≡ user_read uid gids → who ≡ record { uid = uid; gids = gids }
 user_is uid gids who is = by_tests (nat_eq uid 0) (is_user (record { uid = uid; gids = gids })) (sym is)
   where
-    by_tests : (root may : Bool) → cond root (Err Uid) (or_fault (cond may (Some (record { uid = uid; gids = gids })) None) Gids) ≡ Ok who
+    by_tests : (root may : Bool) → cond root (Err Uid) (ok_or (cond may (Some (record { uid = uid; gids = gids })) None) Gids) ≡ Ok who
         → who ≡ record { uid = uid; gids = gids }
     by_tests true may h = let never : ⊥ = cc in absurd never
     by_tests false true h = same_Ok h

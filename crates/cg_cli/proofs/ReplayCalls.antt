@@ -1,5 +1,6 @@
 -- A replay from its arguments on.
 use Rattle.std.proofs.Common.{◌≡◌, ◌≢◌, ℕ, nat_eq, Bool, true, false, cond, List, [], Option, Some, None, Result, Ok, Err, IsErrAnd, refl}
+use Rattle.std.specs.Option.{ok_or}
 use Rattle.std.proofs.Common.{ap, sym, ◌∙◌, subst}
 use Rattle.std.specs.Io.KnownBytes.{Appends}
 use Rattle.std.proofs.KnownBytes.{Appends-nil}
@@ -13,7 +14,7 @@ use Rattle.cg_format.specs.Readings.{Reading}
 use Rattle.cg_format.specs.declared.fault.TreeFault.{TreeFault}
 use Rattle.cg_format.specs.declared.fault.TreeFault.TheVariants.{NoMemory as TreeNoMemory}
 use Rattle.cg_faults.specs.Faults.{lifted}
-use Rattle.cg_cli.specs.Arguments.{or_fault, user_read}
+use Rattle.cg_cli.specs.Arguments.{user_read}
 use Rattle.cg_cli.specs.Reports.{Report, fault_report, report_on}
 use Rattle.cg_cli.specs.Courses.{Course, Watched, course_from}
 use Rattle.cg_cli.specs.Replays.{closed, course_read, lines_said, lines_report, replayed}
@@ -85,7 +86,7 @@ tree_before subtree (Ok st) = course_before st subtree
 tree_before subtree (Err fault) = lifted_before fault
 
 path_before : (tree : Reading) (path : Option Names) → FaultIsBefore
-    (elim (or_fault path BadPath) [
+    (elim (ok_or path BadPath) [
       | Ok named ↦
           elim (elim tree as (λ _. Result State CliFault) [ Ok st ↦ Ok st | Err fault ↦ Err (lifted fault) ])
           [ Ok st ↦ course_from st (Some named) | Err fault ↦ Err fault ]
@@ -167,7 +168,7 @@ module _ (vocabulary : Vocabulary) (tree : Reading) (uid : ℕ) (gids : List ℕ
 
   -- a fault of the user
   user_fault_by : (ops : List ℕ) (known : Option (List ℕ)) (fault : CliFault) (root : Bool) (found : Option Identity)
-      → user_read uid gids ≡ cond root (Err Uid) (or_fault found Gids) → cond root (Err Uid) (or_fault found Gids) ≡ Err fault
+      → user_read uid gids ≡ cond root (Err Uid) (ok_or found Gids) → cond root (Err Uid) (ok_or found Gids) ≡ Err fault
       → Replays closed lines ops known known (Err fault)
   user_fault_by ops known fault true found e h =
       let is : Uid ≡ fault = cc in

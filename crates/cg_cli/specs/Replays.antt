@@ -1,5 +1,6 @@
 -- The report on operation lines, each answered before the next is read. Own.
 use Rattle.std.specs.Prelude.{ℕ, ◌+◌, Bool, List, [], ◌∷◌, ◌++◌, length, nat_lt, ◌==◌, cond, Option, Some, None, Result, Ok, Err}
+use Rattle.std.specs.Option.{ok_or}
 use Rattle.std.specs.List.{slice_split}
 use Rattle.cg_cgroup.specs.Identity.{Identity}
 use Rattle.cg_model.specs.States.{State}
@@ -13,7 +14,7 @@ use Rattle.cg_lines.specs.LineReading.{operation_at}
 use Rattle.cg_lines.specs.Outcomes.{outcome_text}
 use Rattle.cg_lines.specs.declared.lines.fault.LineFault.TheVariants.{TooLong, BadWord, Cut}
 use Rattle.cg_format.specs.Readings.{Reading}
-use Rattle.cg_cli.specs.Arguments.{or_fault, user_read, path_read}
+use Rattle.cg_cli.specs.Arguments.{user_read, path_read}
 use Rattle.cg_cli.specs.Courses.{Course, state_of, on_course, course_from, closing}
 use Rattle.cg_cli.specs.May.{tree_read}
 use Rattle.cg_cli.specs.Reports.{Said, Report, report_on}
@@ -49,7 +50,7 @@ within_steps done answer = cond (nat_lt done most_operations) answer (Err TooMan
 abbrev pub operation_read : Vocabulary → ℕ → List ℕ → Result Op CliFault
 operation_read vocabulary done line =
     within_steps done
-    (cond (nat_lt longest_line (length line)) (Err (Line (done + 1) TooLong)) (or_fault (operation_at vocabulary line) (Line (done + 1) BadWord)))
+    (cond (nat_lt longest_line (length line)) (Err (Line (done + 1) TooLong)) (ok_or (operation_at vocabulary line) (Line (done + 1) BadWord)))
 
 -- the end of the input: nothing stands behind the last newline, or a line that was cut
 abbrev pub end_read : Course → ℕ → List ℕ → Result Course CliFault

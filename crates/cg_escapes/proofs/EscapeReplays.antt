@@ -1,5 +1,6 @@
 -- The lines of an escape are replayed one by one, and break the subtree.
 use Rattle.std.proofs.Common.{◌≡◌, ℕ, ◌+◌, ◌<◌, ◌≤◌, Bool, true, false, nat_lt, nat_eq, cond, not, List, [], ◌∷◌, ◌++◌, length, Option, Some, None, is_some, Result, Ok, Err, refl, ap, sym, ◌∙◌, subst, append_assoc, append-nil, true≢false, arith, codes, inl, inr}
+use Rattle.std.specs.Option.{ok_or}
 use Rattle.std.specs.List.{AllByRecursion}
 use Rattle.std.specs.FinMap as finite
 use Rattle.std.proofs.lemmas.Bool.{lt-ltb, le-ltb}
@@ -43,7 +44,7 @@ use Rattle.cg_format.specs.TextOf.{IsTextOf}
 use Rattle.cg_format.specs.declared.fault.TreeFault.{TreeFault}
 use Rattle.cg_format.proofs.OneState.{paths_are_paths, pids_are_pids}
 use Rattle.cg_faults.specs.Faults.{lifted}
-use Rattle.cg_cli.specs.Arguments.{or_fault, user_read, path_read}
+use Rattle.cg_cli.specs.Arguments.{user_read, path_read}
 use Rattle.cg_cli.specs.May.{tree_read}
 use Rattle.cg_cli.specs.Reports.{Said, Report, report_on}
 use Rattle.cg_cli.specs.Containment.{in_call, answer_status, answer_report, subtree_report, check_report}
@@ -225,7 +226,7 @@ read_by named tree =
 
 -- who is read is a user
 may_by : (made user : Identity) (root may : Bool) → is_user made ≡ may
-    → cond root (Err Uid) (or_fault (cond may (Some made) None) Gids) ≡ Ok user → is_user user ≡ true
+    → cond root (Err Uid) (ok_or (cond may (Some made) None) Gids) ≡ Ok user → is_user user ≡ true
 may_by made user true may _ is = cc
 may_by made user false true may is = let same : made ≡ user = cc in subst (λ who. is_user who ≡ true) same may
 may_by made user false false _ is = cc

@@ -2,6 +2,7 @@
 use Rattle.std.specs.Prelude.{ℕ, Bool, true, false, ◌&&◌, nat_eq, nat_le, Option, Some, None, is_some, option_and_then, nat_lt}
 use mathlib.Core.Bool.{beq}
 use Rattle.std.specs.List.{list_all}
+use Rattle.std.specs.Option.{option_eq}
 use Rattle.cg_cgroup.specs.Paths.{Names, same_name}
 use Rattle.cg_cgroup.specs.Files.{all_files, all_others, all_controllers}
 use Rattle.cg_cgroup.specs.Told.{told_in}
@@ -44,23 +45,12 @@ same_limit Max Max = true
 same_limit (At value) (At other) = nat_eq value other
 same_limit limit other = false
 
-abbrev pub same_value : Option Limit → Option Limit → Bool
-same_value None None = true
-same_value (Some limit) (Some other) = same_limit limit other
-same_value value other = false
-
--- Own: values of a limit file beyond `LimitFile` are compared as texts.
-abbrev pub same_text : Option FileText → Option FileText → Bool
-same_text None None = true
-same_text (Some text) (Some other) = same_name text other
-same_text text other = false
-
--- the same files stand, with the same values
+-- The same files stand, with the same values. Own: those of a file beyond `LimitFile` are compared as texts.
 abbrev pub same_limits : Limits → Limits → Bool
 same_limits these those =
-    list_all (λ file. same_value (these.values file) (those.values file)) all_files
+    list_all (λ file. option_eq same_limit (these.values file) (those.values file)) all_files
     && list_all (λ controller. beq (these.others controller) (those.others controller)) all_controllers
-    && list_all (λ file. same_text (these.told file) (those.told file)) all_others
+    && list_all (λ file. option_eq same_name (these.told file) (those.told file)) all_others
 
 -- Own: whether so many are within a limit.
 abbrev pub is_within_limit : ℕ → Limit → Bool

@@ -4,10 +4,11 @@ ghost use Rattle.cg_cgroup.specs.Paths.{is_child};
 ghost use Rattle.cg_cgroup.specs.Cgroups.{value_in, other_in};
 ghost use Rattle.cg_cgroup.specs.Files.{all_files, all_controllers};
 ghost use Rattle.std.specs.List.{list_all};
+ghost use Rattle.std.specs.Option.{option_eq};
 ghost use mathlib.Core.Bool.{beq};
 ghost use Rattle.cg_model.specs.States.{row_at};
 ghost use Rattle.cg_model.specs.Clauses.{first, unless};
-ghost use Rattle.cg_model.specs.Limits.{limits, limits_in, same_value, same_limits};
+ghost use Rattle.cg_model.specs.Limits.{limits, limits_in, same_limit, same_limits};
 ghost use Rattle.cg_model.specs.Verdicts.{broken, or_later};
 ghost use Rattle.cg_runs.specs.Shortcuts.{moves_over, may_break, broken_by};
 
@@ -126,7 +127,7 @@ fn changed<H: Hierarchy>(
 /// Whether the same limit files stand at two cgroups, with the same values of `LimitFile`.
 fn same_files(cgroup: &Cgroup, other: &Cgroup) -> bool
     ensures { result ≡ (
-        list_all (λ file. same_value (value_in cgroup.now file) (value_in other.now file)) all_files
+        list_all (λ file. option_eq same_limit (value_in cgroup.now file) (value_in other.now file)) all_files
         && list_all
         (λ controller. beq (is_some (other_in cgroup.now controller)) (is_some (other_in other.now controller)))
         all_controllers
@@ -136,7 +137,7 @@ fn same_files(cgroup: &Cgroup, other: &Cgroup) -> bool
 }
 
 fn same_values(cgroup: &Cgroup, other: &Cgroup) -> bool
-    ensures { result ≡ list_all (λ file. same_value (value_in cgroup.now file) (value_in other.now file)) all_files }
+    ensures { result ≡ list_all (λ file. option_eq same_limit (value_in cgroup.now file) (value_in other.now file)) all_files }
 {
     LimitFile::ALL
         .iter()

@@ -2,8 +2,10 @@
 ghost use Rattle.std.specs.Prelude.{◌≡◌, true, OnErr, IfOk, is_some, option_copied};
 ghost use Rattle.std.specs.FinMap as map;
 ghost use Rattle.std.specs.List.{list_all};
+ghost use Rattle.std.specs.Option.{option_eq};
+ghost use Rattle.cg_cgroup.specs.Paths.{same_name};
 ghost use Rattle.cg_cgroup.specs.Files.{all_others};
-ghost use Rattle.cg_model.specs.Limits.{same_text, texts_in};
+ghost use Rattle.cg_model.specs.Limits.{texts_in};
 
 use cg_cgroup::memory::NoMemory;
 use cg_cgroup::other_file::OtherFile;
@@ -29,7 +31,7 @@ pub fn told_of<H: Hierarchy>(
 
 /// Whether the same values are told of two cgroups' files.
 pub fn same_texts(told: Option<&ToldFiles>, other: Option<&ToldFiles>) -> bool
-    ensures { result ≡ list_all (λ file. same_text
+    ensures { result ≡ list_all (λ file. option_eq same_name
         (texts_in (option_copied told.entry) file)
         (texts_in (option_copied other.entry) file)) all_others }
 {
@@ -48,7 +50,7 @@ fn text_of<'a>(told: Option<&'a ToldFiles>, file: OtherFile) -> Option<&'a FileT
 
 /// Whether two values are the same, where they are told.
 fn is_same(text: Option<&FileText>, other: Option<&FileText>) -> bool
-    ensures { result ≡ same_text (option_copied text.entry) (option_copied other.entry) }
+    ensures { result ≡ option_eq same_name (option_copied text.entry) (option_copied other.entry) }
 {
     match (text, other) {
         (Some(text), Some(other)) => text == other,

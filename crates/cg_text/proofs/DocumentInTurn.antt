@@ -10,7 +10,6 @@ use Rattle.cg_cgroup.specs.declared.controllers.ControllerSet.{ControllerSet}
 use Rattle.cg_model.specs.Clauses.{unless, absent, present, first}
 use Rattle.cg_model.specs.States.{State}
 use Rattle.cg_model.proofs.ClauseLaws.{first_none, first_some}
-use Rattle.cg_text.specs.Faults.{or_fault}
 use Rattle.cg_format.specs.Form.{Key, is_table}
 use Rattle.cg_format.specs.Said.{tables_at, known_said, format_said}
 use Rattle.cg_format.specs.TextOf.{IsInForm, IsDocumentOf, IsTextOf}
@@ -97,7 +96,7 @@ all_tables keys (value ∷ values) are =
 
 -- ---- texts
 
-pub document_read : (found : Option Members) (document : Members) → or_fault found NotToml ≡ Ok document → found ≡ Some document
+pub document_read : (found : Option Members) (document : Members) → ok_or found NotToml ≡ Ok document → found ≡ Some document
 document_read None document is = cc
 document_read (Some other) document is = let same : other ≡ document = cc in ap Some same
 

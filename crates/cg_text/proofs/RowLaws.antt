@@ -34,7 +34,7 @@ use Rattle.cg_format.specs.Said.{table_at, path_said, known_said, owner_said, li
 use Rattle.cg_format.specs.Form.{vocabulary}
 use Rattle.cg_format.specs.Said.{entry_said, value_said, is_named, text_said, file_said, told_row}
 use Rattle.cg_format.specs.TextFaults.{row_faults, has_values}
-use Rattle.cg_text.specs.Faults.{or_fault, Passes}
+use Rattle.cg_text.specs.Faults.{Passes}
 use Rattle.cg_text.specs.Rows.{table_in, owner_in, limit_in, entry_with, names, needed_where, needed_by, file_in, entry_faults, IsCgroupOf, IsReadAs, AreReadAs}
 use Rattle.cg_text.specs.Rows.{others_of, are_owned_in, have_texts_in, told_of}
 use Rattle.cg_text.proofs.FurtherLaws.{two, all_known}
@@ -48,14 +48,11 @@ use Rattle.cg_text.proofs.EachRow.{IsNextTable, tables_counted, table_taken}
 
 -- ---- answers
 
-pub ok_of : {A : Type 0} (o : Option A) (fault : TreeFault) (x : A) → Ok x ≡ or_fault o fault → o ≡ Some x
+pub ok_of : {A : Type 0} (o : Option A) (fault : TreeFault) (x : A) → Ok x ≡ ok_or o fault → o ≡ Some x
 ok_of o fault x is = grind arith
 
-pub err_of : {A : Type 0} (o : Option A) (fault found : TreeFault) → Err found ≡ or_fault o fault → (o ≡ None) × (fault ≡ found)
+pub err_of : {A : Type 0} (o : Option A) (fault found : TreeFault) → Err found ≡ ok_or o fault → (o ≡ None) × (fault ≡ found)
 err_of o fault found is = grind arith
-
-pub ok_or_is : {A : Type 0} (o : Option A) (fault : TreeFault) → ok_or o fault ≡ or_fault o fault
-ok_or_is o fault = grind arith
 
 -- what a `?` returns
 abbrev pub Returns : {X : Type 0} → Result X TreeFault → TreeFault → Type 0
@@ -101,10 +98,10 @@ module _ (said : Entries) where
 
   -- the owner of an entry and the value of a limit file, as they are read
   abbrev pub HasOwner : EntryName → Entry → Type 0
-  HasOwner name entry = Ok entry ≡ or_fault (owner_in said name) (BadEntry said.place)
+  HasOwner name entry = Ok entry ≡ ok_or (owner_in said name) (BadEntry said.place)
 
   abbrev pub HasValue : LimitFile → Entry → LimitEntry → Type 0
-  HasValue file entry held = Ok held ≡ or_fault (option_map (entry_with entry) (limit_in said file)) (BadValue said.place)
+  HasValue file entry held = Ok held ≡ ok_or (option_map (entry_with entry) (limit_in said file)) (BadValue said.place)
 
   owner_is : (name : EntryName) (entry : Entry) → HasOwner name entry → owner_in said name ≡ Some entry
   owner_is name entry is = ok_of (owner_in said name) (BadEntry said.place) entry is
@@ -113,7 +110,7 @@ module _ (said : Entries) where
   has_owner name entry is = ap is_some (owner_is name entry is)
 
   pub no_owner : (name : EntryName) → is_beyond name ≡ false → {X : Type 0} (P : X → Type 0) (answer : Result X TreeFault)
-      (found : TreeFault) → Returns answer found → Err found ≡ or_fault (owner_in said name) (BadEntry said.place)
+      (found : TreeFault) → Returns answer found → Err found ≡ ok_or (owner_in said name) (BadEntry said.place)
       → Passes P (first (entry_faults said)) answer
   no_owner name within P answer found returns is =
       let missing = err_of (owner_in said name) (BadEntry said.place) found is in
@@ -127,7 +124,7 @@ module _ (said : Entries) where
 
   pub no_value : AreOwned → (file : LimitFile) (entry : Entry)
       {X : Type 0} (P : X → Type 0) (answer : Result X TreeFault) (found : TreeFault) → Returns answer found
-      → Err found ≡ or_fault (option_map (entry_with entry) (limit_in said file)) (BadValue said.place)
+      → Err found ≡ ok_or (option_map (entry_with entry) (limit_in said file)) (BadValue said.place)
       → Passes P (first (entry_faults said)) answer
   no_value are file entry P answer found returns is =
       let missing = err_of (option_map (entry_with entry) (limit_in said file)) (BadValue said.place) found is in

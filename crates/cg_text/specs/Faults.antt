@@ -4,10 +4,6 @@ use Rattle.std.specs.Prelude.{◌≡◌, ◌≢◌, Option, Some, None, Result, 
 use Rattle.cg_format.specs.declared.fault.TreeFault.{TreeFault}
 use Rattle.cg_format.specs.declared.fault.TreeFault.TheVariants.{NoMemory}
 
-abbrev pub or_fault : {A : Type 0} → Option A → TreeFault → Result A TreeFault
-or_fault None fault = Err fault
-or_fault (Some x) fault = Ok x
-
 -- The call gives the value that is expected, or the fault that is expected, unless memory ran out.
 abbrev pub Reads : {X Y : Type 0} → (X → Y) → Result X TreeFault → Result Y TreeFault → Type 0
 Reads view (Ok x) expected = expected ≡ Ok (view x)

@@ -1,7 +1,8 @@
 //! Tree texts: from bytes to a tree, or the first fault of the text.
 ghost use Rattle.std.specs.Prelude.{◌≡◌, ◌≢◌, ◌<◌, length, Some, Err, MatchResult, IfOk};
+ghost use Rattle.std.specs.Option.{ok_or};
 ghost use Rattle.toml.specs.View.{table_view};
-ghost use Rattle.cg_text.specs.Faults.{Reads, or_fault};
+ghost use Rattle.cg_text.specs.Faults.{Reads};
 ghost use Rattle.cg_format.specs.TreeTexts.{longest_text, document_of};
 ghost use Rattle.cg_format.specs.Readings.{vocabulary_in};
 ghost use Rattle.cg_model.specs.Clauses.{first};
@@ -40,7 +41,7 @@ pub struct Text {
 
 /// The document that bytes are.
 fn document_of(alloc: Global, bytes: &[u8]) -> Result<Table, TreeFault>
-    ensures { Reads table_view result (or_fault (document_of bytes.now) NotToml) }
+    ensures { Reads table_view result (ok_or (document_of bytes.now) NotToml) }
 {
     match toml::table_from_slice(alloc, bytes) {
         Ok(table) => Ok(table),

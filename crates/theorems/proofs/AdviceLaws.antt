@@ -1,5 +1,6 @@
 -- With the changes that one advice prints all that was named is contained.
 use Rattle.std.proofs.Common.{◌≡◌, ◌≢◌, ℕ, Bool, true, false, cond, nat_eq, List, [], ◌∷◌, map, Option, Some, None, Result, Ok, Err, ⊎_elim, refl, ap, sym, ◌∙◌, subst, get_or, arith}
+use Rattle.std.specs.Option.{ok_or}
 use Rattle.std.specs.List.{All, AllByRecursion, Contains, flat_map, list_all}
 use Rattle.std.proofs.lemmas.List.Elements.{All-from_recursion, recursion_from_All, Contains-append_right, Contains-append_cases}
 use Rattle.cg_cgroup.specs.Paths.{Names, same_path}
@@ -19,7 +20,7 @@ use Rattle.cg_model.proofs.OnceLaws.{all-once}
 use Rattle.cg_check.proofs.Checking.{no_fault}
 use Rattle.cg_check.proofs.Pairs.{none-element}
 use Rattle.cg_advice.specs.AdviceLines.{is_pair_guarded, pairs_lines, advice_lines}
-use Rattle.cg_cli.specs.Arguments.{or_fault, user_read}
+use Rattle.cg_cli.specs.Arguments.{user_read}
 use Rattle.cg_cli.specs.Audits.{read_before, users_read, paths_read}
 use Rattle.cg_cli.specs.Once.{same_user}
 use Rattle.cg_cli.specs.Advising.{lines_report, pair_with, all_pairs, advise_report, IsAdvisable, AreNamed}
@@ -45,7 +46,7 @@ user_ok uid gids who is = by_tests (nat_eq uid 0) (is_user (record { uid = uid; 
     same_Ok same = cc
 
     by_tests : (root may : Bool) → is_user (record { uid = uid; gids = gids }) ≡ may
-        → cond root (Err Uid) (or_fault (cond may (Some (record { uid = uid; gids = gids })) None) Gids) ≡ Ok who → IsUser who
+        → cond root (Err Uid) (ok_or (cond may (Some (record { uid = uid; gids = gids })) None) Gids) ≡ Ok who → IsUser who
     by_tests true may same h = let never : ⊥ = cc in absurd never
     by_tests false true same h = subst IsUser (same_Ok h) same
     by_tests false false same h = let never : ⊥ = cc in absurd never

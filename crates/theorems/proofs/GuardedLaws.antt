@@ -1,5 +1,6 @@
 -- Of what `check` says `contained`.
 use Rattle.std.proofs.Common.{◌≡◌, ℕ, Bool, true, false, cond, nat_eq, List, codes, Option, Some, None, Ok, Err, refl, ap, ap₂, sym, ◌∙◌, subst}
+use Rattle.std.specs.Option.{ok_or}
 use Rattle.std.proofs.lemmas.Bool.{eqb-true}
 use Rattle.cg_cgroup.specs.Paths.{Names, path_at}
 use Rattle.cg_cgroup.specs.Users.{user_of}
@@ -24,7 +25,7 @@ use Rattle.cg_format.proofs.ReadingLaws.{one_reading}
 use Rattle.cg_laws.proofs.RunLaws.{contained-guarded}
 use Rattle.cg_laws.proofs.ThroughoutLaws.{contained-is_throughout}
 use Rattle.cg_check.proofs.Checking.{no_fault, answer-guarded}
-use Rattle.cg_cli.specs.Arguments.{or_fault, user_read, path_read}
+use Rattle.cg_cli.specs.Arguments.{user_read, path_read}
 use Rattle.cg_cli.specs.Containment.{in_call, answer_status, answer_report, subtree_report, check_report}
 use Rattle.cg_cli.specs.May.{tree_read}
 use Rattle.cg_cli.specs.Reports.{report_on}
@@ -35,13 +36,13 @@ use Rattle.theorems.specs.Guarded.{NamesGuarded}
 
 -- ---- what was read, and what words name
 
-user_named : (root : Bool) (found : Option Identity) (user : Identity) → cond root (Err Uid) (or_fault found Gids) ≡ Ok user
+user_named : (root : Bool) (found : Option Identity) (user : Identity) → cond root (Err Uid) (ok_or found Gids) ≡ Ok user
     → found ≡ Some user
 user_named true found user is = let never : ⊥ = cc in absurd never
 user_named false None user is = let never : ⊥ = cc in absurd never
 user_named false (Some one) user is = let same : one ≡ user = cc in ap Some same
 
-path_named : (found : Option Names) (path : Names) → or_fault found BadPath ≡ Ok path → found ≡ Some path
+path_named : (found : Option Names) (path : Names) → ok_or found BadPath ≡ Ok path → found ≡ Some path
 path_named None path is = let never : ⊥ = cc in absurd never
 path_named (Some one) path is = let same : one ≡ path = cc in ap Some same
 
@@ -54,7 +55,7 @@ named_read uid gids user is = by_uid (nat_eq uid 0) refl
     by_uid : (root : Bool) → nat_eq uid 0 ≡ root → user_read uid gids ≡ Ok user
     by_uid true same = absurd (nobody (eqb-true uid 0 same))
     by_uid false same =
-        ap₂ (λ (root : Bool) (found : Option Identity). cond root (Err Uid) (or_fault found Gids)) same is
+        ap₂ (λ (root : Bool) (found : Option Identity). cond root (Err Uid) (ok_or found Gids)) same is
 
 state_read : (tree : Reading) (st : State) → tree_read tree ≡ Ok st → tree ≡ Ok st
 state_read (Ok one) st is = let same : one ≡ st = cc in ap Ok same
@@ -113,7 +114,7 @@ module _ (text : List ℕ) (uid : ℕ) (gids word : List ℕ) where
         let user = named.user in
         let path = named.subtree in
         report_is tree uid gids word user path st (named_read uid gids user named.named)
-        (ap (λ (found : Option Names). or_fault found BadPath) named.path) (one_reading text tree (Ok st) reading named.read)
+        (ap (λ (found : Option Names). ok_or found BadPath) named.path) (one_reading text tree (Ok st) reading named.read)
         ∙ ap (λ (fault : Option CheckFault). report_on (in_call (unless_fault fault (answer st user path))) (answer_report path))
         (no_faults st path named.there)
         ∙ ap (λ failed. report_on (in_call (unless_fault None (answer_from failed (first_escape st user path)))) (answer_report path))

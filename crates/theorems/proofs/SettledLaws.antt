@@ -1,5 +1,6 @@
 -- What is said where more is known than check tells.
 use Rattle.std.proofs.Common.{◌≡◌, ℕ, List, Option, Some, None, Result, Ok, Err, refl, ap, sym, ◌∙◌, subst}
+use Rattle.std.specs.Option.{ok_or}
 use Rattle.cg_cgroup.specs.Paths.{Names, path_at}
 use Rattle.cg_cgroup.specs.Users.{user_of}
 use Rattle.cg_cgroup.specs.Identity.{Identity}
@@ -16,7 +17,7 @@ use Rattle.cg_model.specs.declared.operation.Op.{Op}
 use Rattle.cg_laws.proofs.RunLaws.{contained-guarded}
 use Rattle.cg_check.proofs.AnswerLaws.{escape-broken}
 use Rattle.cg_check.proofs.Checking.{no_fault, answer-guarded}
-use Rattle.cg_cli.specs.Arguments.{or_fault, path_read}
+use Rattle.cg_cli.specs.Arguments.{path_read}
 use Rattle.cg_cli.specs.Containment.{in_call, answer_report}
 use Rattle.cg_cli.specs.Reports.{Report, Reports}
 use Rattle.cg_cli.specs.Settling.{SaysOn, AskedSays, AskedReports, FurtherSays, IsFurther}
@@ -65,7 +66,7 @@ module _ (st : State) (user : Identity) (subtree : Names) where
     of_state : (said : Report) → AskedSays (FurtherSays IsFurther) (Ok st) uid gids word said → FurtherSays IsFurther st user subtree said
     of_state said asked =
         subst (λ p. SaysOn p (λ path. FurtherSays IsFurther st user path) said)
-        (ap (λ (found : Option Names). or_fault found BadPath) of_path)
+        (ap (λ (found : Option Names). ok_or found BadPath) of_path)
         (subst (λ u. SaysOn u (λ user. SaysOn (path_read word) (λ path. FurtherSays IsFurther st user path)) said)
         (named_read uid gids user of_user) asked)
 

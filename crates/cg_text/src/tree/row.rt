@@ -1,6 +1,6 @@
 //! A cgroup's row, read into what the tree keeps of it.
 ghost use Rattle.std.specs.Prelude.{◌≡◌, ◌≤◌, true, false, length, map, filter_map, Some, is_some};
-ghost use Rattle.std.specs.Option.{option_map, option_map_or};
+ghost use Rattle.std.specs.Option.{option_map, option_map_or, ok_or};
 ghost use Rattle.std.specs.List.{list_all, list_any};
 ghost use Rattle.toml.specs.Data.{Members, as_table};
 ghost use Rattle.toml.specs.View.{view, table_view};
@@ -13,7 +13,7 @@ ghost use Rattle.cg_format.specs.declared.fault.TreeFault.TheVariants.{BadEntry,
 ghost use Rattle.cg_format.specs.declared.format.TheConstants.{MOST_ROWS_OF_4};
 ghost use Rattle.cg_format.specs.Tables.{freeze_at};
 ghost use Rattle.cg_format.specs.TextFaults.{each_cgroup, row_faults};
-ghost use Rattle.cg_text.specs.Faults.{Passes, or_fault};
+ghost use Rattle.cg_text.specs.Faults.{Passes};
 ghost use Rattle.cg_text.specs.Rows.{table_in, owner_in, limit_in, entry_with, is_file_of, names, needs, needed_by, file_in, entry_faults, IsCgroupOf, IsReadAs, AreReadAs};
 ghost use Rattle.cg_text.specs.Rows.{has_beyond, names_other, is_owned, has_text, tells_in, are_owned_in, have_texts_in, told_at, told_with, told_of};
 
@@ -77,13 +77,13 @@ impl<'a> Entries<'a> {
 
     /// The owner, the group and the mode of an entry.
     fn owner(self, name: EntryName) -> Result<Entry, TreeFault>
-        ensures { result ≡ or_fault (owner_in self.entry name) (BadEntry self.entry.place) }
+        ensures { result ≡ ok_or (owner_in self.entry name) (BadEntry self.entry.place) }
     {
         self.owner_at(name).ok_or(TreeFault::BadEntry(self.place))
     }
 
     fn file(self, file: LimitFile) -> Result<Entry, TreeFault>
-        ensures { result ≡ or_fault (owner_in self.entry (File file)) (BadEntry self.entry.place) }
+        ensures { result ≡ ok_or (owner_in self.entry (File file)) (BadEntry self.entry.place) }
     {
         self.owner(EntryName::File(file))
     }
@@ -97,7 +97,7 @@ impl<'a> Entries<'a> {
 
     /// A limit file of this owner.
     fn held(self, entry: Entry, file: LimitFile) -> Result<LimitEntry, TreeFault>
-        ensures { result ≡ or_fault (option_map (entry_with entry) (limit_in self.entry file)) (BadValue self.entry.place) }
+        ensures { result ≡ ok_or (option_map (entry_with entry) (limit_in self.entry file)) (BadValue self.entry.place) }
     {
         match self.value_at(file) {
             None => Err(TreeFault::BadValue(self.place)),

@@ -5,7 +5,7 @@ use Rattle.cg_format.specs.Said.{path_said, known_said}
 use Rattle.cg_text.specs.declared.tree.row.Entries.{Entries}
 use Rattle.cg_format.specs.declared.fault.Place.TheVariants.{Cgroup as AtCgroup}
 use Rattle.cg_format.specs.declared.fault.TreeFault.TheVariants.{BadController}
-use Rattle.cg_text.proofs.RowLaws.{ok_of, err_of, ok_or_is, passed_on, no_path, no_enabled, faults_behind, row_read}
+use Rattle.cg_text.proofs.RowLaws.{ok_of, err_of, passed_on, no_path, no_enabled, faults_behind, row_read}
 use Rattle.cg_text.proofs.FurtherLaws.{not_owned, ten_failed, ten_passed}
 use Rattle.cg_text.proofs.tree.row.row_of.Goals as goal
 use Rattle.cg_text.proofs.tree.row.row_of.Goals.{In_ok-enabled}
@@ -13,7 +13,7 @@ use Rattle.cg_text.proofs.tree.row.row_of.Goals.{In_ok-enabled}
 enabled_is : (c : In_ok-enabled) → known_said c.args.format (codes "enabled") (table_view c.args.table.now) ≡ Some c.in_ok-enabled.enabled
 enabled_is c =
     let fault = BadController (AtCgroup c.args.number) in
-    sym c.known_at.ensures ∙ ok_of _ fault _ (c.in_ok-enabled.ensures.value ∙ ok_or_is c.known_at.result fault)
+    sym c.known_at.ensures ∙ ok_of _ fault _ c.in_ok-enabled.ensures.value
 
 pub returns-in_err-path : goal.returns-in_err-path
 returns-in_err-path c =
@@ -24,7 +24,7 @@ pub returns-in_err-enabled : goal.returns-in_err-enabled
 returns-in_err-enabled c =
     let fault = BadController (AtCgroup c.args.number) in
     let found = c.known_at.result in
-    let refused = err_of found fault _ (c.in_err-enabled.ensures.value ∙ ok_or_is found fault) in
+    let refused = err_of found fault _ c.in_err-enabled.ensures.value in
     let row = table_view c.args.table.now in
     passed_on _ _ _ c.in_err-enabled.field-0.0 c.from_residual-in_err-enabled.ensures
     (λ _.
