@@ -10,7 +10,7 @@ use Rattle.cg_cgroup.specs.declared.files.Limit.TheVariants.{Max, At}
 use Rattle.cg_cgroup.specs.declared.files.Controller.{Controller}
 use Rattle.cg_cgroup.specs.declared.files.LimitFile.{LimitFile}
 use Rattle.cg_cgroup.specs.declared.files.LimitFile.TheVariants.{CpuWeight}
-use Rattle.std.specs.Prelude.{Option, codes, unwrap_or, option_and_then}
+use Rattle.std.specs.Prelude.{Option, option_and_then}
 use Rattle.std.specs.Cmp.Lexicographic.{bytes_decides}
 use Rattle.cg_cgroup.specs.Paths.{same_name}
 use Rattle.cg_cgroup.specs.Values.{is_value_word, is_one_line, has_value_line, device_in}
