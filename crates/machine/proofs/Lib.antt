@@ -1,0 +1,6 @@
+mod Lists
+mod Acts
+mod Untouched
+mod Rooms
+mod Edges
+mod Runs
