@@ -2,11 +2,12 @@
 
 A theorem is a part of the page under a heading `## N. NAME`. A statement stands in it between ``` below a line with the law, and
 behind a comma the clause, that it is of, and a colon. What the part names by a path, each with clauses behind a colon or with all,
-carries the theorem. A line that begins with `Read: ` names definitions in the order in which they are read.
+carries the theorem. A line that begins with `Read: ` names definitions in the order in which they are read. Below a line that begins
+with `All that LAW names` stand between ``` all definitions and types that the law reaches, with their comments, file by file.
 """
 import re
 
-from believed import Definition, World, closure, definitions_of
+from believed import HEAD, Definition, World, closure, definitions_of, words_of
 from crates import read
 from edited import text_of
 
@@ -15,6 +16,8 @@ LAWS = "theorems"
 ITEM = re.compile(r"`(\w+(?:::\w+)+)`(?:: (`\w+`(?:(?:, | and )`\w+`)*))?")
 PART = re.compile(r"^## (\d+)\. (.*?)(?=^## |\Z)", re.M | re.S)
 STATEMENT = re.compile(r"^(`([\w:]+)`(?:, `(\w+)`)?:\n\n```\n)(.*?)^```$", re.M | re.S)
+SAID = re.compile(r"(?:--.*\n)*")
+PRINTED = re.compile(r"^(All that `([\w:]+)` names\b[^`]*?:\n\n```\n)(.*?)^```$", re.M | re.S)
 READ = re.compile(r"^Read: (.*?)\n(?:\n|\Z)", re.M | re.S)
 LINKED = re.compile(r"\[`([^`]+)`\]\(MODEL\.md(?:#[\w-]*)?\)")
 # words of the language, which no file brings in
@@ -27,12 +30,6 @@ def lines_of(definitions):
     for it in definitions:
         found[it.file] = found.get(it.file, 0) + len(it.lines)
     return found
-
-
-def sums_of(files):
-    """Returns how many lines of definitions, and how many of types of the code, files have."""
-    definitions = sum(count for file, count in files.items() if file.endswith(".antt"))
-    return definitions, sum(files.values()) - definitions
 
 
 def place_of(world):
@@ -94,10 +91,40 @@ def statement_of(world, name, clause):
     return shown(world.named(name, [clause] if clause else []))
 
 
+def named_in(paragraph):
+    """Returns the name of the definition of a paragraph of specs, or None."""
+    heads = [it for it in map(HEAD.match, paragraph.split("\n")) if it and not it[0].startswith(("use ", "pub use ", "-- "))]
+    return (heads[0][1] or heads[0][2]) if heads else None
+
+
+def printed(world, name):
+    """Returns all definitions and types that a contract reaches, with their comments, in the order of files and in these of lines.
+
+    What the files of the contract's own crate say at their heads comes first.
+    """
+    own, heads, found = closure([world.named(name)])[0], [], []
+    for file in sorted(lines_of(own), key=place_of(world)):
+        here, text = {it.name: it for it in own if it.file == file}, text_of(f"{world.top}/{file}")
+        if file.endswith(".antt"):
+            heads += [SAID.match(text)[0].strip("\n")] if file.split("/")[1] == name.partition("::")[0] else []
+            found += [it.strip("\n") for it in re.split(r"\n{2,}", text) if named_in(it.strip("\n")) in here]
+        else:
+            found += ["\n".join(it.lines) for it in here.values()]
+    return "\n\n".join([*heads, *found])
+
+
+def unexplained(world, name, part):
+    """Returns the libraries' words that a contract reaches and that no text of its part has, between `."""
+    said = {*re.findall(r"`([^`\n]+)`", re.sub(r"(?ms)^```$.*?^```$", "", part))}
+    reached = {word for it in closure([world.named(name)])[1] for word in words_of(it.name)}
+    return sorted(reached - said)
+
+
 def mended(text, top="."):
-    """Returns the text of the page with the statements that the sources give."""
+    """Returns the text of the page with the statements and definitions that the sources give."""
     world = World(top)
-    return STATEMENT.sub(lambda it: f"{it[1]}{statement_of(world, it[2], it[3])}\n```", text)
+    text = STATEMENT.sub(lambda it: f"{it[1]}{statement_of(world, it[2], it[3])}\n```", text)
+    return PRINTED.sub(lambda it: f"{it[1]}{printed(world, it[2])}\n```", text)
 
 
 def unknown_in(world, contract, linked):
@@ -112,6 +139,8 @@ def faults_of_part(world, part, linked):
     for _, name, clause, _ in STATEMENT.findall(part):
         for it in unknown_in(world, world.named(name, [clause] if clause else []), linked):
             yield f"`{it}` of {name} is on no page that tools/believed prints, nor linked to a row of MODEL.md"
+    for _, name, _ in PRINTED.findall(part):
+        yield from (f"`{it}` of {name} is a library's, and its part says nothing of it" for it in unexplained(world, name, part))
     reached = {it.name for it in closure(roots_of(world, part))[0]}
     for it in (word for line in READ.findall(part) for word in re.findall(r"`([^`]+)`", line)):
         if it not in reached:
@@ -137,7 +166,7 @@ def faults_of(text, top="."):
     old, new = text.split("\n"), right.split("\n")
     changed = [f"by the sources it has '{shortened(it)}': tools/believed --write" for it in new if it not in old]
     changed = changed or [f"by the sources it has no '{shortened(it)}': tools/believed --write" for it in old if it not in new]
-    return len(named) + len(parts), faults + changed
+    return len(named) + len(parts) + len(PRINTED.findall(text)), faults + changed
 
 
 def shortened(line):

@@ -301,6 +301,27 @@ class Page(Small):
         right = theorems.mended(right.replace("Carried", "`theorems::shown`:\n\n```\n```\n\nCarried"), self.top)
         self.assertEqual(theorems.faults_of(right, self.top)[1], [])
 
+    def test_all_that_a_law_names(self):
+        self.write("crates/high/specs/Lib.antt", "pub mod Course\n")
+        self.write("crates/high/specs/Course.antt", "-- Premises.\n-- A course.\nuse Rattle.low.specs.Words.{many}\n\n-- how long\n"
+                   "abbrev pub long : ℕ\nlong = many\n\nabbrev pub short : ℕ\nshort = 0\n")
+        self.write("crates/high/src/parts.rt", PARTS.replace("{stepped};", "{stepped};\nghost use Rattle.high.specs.Course.{long};")
+                   .replace("{ stepped ≡ stepped }", "{ long ≡ long }"))
+        page = PAGE.replace("Read: `stepped`, and then\n`Keeps`.", "All that `high::shown` names, in order:\n\n```\nof old\n```")
+        right = theorems.mended(page, self.top)
+        named = right.partition("in order:\n\n```\n")[2].partition("\n```\n")[0].split("\n\n")
+        self.assertEqual([named[0], named[-1]], ["-- Premises.\n-- A course.", "-- how long\nabbrev pub long : ℕ\nlong = many"])
+        self.assertIn("pub enum Kind {\n    Lone,", "\n".join(named))
+        self.assertIn("-- how many there are\nabbrev pub many : Kind → ℕ\nmany Single = 1\nmany kind = MOST", named)
+        self.assertNotIn("other", "\n".join(named))
+        told = [f"`{it}` of high::shown is a library's, and its part says nothing of it"
+                for it in ("+", "Option", "Some", "option_and_then", "ℕ", "≡")]
+        self.assertEqual(theorems.faults_of(right, self.top)[1], told)
+        explained = right.replace("It is called.", "`ℕ`, `Option`, `Some`, `option_and_then`, `+` and `≡` are known.")
+        self.assertEqual(theorems.faults_of(explained, self.top)[1], [])
+        self.assertEqual(theorems.faults_of(explained.replace("long = many", "long = 2"), self.top)[1],
+                         ["by the sources it has 'long = many': tools/believed --write"])
+
     def test_what_no_theorem_reaches(self):
         self.assertEqual([it.name for it in theorems.unreached(PAGE, World(self.top))], ["other", "bound", "Held", "Course", "told"])
 
@@ -361,6 +382,10 @@ class Repository(unittest.TestCase):
             reached = self.reached(f"cg_cli::{name}")
             self.assertFalse({"cg_places", "cg_counts", "cg_indexed", "cg_rows"} & {crate for crate, _ in reached}, name)
             self.assertNotIn(("cg_text", "tree_of"), reached, name)
+
+    def test_the_yes_is_on_one_page(self):
+        page = closure([self.world.named("machine::one_user")])[0]
+        self.assertLessEqual(sum(theorems.lines_of(page).values()), 165)
 
     def test_all_that_definitions_name_is_there(self):
         for it in definitions_of(self.world):

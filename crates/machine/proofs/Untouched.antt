@@ -18,14 +18,13 @@ module _ (machine : Machine) (user : Identity) (subtree : Names) (present : IsPr
   rmdir-above : (path : Names) → lets machine user (Rmdir path) ≡ true → (len : ℕ) → len < length subtree
       → same_path path (take len subtree) ≡ false
   rmdir-above path free len shorter =
+      let there : has machine (take (suc len) subtree) ≡ true = present (suc len) (omega arith) in
       let childless : list_any (is_child path) machine.paths ≡ false =
-      not-true (list_any (is_child path) machine.paths)
-      (and_parts (entry_is machine (parent path) Dir (writes user)) (not (list_any (is_child path) machine.paths)) free).1 in
+      not-true (list_any (is_child path) machine.paths) (and_parts _ _ free).1 in
       false_from_ne_true (same_path path (take len subtree)) (λ same.
       let child : is_child path (take (suc len) subtree) ≡ true =
       ap (λ (top : Names). is_child top (take (suc len) subtree)) (same_path-is path (take len subtree) same)
       ∙ child-taken len subtree shorter in
-      let there : has machine (take (suc len) subtree) ≡ true = present (suc len) (omega arith) in
       true≢false (sym (any-found (is_child path) (take (suc len) subtree) machine.paths there child) ∙ childless))
 
   mkdir-other : (path : Names) (made : File → Option Inode) → lets machine user (Mkdir path made) ≡ true

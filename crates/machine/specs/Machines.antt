@@ -1,9 +1,11 @@
--- What a yes says of states: a subtree is contained, over a machine that refuses as little as that takes. In the order in which
--- one reads it. A section named is one of the kernel's Documentation/admin-guide/cgroup-v2.rst; all else is own.
---
 -- The premises. Each process runs whole in one cgroup, with all its threads. Nobody holds an entry open from before: who may not
 -- write one now doesn't write it. Users aren't root and have no capabilities. Nothing changes but by the acts below, one after
--- another. What no such machine has is `cgroup.type`, by which a cgroup loses limit files, and kernel threads, which nobody moves.
+-- another. No write turns a limit file of another cgroup, so what `cpuset.cpus.partition` shows is none here. No such machine has
+-- `cgroup.type`, by which a threaded cgroup loses limit files, nor kernel threads, which nobody moves.
+--
+-- What stands here is the page of what a yes says of states, in the order in which one reads it: a subtree is contained, over a
+-- machine that refuses as little as that takes. A section that is named is one of the kernel's
+-- Documentation/admin-guide/cgroup-v2.rst; all else is own.
 use Rattle.std.specs.Prelude.{◌≡◌, ℕ, zero, suc, ◌+◌, ◌-◌, ◌<◌, ◌≤◌, Bool, true, false, ◌&&◌, not, nat_eq, nat_le, cond, List, [], ◌∷◌, length, take, filter, count_by, Option, Some, None, is_none}
 use Rattle.std.specs.List.{list_any}
 use Rattle.std.specs.Option.{option_map}
@@ -85,7 +87,8 @@ has_room_above machine path (suc len) =
 
 -- All that a kernel has to refuse, in nine parts.
 abbrev pub lets : Machine → Identity → Act → Bool
--- 1. A move where they can't write cgroup.procs of the common ancestor of source and destination: Delegation Containment.
+-- 1. A move where they can't write cgroup.procs of the common ancestor of source and destination: Delegation Containment. What
+-- isn't alive isn't moved.
 lets machine user (Move pid to) =
     elim (machine.cgroup pid) [ None ↦ false | Some from ↦ entry_is machine (common from to) Procs (writes user) ]
 -- 2. A mkdir where something is: own. 3. A mkdir where a limit above leaves no room: Core Interface Files, where cgroup.max.descendants
