@@ -608,7 +608,34 @@ static int keep_words(char **kept, char **words, int count)
     return count - 1;
 }
 
-/* case NUMBER | state | files NAME .. | watch NAME .. | others NAME .. | user UID GID .. | an operation | a line of building */
+/* Runs the program /refusals with the words behind its name, and tells its lines. */
+static void run_refusals(char **words)
+{
+    char line[LONGEST];
+    int ends[2];
+    pid_t pid;
+    FILE *said;
+
+    if (pipe2(ends, O_CLOEXEC) < 0 || (pid = fork()) < 0) {
+        fprintf(out, "! %d refusals\n", errno);
+        return;
+    }
+    if (pid == 0) {
+        dup2(ends[1], STDOUT_FILENO);
+        execv("/refusals", words);
+        _exit(127);
+    }
+    close(ends[1]);
+    said = fdopen(ends[0], "r");
+    while (said && fgets(line, sizeof line, said))
+        fprintf(out, "t %s", line);
+    if (said)
+        fclose(said);
+    waitpid(pid, NULL, 0);
+}
+
+/* case NUMBER | state | files NAME .. | watch NAME .. | others NAME .. | user UID GID .. | refusals [--opened] | an operation | a line of
+   building */
 static void take(char **words, int count)
 {
     int wrong;
@@ -628,6 +655,8 @@ static void take(char **words, int count)
         other_count = keep_words(others, words, count);
     } else if (strcmp(words[0], "user") == 0) {
         name_user(words, count);
+    } else if (strcmp(words[0], "refusals") == 0) {
+        run_refusals(words);
     } else if (!carry_out(words, count) && (wrong = do_word(building, words, count)) != 0) {
         fprintf(out, "! %d %s %s\n", wrong, words[0], count > 1 ? words[1] : "");
     }

@@ -55,9 +55,9 @@ class KernelTest(unittest.TestCase):
             said = mutants.answers_of(turn, case, answers) if turn else answers
             yield case, record, comparing.compare(case, said, record)
 
-    def test_init_is_compiled_without_a_warning(self):
+    def test_programs_of_the_machine_are_compiled_without_a_warning(self):
         with tempfile.TemporaryDirectory() as room:
-            self.assertEqual(machine.compile_init(os.path.join(room, "init")), "")
+            self.assertEqual([name for name, _, _ in machine.programs_in(room)], ["init", "refusals"])
 
     def test_classes_are_those_of_the_list(self):
         names = {*classes.RULES, *classes.VALUES, *classes.SHOWN, *classes.LEFT_OUT}

@@ -126,6 +126,11 @@ class Kernel:
         else:
             self.tell()
 
+    def refuse(self, _line, rest):
+        """Two cases, each refused unless it is opened."""
+        answer = "not ok" if rest == "--opened" else "ok"
+        self.said += [f"t {line}" for line in ("TAP version 13", "1..2", f"{answer} 1 move", "# why", f"{answer} 2 rmdir")]
+
     def tell(self, *_):
         now = {f"p {pid} {uid} {text_of(path)}" for pid, (uid, path) in self.state.live.items()}
         now |= {self.line_of(path, row) for path, row in self.state.cgroups.items()}
@@ -143,4 +148,4 @@ def line_of(path, entries, values, enabled, brought):
 
 TAKERS = {"case": Kernel.start, "watch": Kernel.watch, "mkdir": Kernel.build, "control": Kernel.build, "set": Kernel.build, "process": Kernel.process,
           "own": Kernel.own, "user": Kernel.name, "mend": Kernel.mend, "do": Kernel.operate, "try": Kernel.operate,
-          "state": Kernel.tell, "files": lambda *_: None, "others": lambda *_: None}
+          "state": Kernel.tell, "refusals": Kernel.refuse, "files": lambda *_: None, "others": lambda *_: None}

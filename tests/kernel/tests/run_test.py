@@ -45,12 +45,22 @@ class RunTest(unittest.TestCase):
             self.assertRegex(said.splitlines()[-1], r"^\d+ passed, 0 failed$")
             with open(results) as text:
                 report = text.read()
-            for part in ("## 6.1\n", "## 6.12\n", "- Operations: 7 cases", "- Contained: 2 cases", "- Settled, escapes: 2 lists",
+            for part in ("## 6.1\n", "## 6.12\n", "- Refusals: 2 of 2 cases are refused, and 2 are let through where ",
+                         "- Operations: 7 cases", "- Contained: 2 cases", "- Settled, escapes: 2 lists",
                          "- Settled, contained: 2 pairs", "- Controllers: cpuset, cpu, io, memory, hugetlb, pids, rdma, misc.",
                          "- Of format 4: operations ", "one controller 16", "- Further limit files: the kernel has 19 of the 43",
                          "- Further limit files, operations: 2 cases", "- Unexplained: 0."):
                 self.assertIn(part, report)
             self.assertTrue(all(name in report.replace("\n  ", " ") for name in tally.WRONG))
+
+    def test_refusals_alone(self):
+        with tempfile.TemporaryDirectory() as room:
+            status, said = self.run_with(room, "--only", "refusals")
+            self.assertEqual((status, said.splitlines()[-1]), (0, "8 passed, 0 failed"))
+            status, said = self.run_with(room, "--only", "refusals", kernel=lambda _kernel, script, _seconds, _wide: (
+                played.Kernel().run(script).replace("\nt ok 2 rmdir", "\nt not ok 2 rmdir"), ""))
+            self.assertEqual((status, said.splitlines()[-1]), (1, "6 passed, 2 failed"))
+            self.assertIn("kernel: FAILED: 6.1: refusals: not refused: rmdir", said)
 
     def test_a_wrong_program_that_is_not_found_fails(self):
         with tempfile.TemporaryDirectory() as room, unittest.mock.patch.object(tally, "WRONG", [*tally.WRONG, "is right"]):

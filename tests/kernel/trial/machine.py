@@ -7,7 +7,7 @@ import subprocess
 import tempfile
 
 HERE = os.path.dirname(os.path.abspath(__file__))
-INIT = os.path.join(HERE, "..", "init.c")
+SOURCES = {"init": os.path.join(HERE, "..", "init.c"), "refusals": os.path.join(HERE, "..", "refusals.c")}
 WARNINGS = ["-Wall", "-Wextra", "-Werror"]
 QEMU = "qemu-system-x86_64"
 NEEDED = {QEMU: "qemu-system-x86", "apt-cache": "apt", "dpkg-deb": "dpkg", "cc": "gcc"}
@@ -64,9 +64,21 @@ def kernel_of(version, kept):
     return found[0], package
 
 
-def compile_init(to):
-    """Compiles the init; what the compiler says, which is nothing where it is right."""
-    return ran("cc", "-static", "-O1", *WARNINGS, "-o", to, INIT).stderr
+def compiled(name, to):
+    """Compiles one of the programs; what the compiler says, which is nothing where it is right."""
+    return ran("cc", "-static", "-O1", *WARNINGS, "-o", to, SOURCES[name]).stderr
+
+
+def programs_in(room):
+    """The programs of the machine, compiled, for its archive."""
+    files = []
+    for name in SOURCES:
+        said = compiled(name, os.path.join(room, name))
+        if said:
+            raise Missing(f"no {name}: {said.splitlines()[0]}")
+        with open(os.path.join(room, name), "rb") as text:
+            files.append((name, 0o100755, text.read()))
+    return files
 
 
 def archive(files):
@@ -84,12 +96,7 @@ def archive(files):
 def run(kernel, script, seconds, wide=False):
     """What the init writes of a script in one boot, of the wide machine or the other one, and the console's text."""
     with tempfile.TemporaryDirectory() as room:
-        said = compile_init(os.path.join(room, "init"))
-        if said:
-            raise Missing(f"no init: {said.splitlines()[0]}")
-        with open(os.path.join(room, "init"), "rb") as text:
-            init = text.read()
-        files = [(name, 0o040755, b"") for name in FOLDERS] + [("init", 0o100755, init), ("cases", 0o100644, script.encode())]
+        files = [(name, 0o040755, b"") for name in FOLDERS] + programs_in(room) + [("cases", 0o100644, script.encode())]
         with open(os.path.join(room, "archive"), "wb") as out:
             out.write(archive(files))
         words = [QEMU, "-accel", "tcg", *(WIDE if wide else CPUS), "-m", "512", "-nodefaults", "-display", "none", "-no-reboot",

@@ -6,7 +6,8 @@ import os
 
 from second.controllers import ALL_CONTROLLERS
 from second.further import FURTHER_FILES
-from trial import asking, comparing, further, made, script, settled, shown, mutants
+import tap
+from trial import asking, comparing, further, made, refusals, script, settled, shown, mutants
 from trials.format_4 import FURTHER
 
 OF_OPERATIONS = {**mutants.MUTANTS, **mutants.OF_FORMAT_4}
@@ -18,7 +19,7 @@ class Tally:
     def __init__(self, kernel, program, folder):
         self.kernel, self.program, self.folder = kernel, program, folder
         self.counts, self.kinds, self.breaks = collections.Counter(), collections.Counter(), collections.defaultdict(collections.Counter)
-        self.failures, self.told, self.seconds, self.controllers, self.files = 0, {}, 0, (), ()
+        self.failures, self.told, self.seconds, self.controllers, self.files, self.runs = 0, {}, 0, (), (), []
         # by what came of a set of a further limit file in which an escape ends the texts of each file; "as it is" marks those of a file
         # of whose value the tree's text tells nothing, and so no device
         self.sets = collections.defaultdict(lambda: collections.defaultdict(set))
@@ -33,6 +34,14 @@ class Tally:
         self.counts[f"{case.kind} cases"] += 1
         self.counts[f"{case.kind} of format 4"] += case.state.form == 4
         self.takers[case.kind](case, name, record)
+
+    def take_refusals(self, runs):
+        """Takes the two runs of what a kernel was asked to refuse."""
+        self.runs, faults = runs, tap.faults_of(runs)
+        self.counts["refusals cases"] += max(sum(it.planned for it in runs), len(faults))
+        self.failures += len(faults)
+        for it in faults:
+            print(f"kernel: FAILED: {self.kernel}: refusals: {it}")
 
     def fail(self, case, name, what):
         os.makedirs(self.folder, exist_ok=True)
@@ -238,7 +247,7 @@ def lines_of(tally):
     found = [
         f"- Mutants of the program: {len(tally.told)} of {len(WRONG)} found" + (f"; not found: {', '.join(missed)}" if missed else "")
         + ". By the case of its kind: " + ", ".join(f"{name} {number}" for name, number in tally.told.items()) + "."]
-    return [f"## {tally.kernel}", "", f"- Controllers: {in_order(tally.controllers)}.",
+    return [f"## {tally.kernel}", "", f"- Controllers: {in_order(tally.controllers)}.", refusals.line_of(tally.runs),
             *(line for kind, line in kinds.items() if of[f"{kind} cases"]), *settled_lines(tally), *further_lines(tally),
             f"- Differences by kind: {listed(tally.kinds)}.", f"- Unexplained: {tally.failures}.",
             *(found if of["operations cases"] else []), *lines_of_files(tally), f"- Time: {tally.seconds:.0f} s.", ""]
