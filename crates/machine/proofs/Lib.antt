@@ -3,4 +3,4 @@ mod Acts
 mod Untouched
 mod Rooms
 mod Edges
-mod Runs
+pub mod Runs

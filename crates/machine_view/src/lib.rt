@@ -1,0 +1,29 @@
+//! A yes of the program is one over the machine that refuses as little as it takes: where no guard of the exact machine fails, the subtree
+//! is contained there too. The contract of each function is the law; none does anything.
+#![tactic(auto)]
+
+ghost use Rattle.std.specs.Prelude.{List};
+ghost use Rattle.cg_cgroup.specs.Paths.{Names};
+ghost use Rattle.cg_cgroup.specs.Identity.{Identity};
+ghost use Rattle.cg_model.specs.States.{State};
+ghost use Rattle.cg_model.specs.WellFormed.{IsWellFormed};
+ghost use Rattle.cg_model.specs.Guards.{GuardsHold, IsSubtree};
+ghost use Rattle.cg_model.specs.Strangers.{GuardsHoldForAll};
+ghost use Rattle.machine.specs.Machines.{IsContainedAgainst, IsPresent};
+ghost use Rattle.machine.specs.Several.{IsContainedAgainstAll, IsGuardedAgainstAll};
+ghost use Rattle.machine_view.specs.Views.{view};
+
+/// Where the guards of a subtree hold for a user, what its state is on that machine is contained against them.
+pub fn one_user()
+    ensures { (st : State) (user : Identity) (subtree : Names)
+        → IsWellFormed st → IsSubtree st subtree → GuardsHold st user subtree → IsContainedAgainst (view st) user subtree }
+{}
+
+/// Where they hold for each of some users, so do the guards of that machine, and it is contained against all of them together.
+pub fn several_users()
+    ensures guarded { (st : State) (users : List Identity) (subtree : Names)
+        → IsWellFormed st → IsSubtree st subtree → GuardsHoldForAll st users subtree
+        → IsPresent (view st) subtree × IsGuardedAgainstAll (view st) users subtree }
+    ensures held { (st : State) (users : List Identity) (subtree : Names)
+        → IsWellFormed st → IsSubtree st subtree → GuardsHoldForAll st users subtree → IsContainedAgainstAll (view st) users subtree }
+{}
