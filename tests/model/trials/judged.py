@@ -8,6 +8,8 @@ from trials import walks
 MOST_CGROUPS = 60
 MOST_TOPS = 4
 WALKS_BLIND = 6
+# what few subtrees show
+RARE = {"of a rmdir of what has a child": 40}
 GUARD = "guard"
 LEFT_OUT = [f"the machine, without its refusal {name}" for name in machine.REFUSALS]
 GUARDS_LEFT_OUT = [f"the machine, without its {GUARD} {name}" for name in machine.GUARDS]
@@ -62,9 +64,9 @@ def told_by(names, case, written):
         return []
     failed = {name for user in users for name in machine.guards_failed(start, user, top)}
     if is_contained(written):
-        made = {name: frozenset([refusal]) for name, refusal in zip(LEFT_OUT, machine.REFUSALS)}
+        made = {name: (frozenset([refusal]), RARE.get(refusal, WALKS_BLIND)) for name, refusal in zip(LEFT_OUT, machine.REFUSALS)}
     else:
         # without the one guard that fails this pair would be called contained
-        made = {name: frozenset([GUARD]) for name, guard in zip(GUARDS_LEFT_OUT, machine.GUARDS) if failed == {guard}}
-    return [name for name, left_out in made.items() if name in names
-            and any(walks.fault_of(rng, walks.Walk(start, top, users, left_out=left_out)) for _ in range(WALKS_BLIND))]
+        made = {name: (frozenset([GUARD]), WALKS_BLIND) for name, guard in zip(GUARDS_LEFT_OUT, machine.GUARDS) if failed == {guard}}
+    return [name for name, (left_out, count) in made.items() if name in names
+            and any(walks.fault_of(rng, walks.Walk(start, top, users, left_out=left_out)) for _ in range(count))]
