@@ -71,7 +71,7 @@ class TextTest(unittest.TestCase):
         self.assertEqual(manual.section("## B\n\n```\n# no heading\n```\n\n## D", "B"), "## B\n\n```\n# no heading\n```\n")
 
     def test_changes_as_debian_writes_them(self):
-        told = changes.debian("# Changes\n\n## 0.2.0, 2026-11-25\n\n- One\n  thing.\n\n## 0.1.0, 2026-11-20\n\n- Other.\n", "They <they@it>",
+        told = changes.debian("# Changes\n\n## Unreleased\n\n- Later.\n\n## 0.2.0, 2026-11-25\n\n- One\n  thing.\n\n## 0.1.0, 2026-11-20\n\n- Other.\n", "They <they@it>",
                               "it", "1")
         self.assertEqual(told.splitlines()[:5], ["it (0.2.0-1) unstable; urgency=medium", "", "  * One thing.", "",
                                                  " -- They <they@it>  Wed, 25 Nov 2026 12:00:00 +0000"])

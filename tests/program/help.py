@@ -138,6 +138,9 @@ def arguments():
     yield Row(["check", "--uid", "0", "--subtree", "/c0"], "uid", ["root"])
     yield Row(["settle", "--uid", "0", "--subtree", "/c0"], "uid", ["root"])
     yield Row([*CHECK, *["--gid", "5"] * 33], "gid", ["32"])
+    for word in ("-0", "-00", "+5"):
+        for call in (CHECK, MAY, REPLAY):
+            yield Row([*call, f"--gid={word}"], "usage", ["decimal digits, with no sign", "`id -G NAME`"])
     yield Row(["may", "--uid", "1000", "--pid", "0", "--to", "/c0"], "pid", ["1 to 4194303"])
     yield Row(["may", "--uid", "1000", "--pid", "4194304", "--to", "/c0"], "pid", ["1 to 4194303"])
     yield Row(subtree("c0"), "path", ["c0", "begins with /"])
@@ -221,9 +224,9 @@ def trees():
     yield row('"memory.max" =', "memory.max =", "shape cgroup 2", "memory: a name with dots is quoted, as \"memory.max\"")
     yield row("[[process]]", "[[proces]]", "shape top", "proces: write process; left out, the tree has no such process")
     yield at("att", "at = '/c0'", "att = '/c0'", "shape process 1", "there is no key att: write at")
-    yield row("path = '/c0'", "path = '/c0'\nuid = 1000", "shape cgroup 2", "uid: left out, what it says counts in no answer; there are path")
+    yield row("path = '/c0'", "path = '/c0'\nuid = 1000", "shape cgroup 2", "there is no key uid here: it belongs to the directory or to a file")
     yield row("dir = { uid = 1000,", "dir = { uid = '1000',", "shape cgroup 2", "/c0", "uid")
-    yield row('"cpu", "memory", "pids"', '"cpu", "io"', "bad-controller top", "'io' of controllers isn't cpu, memory or pids: left out, its limits count in no answer; format = 4 has it")
+    yield row('"cpu", "memory", "pids"', '"cpu", "io"', "bad-controller top", "write format = 4, which has 'io': in this format controllers has cpu, memory and pids alone; left out")
     yield at("path = 'c0'", "path = '/c0'", "path = 'c0'", "bad-path cgroup 2", "row 2", "c0")
     yield row('enabled = ["memory"]', 'enabled = ["cpuset"]', "bad-controller cgroup 1", "cpuset")
     yield row("mode = 0o644", "mode = 644", "bad-entry cgroup 2", "/c0", "cgroup.procs: mode 644 is decimal: write 0o644")
@@ -384,6 +387,51 @@ def terminals():
     yield Row(["chek"], "usage", ["check"], terminal="")
 
 
+def slips():
+    """What people write who know TOML, or cgroups, a little."""
+    def row(old, new, line, *helps):
+        return Row(CHECK, f"tree {line}", helps, edited(old, new))
+
+    memory = '"memory.max" = { value = 4096 }'
+    yield row(LIMIT, f"{memory}, dir = {{ uid = 5 }}", "shape cgroup 2", "there is no key dir here: it belongs to the row")
+    yield row(LIMIT, f"{memory}, value = 5", "shape cgroup 2", "belongs to one file")
+    yield row("path = '/c0'", "path = '/c0'\n'memory.max' = { value = 5 }", "shape cgroup 2", "belongs to files")
+    yield row("path = '/c0'", "path = '/c0'\nformat = 2", "shape cgroup 2", "belongs to the top table: write it above the first [[cgroup]]")
+    top = 'format = 2\ncontrollers = ["cpu", "memory", "pids"]\n'
+    below = TREE.replace("format = 2\n", "").replace("path = '/'", "path = '/'\nformat = 2")
+    yield Row(CHECK, "tree shape top", ["format is missing: it stands in a row", "above the first [[cgroup]]"], below)
+    yield Row(CHECK, "tree shape top", ["belongs to a row: write it below [[cgroup]]"], f"{top}path = '/'\n")
+    yield Row(CHECK, "tree shape top", ["write [[cgroup]] above each row"], f"{top}[cgroup]\npath = '/'\n")
+    yield Row(CHECK, "tree shape top", ["write cgroup"], f"{top}[[cgroups]]\npath = '/'\n")
+    yield row("path = '/c0'", "path = '/sys/fs/cgroup/c0'", "no-parent cgroup 2", "paths are below /sys/fs/cgroup, and don't name it")
+    yield row("mode = 0o644", "mode = '0644'", "shape cgroup 2", "write 0o644, without quotes")
+    yield row("dir = { uid = 1000,", "dir = { uid = 'alice',", "shape cgroup 2", "`id -u alice` prints it")
+    yield row("dir = { uid = 1000,", "dir = { uid = '1000',", "shape cgroup 2", "write 1000, without quotes")
+    yield row("dir = { uid = 1000, gid = 1000 }", "dir = { uid = 1000, gid = 'team' }", "shape cgroup 2", "`getent group team` prints it")
+    yield row("dir = { uid = 1000,", "dir = { uid = '$(id)',", "shape cgroup 2", "has to be an integer")
+    for size, number in (("2G", 2147483648), ("64K", 65536), ("1M", 1048576), ("3TiB", 3298534883328)):
+        yield row("value = 4096", f"value = '{size}'", "bad-value cgroup 2", f"write {number}; it takes")
+        yield row("value = 4096", f"value = {size}", "not-toml", f"a number has no unit: write {number}")
+    yield row("value = 4096", "value = '99999999999999T'", "bad-value cgroup 2", 'write 0 to 9223372036854775807 or "max"')
+    yield row("format = 2", "format = 1", "shape cgroup 2", "there is no key gid: write format = 2")
+    yield Row(CHECK, "tree not-toml", ["this is a report of zirofen-host"], '{"version": 1, "program": "zirofen 0.2.0", "subtrees": []}\n')
+    yield Row(CHECK, "tree not-toml", ["this is JSON"], '{\n  "cgroup": []\n}\n')
+    yield Row(CHECK, "tree not-toml", ["this looks like YAML"], "format: 2\ncontrollers:\n  - cpu\n")
+    yield Row(CHECK, "tree not-toml", ["this looks like YAML"], "---\nformat: 2\n")
+    yield Row(CHECK, "tree not-toml", ["this is an answer of zirofen"], "escapes\nset /c0 memory.max max\n")
+
+
+def pairs():
+    words = ["advise", "--pairs", "-", "--tree", "TREE"]
+    form = "pair UID PATH, or pair UID:GID,GID.. PATH"
+    for line in ("pairs 1000 /c0", "PAIR 1000 /c0", " pair 1000 /c0", "1000 /c0", "# by hand", "format = 2", "pair 1000: /c0"):
+        yield Row(words, "line 1 bad-word", [f"'{line}'", form], input=f"{line}\n")
+    yield Row(words, "line 2 bad-word", ["'pair\\x091000 /c0'", form], input="pair 1000 /c0\npair\t1000 /c0\n")
+    yield Row(words, "line 1 bad-word", ["\\xef\\xbb\\xbfpair", form], input="\ufeffpair 1000 /c0\n")
+    for given in ("", "escapes\nset /c0 memory.max max\n", "contained\ncontained\n"):
+        yield Row(words, "no-pair", ["no line names a pair", form], input=given)
+
+
 def operations():
     def row(ops, line, *helps):
         return Row(REPLAY, line, helps, TREE, ops)
@@ -429,7 +477,7 @@ def operations_of_format_4():
 
 
 def rows(_):
-    yield from (*command_lines(), *arguments(), *trees(), *strangers(), *modes(), *terminals(), *operations())
+    yield from (*command_lines(), *arguments(), *trees(), *strangers(), *modes(), *terminals(), *slips(), *pairs(), *operations())
 
 
 if __name__ == "__main__":

@@ -15,16 +15,9 @@ from case import DELEGATION, Ended, run
 
 CHECK = ["check", "--uid", "1000", "--subtree", "/c0"]
 REPLAY = ["replay", "--uid", "1000", "--ops"]
-# each word as it is where a number is asked: of a uid and a gid, of a pid, and of a uid of `audit`
-NUMBERS = [
-    ("1000", "1000", "11", "1000"),
-    ("a plus", "+1000", "+11", None),
-    ("zeros before it", "0001000", "0011", "0001000"),
-    ("a plus and zeros", "+01000", "+011", None),
-    ("the greatest number", "4294967295", "4294967295", "4294967295"),
-    ("many zeros", "0" * 300 + "7", "0" * 300 + "11", "0" * 300 + "7"),
-]
-NO_NUMBERS = ["", " ", "x", "4294967296", "+4294967296", "18446744073709551616", "-0", "-1", "--1", "++1", "+", "1.0", "1e3", "0x10", "0b1",
+# each word as it is where a number is asked: of a uid and a gid, and of a pid
+NUMBERS = [("1000", "11"), ("0001000", "0011"), ("4294967295", "4294967295"), ("0" * 300 + "7", "0" * 300 + "11")]
+NO_NUMBERS = ["", " ", "+0", "+5", "+1000", "+01000", "-00", "x", "4294967296", "+4294967296", "18446744073709551616", "-0", "-1", "--1", "++1", "+", "1.0", "1e3", "0x10", "0b1",
               "0o7", "1_000", " 1", "1 ", "1\n", "1,000", "\u0661", "\uff11", "1\u00a0"]
 LISTED = ["1000:5", "1000:5,6", "1000:005,0", "1000:" + ",".join(["5"] * 32)]
 NOT_LISTED = ["1000:", "1000:,", "1000:5,", "1000:,5", ":5", ":", "1000:5:6", "1000: 5", "1000:+5", "+1000:5", "1000:-0", "1000:4294967296",
@@ -49,7 +42,7 @@ class Spelled:
     def failure(self, program):
         ended = call(program, self.words, read(DELEGATION))
         usage = ended.status == 3 and ended.fault == "fault: usage"
-        other = ended.status < 3 or ended.fault.startswith("fault: pid")
+        other = ended.status < 3 or ended.fault in ("fault: pid", "fault: no-pair", "fault: line 1 bad-word")
         return "" if (usage if self.is_usage else other) else f"status {ended.status}; it wrote: {ended.fault}"
 
 
@@ -78,16 +71,33 @@ def read(path):
 
 
 def rows():
+    """Each command line with whether it is usage: the words of numbers behind a blank, and behind an equals sign."""
+    for words, is_usage in spelled():
+        yield words, is_usage
+        joined = with_equals(words)
+        if joined != words:
+            yield joined, is_usage
+
+
+def with_equals(words):
+    """The words of a call in which each number stands behind an equals sign."""
+    found, rest = [], iter(words)
+    for word in rest:
+        found.append(b"=".join((os.fsencode(word), os.fsencode(next(rest)))) if word in ("--uid", "--gid", "--pid") else word)
+    return found
+
+
+def spelled():
     """Each command line with whether it is usage."""
-    for what, number, pid, listed in NUMBERS:
+    for number, pid in NUMBERS:
         yield ["may", "--uid", number, "--pid", "11", "--to", "/c0"], False
         yield ["may", "--uid", "1000", "--gid", number, "--pid", pid, "--to", "/c0"], False
         yield ["check", "--uid", number, "--gid", number, "--subtree", "/c0"], False
         yield ["settle", "--uid", number, "--gid", number, "--subtree", "/c0"], False
         yield ["advise", "--uid", number, "--gid", number, "--subtree", "/c0"], False
         yield ["replay", "--uid", number, "--ops", os.devnull], False
-        yield ["audit", "--uid", listed or number, "--subtree", "/c0"], listed is None
-        yield ["explain", "--uid", listed or number, "--subtree", "/c0"], listed is None
+        yield ["audit", "--uid", number, "--subtree", "/c0"], False
+        yield ["explain", "--uid", number, "--subtree", "/c0"], False
     for word in NO_NUMBERS:
         yield ["may", "--uid", word, "--pid", "11", "--to", "/c0"], True
         yield ["may", "--uid", "1000", "--gid", word, "--pid", "11", "--to", "/c0"], True
@@ -96,6 +106,10 @@ def rows():
         yield ["settle", "--uid", word, "--subtree", "/c0"], True
         yield ["advise", "--uid", word, "--subtree", "/c0"], True
         yield ["replay", "--uid", word, "--ops", os.devnull], True
+        yield ["check", "--uid", "1000", "--gid", word, "--subtree", "/c0"], True
+        yield ["settle", "--uid", "1000", "--gid", word, "--subtree", "/c0"], True
+        yield ["advise", "--uid", "1000", "--gid", word, "--subtree", "/c0"], True
+        yield ["replay", "--uid", "1000", "--gid", word, "--ops", os.devnull], True
         yield ["audit", "--uid", word, "--subtree", "/c0"], True
         yield ["explain", "--uid", word, "--subtree", "/c0"], True
     for word in LISTED:
@@ -150,7 +164,7 @@ def dashes():
                                  ([*REPLAY, "ops", "--tree", "-"], tree, b"ok\n"), ([*REPLAY, "-", "--tree", "tree"], b"", b""),
                                  ([*advise, "-", "--tree", "tree"], pairs, b"contained\n"),
                                  ([*advise, "pairs"], tree, b"contained\n"), ([*advise, "pairs", "--tree", "-"], tree, b"contained\n"),
-                                 ([*advise, "-", "--tree=./-"], b"", b"contained\n")):
+                                 ([*advise, "-", "--tree=./-"], b"contained\n", b"contained\n")):
         yield Answered(words, given, output, files=files)
 
 

@@ -7,10 +7,14 @@ HEAD = re.compile(r"## (\S+), (\d+-\d+-\d+)")
 
 
 def debian(text, maintainer, name, revision):
-    """An entry of a package for each version, the newest first, as the text has them; the newest has a revision of the package."""
+    """An entry of a package for each version, the newest first, as the text has them; the newest has a revision of the package. What
+    isn't released yet has none."""
     out = []
     for part in re.split(r"^(?=## )", text, flags=re.M)[1:]:
-        version, day = HEAD.match(part).groups()
+        head = HEAD.match(part)
+        if head is None:
+            continue
+        version, day = head.groups()
         moment = datetime.datetime.fromisoformat(f"{day} 12:00:00+00:00")
         items = re.findall(r"^- (.*(?:\n  .*)*)", part, re.M)
         told = [textwrap.fill(" ".join(it.split()), 78, initial_indent="  * ", subsequent_indent="    ") for it in items]

@@ -2,12 +2,12 @@
 use Rattle.std.proofs.Common.{◌≡◌, ◌∙◌, ℕ, List, [], ap, ap₂, sym, refl}
 use Rattle.std.specs.Prelude.{Option, Some, None, codes, option_and_then}
 use Rattle.std.specs.Option.{option_map, option_map_or}
-use Rattle.clap.specs.Matches.{matched_of, first_value, one_text, raw_values, typed_values}
-use Rattle.clap.specs.Walk.{rows_of, first_of, one_of, all_of, many_of}
+use Rattle.clap.specs.Matches.{matched_of, first_value, one_text, raw_values}
+use Rattle.clap.specs.Walk.{rows_of, first_of, one_of, all_of}
 use Rattle.clap.specs.declared.parser.matches.Found.{Found}
-use Rattle.clap.proofs.WalkLemmas.{first_value-rows, one_text-rows, raw_values-rows, typed_values-rows}
-use Rattle.arguments.specs.UserWords.{all_read, user_at}
-use Rattle.arguments.specs.Given.{number_read, words_at, file_named, file_at, number_at, numbers_at, user_given, users_given, users_beside, advised_given, Holds}
+use Rattle.clap.proofs.WalkLemmas.{first_value-rows, one_text-rows, raw_values-rows}
+use Rattle.arguments.specs.UserWords.{id_at, ids_at, all_read, user_at}
+use Rattle.arguments.specs.Given.{words_at, file_named, file_at, number_at, numbers_at, user_given, users_given, users_beside, advised_given, Holds}
 use Rattle.arguments.specs.declared.request.Request.{Request}
 use Rattle.arguments.specs.declared.request.Request.TheVariants as request
 
@@ -31,17 +31,13 @@ module _ (f g : Found) (same : rows_of f ≡ rows_of g) where
       ∙ sym (or_mapped raw_values (λ (all : List (List ℕ)). all) [] (matched_of g id))
 
   numbers_same : (id : List ℕ) → numbers_at f id ≡ numbers_at g id
-  numbers_same id =
-      or_mapped typed_values (all_read number_read) (Some []) (matched_of f id)
-      ∙ ap (λ (all : Option (List (List ℕ))). option_map_or (all_read number_read) all (Some []))
-      (typed_values-rows f id ∙ ap (many_of id) same ∙ sym (typed_values-rows g id))
-      ∙ sym (or_mapped typed_values (all_read number_read) (Some []) (matched_of g id))
+  numbers_same id = ap ids_at (words_same id)
 
   file_same : (id : List ℕ) → file_at f id ≡ file_at g id
   file_same id = ap (λ (word : Option (List ℕ)). option_and_then file_named word) (first_same id)
 
   number_same : (id : List ℕ) → number_at f id ≡ number_at g id
-  number_same id = ap (λ (word : Option (List ℕ)). option_and_then number_read word) (text_same id)
+  number_same id = ap (λ (word : Option (List ℕ)). option_and_then id_at word) (first_same id)
 
   user_same : user_given f ≡ user_given g
   user_same = ap₂ (λ (gids : Option (List ℕ)) (number : Option ℕ). option_and_then (λ uid. option_map (λ all. (uid, all)) gids) number)

@@ -2,12 +2,11 @@
 use Rattle.std.specs.Prelude.{◌≡◌, ◌≢◌, ℕ, Bool, true, false, List, [], ◌∷◌, map, codes, cond, nat_eq, Option, Some, None, option_and_then}
 use Rattle.std.specs.Cmp.Lexicographic.{pointwise}
 use Rattle.std.specs.Option.{option_map, option_map_or}
-use Rattle.std.specs.Str.Parse.{without_leading_plus}
-use Rattle.clap.specs.Matches.{matched_of, first_value, one_text, raw_values, typed_values, subcommand_name_of}
+use Rattle.clap.specs.Matches.{matched_of, first_value, one_text, raw_values, subcommand_name_of}
 use Rattle.clap.specs.Words.{rows_of, subcommand_rows_of}
 use Rattle.clap.specs.declared.parser.matches.ArgMatches.{ArgMatches}
 use Rattle.clap.specs.declared.parser.matches.Found.{Found}
-use Rattle.arguments.specs.UserWords.{id_at, all_read, user_at}
+use Rattle.arguments.specs.UserWords.{id_at, ids_at, all_read, user_at}
 use Rattle.arguments.specs.declared.named_pair.NamedPair.{NamedPair}
 use Rattle.arguments.specs.declared.named_user.NamedUser.{NamedUser}
 use Rattle.arguments.specs.declared.request.May.{May}
@@ -22,10 +21,6 @@ use Rattle.arguments.specs.declared.request.Replay.{Replay}
 use Rattle.arguments.specs.declared.request.Upgrade.{Upgrade}
 use Rattle.arguments.specs.declared.request.Request.{Request}
 use Rattle.arguments.specs.declared.request.Request.TheVariants as request
-
--- A number as `clap` reads it: an id, before which a plus sign may stand.
-abbrev pub number_read : List ℕ → Option ℕ
-number_read word = id_at (without_leading_plus word)
 
 -- what an option has to say each time that it is given
 abbrev pub words_at : Found → List ℕ → List (List ℕ)
@@ -54,11 +49,12 @@ other_file (Files tree other) = Some other.now
 other_file (TreeGiven other) = Some other.now
 other_file (OtherGiven tree) = None
 
+-- Every number of the command line is read as an id is: by its digits, without a sign.
 abbrev pub number_at : Found → List ℕ → Option ℕ
-number_at found name = option_and_then number_read (one_text found name)
+number_at found name = option_and_then id_at (first_value found name)
 
 abbrev pub numbers_at : Found → List ℕ → Option (List ℕ)
-numbers_at found name = option_map_or (λ matched. all_read number_read (typed_values matched)) (matched_of found name) (Some [])
+numbers_at found name = ids_at (words_at found name)
 
 -- the user of one `--uid`, and of any number of `--gid` in their order
 abbrev pub user_given : Found → Option (ℕ × List ℕ)
@@ -72,7 +68,7 @@ users_given found = all_read user_at (words_at found (codes "uid"))
 -- the one plain number that an option was given, where that is all
 abbrev pub plain_number : List (List ℕ) → Option ℕ
 plain_number [] = None
-plain_number (word ∷ []) = number_read word
+plain_number (word ∷ []) = id_at word
 plain_number (word ∷ other ∷ words) = None
 
 -- the users of some `--uid`, with these groups: of one plain number they are the groups; else there are none beside the words

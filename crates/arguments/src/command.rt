@@ -29,7 +29,8 @@ const CHECK: &str =
 
 const CHECK_HELP: &str = "\
 Status: 0 contained, 1 escapes, 2 unsettled, 3 a fault
-`contained` means that the subtree is held whatever the user does, where nobody else acts. `escapes` has below it operations
+`contained` means that the subtree is held whatever the user does, where nobody else acts, each process runs with all its
+threads in the one cgroup that the text gives, and nobody holds an entry open from before. `escapes` has below it operations
 of the user, one a line, that break it in turn; none where it is broken as it stands. `unsettled` names the first guard that
 fails and where it stands: nothing is shown, and none of the tries breaks anything.
 `fault: usage` means that the command line isn't as it says above.
@@ -46,8 +47,9 @@ const SETTLE: &str =
 const SETTLE_HELP: &str = "\
 Status: 0 contained, 1 escapes, 2 unsettled, 3 a fault
 What check says, to the byte, where that is `contained` or `escapes`. Where it is `unsettled`, `contained` means the same, by
-a second row of guards, whatever others do to their processes meanwhile; `escapes` has below it operations of the user, one a
-line, that were planned, carried out in the tree, and break the subtree by the last; and else `unsettled` says what check does.
+a second row of guards: where others only move, fork and end processes meanwhile, the user isn't the first to break it. `escapes`
+has below it operations of the user, one a line, that were planned, carried out in the tree, and break the subtree by the last;
+and else `unsettled` says what check does.
 `fault: usage` means that the command line isn't as it says above.
 zirofen-tree(5) and zirofen(1), or docs/FORMATS.md, have the tree's format, and every line that is written.
 
@@ -126,7 +128,8 @@ them in has a line `fails` with the guard, where it stands, its owner, its mode 
 `others`, a line for each. Below stand the changes that mend it for all of them, and at the end those of limits. With all of
 them made every subtree is contained against every user; ask again after changes that were asked apart.
 With --pairs each subtree is asked about the users alone who are named with it: a line `pair UID PATH` or `pair UID:GID,GID.. PATH`
-of each pair, among others that are passed over, and none of --uid, --gid and --subtree beside it.
+of each pair, one at least, among the other lines that audit writes with --all; and none of --uid, --gid and --subtree beside it.
+Where audit has no pair to list its text is the one line `contained`, and so is the answer to that.
 With --settle, which isn't for pairs, it says `contained` too where the second row of guards holds of each subtree against all
 users together: then a guard fails, and nothing has to be changed; see settle --help.
 Don't follow it where a user is meant to have what is named, since it was handed to them: then the question was the wrong one.

@@ -68,7 +68,7 @@ fn cut_at_comma(words: &str) -> Option<(&str, &str)>
 }
 
 /// The number that a word of decimal digits writes, leading zeros allowed, and no sign.
-fn id_of(word: &str) -> Result<u32, ArgumentsFault>
+pub(crate) fn id_of(word: &str) -> Result<u32, ArgumentsFault>
     ensures { result ≡ ok_or (id_at word.now) ArgumentsFault.Usage }
 {
     if word.starts_with('+') {

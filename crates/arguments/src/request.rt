@@ -1,19 +1,18 @@
 //! What the command line asks for.
 ghost use Rattle.std.specs.Prelude.{◌≡◌, ◌≢◌, ◌⊎◌, [], Some, None, IfOk, IfErr, MatchBool, MatchResult, codes, map, ok_or, string_bytes};
 ghost use Rattle.std.specs.Option.{option_map};
-ghost use Rattle.clap.specs.Matches.{found_of, first_value, values_left};
-ghost use Rattle.arguments.specs.UserWords.{all_read, user_at};
-ghost use Rattle.arguments.specs.Given.{number_read, words_at, file_named, file_at, NamesNoFile, number_at, numbers_at, user_given, users_given, plain_number, users_beside, advised_given, ids_of, IsMay, IsCheck, IsAudit, IsExplain, IsAdvise, IsAdvisePairs, tree_file, other_file, IsReplay, IsUpgrade, command_of, Holds, IsOf};
+ghost use Rattle.clap.specs.Matches.{found_of, first_value};
+ghost use Rattle.arguments.specs.UserWords.{id_at, ids_at, all_read, user_at};
+ghost use Rattle.arguments.specs.Given.{words_at, file_named, file_at, NamesNoFile, number_at, numbers_at, user_given, users_given, plain_number, users_beside, advised_given, ids_of, IsMay, IsCheck, IsAudit, IsExplain, IsAdvise, IsAdvisePairs, tree_file, other_file, IsReplay, IsUpgrade, command_of, Holds, IsOf};
 ghost use Rattle.arguments.specs.Words.{Makes, IsNone};
 ghost use Rattle.arguments.specs.declared.request.AdvisePairs.{AdvisePairs};
 ghost use Rattle.arguments.specs.declared.request.Request.{Request};
 
 use crate::command::command;
 use crate::fault::ArgumentsFault;
-use crate::named_user::NamedUser;
+use crate::named_user::{NamedUser, id_of};
 use clap::ArgMatches;
 use clap::error::ErrorKind;
-use clap::parser::ValuesRef;
 use std::alloc::Global;
 
 /// What the words of a command line ask for.
@@ -408,23 +407,13 @@ fn users_beside(
     Ok(users)
 }
 
-/// The plain number of words, where they are one word, before which a plus sign may stand.
+/// The plain number of words, where they are one word.
 fn plain_number(words: &[&str]) -> Option<u32>
     ensures { result ≡ plain_number (map (λ word. word.now) words.now) }
 {
     match words {
-        [word] => number_of(word),
+        [word] => id_of(word).ok(),
         _ => None,
-    }
-}
-
-/// The number of a word.
-fn number_of(word: &str) -> Option<u32>
-    ensures { result ≡ number_read word.now }
-{
-    match word.parse() {
-        Ok(number) => Some(number),
-        Err(_) => None,
     }
 }
 
@@ -461,7 +450,7 @@ fn is_given(matches: &ArgMatches<'_>, name: &str) -> bool
 fn number(matches: &ArgMatches<'_>, name: &str) -> Result<u32, ArgumentsFault>
     ensures { result ≡ ok_or (number_at (found_of matches.now) name.now) ArgumentsFault.Usage }
 {
-    matches.get_one(name).ok_or(ArgumentsFault::Usage)
+    id_of(matches.get_str(name).ok_or(ArgumentsFault::Usage)?)
 }
 
 /// All numbers that an option was given, in their order.
@@ -470,24 +459,21 @@ fn numbers(alloc: Global, matches: &ArgMatches<'_>, name: &str) -> Result<Vec<u3
         (λ numbers. numbers_at (found_of matches.now) name.now ≡ Some numbers.items)
         (λ fault. fault ≢ ArgumentsFault.NoMemory → numbers_at (found_of matches.now) name.now ≡ None) }
 {
-    match matches.get_many::<u32>(name) {
+    match matches.get_strs(name) {
         None => Ok(Vec::new(alloc)),
-        Some(values) => all_of(alloc, values),
+        Some(words) => all_of(alloc, words),
     }
 }
 
-/// All numbers that are left, where each is one.
-fn all_of(alloc: Global, values: ValuesRef<'_, '_, u32>) -> Result<Vec<u32>, ArgumentsFault>
+/// The numbers of words, where each is one.
+fn all_of(alloc: Global, words: &[&str]) -> Result<Vec<u32>, ArgumentsFault>
     ensures { MatchResult result
-        (λ numbers. all_read number_read (values_left values.entry) ≡ Some numbers.items)
-        (λ fault. fault ≢ ArgumentsFault.NoMemory → all_read number_read (values_left values.entry) ≡ None) }
+        (λ numbers. ids_at (map (λ word. word.now) words.now) ≡ Some numbers.items)
+        (λ fault. fault ≢ ArgumentsFault.NoMemory → ids_at (map (λ word. word.now) words.now) ≡ None) }
 {
     let mut numbers = Vec::new(alloc);
-    for value in values {
-        match value {
-            Ok(value) => numbers.push(value)?,
-            Err(_) => return Err(ArgumentsFault::Usage),
-        }
+    for word in words {
+        numbers.push(id_of(word)?)?;
     }
     Ok(numbers)
 }

@@ -17,6 +17,10 @@ const ADVISED: &str =
 of these and the tree one at most comes from standard input; a user is UID or UID:GID,GID.. in decimal digits,
 with no spaces, and --gid stands beside one plain --uid alone";
 
+const SIGNED: &str =
+    "a uid, a gid and a PID are written in decimal digits, with no sign and no spaces:
+`id -u NAME` prints a user's uid, `id -G NAME` the gids";
+
 /// An option that takes a number, as clap names it, and what is to be written.
 const NUMBERS: [(&str, &str); 3] = [
     (
@@ -45,11 +49,24 @@ pub fn usage_text<'a>(alloc: Global, words: &'a [String]) -> Result<Option<Strin
 
 /// What is wrong with words that clap takes.
 fn beside_clap(matches: &ArgMatches<'_>) -> &'static str {
-    match matches.subcommand_name() {
-        Some("replay") => ONE_INPUT,
-        Some("advise") => ADVISED,
-        _ => USERS,
+    match matches.subcommand() {
+        Some(("replay", given)) if !has_sign(given) => ONE_INPUT,
+        Some(("advise", _)) => ADVISED,
+        Some(("audit" | "explain", _)) => USERS,
+        _ => SIGNED,
     }
+}
+
+/// Whether a number stands behind a sign, which clap takes.
+fn has_sign(given: &ArgMatches<'_>) -> bool {
+    for name in ["uid", "gid"] {
+        if let Some(words) = given.get_strs(name) {
+            if words.iter().any(|word| word.starts_with(&['+', '-'])) {
+                return true;
+            }
+        }
+    }
+    false
 }
 
 fn error_text(alloc: Global, error: Error, words: &[String]) -> Result<Option<String>, AllocError> {

@@ -11,7 +11,7 @@ use Rattle.cg_lines.specs.declared.lines.fault.LineFault.TheVariants as lines
 use Rattle.cg_model.specs.declared.fault.CheckFault.{CheckFault}
 use Rattle.cg_model.specs.declared.fault.CheckFault.TheVariants as check
 use Rattle.cg_faults.specs.declared.fault.CliFault.{CliFault}
-use Rattle.cg_faults.specs.declared.fault.CliFault.TheVariants.{Uid, Gids, Pid, BadPath, Tree, Subtree, Line, TooManySteps, Read, Write, NoMemory}
+use Rattle.cg_faults.specs.declared.fault.CliFault.TheVariants.{Uid, Gids, Pid, BadPath, Tree, Subtree, Line, TooManySteps, NoPair, Read, Write, NoMemory}
 
 -- the words of a tree's fault, and its place
 abbrev pub tree_fault_parts : TreeFault → List ℕ × Option Place
@@ -74,6 +74,7 @@ fault_line (Tree fault) = tree_fault_line fault
 fault_line (Subtree fault) = plain_line (subtree_words fault)
 fault_line (Line number fault) = operation_fault_line number fault
 fault_line TooManySteps = plain_line (codes "too-many-steps")
+fault_line NoPair = plain_line (codes "no-pair")
 fault_line Read = plain_line (codes "read")
 fault_line Write = plain_line (codes "write")
 fault_line NoMemory = plain_line (codes "memory")

@@ -36,6 +36,8 @@ pub enum CliFault {
     Line { number: u32, fault: LineFault },
     #[error("there are more than 65536 operations")]
     TooManySteps,
+    #[error("a text of pairs names none")]
+    NoPair,
     #[error("the input can't be read")]
     Read,
     #[error("the report can't be written")]
@@ -154,6 +156,7 @@ fn fault_line(alloc: Global, fault: &CliFault) -> Result<String, AllocError>
         CliFault::Subtree(inner) => plain_line(alloc, subtree_words(*inner)),
         CliFault::Line { number, fault } => operation_fault_line(alloc, *number, *fault),
         CliFault::TooManySteps => plain_line(alloc, "too-many-steps"),
+        CliFault::NoPair => plain_line(alloc, "no-pair"),
         CliFault::Read => plain_line(alloc, "read"),
         CliFault::Write => plain_line(alloc, "write"),
         CliFault::NoMemory => plain_line(alloc, "memory"),

@@ -19,6 +19,10 @@ use std::alloc::{AllocError, Global};
 use streams::files::Files;
 use text_places::shown::{indented, quoted};
 
+const NO_PAIR: &str =
+    "no line names a pair, and the text isn't what audit writes where it has none to list, the one line contained:
+what is read are the lines of audit --all, or pair UID PATH, or pair UID:GID,GID.. PATH, a line each";
+
 /// What was seen of the words, of standard input and of the operations.
 #[derive(Clone, Copy)]
 pub struct Seen<'w, 'i, 'l> {
@@ -140,6 +144,7 @@ fn fault_said<F: Files>(
             None => Ok(None),
         },
         CliFault::TooManySteps => plainly(alloc, "a replay takes at most 65536 operations"),
+        CliFault::NoPair => plainly(alloc, NO_PAIR),
         _ => Ok(None),
     }
 }

@@ -12,7 +12,9 @@ const OPERATIONS: [&str; 8] = [
 ];
 
 /// What a line of pairs looks like.
-const PAIR: &str = "pair UID PATH, or pair UID:GID,GID.. PATH";
+const PAIR: &str =
+    "a line of audit --all is contained, escapes, unsettled GUARD PATH, an operation's, or of a pair:
+pair UID PATH, or pair UID:GID,GID.. PATH";
 
 /// What is wrong with a line: its form, and of an operation's each word that is no name. The tree has this vocabulary.
 pub(crate) fn line_said(

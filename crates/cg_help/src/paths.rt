@@ -9,7 +9,7 @@ const LONGEST_PATH: usize = 4095;
 const LONGEST_NAME: usize = 255;
 
 /// Where a host has its cgroups.
-const MOUNT: &str = "/sys/fs/cgroup";
+pub(crate) const MOUNT: &str = "/sys/fs/cgroup";
 
 /// Why a text is no path, in words; nothing where it is one.
 pub(crate) fn why_no_path(alloc: Global, text: &str) -> Result<Option<String>, AllocError> {

@@ -1,4 +1,5 @@
 //! What is wrong with a tree text, in words: the row's path, the key, the value, and what would be right.
+mod cures;
 mod keys;
 mod numbers;
 mod places;
@@ -11,7 +12,7 @@ use crate::paths::why_no_path;
 use cg_cgroup::files::Vocabulary;
 use cg_text::tree::TreeFault;
 use cg_text::tree::told::{Told, Wrong, paths_of, told_of, vocabulary_at};
-use keys::{fronted, mistyped_said, unknown_said};
+use keys::{fronted, missing_key_said, mistyped_said, unknown_said};
 use numbers::{number_said, value_said};
 use places::{RowAt, label};
 use rows::{
@@ -128,7 +129,10 @@ fn wrong_said(
     let key = told.at.key.unwrap_or("");
     let file = told.at.file.unwrap_or("");
     let why = match told.wrong {
-        Wrong::NoGroups => return plainly(alloc, "in format 1 there is no key gid"),
+        Wrong::NoGroups => return plainly(
+            alloc,
+            "in format 1 there is no key gid: write format = 2",
+        ),
         Wrong::NoGroupBit => return plainly(alloc, "in format 1 a mode has no bit 0o020"),
         Wrong::Format => return plainly(
             alloc,
@@ -147,7 +151,7 @@ fn wrong_said(
         Wrong::NoPid(pid) => format!(in alloc; "pid {pid} isn't one of 1 to 4194303")?,
         Wrong::Nowhere(at) => nowhere_said(alloc, top, at)?,
         Wrong::Inner(at) => inner_said(alloc, at)?,
-        _ => return key_said(alloc, told, row, key),
+        _ => return key_said(alloc, top, told, row, key),
     };
     Ok(Some(why))
 }
@@ -155,13 +159,14 @@ fn wrong_said(
 /// What is wrong with a key or a number, behind the table within the row that has it.
 fn key_said(
     alloc: Global,
+    top: &Table,
     told: &Told<'_>,
     row: &RowAt<'_>,
     key: &str,
 ) -> Result<Option<String>, AllocError> {
     let why = match told.wrong {
         Wrong::Unknown(kind) => Some(unknown_said(alloc, kind, key, told.held)?),
-        Wrong::Missing => Some(format!(in alloc; "{key} is missing")?),
+        Wrong::Missing => Some(missing_key_said(alloc, top, told.place, key)?),
         Wrong::Mistyped(takes) => mistyped_said(alloc, told, takes)?,
         Wrong::OutOfRange(number) => Some(number_said(alloc, row, key, number)?),
         _ => None,

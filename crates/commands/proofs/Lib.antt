@@ -1,7 +1,7 @@
 mod BesideLaws
 pub mod BufferedLaws
 mod FaultLaws
-mod PairLaws
+pub mod PairLaws
 mod ProgramLaws
 mod RequestLaws
 mod RunLaws

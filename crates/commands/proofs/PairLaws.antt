@@ -1,6 +1,6 @@
 -- The pairs of a text, line by line.
 use Rattle.std.proofs.Common.{◌≡◌, ◌≢◌, ℕ, ◌+◌, ◌<◌, ◌≤◌, Bool, true, false, cond, List, [], ◌∷◌, ◌++◌, length, take, get_or, add-one, take-append-drop, take_all, arith, refl, ap, sym, subst, inl, inr, ◌∙◌, append_assoc, append-nil}
-use Rattle.std.specs.Prelude.{drop, nat_lt, option_and_then, Option, Some, None, Result, Ok, Err}
+use Rattle.std.specs.Prelude.{drop, nat_lt, nat_le, ◌&&◌, ◌||◌, is_some, option_and_then, Option, Some, None, Result, Ok, Err}
 use Rattle.std.specs.List.{slice_split, onto_first}
 use Rattle.std.specs.Option.{option_map}
 use Rattle.cg_format.specs.Readings.{OnText}
@@ -8,7 +8,7 @@ use Rattle.cg_cli.specs.Advising.{advise_pairs_report}
 use Rattle.cg_cli.specs.Replays.{is_newline}
 use Rattle.cg_cli.specs.Reports.{Report, Reports, report_on}
 use Rattle.cg_faults.specs.declared.fault.CliFault.{CliFault}
-use Rattle.cg_faults.specs.declared.fault.CliFault.TheVariants.{Write, NoMemory}
+use Rattle.cg_faults.specs.declared.fault.CliFault.TheVariants.{Write, NoPair, NoMemory}
 use Rattle.cg_cli.proofs.ReadingOf.{on_text}
 use Rattle.std.specs.List.{All}
 use Rattle.std.specs.Str.{IsUtf8, is_utf8}
@@ -17,9 +17,16 @@ use Rattle.std.proofs.lemmas.Bool.Decides.{nat_tests}
 use Rattle.std.proofs.lemmas.List.{length-take, length-take-le}
 use Rattle.std.proofs.lemmas.List.Splits.{slice_split_none, slice_split_at}
 use Rattle.std.proofs.lemmas.Str.{IsUtf8-from_is_utf8, is_utf8-from_IsUtf8}
-use Rattle.cg_cgroup.specs.Paths.{Names, path_at}
+use Rattle.std.specs.Cmp.Lexicographic.{same_text}
+use Rattle.cg_cgroup.specs.Paths.{Names, path_at, same_name}
+use Rattle.cg_cli.specs.AllPairs.{read_then}
 use Rattle.arguments.specs.UserWords.{pair_at}
-use Rattle.commands.specs.PairLines.{GivenPair, with_path, words_read, is_pair_line, one_read, line_read, text_end_read, followed_by, pieces_read, pairs_read}
+use Rattle.cg_cgroup.specs.declared.files.Vocabulary.TheVariants.{Format4}
+use Rattle.cg_model.specs.declared.operation.Op.{Op}
+use Rattle.cg_lines.specs.OperationLines.{spelling, IsInRange}
+use Rattle.cg_lines.specs.LineReading.{operation_at}
+use Rattle.cg_lines.proofs.LineLaws.{line_again, nothing_read}
+use Rattle.commands.specs.PairLines.{GivenPair, with_path, words_read, is_pair_line, is_answer_line, is_operation_line, one_read, other_read, line_read, text_end_read, followed_by, pieces_read, pairs_read, lines_read, nothing_listed, asked_of, AsksSomething}
 use Rattle.commands.specs.Requests.{ReportsOnPairs}
 use Rattle.commands.proofs.RequestLaws.{Keeps-refl, unread}
 
@@ -28,8 +35,28 @@ use Rattle.commands.proofs.RequestLaws.{Keeps-refl, unread}
 pub line_pair : (done : ℕ) (line words : List ℕ) (pair : GivenPair) → is_pair_line line ≡ true → words ≡ drop 5 line
     → words_read words ≡ Some pair → line_read done line ≡ Ok (pair ∷ [])
 line_pair done line words pair begins is read =
-    ap (λ b. cond b (one_read done (words_read (drop 5 line))) (Ok [])) begins
+    ap (λ b. cond b (one_read done (words_read (drop 5 line))) (other_read done (is_answer_line line || is_operation_line line))) begins
     ∙ ap (λ w. one_read done (words_read w)) (sym is) ∙ ap (one_read done) read
+
+-- the line of an operation
+pub operation_line : (line : List ℕ) (op : Op) → line ≡ spelling op → length line ≤ 8192 → IsInRange Format4 op
+    → is_operation_line line ≡ true
+operation_line line op is short held =
+    let few : nat_le (length line) 8192 ≡ true = grind (arith, nat_tests) in
+    let read : operation_at Format4 line ≡ Some op = ap (operation_at Format4) is ∙ line_again Format4 op held in
+    rw (few, read) refl
+
+-- one that is too long, and one that is no operation's
+pub long_line : (line : List ℕ) → 8192 < length line → is_operation_line line ≡ false
+long_line line long =
+    let many : nat_le (length line) 8192 ≡ false = grind (arith, nat_tests) in
+    rw many refl
+
+pub no_operation : (line : List ℕ) → ((op : Op) → IsInRange Format4 op → line ≢ spelling op) → is_operation_line line ≡ false
+no_operation line none =
+    let read : operation_at Format4 line ≡ None = nothing_read Format4 line none in
+    rw read
+    (elim (nat_le (length line) 8192) as (λ b. (b && is_some (None {A = Op})) ≡ false) [ true ↦ refl | false ↦ refl ])
 
 -- words that aren't UTF-8
 pub no_text : (words : List ℕ) → ¬ (IsUtf8 words) → words_read words ≡ None
@@ -135,6 +162,49 @@ module _ (long : Bool) (done : ℕ) (rest : List ℕ) (front : List GivenPair) (
     cut_off fault read = last ∙ ap (followed_by (Ok front)) read
 
 -- ---- a text
+
+-- some pair is asked for, or the text says that there is none
+pub pairs_asked : (text : List ℕ) (pairs : List GivenPair) → lines_read text ≡ Ok pairs → (pairs ≡ [] → text ≡ nothing_listed)
+    → pairs_read text ≡ Ok pairs
+pairs_asked text [] is listed =
+    let same : same_name text nothing_listed ≡ true = ap (λ t. same_name t nothing_listed) (listed refl) in
+    ap (λ lines. read_then lines (asked_of text)) is ∙ ap (λ b. cond b (Ok []) (Err NoPair)) same
+pairs_asked text (pair ∷ pairs) is listed = ap (λ lines. read_then lines (asked_of text)) is
+
+pub nobody_asked : (text : List ℕ) → lines_read text ≡ Ok [] → text ≢ nothing_listed → pairs_read text ≡ Err NoPair
+nobody_asked text is other =
+    ap (λ lines. read_then lines (asked_of text)) is
+    ∙ elim (same_name text nothing_listed) as (λ b. b ≡ same_name text nothing_listed → cond b (Ok []) (Err NoPair) ≡ Err NoPair) [
+      | true ↦ λ same. absurd (other (same_text text nothing_listed same))
+      | false ↦ λ _. refl
+    ] refl
+
+no_fault_is : {A : Type 0} (fault : CliFault) (x : A) → ◌≡◌ {A = Result A CliFault} (Err fault) (Ok x) → ⊥
+no_fault_is fault x is = cc
+
+only_by_test : (text : List ℕ) (same : Bool) → same ≡ same_name text nothing_listed → cond same (Ok []) (Err NoPair) ≡ Ok []
+    → text ≡ nothing_listed
+only_by_test text true same is = same_text text nothing_listed same
+only_by_test text false same is = absurd (no_fault_is NoPair [] is)
+
+not_empty : (pair : GivenPair) (pairs : List GivenPair) → ◌≡◌ {A = Result (List GivenPair) CliFault} (Ok (pair ∷ pairs)) (Ok []) → ⊥
+not_empty pair pairs is = cc
+
+-- where there is no pair the text says so
+only_listed : (text : List ℕ) (lines : Result (List GivenPair) CliFault) → read_then lines (asked_of text) ≡ Ok [] → text ≡ nothing_listed
+only_listed text (Err fault) is = absurd (no_fault_is fault [] is)
+only_listed text (Ok []) is = only_by_test text (same_name text nothing_listed) refl is
+only_listed text (Ok (pair ∷ pairs)) is = absurd (not_empty pair pairs is)
+
+-- what a report is on
+pub asked_about : (text : List ℕ) (pairs : Result (List GivenPair) CliFault) → pairs ≡ pairs_read text
+    → (said : List GivenPair → Report) (status : ℕ) → (report_on pairs said).ending ≡ Ok status → AsksSomething text
+asked_about text (Err fault) is said status ended = absurd (no_fault_is fault status ended)
+asked_about text (Ok []) is said status ended = inl (only_listed text (lines_read text) (sym is))
+asked_about text (Ok (pair ∷ pairs)) is said status ended = inr (pair, pairs, sym is)
+
+pub fault_met : (text : List ℕ) (fault : CliFault) → lines_read text ≡ Err fault → pairs_read text ≡ Err fault
+fault_met text fault is = ap (λ lines. read_then lines (asked_of text)) is
 
 -- the first fault of the lines is the report's, or there was no memory
 pub fault_said : (tree text : List ℕ) (fault : CliFault) → fault ≢ Write → (fault ≢ NoMemory → pairs_read text ≡ Err fault)

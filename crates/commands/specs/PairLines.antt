@@ -1,16 +1,17 @@
--- The pairs of a user and a subtree that the lines of a text name. Own.
-use Rattle.std.specs.Prelude.{ℕ, ◌+◌, Bool, true, false, nat_eq, nat_lt, cond, List, [], ◌∷◌, ◌++◌, length, take, drop, codes, Option, Some, None, option_and_then, Result, Ok, Err}
-use Rattle.std.specs.Cmp.Lexicographic.{pointwise}
+-- The pairs of a user and a subtree that the lines of a text name, where the lines are those that `audit` with `--all` writes. Own.
+use Rattle.std.specs.Prelude.{◌≡◌, ◌⊎◌, ℕ, ◌+◌, Bool, true, false, ◌&&◌, ◌||◌, nat_lt, nat_le, cond, List, [], ◌∷◌, ◌++◌, length, take, drop, codes, is_some, Option, Some, None, option_and_then, Result, Ok, Err}
 use Rattle.std.specs.List.{slice_split}
 use Rattle.std.specs.Option.{option_map}
 use Rattle.std.specs.Str.{is_utf8}
-use Rattle.cg_cgroup.specs.Paths.{path_at}
+use Rattle.cg_cgroup.specs.Paths.{path_at, same_name}
+use Rattle.cg_cgroup.specs.declared.files.Vocabulary.TheVariants.{Format4}
+use Rattle.cg_lines.specs.LineReading.{operation_at}
 use Rattle.cg_lines.specs.declared.lines.fault.LineFault.TheVariants.{TooLong, BadWord, Cut}
 use Rattle.arguments.specs.UserWords.{pair_at}
 use Rattle.cg_cli.specs.AllPairs.{read_then}
 use Rattle.cg_cli.specs.Replays.{is_newline}
 use Rattle.cg_faults.specs.declared.fault.CliFault.{CliFault}
-use Rattle.cg_faults.specs.declared.fault.CliFault.TheVariants.{Line}
+use Rattle.cg_faults.specs.declared.fault.CliFault.TheVariants.{Line, NoPair}
 
 -- a uid and gids, and the path of a subtree
 abbrev pub GivenPair : Type 0
@@ -25,7 +26,16 @@ words_read words = cond (is_utf8 words) (option_and_then with_path (pair_at word
 
 -- a line that begins as one that names a pair
 abbrev pub is_pair_line : List ℕ → Bool
-is_pair_line line = pointwise nat_eq (take 5 line) (codes "pair ")
+is_pair_line line = same_name (take 5 line) (codes "pair ")
+
+-- the first line of an answer to a pair
+abbrev pub is_answer_line : List ℕ → Bool
+is_answer_line line =
+    same_name line (codes "contained") || same_name line (codes "escapes") || same_name (take 10 line) (codes "unsettled ")
+
+-- the line of an operation, of those that an escape of a tree of any format may have
+abbrev pub is_operation_line : List ℕ → Bool
+is_operation_line line = nat_le (length line) 8192 && is_some (operation_at Format4 line)
 
 -- Lines have numbers from 1. `done` is how many stand before.
 
@@ -34,9 +44,15 @@ abbrev pub one_read : ℕ → Option GivenPair → Result (List GivenPair) CliFa
 one_read done None = Err (Line (done + 1) BadWord)
 one_read done (Some pair) = Ok (pair ∷ [])
 
--- the pair of a line; none where it doesn't begin as one
+-- a line that names no pair
+abbrev pub other_read : ℕ → Bool → Result (List GivenPair) CliFault
+other_read done true = Ok []
+other_read done false = Err (Line (done + 1) BadWord)
+
+-- the pair of a line; none where it is another that `audit` writes
 abbrev pub line_read : ℕ → List ℕ → Result (List GivenPair) CliFault
-line_read done line = cond (is_pair_line line) (one_read done (words_read (drop 5 line))) (Ok [])
+line_read done line =
+    cond (is_pair_line line) (one_read done (words_read (drop 5 line))) (other_read done (is_answer_line line || is_operation_line line))
 
 -- The end: nothing stands behind the last newline, or a line that was cut, or is more than is looked at.
 abbrev pub text_end_read : Bool → ℕ → List ℕ → Result (List GivenPair) CliFault
@@ -61,6 +77,23 @@ pieces_read long done (piece ∷ pieces) =
 abbrev pub longest_pairs : ℕ
 longest_pairs = 16777216
 
+-- the lines of a text, of which nothing is looked at behind that number of bytes
+abbrev pub lines_read : List ℕ → Result (List GivenPair) CliFault
+lines_read text = pieces_read (nat_lt longest_pairs (length text)) 0 (slice_split is_newline (take longest_pairs text))
+
+-- what `audit` writes where it has no pair to list
+abbrev pub nothing_listed : List ℕ
+nothing_listed = codes "contained\n"
+
+-- Some pair is asked for. Where there is none the text has to be the one that says that nothing was to be listed.
+abbrev pub asked_of : List ℕ → List GivenPair → Result (List GivenPair) CliFault
+asked_of text [] = cond (same_name text nothing_listed) (Ok []) (Err NoPair)
+asked_of text (pair ∷ pairs) = Ok (pair ∷ pairs)
+
 -- The pairs of a text, in the order of its lines.
 abbrev pub pairs_read : List ℕ → Result (List GivenPair) CliFault
-pairs_read text = pieces_read (nat_lt longest_pairs (length text)) 0 (slice_split is_newline (take longest_pairs text))
+pairs_read text = read_then (lines_read text) (asked_of text)
+
+-- A text that was answered names a pair, or is what `audit` writes where it has none to list.
+abbrev pub AsksSomething : List ℕ → Type 0
+AsksSomething text = (text ≡ nothing_listed) ⊎ ((pair : GivenPair) × (others : List GivenPair) × (pairs_read text ≡ Ok (pair ∷ others)))

@@ -1,33 +1,58 @@
 //! The pairs of a user and a subtree that the lines of a text name.
-ghost use Rattle.std.specs.Prelude.{◌≡◌, ◌≢◌, ◌+◌, ◌<◌, ◌++◌, ◌∷◌, List, [], map, length, Some, None, Ok, Err, IfErr, IfSome, OnOk, MatchOption, MatchResult};
+ghost use Rattle.std.specs.Prelude.{◌≡◌, ◌≢◌, ◌+◌, ◌<◌, ◌++◌, ◌∷◌, ◌||◌, List, [], map, length, Some, None, Ok, Err, IfOk, IfErr, IfSome, OnOk, MatchOption, MatchResult};
 ghost use Rattle.std.specs.List.{slice_split};
 ghost use Rattle.arguments.specs.Given.{ids_of_pair};
 ghost use Rattle.cg_cli.specs.Replays.{is_newline};
 ghost use Rattle.cg_faults.specs.declared.fault.CliFault.TheVariants.{Line};
 ghost use Rattle.cg_lines.specs.declared.lines.fault.LineFault.TheVariants.{BadWord};
-ghost use Rattle.commands.specs.PairLines.{GivenPair, words_read, line_read, text_end_read, pieces_read, pairs_read};
+ghost use Rattle.commands.specs.PairLines.{GivenPair, words_read, is_answer_line, is_operation_line, other_read, line_read, text_end_read, pieces_read, lines_read, nothing_listed, pairs_read};
 
 use arguments::fault::ArgumentsFault;
 use arguments::named_pair::NamedPair;
+use cg_cgroup::files::Vocabulary;
+use cg_cgroup::memory::NoMemory;
 use cg_cgroup::path::{Path, PathFault};
 use cg_cli::replay::line_end;
 use cg_faults::fault::CliFault;
-use cg_lines::lines::LineFault;
+use cg_lines::lines::{LineFault, read_op_in};
 use std::alloc::Global;
 use std::str;
 
 /// How many bytes of a text are looked at, as many as a tree's text may have.
 const LONGEST_PAIRS: usize = 16_777_216;
 
-/// The pairs of a text, in the order of its lines. A line that doesn't begin as one that names a pair is passed over.
+/// What `audit` writes where it has no pair to list.
+const NOTHING_LISTED: &[u8] = b"contained\n";
+
+const CONTAINED: &[u8] = b"contained";
+
+const ESCAPES: &[u8] = b"escapes";
+
+/// The pairs of a text, in the order of its lines, each of which is one that `audit` with `--all` writes. There is one at least, but
+/// where the text is what `audit` writes without any.
 ///
 /// # Errors
-/// `Line` with the number of the first line that begins so and names no pair (`BadWord`), that has no newline (`Cut`) or in which
-/// more stands than is looked at (`TooLong`); `NoMemory` where an allocation was refused.
+/// `Line` with the number of the first line that is none of those (`BadWord`), that has no newline (`Cut`) or in which more stands
+/// than is looked at (`TooLong`); `NoPair` where no line names a pair; `NoMemory` where an allocation was refused.
 pub(crate) fn read_pairs<'a>(alloc: Global, text: &'a [u8]) -> Result<Vec<NamedPair<'a>>, CliFault>
     ensures pairs { MatchResult result
         (λ pairs. pairs_read text.now ≡ Ok (map ids_of_pair pairs.items))
         (λ fault. fault ≢ CliFault.NoMemory → pairs_read text.now ≡ Err fault) }
+    ensures asked { IfOk result (λ pairs. map ids_of_pair pairs.items ≡ [] → text.now ≡ nothing_listed) }
+    ensures read { IfErr result (λ fault. fault ≢ CliFault.Write) }
+{
+    let pairs = lines_of(alloc, text)?;
+    if pairs.is_empty() && text != NOTHING_LISTED {
+        return Err(CliFault::NoPair);
+    }
+    Ok(pairs)
+}
+
+/// The pairs of the lines of a text, which may be none.
+fn lines_of<'a>(alloc: Global, text: &'a [u8]) -> Result<Vec<NamedPair<'a>>, CliFault>
+    ensures pairs { MatchResult result
+        (λ pairs. lines_read text.now ≡ Ok (map ids_of_pair pairs.items))
+        (λ fault. fault ≢ CliFault.NoMemory → lines_read text.now ≡ Err fault) }
     ensures read { IfErr result (λ fault. fault ≢ CliFault.Write) }
 {
     if text.len() > LONGEST_PAIRS {
@@ -61,7 +86,7 @@ fn pairs_of<'a>(
     Ok(pairs)
 }
 
-/// The pair of a line, behind some, where the line begins as one that names a pair.
+/// The pair of a line, behind some, where the line names one.
 fn push_line<'a>(
     alloc: Global,
     pairs: &mut Vec<NamedPair<'a>>,
@@ -74,10 +99,46 @@ fn push_line<'a>(
     ensures fault { IfErr result (λ fault. fault ≢ CliFault.NoMemory → line_read done line.now ≡ Err fault) }
     ensures read { IfErr result (λ fault. fault ≢ CliFault.Write) }
 {
-    if let Some(words) = line.strip_prefix(b"pair ") {
-        pairs.push(pair_at(alloc, done + 1, words)?)?;
-    }
+    let Some(words) = line.strip_prefix(b"pair ") else {
+        return test_other(alloc, done, line);
+    };
+    pairs.push(pair_at(alloc, done + 1, words)?)?;
     Ok(())
+}
+
+/// Whether a line that names no pair is one of `audit`.
+fn test_other(alloc: Global, done: u32, line: &[u8]) -> Result<(), CliFault>
+    requires { done < LONGEST_PAIRS + 1 }
+    ensures other { MatchResult result
+        (λ _. other_read done (is_answer_line line.now || is_operation_line line.now) ≡ Ok [])
+        (λ fault. fault ≢ CliFault.NoMemory → other_read done (is_answer_line line.now || is_operation_line line.now) ≡ Err fault) }
+    ensures read { IfErr result (λ fault. fault ≢ CliFault.Write) }
+{
+    if is_answer(line) || is_operation(alloc, line)? {
+        return Ok(());
+    }
+    Err(CliFault::Line {
+        number: done + 1,
+        fault: LineFault::BadWord,
+    })
+}
+
+/// Whether a line is the first of an answer to a pair.
+fn is_answer(line: &[u8]) -> bool
+    ensures { result ≡ is_answer_line line.now }
+{
+    line == CONTAINED || line == ESCAPES || line.starts_with(b"unsettled ")
+}
+
+/// Whether a line is an operation's.
+fn is_operation(alloc: Global, line: &[u8]) -> Result<bool, NoMemory>
+    ensures { IfOk result (λ is. is ≡ is_operation_line line.now) }
+{
+    match read_op_in(alloc, Vocabulary::Format4, line) {
+        Ok(_) => Ok(true),
+        Err(LineFault::NoMemory) => Err(NoMemory),
+        Err(_) => Ok(false),
+    }
 }
 
 /// The pair that the words of a line name.

@@ -17,7 +17,7 @@ use Rattle.cg_model.specs.Several.{AreContained}
 use Rattle.cg_format.specs.Readings.{Reading, IsReading}
 use Rattle.cg_format.specs.TextOf.{IsTextOf}
 use Rattle.cg_format.proofs.ReadingLaws.{one_reading}
-use Rattle.cg_cli.specs.Advising.{advise_report}
+use Rattle.cg_cli.specs.Advising.{advise_report, advise_pairs_report}
 use Rattle.cg_cli.specs.FurtherAdvice.{AreHeld}
 use Rattle.cg_cli.specs.FurtherPairs.{listed_from, AreFurther, first_pair_report}
 use Rattle.cg_cli.specs.AllPairs.{all_report, ReportsPairs}
@@ -45,11 +45,13 @@ use Rattle.arguments.specs.declared.request.Replay.{Replay}
 use Rattle.arguments.specs.declared.request.Request.{Request}
 use Rattle.arguments.specs.declared.request.Request.TheVariants as request
 use Rattle.streams.specs.declared.write.WriteFailed.{WriteFailed}
+use Rattle.commands.specs.PairLines.{pairs_read, AsksSomething}
 use Rattle.commands.specs.Requests.{Files, IsUnread, source, name_of, may_said, check_said, SettlesAs, AdviseSays, pairs_said, GuardsSay, FurtherSay, AuditSays, ExplainSays, replay_said, OnTreeText, OnTree, OnPairs, ReplaysOver, CarriesOut}
 use Rattle.commands.specs.Runs.{IsFlushed, CarriesOutBuffered, LeadsTo, LiesBelow, RunsTo}
 use Rattle.commands.specs.declared.fault.Fault.{Fault}
 use Rattle.commands.specs.declared.fault.Fault.TheVariants.{Usage, Cli}
 use Rattle.commands.proofs.BufferedLaws.{CarriesOut-Keeps}
+use Rattle.commands.proofs.PairLaws.{asked_about}
 use Rattle.theorems.proofs.GuardedLaws.{contained_by_status}
 use Rattle.theorems.proofs.SettledLaws.{settled_as}
 use Rattle.theorems.proofs.FurtherLaws.{further_told, all_told, first_told}
@@ -208,10 +210,12 @@ module _ (files : Files) (given old new : Option (List ℕ)) (status : ℕ) wher
     pub advise_pairs_ended : (advise : AdvisePairs) (pairs : List ℕ)
         → CarriesOut (request.AdvisePairs advise) files given old new (Ok status)
         → source files (tree_file advise.sources) given ≡ Some text → source files (other_file advise.sources) given ≡ Some pairs
-        → IsTextOf st text → length pairs ≤ 16777216 → Reports (pairs_said pairs (Ok st)) old new (Ok status)
+        → IsTextOf st text → length pairs ≤ 16777216 → Reports (pairs_said pairs (Ok st)) old new (Ok status) × AsksSomething pairs
     advise_pairs_ended advise pairs carried of_known of_pairs of_text short =
+        let said =
         on_pairs (source files (tree_file advise.sources) given) (source files (other_file advise.sources) given) old new status text pairs
-        st of_known of_pairs of_text short carried
+        st of_known of_pairs of_text short carried in
+        (said, asked_about pairs (pairs_read pairs) refl (λ named. advise_pairs_report (Ok st) named) status said.0)
 
     pub upgrade_ended : (upgrade : Upgrade) → CarriesOut (request.Upgrade upgrade) files given old new (Ok status)
         → source files (name_of upgrade.tree) given ≡ Some text → IsTextOf st text

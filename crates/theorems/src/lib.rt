@@ -76,6 +76,7 @@ ghost use Rattle.arguments.specs.declared.request.Upgrade.{Upgrade};
 ghost use Rattle.arguments.specs.declared.request.Replay.{Replay};
 ghost use Rattle.arguments.specs.declared.request.Request.{Request};
 ghost use Rattle.arguments.specs.declared.request.Request.TheVariants as request;
+ghost use Rattle.commands.specs.PairLines.{AsksSomething};
 ghost use Rattle.commands.specs.Requests.{Files, source, name_of, may_said, check_said, pairs_said, CarriesOut};
 ghost use Rattle.commands.specs.Runs.{LeadsTo, RunsTo};
 ghost use Rattle.commands.specs.declared.fault.Fault.{Fault};
@@ -311,7 +312,7 @@ pub fn the_program()
     ensures advise_pairs { (advise : AdvisePairs) (files : Files) (given old new : Option (List ℕ)) (status : ℕ) (text pairs : List ℕ) (st : State)
         → CarriesOut (request.AdvisePairs advise) files given old new (Ok status)
         → source files (tree_file advise.sources) given ≡ Some text → source files (other_file advise.sources) given ≡ Some pairs
-        → IsTextOf st text → length pairs ≤ 16777216 → Reports (pairs_said pairs (Ok st)) old new (Ok status) }
+        → IsTextOf st text → length pairs ≤ 16777216 → Reports (pairs_said pairs (Ok st)) old new (Ok status) × AsksSomething pairs }
     ensures upgrade { (upgrade : Upgrade) (files : Files) (given old new : Option (List ℕ)) (status : ℕ) (text : List ℕ) (st : State)
         → CarriesOut (request.Upgrade upgrade) files given old new (Ok status)
         → source files (name_of upgrade.tree) given ≡ Some text → IsTextOf st text

@@ -13,9 +13,11 @@ from .rules import text_of
 from .texts import LAST_ID, tree_of
 
 MOST_GIDS, MOST_STEPS, LONGEST_LINE, LONGEST_PAIRS = 32, 65536, 8192, 16777216
+# what an audit writes where it has no pair to list
+NOTHING_LISTED = b"contained\n"
 NUMBER = r"0|[1-9][0-9]*"
 # a number of the command line
-PLAIN = r"\+?[0-9]+"
+PLAIN = "[0-9]+"
 # of each command its options: whether one must be there, and whether it may come again
 OPTIONS = {
     "may": {"--tree": "", "--uid": "must", "--gid": "again", "--pid": "must", "--to": "must"},
@@ -124,11 +126,21 @@ def pairs_of(data):
             pairs.append(pair_of(line[len(b"pair "):]))
             if pairs[-1] is None:
                 raise Fault(f"line {number} bad-word")
+        elif not is_audited(line):
+            raise Fault(f"line {number} bad-word")
     if len(data) > LONGEST_PAIRS:
         raise Fault(f"line {len(lines) + 1} too-long")
     if end:
         raise Fault(f"line {len(lines) + 1} cut")
+    if not pairs and data != NOTHING_LISTED:
+        raise Fault("no-pair")
     return pairs
+
+
+def is_audited(line):
+    """Whether a line that names no pair is one that an audit of all pairs writes."""
+    is_answer = line in (b"contained", b"escapes") or line.startswith(b"unsettled ")
+    return is_answer or len(line) <= LONGEST_LINE and operation_of(line, 4) is not None
 
 
 def pair_of(words):

@@ -189,23 +189,29 @@ def pair_lines(rng, tree, state):
         top = text_of(rng.choice(below)) if below and rng.random() < 0.5 else subtree_word(rng, tree, state)
         if rules.path_of(top) is not None or rng.random() < 0.05:
             lines.append(f"pair {user} {top}".encode())
-        lines += rng.choice([[], [b"escapes", b"move 7 /"], [b"unsettled parent-dir /"], [b"# by hand", b"", b"pairs /"], lines[:1]])
+        lines += rng.choice([[], [b"escapes", b"move 7 /"], [b"unsettled parent-dir /"], [b"contained"], lines[:1],
+                             [b"escapes", b"chmod /a cpu.max 246", b"set /a cpu.max 1000 100000", b"control /a +io"]])
+    if not lines:
+        lines = rng.choice([[], [b"contained"], [b"contained"], [b"contained", b"contained"], [b"escapes", b"move 7 /"]])
     if rng.random() < 0.16:
         lines.insert(rng.randrange(len(lines) + 1), bad_pair(rng, lines))
     if rng.random() < 0.03:
-        lines.append(b"#" * (commands.LONGEST_PAIRS - sum(len(line) + 1 for line in lines) - rng.choice([1, 1, 1, 0])))
+        long = commands.LONGEST_PAIRS - sum(len(line) + 1 for line in lines) - rng.choice([1, 1, 1, 0])
+        lines.append(b"unsettled ".ljust(long, b"#"))
     return b"".join(line + b"\n" for line in lines) + (rng.choice([b"pair 1000 /a", b"x"]) if rng.random() < 0.04 else b"")
 
 
 def bad_pair(rng, lines):
-    """A line that begins as a pair's and is none, or whose user or subtree is at fault."""
+    """A line that is none of an audit's, or whose user or subtree is at fault."""
     near = next((line for line in lines if line.startswith(b"pair ")), b"pair 1000 /a")
     many = ",".join(map(str, range(rng.choice([32, 33])))).encode()
     return rng.choice([
         b"pair ", b"pair  ", near + b" ", near + b"\r", near.replace(b" ", b"  ", 1), near + b"/", near + b"\0", b"pair /a", b"pair 1000",
         b"pair 1000 ", b"pair 1000 a", b"pair 1000: /a", b"pair 1000:5, /a", b"pair +1000 /a", b"pair 4294967296 /a", b"pair x /a",
         b"pair 1000 /\xc3\xa9", b"pair 1000 /\xff", b"pair \xff /a", b"pair 1000 /cgroup.procs", b"pair 1000 /" + b"a" * 256,
-        b"pair 0 /a", b"pair 1000:" + many + b" /a", b"pair 1000 /", b"pair 1000 /nowhere",
+        b"# by hand", b"", b"pairs /", b"pair:1000 /a", b" " + near, near.upper(), near.replace(b" ", b"\t", 1), b"\xef\xbb\xbf" + near,
+        b"escapes ", b"contained by none", b"unsettled", b"granted", b"move 0 /", b"set /a cpu.max max  1", b"control /a +misc2",
+        b"set /a cpu.max " + b"1 " * 4100 + b"1", b"pair 0 /a", b"pair 1000:" + many + b" /a", b"pair 1000 /", b"pair 1000 /nowhere",
         *2 * [b"pair 1000 /nowhere\npair 1000 /"]])
 
 

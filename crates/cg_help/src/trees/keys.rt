@@ -1,8 +1,10 @@
 //! Keys that are missing, unknown or of the wrong type: what is to be written, and what holds where one is left out.
 use crate::names::{listed, near_name};
+use crate::trees::cures::{belongs, instead, stands_in_a_row};
 use crate::trees::places::shown_value;
 use cg_cgroup::files::Vocabulary;
 use cg_cgroup::other_file::OtherFile;
+use cg_format::fault::Place;
 use cg_text::tree::takes::Takes;
 use cg_text::tree::told::keys::Kind;
 use cg_text::tree::told::{At, Told};
@@ -26,6 +28,9 @@ pub(super) fn unknown_said(
     held: Option<&Value>,
 ) -> Result<String, AllocError> {
     let shown = quoted(alloc, key)?;
+    if let Some(place) = belongs(kind, key) {
+        return format!(in alloc; "there is no key {shown} here: it belongs {place}");
+    }
     if is_of_format_4(kind, key) {
         return format!(in alloc;
             "there is no key {shown}: left out, what it says counts in no answer; format = 4 has it"
@@ -180,6 +185,21 @@ fn begins_with(name: &str, first: &str, second: &str) -> bool {
     }
 }
 
+/// That a key isn't there, and where it stands in place of the top table.
+pub(super) fn missing_key_said(
+    alloc: Global,
+    top: &Table,
+    place: Place,
+    key: &str,
+) -> Result<String, AllocError> {
+    if place == Place::Top && stands_in_a_row(top, key) {
+        return format!(in alloc;
+            "{key} is missing: it stands in a row, and belongs to the top table, above the first [[cgroup]]"
+        );
+    }
+    format!(in alloc; "{key} is missing")
+}
+
 /// That what stands at a key is of another type.
 pub(super) fn mistyped_said(
     alloc: Global,
@@ -191,7 +211,12 @@ pub(super) fn mistyped_said(
     };
     let shown = shown_value(alloc, held)?;
     let wanted = words_of(takes);
-    Ok(Some(format!(in alloc; "{key} is {shown}, and has to be {wanted}")?))
+    match instead(alloc, key, held, takes)? {
+        Some(cure) => Ok(Some(format!(in alloc;
+            "{key} is {shown}, and has to be {wanted}: {cure}"
+        )?)),
+        None => Ok(Some(format!(in alloc; "{key} is {shown}, and has to be {wanted}")?)),
+    }
 }
 
 fn words_of(takes: Takes) -> &'static str {

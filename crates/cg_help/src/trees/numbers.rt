@@ -1,4 +1,5 @@
 //! Owners, modes, values and PIDs that are out of range.
+use crate::trees::cures::size_of;
 use crate::trees::places::{RowAt, shown_value};
 use cg_cgroup::files::{Limit, LimitFile};
 use cg_text::tree::told::Told;
@@ -39,7 +40,12 @@ pub(super) fn value_said(
     };
     let shown = shown_value(alloc, held)?;
     let (name, range) = (file.name(), range_of(file));
-    Ok(Some(format!(in alloc; "{name} doesn't accept {shown}: write {range}")?))
+    match held.as_str().and_then(|text| size_of(text)) {
+        Some(bytes) => Ok(Some(format!(in alloc;
+            "{name} doesn't accept {shown}: write {bytes}; it takes {range}"
+        )?)),
+        None => Ok(Some(format!(in alloc; "{name} doesn't accept {shown}: write {range}")?)),
+    }
 }
 
 fn range_of(file: LimitFile) -> &'static str {

@@ -1,6 +1,6 @@
 //! Rows that don't go together, and texts that name nothing.
 use crate::names::{controller_names, listed, near_name};
-use crate::paths::why_missing;
+use crate::paths::{MOUNT, why_missing};
 use crate::trees::places::shown_value;
 use cg_cgroup::files::{Controller, Vocabulary};
 use cg_text::tree::told::{Told, paths_of};
@@ -20,7 +20,7 @@ pub(super) fn controller_said(
     let shown = quoted(alloc, text)?;
     if Controller::from_name(text).is_some() {
         return format!(in alloc;
-            "'{shown}' of {key} isn't cpu, memory or pids: left out, its limits count in no answer; format = 4 has it"
+            "write format = 4, which has '{shown}': in this format {key} has cpu, memory and pids alone; left out, its limits count in no answer"
         );
     }
     if let Some(name) = near_name(alloc, text, names.as_slice())? {
@@ -52,6 +52,9 @@ pub(super) fn again_said(alloc: Global, told: &Told<'_>) -> Result<Option<String
 
 /// That the row above isn't there.
 pub(super) fn parent_said(alloc: Global, top: &Table, parent: &str) -> Result<String, AllocError> {
+    if parent.starts_with(MOUNT) {
+        return why_missing(alloc, parent);
+    }
     let shown = quoted(alloc, parent)?;
     let near = nearest_said(alloc, top, parent)?;
     format!(in alloc; "no row has the parent's path, '{shown}'{near}")

@@ -1,4 +1,5 @@
 //! What isn't TOML.
+use crate::trees::cures::{other_kind, size_of};
 use std::alloc::{AllocError, Global};
 use text_places::position::Position;
 use toml::de::Error;
@@ -18,6 +19,12 @@ pub(super) fn syntax_said(
     let position = Position::at(bytes, span.start);
     let (named, drawn) = (position.named(alloc)?, position.drawn(alloc)?);
     let message = error.message();
+    if let Some(kind) = std::str::from_utf8(bytes)
+        .ok()
+        .and_then(|text| other_kind(text))
+    {
+        return format!(in alloc; "{kind}\n{named}: {message}\n{drawn}");
+    }
     match cure(alloc, position.behind)? {
         Some(cure) => format!(in alloc; "{named}: {message}\n{drawn}\n{cure}"),
         None => format!(in alloc; "{named}: {message}\n{drawn}"),
@@ -29,11 +36,26 @@ fn cure(alloc: Global, behind: &[u8]) -> Result<Option<String>, AllocError> {
     if behind.starts_with(b"max") {
         return Ok(Some(String::from_str(alloc, "max is a text: write \"max\"")?));
     }
+    if let Some(bytes) = size_of(first_word(behind)) {
+        return Ok(Some(format!(in alloc; "a number has no unit: write {bytes}")?));
+    }
     match octal_digits(behind) {
         Some(digits) => Ok(Some(format!(in alloc;
             "an octal number begins with 0o: write 0o{digits}"
         )?)),
         None => Ok(None),
+    }
+}
+
+/// What stands there up to the end of a value.
+fn first_word(behind: &[u8]) -> &str {
+    let len = behind
+        .iter()
+        .take_while(|byte| byte.is_ascii_alphanumeric())
+        .count();
+    match behind.get(..len) {
+        Some(word) => std::str::from_utf8(word).unwrap_or(""),
+        None => "",
     }
 }
 

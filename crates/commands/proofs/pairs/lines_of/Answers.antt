@@ -6,7 +6,7 @@ use Rattle.cg_faults.specs.declared.fault.CliFault.TheVariants.{NoMemory}
 use Rattle.commands.specs.PairLines.{longest_pairs}
 use Rattle.commands.specs.PairLines.{GivenPair}
 use Rattle.commands.proofs.PairLaws.{length_front, front_fits, long_read, short_read}
-use Rattle.commands.proofs.pairs.read_pairs.Goals as goal
+use Rattle.commands.proofs.pairs.lines_of.Goals as goal
 
 pub slice_bounds-pairs_of-end : goal.slice_bounds-pairs_of-end
 slice_bounds-pairs_of-end c = length_front longest_pairs c.args.text.now c.if-text-gt-LONGEST_PAIRS.true
