@@ -24,7 +24,7 @@ class Edit:
 
     def __init__(self, crate, file):
         self.crate, self.name, self.pairs, self.verdict = crate, f"{crate.name}/{file.removesuffix('.edit')}", [], None
-        self.copy, self.breaks, self.unread = None, [], []
+        self.file, self.copy, self.breaks, self.unread = file, None, [], []
         path = old = self.goal = ""
         for line in text_of(f"{crate.folder}/must-fail/{file}").split("\n"):
             word, _, text = line.partition(":")

@@ -35,7 +35,7 @@ class Crate:
     KILLED = []
 
     def __init__(self, name):
-        self.name, self.is_program = name, name == "program"
+        self.name, self.is_program, self.folder = name, name == "program", f"crates/{name}"
 
     def ci(self, flags, tests):
         statements = [] if self.is_program else ["--statements"]
@@ -57,6 +57,9 @@ def proved(crate):
     status = crate.ci(["--jobs", "1"], False)
     return crate.ci(["--jobs", "3"], False) if status == -9 else status
 
+def say(text, out=None):
+    print(text, file=out)
+
 def main(words):
     failed = sum(proved(Crate(name)) for name in ("low", "high", "program"))
     print(f"{3 - failed} passed, {failed} failed")
@@ -75,7 +78,8 @@ class ToolchainTest(unittest.TestCase):
     def bring(self, version, script):
         write(f"{self.room}/tools/rt", TOOL.format(version=version, folder=f"{self.room}/kit"), executable=True)
         write(f"{self.room}/kit/bin/rt", script)
-        self.environment = {**os.environ, "PATH": f"{self.room}/tools:{os.environ['PATH']}", "RT_JOBS": "1"}
+        self.environment = {**os.environ, "PATH": f"{self.room}/tools:{os.environ['PATH']}", "RT_JOBS": "1",
+                            "GATE_KEPT": f"{self.room}/kept-results"}
         self.environment.pop(kit.COMPARED, None)
 
     def call(self, *words, **environment):
