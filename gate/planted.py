@@ -3,10 +3,9 @@
 A function counts where it is `pub`, or a method of a public trait or of an impl of a trait, and has a body: a law has none. Crates
 of tests don't count. It is looked at where an edit changes it or where one of the wrong bodies that were planted in it was judged.
 """
-import collections, fnmatch, re
+import collections, fnmatch, hashlib, json, os, re
 
 import crates
-import passed
 from edited import FUNCTION, Crate, module_of, text_of
 
 RECORD, REASONS = "gate/plants.txt", "gate/plant_reasons.txt"
@@ -39,15 +38,20 @@ def counted(top):
     return {name: uses for name, uses in crates.read(top).items() if name != "trials" and not name.startswith("test_")}
 
 
+def files_of(folder, part):
+    found = (f"{at}/{name}" for at, _, names in os.walk(f"{folder}/{part}") for name in names)
+    return sorted(os.path.relpath(it, folder) for it in found)
+
+
 def sum_of_sources(top, name, uses):
     folder = f"{top}/crates/{name}"
-    files = [(path, text_of(f"{folder}/{path}")) for part in SOURCES for path in passed.files_of(folder, part)]
-    return passed.sum_of([sorted(uses), files])
+    files = [(path, text_of(f"{folder}/{path}")) for part in SOURCES for path in files_of(folder, part)]
+    return hashlib.sha256(json.dumps([sorted(uses), files]).encode()).hexdigest()
 
 
 def read_functions(crate):
     """Reads a crate's functions, each with its line, its path and whether it counts, and returns them."""
-    for file in passed.files_of(crate.folder, "src"):
+    for file in files_of(crate.folder, "src"):
         lines = text_of(f"{crate.folder}/{file}").split("\n")
         crate.functions += [it | seen(crate.name, it, lines) for it in crate.functions_in(file, {})]
     return crate.functions

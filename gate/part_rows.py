@@ -1,0 +1,114 @@
+"""The parts of ./verify beside proofs and edits: what each runs, and all that it reads.
+
+A part runs in a folder that has what its row names and nothing else of the repository, so it can't read what the row doesn't name.
+A row names Debian's packages of the tools that it calls; BASE is there for all.
+"""
+import dataclasses
+import glob
+import os
+import re
+from dataclasses import dataclass
+
+# PROGRAM stands for the program's path, in words and among what is read
+PROGRAM = "PROGRAM"
+# SOURCES stands for src/ of the crates below the program
+SOURCES = "SOURCES"
+# what ./zirofen needs to see that a program is of these sources
+WRAPPER = ("zirofen", "tools/program.py", "gate/kit.py", "gate/crates.py", "crates.txt", SOURCES, PROGRAM)
+# CRATE NAME stands for all of a crate and of those below it, but for their mutants
+CRATE = "CRATE "
+BASE = ("bash", "coreutils", "findutils", "grep", "sed", "gawk", "mawk", "tar", "gzip", "libc6", "procps", "util-linux")
+
+
+@dataclass(frozen=True)
+class Part:
+    group: str
+    words: str
+    reads: tuple
+    packages: tuple = ()
+    # drawn at random, and so made in each run: nothing is kept of it
+    is_fresh: bool = False
+    needs_toolchain: bool = False
+
+    @property
+    def name(self):
+        return f"{self.group}: {self.words}"
+
+
+def of_toolchain(words, *reads):
+    """A part of a group of its own, which runs the toolchain."""
+    group = words.removeprefix("gate/").replace(" --", "_")
+    return Part(group, words, (words.split()[0], "gate/kit.py", "gate/crates.py", *reads), needs_toolchain=True)
+
+
+def of_program(words, *reads, packages=(), is_fresh=False):
+    """A test of the program, from end to end."""
+    return Part("end_to_end", words, (words.split()[0], *reads), packages, is_fresh)
+
+
+def program_tests(name, *reads):
+    return of_program(f"tests/program/{name}.py", *WRAPPER, "tests/program/case.py", "examples", *reads)
+
+
+def of_model(words, *reads, **more):
+    return of_program(f"tests/model/{words}", PROGRAM, "tests/model/second", "tests/model/trials", *reads, **more)
+
+
+def of_folder(folder, *reads, packages=(), words=""):
+    """Tests that need no proof."""
+    return Part("unit_tests", f"tests/unit_tests {folder}{words}", ("tests/unit_tests", "tests/checkout.py", *reads), packages)
+
+
+def modules_of(folder, file):
+    """Returns a file of tests, and the files of its folder that it imports, and those that these do."""
+    found = [file]
+    for it in found:
+        with open(f"{folder}/{it}", encoding="utf-8") as text:
+            names = re.findall(r"^\s*(?:from|import) (\w+)", text.read(), re.M)
+        found += [name for name in (f"{it}.py" for it in names) if os.path.exists(f"{folder}/{name}") and name not in found]
+    return sorted(f"{folder}/{it}" for it in found)
+
+
+def host_tests():
+    """The tests of the helpers, file by file."""
+    helpers = sorted({*glob.glob("tests/host/*")} - {*glob.glob("tests/host/*_test.py"), "tests/host/__pycache__"})
+    reads = ("host", "examples", "docs", "README.md", "CHANGELOG.md", "tools", "crates/cg_cgroup/specs", *helpers, *WRAPPER)
+    for file in sorted(map(os.path.basename, glob.glob("tests/host/*_test.py"))):
+        part = of_folder("tests/host", *modules_of("tests/host", file), *reads, packages=READERS, words=f" {file}")
+        # it looks at the machine itself
+        yield dataclasses.replace(part, is_fresh=file == "real_mount_test.py")
+
+
+# of what the helpers write
+READERS = ("prometheus", "prometheus-node-exporter", "ansible-core", "chromium", "python3-jsonschema", "python3-junitparser", "systemd")
+MODEL = ("tests/model/[!d]*",)
+MAKERS = ("lintian", "groff", "mandoc", "man-db", "fish", "zsh", "systemd", "python3-pip", "python3-setuptools", "python3-wheel")
+PARTS = [
+    Part("promises", "tools/promises", ("tools", "gate", "crates.txt", "crates", "docs/*.md")),
+    of_toolchain("gate/laid_out", "crates", "crates.txt"),
+    Part("plant", "gate/plant --compare", ("gate", "crates", "crates.txt", "HANDLES")),
+    of_toolchain("gate/tests", "crates.txt", "HANDLES", *(f"{CRATE}{it}" for it in ("test_calls", "test_layers", "test_plans"))),
+    of_toolchain("gate/tests --unproved", "crates.txt", "HANDLES", *(f"{CRATE}{it}" for it in ("test_calls", "test_layers"))),
+    of_toolchain("gate/trials", "crates.txt", "HANDLES", f"{CRATE}trials", "tests/program/trial_rows.py", "examples"),
+    of_toolchain("gate/test_edits", "gate/edits", "gate/proofs", "gate/*.py"),
+    program_tests("answers", "tests/program/format_4_rows.py"),
+    program_tests("examples", "README.md", "docs/FORMATS.md"),
+    of_program("tests/program/upgrades.py PROGRAM", PROGRAM, "tests/program/*.py", "examples", "host/zirofen_host"),
+    program_tests("migrations"),
+    program_tests("words"),
+    program_tests("help"),
+    of_program("tests/program/devices.py PROGRAM", PROGRAM, "tests/program/case.py", "tests/program/device_rows.py", "tests/program/failing.c", "examples",
+               packages=("gcc", "libc6-dev")),
+    of_model("run PROGRAM --seed 51 --cases 6000 --blind --table"),
+    of_model("run PROGRAM --cases 1000", is_fresh=True),
+    of_model("fuzz PROGRAM"),
+    of_model("search PROGRAM --blind", is_fresh=True),
+    of_folder("tests/gate", "tests/gate", "gate", "verify", "tools", "zirofen", "crates.txt", "tests/program/trial_rows.py"),
+    of_folder("tests/tools", "tests/tools", "tests/model/trials", "tests/model/second", "tests/program/*.py", "tools", "gate", "crates.txt", "crates", "docs",
+              "examples", "zirofen", PROGRAM),
+    *host_tests(),
+    Part("unit_tests", "host/lint", ("host", "tests/host"), ("mypy", "flake8")),
+    of_folder("tests/model/tests", *MODEL, "examples", "docs/*.md", "crates", "crates.txt", "tools", "gate", "host", PROGRAM),
+    of_folder("tests/kernel/tests", "tests/kernel/[!fd]*", *MODEL, "tools", "gate/*.py", "host/zirofen_host", "docs/MODEL.md", "examples", *WRAPPER),
+    of_folder("tests/packaging", "tests/packaging", "tools", "host", "examples", "docs", "*.md", *WRAPPER, packages=MAKERS),
+]
