@@ -15,7 +15,7 @@ PROGRAM = "PROGRAM"
 SOURCES = "SOURCES"
 # what ./zirofen needs to see that a program is of these sources
 WRAPPER = ("zirofen", "tools/program.py", "gate/kit.py", "gate/crates.py", "crates.txt", SOURCES, PROGRAM)
-# CRATE NAME stands for all of a crate and of those below it, but for their mutants
+# CRATE NAME stands for all of a crate and of those below it, but for their mutants, and for the lines of these in crates.txt
 CRATE = "CRATE "
 BASE = ("bash", "coreutils", "findutils", "grep", "sed", "gawk", "mawk", "tar", "gzip", "libc6", "procps", "util-linux")
 
@@ -87,9 +87,9 @@ PARTS = [
     Part("promises", "tools/promises", ("tools", "gate", "crates.txt", "crates", "docs/*.md")),
     of_toolchain("gate/laid_out", "crates", "crates.txt"),
     Part("plant", "gate/plant --compare", ("gate", "crates", "crates.txt", "HANDLES")),
-    of_toolchain("gate/tests", "crates.txt", "HANDLES", *(f"{CRATE}{it}" for it in ("test_calls", "test_layers", "test_plans"))),
-    of_toolchain("gate/tests --unproved", "crates.txt", "HANDLES", *(f"{CRATE}{it}" for it in ("test_calls", "test_layers"))),
-    of_toolchain("gate/trials", "crates.txt", "HANDLES", f"{CRATE}trials", "tests/program/trial_rows.py", "examples"),
+    of_toolchain("gate/tests", "HANDLES", *(f"{CRATE}{it}" for it in ("test_calls", "test_layers", "test_plans"))),
+    of_toolchain("gate/tests --unproved", "HANDLES", *(f"{CRATE}{it}" for it in ("test_calls", "test_layers"))),
+    of_toolchain("gate/trials", "HANDLES", f"{CRATE}trials", "tests/program/trial_rows.py", "examples"),
     of_toolchain("gate/test_edits", "gate/edits", "gate/proofs", "gate/*.py"),
     program_tests("answers", "tests/program/format_4_rows.py"),
     program_tests("examples", "README.md", "docs/FORMATS.md"),
