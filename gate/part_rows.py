@@ -108,7 +108,11 @@ PARTS = [
               "examples", "zirofen", PROGRAM),
     *host_tests(),
     Part("unit_tests", "host/lint", ("host", "tests/host"), ("mypy", "flake8")),
-    of_folder("tests/model/tests", *MODEL, "examples", "docs/*.md", "crates", "crates.txt", "tools", "gate", "host", PROGRAM),
-    of_folder("tests/kernel/tests", "tests/kernel/[!fd]*", *MODEL, "tools", "gate/*.py", "host/zirofen_host", "docs/MODEL.md", "examples", *WRAPPER),
+    of_folder("tests/model/tests", *MODEL, "examples", "tools/bench", PROGRAM),
+    of_folder("tests/kernel/tests", "tests/kernel/[!fd]*", *MODEL, "tools/program.py", "gate/crates.py", "gate/kit.py",
+              "docs/MODEL.md", "examples", packages=("gcc", "libc6-dev", "binutils")),
     of_folder("tests/packaging", "tests/packaging", "tools", "host", "examples", "docs", "*.md", *WRAPPER, packages=MAKERS),
 ]
+# those that gate/traced looks at in each ./verify; by hand it looks at any
+TRACED = ("promises: tools/promises", "plant: gate/plant --compare", "end_to_end: tests/program/examples.py", "unit_tests: tests/unit_tests tests/host lists_test.py")
+PARTS.append(Part("traced", "gate/traced", ("gate/traced", "gate/parts", "gate/*.py", *(read for it in PARTS if it.name in TRACED for read in it.reads)), ("strace",)))

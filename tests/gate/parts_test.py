@@ -113,14 +113,10 @@ class KeptTest(PartsTest):
         self.assert_both()
         for path in ("secret", "list/b.md", "data/out/made", "crates/low/src/lib.rt", "tests/random"):
             write(f"{self.top}/{path}", "changed")
-        self.assert_none(SOME_VARIABLE="1", GATE_OTHER="1")
+        self.assert_none(SOME_VARIABLE="1", GATE_OTHER="1", LANG="de_DE.UTF-8", LC_ALL="C", TZ="Europe/Berlin", PYTHONUNBUFFERED="1")
 
-    def test_tools_and_the_environment(self):
+    def test_tools(self):
         self.assert_both()
-        self.assert_both(LANG="de_DE.UTF-8")
-        self.assert_both(LC_ALL="C")
-        self.assert_both(TZ="Europe/Berlin")
-        self.assert_none()
         write(f"{self.tools}/dpkg-query.versions", "some-package 2 installed\n")
         self.assert_both()
         write(f"{self.tools}/python3", "#!/bin/sh\n[ \"$1\" != -c ] || { echo other; exit; }\nexec /usr/bin/env -S PATH=" + os.environ["PATH"] + " python3 \"$@\"\n",
@@ -170,12 +166,12 @@ class FailureTest(PartsTest):
 
 class SeenTest(PartsTest):
     def test_a_part_sees_what_its_row_names_and_nothing_else(self):
-        self.assert_both(SOME_VARIABLE="1", PYTHONPATH="/some/where")
+        self.assert_both(SOME_VARIABLE="1", PYTHONPATH="/some/where", LANG="de_DE.UTF-8", TZ="Europe/Berlin")
         self.assertEqual([line for line in self.said if line.startswith("./")],
                          ["./data/deep/other", "./data/row", "./list/a.txt", "./release/MANIFEST", "./release/zirofen", "./tests/one"])
         self.assertIn("ran", self.said)
-        self.assertFalse([line for line in self.said if line.startswith(("SOME_VARIABLE", "GATE_"))])
-        self.assertIn("PYTHONPATH=/some/where", self.said)
+        self.assertFalse([line for line in self.said if line.startswith(("SOME_VARIABLE", "GATE_", "PYTHONPATH", "TZ"))])
+        self.assertIn("LANG=C.UTF-8", self.said)
 
     def test_what_changes_meanwhile_is_not_what_passed(self):
         write(f"{self.top}/data/checkout", self.top)
