@@ -17,7 +17,7 @@ SOURCES = "SOURCES"
 WRAPPER = ("zirofen", "tools/program.py", "gate/kit.py", "gate/crates.py", "crates.txt", SOURCES, PROGRAM)
 # CRATE NAME stands for all of a crate and of those below it, but for their mutants, and for the lines of these in crates.txt
 CRATE = "CRATE "
-BASE = ("bash", "coreutils", "findutils", "grep", "sed", "gawk", "mawk", "tar", "gzip", "libc6", "procps", "util-linux")
+BASE = ("bash", "coreutils", "findutils", "grep", "sed", "gawk", "mawk", "tar", "gzip", "libc6", "procps", "util-linux", "dash")
 
 
 @dataclass(frozen=True)

@@ -5,7 +5,7 @@ uses, of the toolchain, of the options that the environment has for that, and of
 nothing else: the toolchain gives it the crate's files, the libraries below, which are made of what is in their sums, and its own.
 An edit's sum is of its crate's, and of the edit and the scripts that try it.
 """
-import os, re, shutil, threading
+import os, re, shutil, threading, time
 
 import crates, kept, kit
 
@@ -107,20 +107,21 @@ class Proofs:
         top = f"{self.sums.top}/crates/{name}"
         return any(TEST.search(read(f"{top}/{it}")) for it in self.sums.files[name] if it.endswith(".rt"))
 
-    def takes(self, name, tests, out):
-        """Whether a crate, or its tests, need no proof in this run. What that made then stands in its out/, if it is needed."""
+    def taken(self, name, tests, out):
+        """Returns what is kept of a crate, or of its tests, that need no proof in this run, or None. What the proof made then stands in
+        its out/, if it is needed."""
         told = None if name in self.ahead and not tests else self.told(TESTS if tests else PROOF, name)
         if not told:
-            return False
+            return None
         if told["files"] != LIBRARY:
-            return bool(self.store.take(MADE, self.label(name, tests), self.sums.of(name), out))
+            return told if self.store.take(MADE, self.label(name, tests), self.sums.of(name), out) else None
         if name not in self.needed:
             self.store.touch(MADE, name, self.sums.of(name))
-            return True
+            return told
         if self.brings(name, told, out):
-            return True
+            return told
         shutil.rmtree(f"{out}/rlib", ignore_errors=True)
-        return False
+        return None
 
     def label(self, name, tests):
         return f"{name}_tests" if tests else name
@@ -137,7 +138,7 @@ class Proofs:
 
     def keep(self, name, tests, out, files, seconds):
         """Keeps that a crate, or its tests, were proved just now, beside what goes on."""
-        told = {"files": files, "seconds": round(seconds, 1)}
+        told = {"files": files, "seconds": round(seconds, 1), "day": time.strftime("%Y-%m-%d")}
         if files == LIBRARY:
             self.libraries[name] = library_sum(out)
             told |= {"library": self.libraries[name], "below": {it: self.libraries[it] for it in self.sums.below(name)}}

@@ -69,10 +69,10 @@ class SumTest(ProvedTest):
         self.assertEqual(run.needed, set())
         for name in USES:
             os.rename(self.out(name), f"{self.top}/was-{name}")
-            self.assertTrue(run.takes(name, False, self.out(name)))
+            self.assertTrue(run.taken(name, False, self.out(name)))
         self.assertEqual({*os.listdir(self.out("program"))}, {"program", "program.by-rattle"})
         self.assertFalse(os.path.exists(f"{self.out('low')}/rlib"))
-        self.assertTrue(run.takes("beside", True, self.out("beside")))
+        self.assertTrue(run.taken("beside", True, self.out("beside")))
         self.assertEqual(os.listdir(self.out("beside")), ["beside_tests"])
 
     def test_a_byte_of_each_kind_of_input(self):
@@ -142,11 +142,11 @@ class LibraryTest(ProvedTest):
         self.change("middle")
         run = self.assert_ahead(["middle", "program"])
         self.assertEqual(run.needed, {"low", "middle"})
-        self.assertTrue(run.takes("low", False, self.out("low")))
+        self.assertTrue(run.taken("low", False, self.out("low")))
         self.assertEqual(os.listdir(f"{self.out('low')}/rlib"), ["file"])
-        self.assertTrue(run.takes("beside", False, self.out("beside")))
+        self.assertTrue(run.taken("beside", False, self.out("beside")))
         self.assertFalse(os.path.exists(self.out("beside")))
-        self.assertFalse(run.takes("middle", False, self.out("middle")))
+        self.assertFalse(run.taken("middle", False, self.out("middle")))
 
     def test_one_that_is_damaged_or_gone_is_proved_again(self):
         path = kept.Store().path("made", "low", self.run_over().sums.of("low"))
@@ -154,11 +154,11 @@ class LibraryTest(ProvedTest):
         with open(path, "r+b") as it:
             it.seek(200)
             it.write(b"x")
-        self.assertFalse(self.run_over().takes("low", False, self.out("low")))
+        self.assertFalse(self.run_over().taken("low", False, self.out("low")))
         self.assertFalse(os.path.exists(f"{self.out('low')}/rlib"))
         os.remove(path)
         run = self.run_over()
-        self.assertFalse(run.takes("low", False, self.out("low")))
+        self.assertFalse(run.taken("low", False, self.out("low")))
         # and it goes on over the libraries that it needs
         self.assertEqual(run.needed, {"low", "middle"})
 
@@ -167,13 +167,13 @@ class LibraryTest(ProvedTest):
         self.change("program")
         os.remove(kept.Store().path("made", "low", low))
         run = self.assert_ahead(["program"])
-        self.assertFalse(run.takes("low", False, self.out("low")))
+        self.assertFalse(run.taken("low", False, self.out("low")))
         write(f"{self.out('low')}/rlib/file", "rlib of low")
         run.keep("low", False, self.out("low"), ["rlib"], 1)
-        self.assertTrue(run.takes("middle", False, self.out("middle")))
+        self.assertTrue(run.taken("middle", False, self.out("middle")))
         write(f"{self.out('low')}/rlib/file", "other bytes of low")
         run.keep("low", False, self.out("low"), ["rlib"], 1)
-        self.assertFalse(run.takes("middle", False, self.out("middle")))
+        self.assertFalse(run.taken("middle", False, self.out("middle")))
         run.end()
 
     def test_a_program_that_is_not_there_whole_is_proved_again(self):
@@ -185,7 +185,7 @@ class LibraryTest(ProvedTest):
         os.remove(kept.Store().path("made", "beside_tests", self.run_over().sums.of("beside")))
         run = self.assert_ahead([])
         self.assertEqual(run.needed, {"low"})
-        self.assertFalse(run.takes("beside", True, self.out("beside")))
+        self.assertFalse(run.taken("beside", True, self.out("beside")))
 
     def test_what_changed_meanwhile_and_what_lacks_a_build_is_not_kept(self):
         self.change("beside")
