@@ -84,6 +84,7 @@ READERS = ("prometheus", "prometheus-node-exporter", "ansible-core", "chromium",
 MODEL = ("tests/model/[!d]*",)
 MAKERS = ("lintian", "groff", "mandoc", "man-db", "fish", "zsh", "systemd", "python3-pip", "python3-setuptools", "python3-wheel")
 PARTS = [
+    Part("released", "tools/released", ("tools/released", *WRAPPER)),
     Part("promises", "tools/promises", ("tools", "gate", "crates.txt", "crates", "docs/*.md")),
     of_toolchain("gate/laid_out", "crates", "crates.txt"),
     Part("plant", "gate/plant --compare", ("gate", "crates", "crates.txt", "HANDLES")),
