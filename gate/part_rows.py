@@ -74,15 +74,18 @@ def host_tests():
     helpers = sorted({*glob.glob("tests/host/*")} - {*glob.glob("tests/host/*_test.py"), "tests/host/__pycache__"})
     reads = ("host", "examples", "docs", "README.md", "CHANGELOG.md", "tools", "crates/cg_cgroup/specs", *helpers, *WRAPPER)
     for file in sorted(map(os.path.basename, glob.glob("tests/host/*_test.py"))):
-        part = of_folder("tests/host", *modules_of("tests/host", file), *reads, packages=READERS, words=f" {file}")
+        modules = modules_of("tests/host", file)
+        packages = tuple(it for name, of_module in READERS.items() if f"tests/host/{name}" in modules for it in of_module)
+        part = of_folder("tests/host", *modules, *reads, packages=packages, words=f" {file}")
         # it looks at the machine itself
         yield dataclasses.replace(part, is_fresh=file == "real_mount_test.py")
 
 
-# of what the helpers write
-READERS = ("prometheus", "prometheus-node-exporter", "ansible-core", "chromium", "python3-jsonschema", "python3-junitparser", "systemd")
+# what reads what the helpers write, by the module that calls it
+READERS = {"debian_readers.py": ("prometheus", "prometheus-node-exporter", "python3-jsonschema", "python3-junitparser"), "browser.py": ("chromium",)}
+PACKAGING = ("tests/packaging/*.py", "tools", "host", "examples", "docs", "*.md", *WRAPPER)
 MODEL = ("tests/model/[!d]*",)
-MAKERS = ("lintian", "groff", "mandoc", "man-db", "fish", "zsh", "systemd", "python3-pip", "python3-setuptools", "python3-wheel")
+MAKERS = ("lintian", "groff", "mandoc", "man-db", "fish", "zsh", "ansible-core", "python3-pip", "python3-setuptools", "python3-wheel")
 PARTS = [
     Part("released", "tools/released", ("tools/released", *WRAPPER)),
     Part("promises", "tools/promises", ("tools", "gate", "crates.txt", "crates", "docs/*.md")),
@@ -112,7 +115,8 @@ PARTS = [
     of_folder("tests/model/tests", *MODEL, "examples", "tools/bench", PROGRAM),
     of_folder("tests/kernel/tests", "tests/kernel/[!fd]*", *MODEL, "tools/program.py", "gate/crates.py", "gate/kit.py",
               "docs/MODEL.md", "examples", packages=("gcc", "libc6-dev", "binutils")),
-    of_folder("tests/packaging", "tests/packaging", "tools", "host", "examples", "docs", "*.md", *WRAPPER, packages=MAKERS),
+    of_folder("tests/packaging", *PACKAGING, packages=MAKERS, words=" package_test.py"),
+    of_folder("tests/packaging", *PACKAGING, packages=("systemd",), words=" parts_test.py"),
 ]
 # those that gate/traced looks at in each ./verify; by hand it looks at any
 TRACED = ("promises: tools/promises", "plant: gate/plant --compare", "end_to_end: tests/program/examples.py", "unit_tests: tests/unit_tests tests/host lists_test.py")
