@@ -95,6 +95,7 @@ PARTS = [
     of_toolchain("gate/tests --unproved", "HANDLES", *(f"{CRATE}{it}" for it in ("test_calls", "test_layers"))),
     of_toolchain("gate/trials", "HANDLES", f"{CRATE}trials", "tests/program/trial_rows.py", "examples"),
     of_toolchain("gate/test_edits", "gate/edits", "gate/proofs", "gate/*.py"),
+    of_toolchain("gate/test_kept", "gate/edits", "gate/proofs", "gate/*.py"),
     program_tests("answers", "tests/program/format_4_rows.py"),
     program_tests("examples", "README.md", "docs/FORMATS.md"),
     of_program("tests/program/upgrades.py PROGRAM", PROGRAM, "tests/program/*.py", "examples", "host/zirofen_host"),
