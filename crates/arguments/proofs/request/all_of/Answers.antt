@@ -11,7 +11,8 @@ loop-word-preserved c =
     let i : ℕ = c.loop-word.word-index in
     let none : Bor (List ℕ) = record { ref_ptr = (0, 0); now = [] } in
     let at = words_from {B = Bor (List ℕ)} (λ word. word.now) words i none c.loop-word-test.true in
+    let front = c.loop-word.numbers.items in
     rw c.in_ok-push.ensures.items
-    (read_more id_at c.loop-word.numbers.items (get_or words i none).now (map (λ word. word.now) (drop (i + 1) words)) c.in_ok-id_of.field-0 _
+    (read_more id_at front (get_or words i none).now (map (λ word. word.now) (drop (i + 1) words)) c.in_ok-id_of.field-0 _
     (ok_or_some _ _ _ c.in_ok-id_of.ensures)
-    (ap (λ (ws : List (List ℕ)). with_front c.loop-word.numbers.items (ids_at ws)) (sym at) ∙ c.loop-word.invariant))
+    (ap (λ (ws : List (List ℕ)). with_front front (ids_at ws)) (sym at) ∙ c.loop-word.invariant))
