@@ -21,7 +21,7 @@ from shown import comparison_lines, made
 from zirofen_host.show import page, tree_view
 from zirofen_host.fault import Fault
 from zirofen_host.collect.mount import Mounts
-from zirofen_host.collect.walk import CHANGED
+from zirofen_host.collect.reasons import CHANGED, Unreadable
 
 
 class ElsewhereTest(HostTest):
@@ -45,7 +45,7 @@ class ElsewhereTest(HostTest):
         taken = taken or self.host.snapshot()
         taken = replace(taken, mount_options=tuple(mounts.options(taken.mount)))
         options = self.options()
-        values = [{"changing": [path.decode(), why]} for path, why in taken.changing.items()]
+        values = [{"changing": [path.decode(), str(why)]} for path, why in taken.changing.items()]
         if with_host:
             values += elsewhere.carried(taken, accounts_of(options.accounts, taken))
         with open(self.file, "w", encoding="ascii") as out:
@@ -123,7 +123,7 @@ class ElsewhereTest(HostTest):
         found = self.elsewhere(accounts=self.host.etc)
         self.assertEqual([(each["who"], each["subtrees"]) for each in found["faults"]], [("everybody", ["/up/svc"])])
         self.assertEqual([row[3] for row in self.rows(found)], ["/team", "/up", "/up/m.service"])
-        taken = replace(taken, changing={b"/elsewhere": "can't read it: no"})
+        taken = replace(taken, changing={b"/elsewhere": Unreadable("no")})
         self.write(False, taken)
         self.assertEqual([each["fault"] for each in self.elsewhere(accounts=self.host.etc)["faults"]], ["can't read it: no"])
 

@@ -209,7 +209,7 @@ class SnapshotTest(MadeUpTest):
         self.host.cgroup("/b", owners=of_user("cpu.max", uid=1001), values={"cpu.max": "7"})
         with mock.patch.object(bounded, "CGROUP_BYTES", Budget("bytes", 2000)):
             taken = self.host.snapshot()
-        self.assertEqual(taken.changing, {b"/a": "uid 1000 has over 2000 bytes"})
+        self.assertEqual({path: str(why) for path, why in taken.changing.items()}, {b"/a": "uid 1000 has over 2000 bytes"})
         self.assertEqual(self.files(taken, "/b"), ['"cpu.max" = { uid = 1001, value = "7" }'])
 
 

@@ -19,6 +19,7 @@ from zirofen_host.ask import program as asking
 from zirofen_host.ask import texts
 from zirofen_host.ask.model import Question
 from zirofen_host.ask.program import Program
+from zirofen_host.ask.reasons import TooLong
 from zirofen_host.ask.questions import subtrees_by
 from zirofen_host.judge import check
 from zirofen_host.collect.tree import Row, Tree, read_tree
@@ -150,7 +151,7 @@ class LargeTest(HostTest):
         packed = packed_in(1000, some)
         self.assertEqual([(text.subtrees, len(text.rows)) for text in packed.texts], [(some[:2], 5), (some[2:], 5)])
         packed = packed_in(300, [some[0], path(f"/1/{'n' * 200}")])
-        self.assertEqual((packed.texts, packed.refused[some[0]]),
+        self.assertEqual((packed.texts, str(packed.refused[some[0]])),
                          ([], "what it needs goes into no tree text: its paths and limits are too long"))
 
     def test_whose_making_it_is_that_is_too_large(self):
@@ -161,7 +162,7 @@ class LargeTest(HostTest):
         for number in range(9):
             self.host.cgroup(f"/alice/bobs/c{number}", owners={**owned(1001), "cgroup.freeze": 1001}, values={"cgroup.freeze": "0"})
         self.host.cgroup("/carol", owners={**owned(1002), "memory.max": 1002})
-        for most, why in (({"rows": 10}, "{} cgroups, and a tree text has 10 at most"), ({"longest": texts.HEAD + 1300}, texts.TOO_LONG)):
+        for most, why in (({"rows": 10}, "{} cgroups, and a tree text has 10 at most"), ({"longest": texts.HEAD + 1300}, str(TooLong()))):
             with small_texts(**most):
                 found = self.report()
             self.assertEqual([(each["subtrees"], each["fault"], each["made_by"]) for each in found["faults"]],

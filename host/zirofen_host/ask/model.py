@@ -3,6 +3,7 @@ from dataclasses import dataclass
 from typing import AbstractSet, FrozenSet, Mapping, NamedTuple, Optional, Tuple
 
 from zirofen_host.collect.model import User
+from zirofen_host.collect.reasons import Reason
 from zirofen_host.profile import CgroupPath
 
 
@@ -94,7 +95,7 @@ class Answers:
     # how many users weren't asked of a subtree that everybody is let in to
     not_asked: Mapping[CgroupPath, int]
     # subtrees of which nothing was asked, each with why
-    refused: Mapping[CgroupPath, str]
+    refused: Mapping[CgroupPath, Reason]
     # subtrees that were asked of without processes, since they have too many
     without_processes: Tuple[CgroupPath, ...]
     version: Optional[str]

@@ -25,6 +25,8 @@ WORST_FIRST = (FAULT, ESCAPES, UNSETTLED, CONTAINED)
 WORDS = {"contained": CONTAINED, "escapes": ESCAPES, "unsettled": UNSETTLED}
 NOT_BUILT = 70
 NO_MEMORY = "fault: memory"
+# how the program begins its line of a text that is no tree
+FAULT_OF_TREE = "fault: tree"
 NO_TIME = "the program took too long"
 # runs at once, and bytes of memory that these take together, as long as one doesn't take more by itself
 MOST_AT_ONCE, MOST_MEMORY = 16, 1 << 30
@@ -52,15 +54,22 @@ class TooLarge(Fault):
     """A large text for which the program has too little memory or time."""
 
 
+class TreeRefused(Fault):
+    """A text that the program takes as no tree."""
+
+
 class Refused(Exception):
     """The program's fault for one run; of the whole text, or maybe of one pair alone."""
 
-    def __init__(self, line: str, is_whole: bool, help_lines: Iterable[str] = (), is_too_large: bool = False) -> None:
+    def __init__(self, line: str, is_whole: bool, help_lines: Iterable[str] = (), is_too_large: bool = False,
+                 is_of_tree: bool = False) -> None:
         super().__init__(line)
-        self.is_whole, self.help_lines, self.is_too_large = is_whole, tuple(help_lines), is_too_large
+        self.is_whole, self.help_lines, self.is_too_large, self.is_of_tree = is_whole, tuple(help_lines), is_too_large, is_of_tree
 
     def fault(self) -> Fault:
-        return TooLarge(str(self)) if self.is_too_large else Fault(str(self), self.help_lines)
+        if self.is_too_large:
+            return TooLarge(str(self))
+        return (TreeRefused if self.is_of_tree else Fault)(str(self), self.help_lines)
 
 
 def size(words: Iterable[str]) -> int:
@@ -130,8 +139,9 @@ class Program:
             return Ended(ended.returncode, ended.stdout.splitlines())
         told = told_by(ended)
         is_too_large = self.is_large and (told[0] == NO_MEMORY or ended.returncode == -signal.SIGKILL)
-        is_whole = is_too_large or ended.returncode == NOT_BUILT or told[0].startswith("fault: tree")
-        raise Refused(told[0], is_whole, help_below(told), is_too_large)
+        is_of_tree = told[0].startswith(FAULT_OF_TREE)
+        is_whole = is_too_large or ended.returncode == NOT_BUILT or is_of_tree
+        raise Refused(told[0], is_whole, help_below(told), is_too_large, is_of_tree)
 
     def refuse_text(self) -> None:
         """Ends with the program's fault line where it doesn't take the text: no operation is tried in it."""

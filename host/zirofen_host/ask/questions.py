@@ -15,6 +15,7 @@ from zirofen_host.collect.accounts import Accounts, accounts_of
 from zirofen_host.collect.bounded import Spent
 from zirofen_host.collect.holds import Holds, handed_in
 from zirofen_host.collect.model import CLASSES, GROUP, OTHERS, OWNER, Snapshot, Tree, User
+from zirofen_host.collect.reasons import Reason
 from zirofen_host.collect.snapshot import SubtreesOf
 from zirofen_host.collect.tree import in_order
 from zirofen_host.collect.walk import MANAGERS_MARK
@@ -196,7 +197,7 @@ def subtrees_by(options: Options) -> SubtreesOf:
     """Which subtrees are asked of, by a snapshot that may have changed while it was taken."""
     accounts: List[Accounts] = []
 
-    def subtrees_of(snapshot: Snapshot, _: Mapping[CgroupPath, str]) -> List[CgroupPath]:
+    def subtrees_of(snapshot: Snapshot, _: Mapping[CgroupPath, Reason]) -> List[CgroupPath]:
         if not accounts:
             accounts.append(accounts_of(options.accounts, snapshot))
         meant = meant_in(snapshot)
@@ -325,19 +326,19 @@ class Runs:
     makers: Holds
     spent: Spent
 
-    def affordable(self, asked: Iterable[Question]) -> Tuple[List[Question], Dict[CgroupPath, str]]:
+    def affordable(self, asked: Iterable[Question]) -> Tuple[List[Question], Dict[CgroupPath, Reason]]:
         """Questions without what is over somebody's budget, and the subtrees that this is, each with why."""
         kept: List[Question] = []
-        over: Dict[CgroupPath, str] = {}
+        over: Dict[CgroupPath, Reason] = {}
         for each in asked:
             makers = {path: self.makers.within(path) or 0 for path in each.subtrees}
             dropped = {maker for maker in set(makers.values()) if not self.spent.take(maker)}
-            over.update({path: self.spent.budget.told(maker) for path, maker in makers.items() if maker in dropped})
+            over.update({path: self.spent.budget.exceeded_by(maker) for path, maker in makers.items() if maker in dropped})
             kept.append(Question(each.users, tuple(path for path in each.subtrees if makers[path] not in dropped)))
         return [each for each in kept if each.subtrees], over
 
 
-def bounded_plan(questions: Questions, plan: Plan, runs: Runs) -> Tuple[Plan, Dict[CgroupPath, str]]:
+def bounded_plan(questions: Questions, plan: Plan, runs: Runs) -> Tuple[Plan, Dict[CgroupPath, Reason]]:
     """A plan with no more uids of one person's than are asked of, and no more questions for what one person made: of what is over
     these budgets nothing is asked, and it is told of which subtrees, each with why."""
     payer = questions.accounts.payer
@@ -347,7 +348,7 @@ def bounded_plan(questions: Questions, plan: Plan, runs: Runs) -> Tuple[Plan, Di
     asked, over = runs.affordable(plan.questions)
     kept = [Question(tuple(user for user in each.users if user.uid not in left_out), each.subtrees) for each in asked]
     lost = {payer(uid) for uid in left_out}
-    over.update({path: bounded.USERS.told(person) for path in questions.subtrees for person in lost
+    over.update({path: bounded.USERS.exceeded_by(person) for path in questions.subtrees for person in lost
                  if any(payer(uid) == person for uid in questions.holders[path].uids)} if lost else {})
     return replace(plan, questions=tuple(each for each in kept if each.users)), over
 

@@ -7,6 +7,7 @@ from zirofen_host.ask.model import Holders
 from zirofen_host.ask.questions import Questions
 from zirofen_host.collect.accounts import Accounts
 from zirofen_host.collect.model import Snapshot
+from zirofen_host.collect.reasons import Reason
 from zirofen_host.profile import ANYBODY, CgroupPath, ancestors
 
 # of what is inside of a subtree an answer rests on nothing but how many cgroups and levels it has, where it has such a limit
@@ -36,7 +37,7 @@ def maker_of(snapshot: Snapshot, accounts: Accounts, place: CgroupPath) -> int:
     return snapshot.makers.get(place) or accounts.payer(next((uid for uid in uids if uid), 0))
 
 
-def spoiled(snapshot: Snapshot, questions: Questions) -> Dict[CgroupPath, str]:
+def spoiled(snapshot: Snapshot, questions: Questions) -> Dict[CgroupPath, Reason]:
     """The subtrees of which nothing is asked, each with why. What somebody else made inside of one is left out of it, and changes
     no answer of it but of how much there may be."""
     changed = changed_in(snapshot, questions.accounts)

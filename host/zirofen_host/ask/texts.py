@@ -15,12 +15,13 @@ from typing import AbstractSet, Callable, Container, Dict, Iterable, List, Mappi
 
 from zirofen_host import output, progress
 from zirofen_host.ask.model import Advice, Pair, Question
-from zirofen_host.ask.program import UNSETTLED, Answered, Program
+from zirofen_host.ask.program import UNSETTLED, Answered, Program, TreeRefused
+from zirofen_host.ask.reasons import TextRefused, TooLargeForText, TooLong, TooManyCgroups
 from zirofen_host.collect import snapshot as snapshots
 from zirofen_host.collect.looks import Looks
 from zirofen_host.collect.model import Note, Placed, Snapshot, Tree, User
+from zirofen_host.collect.reasons import Reason
 from zirofen_host.collect.tree import head_text, in_order, process_text, row_text
-from zirofen_host.fault import Fault
 from zirofen_host.options import Options
 from zirofen_host.profile import TEXT_FORMATS, CgroupPath, TextFormat, ancestors, parent_of
 
@@ -31,8 +32,6 @@ SMALL = 2
 # bytes of memory that a run of the program takes at most: for each byte of a text that is written here, and for each of its cgroups
 # and processes besides
 OF_BYTE, OF_ROW = 48, 8192
-# why a subtree goes into no text
-TOO_MANY, TOO_LONG = "cgroups, and a tree text has", "what it needs goes into no tree text: its paths and limits are too long"
 # so long the program is asked in large texts, before it is in small ones
 LARGE_SECONDS = 150
 
@@ -178,7 +177,7 @@ class Text:
 class Texts:
     """The texts for the subtrees of a tree, and why some subtrees go into none."""
     texts: Sequence[Text]
-    refused: Mapping[CgroupPath, str]
+    refused: Mapping[CgroupPath, Reason]
 
     def without_processes(self) -> Tuple[CgroupPath, ...]:
         """The subtrees that go without any."""
@@ -230,17 +229,12 @@ def packed(layout: Layout, subtrees: Iterable[CgroupPath], with_processes: bool,
     return texts, left
 
 
-def why_refused(layout: Layout, path: CgroupPath, most: TextFormat) -> str:
+def why_refused(layout: Layout, path: CgroupPath, most: TextFormat) -> TooLargeForText:
     start, end = layout.span(path)
     count = end - start + len(list(ancestors(path)))
     if count > most.most_rows:
-        return f"{count} {TOO_MANY} {most.most_rows} at most"
-    return TOO_LONG
-
-
-def is_too_large(why: str) -> bool:
-    """Whether that is why a subtree goes into no text."""
-    return why == TOO_LONG or TOO_MANY in why
+        return TooManyCgroups(count, most.most_rows)
+    return TooLong()
 
 
 @dataclass(frozen=True)
@@ -251,10 +245,10 @@ class Programs:
     # where a text couldn't be kept, and why
     failed: Sequence[Note] = ()
 
-    def ask(self, questions: Sequence[Question], has_audit_all: bool) -> Tuple[Answered, Dict[CgroupPath, str]]:
+    def ask(self, questions: Sequence[Question], has_audit_all: bool) -> Tuple[Answered, Dict[CgroupPath, Reason]]:
         """The answers that aren't contained, and the subtrees whose text was refused, each with the program's line."""
         found: Answered = {}
-        refused: Dict[CgroupPath, str] = {}
+        refused: Dict[CgroupPath, Reason] = {}
         until = time.monotonic() + LARGE_SECONDS
         for number, text in enumerate(self.texts, 1):
             mine = set(text.subtrees)
@@ -264,10 +258,10 @@ class Programs:
                 progress.tell(f"asking of {len(text.subtrees)} subtrees in text {number} of {len(self.texts)}")
                 try:
                     found.update(self.of[text.subtrees[0]].until(until).ask(some, has_audit_all))
-                except Fault as fault:
-                    if len(self.texts) == 1 or not str(fault).startswith("fault: tree"):
+                except TreeRefused as fault:
+                    if len(self.texts) == 1:
                         raise
-                    refused.update(dict.fromkeys(text.subtrees, str(fault)))
+                    refused.update(dict.fromkeys(text.subtrees, TextRefused(str(fault))))
         return found, refused
 
     def settled(self, found: Answered, users: Sequence[User], may_settle: Callable[[CgroupPath], bool],

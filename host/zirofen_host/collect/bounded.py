@@ -9,6 +9,8 @@ from collections import Counter
 from itertools import islice
 from typing import Callable, Dict, Iterator, List, Mapping, NamedTuple, Optional, Sequence, Tuple, Union
 
+from zirofen_host.collect.reasons import OverBudget
+
 Place = Union[str, bytes]
 
 # bytes of one read of a cgroup's file: more than a limit has, and more than a list of all PIDs
@@ -55,9 +57,9 @@ class Budget(NamedTuple):
     what: str
     most: int
 
-    def told(self, person: int) -> str:
-        """What a line says of whoever has more."""
-        return f"uid {person} has over {self.most} {self.what}"
+    def exceeded_by(self, person: int) -> OverBudget:
+        """Why something of whoever has more is left out."""
+        return OverBudget(person, self.most, self.what)
 
 
 # all that is spent on one person: in a walk over the mount

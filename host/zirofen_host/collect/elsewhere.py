@@ -15,6 +15,7 @@ from zirofen_host.collect.holds import Holds
 from zirofen_host.collect.model import (About, Account, AccountLists, Carried, Cgroup, CgroupMount, Entry, Group, Inside, Note, Process,
                                         Range, Row, Snapshot, Source, Tree, User)
 from zirofen_host.collect.mount import read_kernel_list
+from zirofen_host.collect.reasons import CHANGED, CarriedOfSomebody, CarriedReason, Reason
 from zirofen_host.collect.tree import number_in, parts_in, table_in, text_in, texts_in
 from zirofen_host.fault import Fault
 from zirofen_host.files import OF_LIMITS, is_known
@@ -47,7 +48,7 @@ class Gathered:
         self.subordinate_gids: List[Range] = []
         self.notes: List[Note] = []
         self.inside: List[Inside] = []
-        self.changing: Dict[CgroupPath, str] = {}
+        self.changing: Dict[CgroupPath, Reason] = {}
         self.about = About()
         self.mount: Optional[str] = None
         self.options: Tuple[str, ...] = ()
@@ -103,7 +104,7 @@ class Gathered:
 
     def take_changing(self, value: object) -> None:
         path, why = parts_in(value)
-        self.changing[path_of(text_in(path))] = str(why)
+        self.changing[path_of(text_in(path))] = reason_in(str(why))
 
     def kind(self, path: CgroupPath) -> str:
         """What a cgroup's type is, where a note tells that it isn't in domain mode."""
@@ -185,6 +186,13 @@ def told_unseen(snapshot: Snapshot, has_accounts: bool) -> str:
             "capabilities, the groups of processes and containers of root's aren't told; zirofen-host snapshot --with-host carries all but "
             "the first two"
             f"{by_number}")
+
+
+def reason_in(sentence: str) -> Reason:
+    """A reason as a text carries it. Its sentence is all that is carried, and says of whom it is."""
+    if sentence == str(CHANGED):
+        return CHANGED
+    return CarriedOfSomebody(sentence) if sentence.startswith("uid ") else CarriedReason(sentence)
 
 
 def flag_in(value: object) -> bool:
@@ -283,4 +291,4 @@ def fitting_text(snapshot: Snapshot, holds: Holds, values: Callable[[Snapshot], 
         if person is None:
             raise Fault(f"{len(text)} bytes, and a tree text has {most} at most: --only PATH writes less, and so does a text "
                         "without --with-host, whose accounts are named by --accounts")
-        snapshot = fitting.without_inside(snapshot, holds, person, f"a text has {most} bytes at most")
+        snapshot = fitting.without_inside(snapshot, holds, person, most, "bytes")

@@ -6,6 +6,7 @@ from typing import Callable, DefaultDict, Dict, Iterable, List, Mapping, Optiona
 
 from zirofen_host.collect.holds import Holds
 from zirofen_host.collect.model import Note, Placed, Snapshot
+from zirofen_host.collect.reasons import LeftOutToFit
 from zirofen_host.collect.tree import row_text
 from zirofen_host.profile import CgroupPath, ancestors, parent_of, path_of, text_of, topmost
 
@@ -20,7 +21,7 @@ def fitted(snapshot: Snapshot, holds: Holds) -> Snapshot:
         person = heaviest(snapshot, holds, lambda _: 1)
         if person is None:
             return snapshot
-        snapshot = without_inside(snapshot, holds, person, f"a text has {most} cgroups at most")
+        snapshot = without_inside(snapshot, holds, person, most, "cgroups")
     return without_processes(snapshot, holds)
 
 
@@ -47,9 +48,9 @@ def length(snapshot: Snapshot) -> Weight:
     return of
 
 
-def without_inside(snapshot: Snapshot, holds: Holds, person: int, why: str) -> Snapshot:
-    """A snapshot without the cgroups that somebody made, and what is inside of these. What is told of each place where some were is
-    told at the first of them."""
+def without_inside(snapshot: Snapshot, holds: Holds, person: int, most: int, what: str) -> Snapshot:
+    """A snapshot without the cgroups that somebody made, and what is inside of these, since a text has so many of something at most.
+    What is told of each place where some were is told at the first of them."""
     made = {path for path in snapshot.tree.rows if holds.within(path) == person}
     lost = {path for path in snapshot.tree.rows if path in made or not made.isdisjoint(ancestors(path))}
     by_parent: DefaultDict[CgroupPath, List[CgroupPath]] = defaultdict(list)
@@ -58,7 +59,7 @@ def without_inside(snapshot: Snapshot, holds: Holds, person: int, why: str) -> S
         if parent is not None:
             by_parent[parent].append(path)
     counts = Counter(top for path in lost for top in (path, *ancestors(path)) if top in by_parent)
-    changing = {**snapshot.changing, **{paths[0]: f"uid {person} has {counts[parent]} cgroups in {text_of(parent)}, left out: {why}"
+    changing = {**snapshot.changing, **{paths[0]: LeftOutToFit(person, counts[parent], text_of(parent), most, what)
                                         for parent, paths in by_parent.items()}}
     tree = snapshot.tree
     return replace(
@@ -66,7 +67,7 @@ def without_inside(snapshot: Snapshot, holds: Holds, person: int, why: str) -> S
         tree=replace(tree, rows={path: row for path, row in tree.rows.items() if path not in lost},
                      processes=[each for each in tree.processes if each.at not in lost]),
         notes=(*(note for note in snapshot.notes if holds.within(path_of(note.place)) != person),
-               *(Note("large", text_of(parent), changing[paths[0]]) for parent, paths in by_parent.items())),
+               *(Note("large", text_of(parent), str(changing[paths[0]])) for parent, paths in by_parent.items())),
         changing=changing, makers={**snapshot.makers, **{paths[0]: person for paths in by_parent.values()}})
 
 
@@ -84,4 +85,4 @@ def without_processes(snapshot: Snapshot, holds: Holds) -> Snapshot:
 
 def told_changing(snapshot: Snapshot) -> Iterable[Mapping[str, object]]:
     """What a text always carries: what it lacks, and why."""
-    return ({"changing": [text_of(path), why]} for path, why in snapshot.changing.items())
+    return ({"changing": [text_of(path), str(why)]} for path, why in snapshot.changing.items())

@@ -2,6 +2,7 @@
 from dataclasses import dataclass, field
 from typing import Collection, FrozenSet, List, Mapping, NamedTuple, Optional, Sequence, Tuple, Union
 
+from zirofen_host.collect.reasons import Reason
 from zirofen_host.profile import (DIRECTORY_MODE, FILE_MODE, FURTHER_FILES, LIMIT_FILES, TEXT_FORMATS, CgroupPath, TextFormat,
                                   parent_of)
 
@@ -243,15 +244,15 @@ class Snapshot:
     kernel_list: FrozenSet[str]
     notes: Tuple[Note, ...]
     # what changed all the time or can't be read, and the subtrees that this spoils, each with why
-    changing: Mapping[CgroupPath, str]
-    spoiled: Mapping[CgroupPath, str]
+    changing: Mapping[CgroupPath, Reason]
+    spoiled: Mapping[CgroupPath, Reason]
     # the controllers whose limits are those of version 1
     version_1: Tuple[str, ...] = ()
     source: Source = Source()
     # whose that is which changed or can't be read, as far as it is somebody's
     makers: Mapping[CgroupPath, int] = field(default_factory=dict)
     # of whom not all processes were looked at, each with why
-    over: Mapping[int, str] = field(default_factory=dict)
+    over: Mapping[int, Reason] = field(default_factory=dict)
     # containers whose processes are root's
     inside: Tuple[Inside, ...] = ()
     # containers and pods by their names

@@ -4,6 +4,7 @@ from typing import Dict, Iterator, List, Mapping, Optional, Tuple
 from zirofen_host.collect import bounded
 from zirofen_host.collect.bounded import Payer, Spent
 from zirofen_host.collect.model import Note, Process, User
+from zirofen_host.collect.reasons import Reason
 
 KERNEL_THREAD = 0x00200000
 
@@ -42,9 +43,9 @@ class Reader:
         self.unknown: List[int] = []
         self.failed: List[Note] = []
 
-    def over(self) -> Mapping[int, str]:
+    def over(self) -> Mapping[int, Reason]:
         """Of whom not all processes were looked at, each with why."""
-        return {person: spent.budget.told(person) for spent in (self.bytes, self.count) for person in spent.over()}
+        return {person: spent.budget.exceeded_by(person) for spent in (self.bytes, self.count) for person in spent.over()}
 
     def look(self) -> "Reader":
         """Reads all processes, as far as the budgets of their users go."""

@@ -14,6 +14,7 @@ from zirofen_host import progress
 from zirofen_host.collect import bounded
 from zirofen_host.collect.bounded import Payer, Spent
 from zirofen_host.collect.model import Cgroup, Entry, FilePlace
+from zirofen_host.collect.reasons import CHANGED, NeverSettled, Reason, Unreadable
 from zirofen_host.fault import Fault
 from zirofen_host.files import may_set
 from zirofen_host.profile import (CONTROL_FILES, CONTROLLERS, FURTHER_FILES, LIMIT_FILES, LONGEST_PATH, ROOT, CgroupPath, ancestors,
@@ -24,27 +25,32 @@ MOST_WALKS = 8
 # the longest path that a kernel takes; what is in a folder is read by the folder's descriptor
 LONGEST_FOLDER = 4095
 
-CHANGED = "it came, went or changed while it was read"
-ALL_THE_TIME = f"what matters for it came, went or changed through {MOST_WALKS} walks"
-
 Of = TypeVar("Of")
 NONE: FrozenSet[str] = frozenset()
 # a uid, a gid and a mode
 Owned = Tuple[int, int, int]
 # why something is left out, by its path
-Whys = Mapping[CgroupPath, str]
+Whys = Mapping[CgroupPath, Reason]
 
 
 class Vanished(Exception):
     """A cgroup, or a file of it, went while it was read."""
 
 
-class Unread(Exception):
-    """A cgroup that can't be read, with why."""
+class LeftOut(Exception):
+    """A cgroup that is left out, with why."""
+
+    def __init__(self, reason: Reason) -> None:
+        super().__init__(str(reason))
+        self.reason = reason
 
 
-class OverBudget(Exception):
-    """Somebody has more than is looked at, as a line says it."""
+class Unread(LeftOut):
+    """A cgroup that can't be read."""
+
+
+class TooMuch(LeftOut):
+    """Somebody has more than is looked at."""
 
 
 class Hold(NamedTuple):
@@ -102,7 +108,7 @@ class Walk:
         self.on_the_way = {place for top in self.tops or () for place in ancestors(top)}
         self.found: Dict[CgroupPath, Cgroup] = {}
         self.left_out: Dict[CgroupPath, int] = {}
-        self.unread: Dict[CgroupPath, str] = {}
+        self.unread: Dict[CgroupPath, Reason] = {}
         self.gone: Set[CgroupPath] = set()
         # each file by which something is set, by its device and inode
         self.places: Dict[FilePlace, Tuple[CgroupPath, str]] = {}
@@ -123,11 +129,11 @@ class Walk:
                 self.gone.add(path)
                 continue
             except Unread as unread:
-                self.unread[path] = str(unread)
+                self.unread[path] = unread.reason
                 continue
-            except OverBudget as over:
+            except TooMuch as over:
                 # all of it is given up at once, and what was read of it is dropped at last
-                self.unread[self.hold.path if self.hold else path] = str(over)
+                self.unread[self.hold.path if self.hold else path] = over.reason
                 continue
             finally:
                 if self.hold:
@@ -146,7 +152,7 @@ class Walk:
     def charge(self, spent: Spent, amount: int = 1) -> None:
         """Charges whose cgroup is read."""
         if self.hold and not spent.take(self.hold.uid, amount):
-            raise OverBudget(spent.budget.told(self.hold.uid))
+            raise TooMuch(spent.budget.exceeded_by(self.hold.uid))
 
     def full(self, path: CgroupPath) -> bytes:
         return self.mount if path == ROOT else self.mount + path
@@ -168,12 +174,12 @@ class Walk:
             if isinstance(error, Vanished):
                 raise
             if isinstance(error, ValueError):
-                raise Unread(f"can't read it: {error}") from None
+                raise Unread(Unreadable(str(error))) from None
             # it went, or a file was opened and then its cgroup went
             if error.errno in (errno.ENODEV, errno.ENOENT, errno.ENOTDIR) and not self.is_there(path, folder):
                 raise Vanished from None
             file = f"{error.filename}: " if folder is not None and isinstance(error.filename, str) else ""
-            raise Unread(f"can't read it: {file}{error.strerror}") from None
+            raise Unread(Unreadable(f"{file}{error.strerror}")) from None
         finally:
             if folder is not None:
                 os.close(folder)
@@ -271,18 +277,18 @@ class Walk:
         uid = uid or (self.hold.uid if self.hold else 0)
         count = count_of(folder, name, max(self.cgroups.left(uid), 0) if uid else self.cgroups.budget.most)
         if not self.cgroups.take(uid, count) and self.hold and self.payer(uid) == self.hold.uid:
-            raise OverBudget(self.cgroups.budget.told(self.hold.uid))
+            raise TooMuch(self.cgroups.budget.exceeded_by(self.hold.uid))
         return count
 
     def covers(self, path: CgroupPath) -> bool:
         """Whether a path is among those that this walk was of."""
         return self.tops is None or path in self.on_the_way or not self.tops.isdisjoint((path, *ancestors(path)))
 
-    def differing(self, before: "Walk") -> Dict[CgroupPath, str]:
+    def differing(self, before: "Walk") -> Dict[CgroupPath, Reason]:
         """What two walks in a row don't agree on, of what this one was of; each with why."""
         paths = {*self.found, *self.gone, *filter(self.covers, before.found), *filter(self.covers, before.gone)}
-        differing = {path: CHANGED for path in paths
-                     if not is_alike(self.found.get(path), before.found.get(path)) or not self.is_top_down(path)}
+        differing: Dict[CgroupPath, Reason] = {
+            path: CHANGED for path in paths if not is_alike(self.found.get(path), before.found.get(path)) or not self.is_top_down(path)}
         # a file may go in the midst of a change; what can't be read twice can't be read
         return {**differing, **{path: why if before.unread.get(path) == why else CHANGED for path, why in self.unread.items()}}
 
@@ -453,18 +459,18 @@ def settled(mount: str, only: Optional[CgroupPath], subtrees_of: Callable[[Walk,
     return Settled(walk, changing, spoiled)
 
 
-def spoiled_of(changing: Whys, subtrees: Iterable[CgroupPath]) -> Dict[CgroupPath, str]:
+def spoiled_of(changing: Whys, subtrees: Iterable[CgroupPath]) -> Dict[CgroupPath, Reason]:
     """The subtrees that are spoiled at last; what can't be read is told of also where it is in no subtree that is known of."""
-    spoiled = {path: ALL_THE_TIME if why == CHANGED else why for path, why in spoiled_by(changing, subtrees).items()}
+    spoiled = {path: NeverSettled(MOST_WALKS) if why == CHANGED else why for path, why in spoiled_by(changing, subtrees).items()}
     for path, why in changing.items():
         if why != CHANGED and spoiled.keys().isdisjoint((path, *ancestors(path))):
             spoiled[path] = why
     return spoiled
 
 
-def spoiled_by(changing: Whys, subtrees: Iterable[CgroupPath]) -> Dict[CgroupPath, str]:
+def spoiled_by(changing: Whys, subtrees: Iterable[CgroupPath]) -> Dict[CgroupPath, Reason]:
     """The subtrees for which something matters that changed, each with why; what can't be read goes before what changed."""
-    inside: Dict[CgroupPath, str] = {}
+    inside: Dict[CgroupPath, Reason] = {}
     for path, why in changing.items():
         for place in (path, *ancestors(path)):
             if inside.get(place, CHANGED) == CHANGED:
@@ -474,5 +480,5 @@ def spoiled_by(changing: Whys, subtrees: Iterable[CgroupPath]) -> Dict[CgroupPat
         of = (inside.get(subtree), *(changing.get(place) for place in ancestors(subtree)))
         whys = {why for why in of if why is not None}
         if whys:
-            spoiled[subtree] = min(whys - {CHANGED}, default=CHANGED)
+            spoiled[subtree] = min(whys - {CHANGED}, key=str, default=CHANGED)
     return spoiled

@@ -4,10 +4,11 @@ from typing import DefaultDict, Dict, Iterable, List, Mapping, Optional, Set, Tu
 
 from zirofen_host.ask.program import ESCAPES
 from zirofen_host.ask.questions import unit_of
-from zirofen_host.ask.texts import is_too_large
+from zirofen_host.ask.reasons import TextRefused, TooLargeForText
 from zirofen_host.collect.model import GROUP, OTHERS, OWNER, Entry, User
+from zirofen_host.collect.reasons import Reason
 from zirofen_host.collect.tree import in_order, row_text
-from zirofen_host.collect.walk import CHANGED, MANAGERS_MARK
+from zirofen_host.collect.walk import MANAGERS_MARK
 from zirofen_host.judge import long_lists
 from zirofen_host.judge.advised import Advised
 from zirofen_host.judge.checked import Checked
@@ -114,11 +115,11 @@ def is_shown(checked: Checked, place: Place, let_in: Iterable[LetIn]) -> bool:
 
 def fault_findings(checked: Checked, advised: Advised) -> Iterable[FaultFinding]:
     """Subtrees that can't be asked of anybody, pairs without an answer, and users of whom not all was looked at."""
-    by_why: Dict[Tuple[str, Optional[str]], List[str]] = defaultdict(list)
+    by_why: Dict[Tuple[Reason, Optional[str]], List[str]] = defaultdict(list)
     below = makers_below(checked)
     for path, why in sorted(checked.answers.refused.items()):
         by_why[why, makers_of(checked, below, path, why)].append(shown(text_of(path)))
-    yield from (FaultFinding("everybody", None, (), why, tuple(paths), made_by) for (why, made_by), paths in by_why.items())
+    yield from (FaultFinding("everybody", None, (), str(why), tuple(paths), made_by) for (why, made_by), paths in by_why.items())
     yield from faults_of_pairs(checked.names, advised)
     yield from faults_of_budgets(checked)
 
@@ -133,7 +134,7 @@ def faults_of_budgets(checked: Checked) -> Iterable[FaultFinding]:
             yield fault_of_budget(checked, person, f"{why}: not all were looked at", held)
     for person in spent.over():
         made = held_by(checked, person, holders) or [path for path in checked.snapshot.cgroups if checked.holds.within(path) == person]
-        yield fault_of_budget(checked, person, f"{spent.budget.told(person)}: not all are told", made)
+        yield fault_of_budget(checked, person, f"{spent.budget.exceeded_by(person)}: not all are told", made)
 
 
 def held_by(checked: Checked, person: int, paths: Iterable[CgroupPath]) -> List[CgroupPath]:
@@ -151,18 +152,19 @@ def makers_below(checked: Checked) -> Mapping[CgroupPath, Set[Optional[str]]]:
     """By whose making something is left out at a cgroup or inside of it; None stands for what is of nobody's."""
     found: DefaultDict[CgroupPath, Set[Optional[str]]] = defaultdict(set)
     for place, why in checked.snapshot.changing.items():
-        maker = holder_at(checked, place) if is_by_somebody(why) else None
+        maker = holder_at(checked, place) if why.is_by_somebody else None
         for above in (place, *ancestors(place)):
             found[above].add(maker)
     return found
 
 
-def makers_of(checked: Checked, below: Mapping[CgroupPath, Set[Optional[str]]], path: CgroupPath, why: str) -> Optional[str]:
+def makers_of(checked: Checked, below: Mapping[CgroupPath, Set[Optional[str]]], path: CgroupPath,
+              why: Reason) -> Optional[str]:
     """Those by whose own making alone a subtree goes without an answer: it is too large, or what they hold inside of it changes
     all the time. What is above it, or what root alone has, is of nobody's making, and so is what can't be read."""
-    if why.startswith("fault:") or not checked.snapshot.changing.keys().isdisjoint(ancestors(path)):
+    if isinstance(why, TextRefused) or not checked.snapshot.changing.keys().isdisjoint(ancestors(path)):
         return None
-    largest = maker_of_most(checked, path) if is_too_large(why) else None
+    largest = maker_of_most(checked, path) if isinstance(why, TooLargeForText) else None
     makers = below.get(path) or {largest or holder_at(checked, path)}
     return None if None in makers else some(sorted(filter(None, makers)))
 
@@ -175,11 +177,6 @@ def maker_of_most(checked: Checked, path: CgroupPath) -> Optional[str]:
         if person is not None:
             made[person] += len(row_text(tree.rows[place], tree.format))
     return checked.names.user(min(made, key=lambda person: (-made[person], person))) if made else None
-
-
-def is_by_somebody(why: str) -> bool:
-    """Whether somebody makes a cgroup change, or has more than is looked at, so that it is left out."""
-    return why == CHANGED or why.startswith("uid ")
 
 
 def holder_at(checked: Checked, path: CgroupPath) -> Optional[str]:

@@ -1,0 +1,85 @@
+"""Why something of a host is left out, or has no answer: a class for each kind, and a sentence made of its fields where it is shown."""
+from abc import ABC, abstractmethod
+from dataclasses import dataclass
+from typing import ClassVar
+
+
+@dataclass(frozen=True)
+class Reason(ABC):
+    """Why something is left out, or has no answer."""
+    # it is what somebody does or has, and no fault of the host's
+    is_by_somebody: ClassVar[bool] = False
+
+    @abstractmethod
+    def __str__(self) -> str:
+        """The sentence that is shown."""
+
+
+@dataclass(frozen=True)
+class Changed(Reason):
+    """A cgroup changed between two walks."""
+    is_by_somebody = True
+
+    def __str__(self) -> str:
+        return "it came, went or changed while it was read"
+
+
+@dataclass(frozen=True)
+class NeverSettled(Reason):
+    """What matters for a subtree changed through so many walks."""
+    walks: int
+
+    def __str__(self) -> str:
+        return f"what matters for it came, went or changed through {self.walks} walks"
+
+
+@dataclass(frozen=True)
+class Unreadable(Reason):
+    """A cgroup can't be read."""
+    why: str
+
+    def __str__(self) -> str:
+        return f"can't read it: {self.why}"
+
+
+@dataclass(frozen=True)
+class OverBudget(Reason):
+    """Somebody has more of something than is looked at."""
+    is_by_somebody = True
+    person: int
+    most: int
+    what: str
+
+    def __str__(self) -> str:
+        return f"uid {self.person} has over {self.most} {self.what}"
+
+
+@dataclass(frozen=True)
+class LeftOutToFit(Reason):
+    """Somebody's cgroups in a place were left out of a text that takes so much of something at most."""
+    is_by_somebody = True
+    person: int
+    count: int
+    place: str
+    most: int
+    what: str
+
+    def __str__(self) -> str:
+        return f"uid {self.person} has {self.count} cgroups in {self.place}, left out: a text has {self.most} {self.what} at most"
+
+
+@dataclass(frozen=True)
+class CarriedReason(Reason):
+    """A reason as a text of another host carries it, which is its sentence alone."""
+    sentence: str
+
+    def __str__(self) -> str:
+        return self.sentence
+
+
+class CarriedOfSomebody(CarriedReason):
+    """One that is what somebody does or has."""
+    is_by_somebody = True
+
+
+CHANGED = Changed()
