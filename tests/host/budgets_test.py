@@ -17,7 +17,8 @@ from zirofen_host.ask import accepted
 from zirofen_host.ask import program as asking
 from zirofen_host.ask.model import Question
 from zirofen_host.ask.questions import Runs, bounded_further, subtrees_by
-from zirofen_host.collect import bounded, descriptors, looks, processes, snapshot, walk
+from zirofen_host.collect import bounded, descriptors, processes, snapshot, walk
+from zirofen_host.collect.notes import FAILED
 from zirofen_host.collect.accounts import Accounts
 from zirofen_host.collect.bounded import Budget, Spent
 from zirofen_host.collect.holds import Holds
@@ -444,7 +445,7 @@ class LooksTest(ThreeTest):
         self.addCleanup(patched.stop)
 
     def test_each_look_stands_alone(self):
-        for module, name, what in ((unseen, "inodes_of", "descriptors"), (whole, "users_of", "users"), (unseen, "numbers", None),
+        for module, name, what in ((unseen, "inodes_of", "descriptors"), (whole, "users_of", "users"), (unseen, "unknown_files", "unknown"),
                                    (findings, "closing_of_directories", "closing"), (findings, "what_differs", "differs")):
             with self.subTest(name):
                 self.host.cgroup("/m.service", owners=owned(1001), marks=("trusted.delegate",))
@@ -454,7 +455,7 @@ class LooksTest(ThreeTest):
                 setattr(module, name, original)
                 self.others(found)
                 if what:
-                    self.assertIn(f"{what}: KeyError('memory.max')", self.told(found, looks.FAILED))
+                    self.assertIn(f"{what}: KeyError('memory.max')", self.told(found, FAILED))
                     self.assertEqual(found["status"], 3)
 
     def test_what_is_collected_stands_alone(self):
@@ -474,7 +475,7 @@ class LooksTest(ThreeTest):
             with self.subTest(name), mock.patch.object(module, name, odd or mock.Mock(side_effect=OSError("no"))):
                 found = self.report(json=True)
                 self.assertEqual([row_[2:] for row_ in self.rows(found) if row_[3] in ("/bob", "/carol")], OTHERS)
-                self.assertEqual([f"{each['place']}: {each['text']}" for each in found["snapshot"] if each["kind"] == looks.FAILED],
+                self.assertEqual([f"{each['place']}: {each['text']}" for each in found["snapshot"] if each["kind"] == FAILED],
                                  [what] if what else [])
                 self.assertEqual(found["status"], 3 if what else 1)
 

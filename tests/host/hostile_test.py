@@ -27,8 +27,8 @@ from zirofen_host.ask.texts import Programs
 
 OLDEST = (3, 9)
 # modules that it has
-MODULES = set("argparse atexit base64 bisect collections concurrent contextlib dataclasses datetime enum errno functools grp hashlib html "
-              "itertools json os pwd re shlex shutil signal stat string subprocess sys tempfile textwrap time types typing "
+MODULES = set("abc argparse atexit base64 bisect collections concurrent contextlib dataclasses datetime enum errno functools grp hashlib "
+              "html itertools json os pwd re shlex shutil signal stat string subprocess sys tempfile textwrap time types typing "
               "unicodedata urllib xml".split())
 # what reads a text takes one of these
 READERS = {"tomllib", "tomli"}

@@ -12,6 +12,7 @@ from made_up import COMMAND
 from shown import made
 from zirofen_host.judge import mends
 from zirofen_host.judge.model import ABSENT, ReportCgroup, ReportFile, Told
+from zirofen_host.judge.notes import LostLimit, Restart
 from zirofen_host.judge.rules import findings_of
 from zirofen_host.show import formats
 from zirofen_host.show import mends as written
@@ -122,8 +123,8 @@ class MendsTest(HostTest):
 
     def test_a_limit_that_the_next_start_doesnt_bring(self):
         report = made(example.kept())
-        told = Told("restart", "/system.slice/web.service", "web.service is started anew with its own settings alone: memory.max is "
-                    "4294967296, and MemoryMax=infinity; memory.swap.max is 0, and MemorySwapMax=infinity")
+        told = Told.of(Restart("/system.slice/web.service", "web.service", (
+            LostLimit("memory.max", "4294967296", "MemoryMax=infinity"), LostLimit("memory.swap.max", "0", "MemorySwapMax=infinity"))))
         report = replace(report, entries=(), opened=(), differs=(), unseen=(told,), cgroups=(
             replace(row(memory_max=4294967296, memory_swap_max=0, memory_high=4096, pids_max=1754), path=told.place),))
         [found] = mends.mends_of(report, findings_of(report))
@@ -137,8 +138,7 @@ class MendsTest(HostTest):
         self.host.cgroup("/system.slice/a.service", owners={**owned(1000), "memory.high": 1000}, marks=(MARK,),
                          values={"memory.max": 8192, "memory.high": 4096, "pids.max": 5})
         report = made(self.report(json=True))
-        told = Told("restart", "/system.slice/a.service", "a.service is started anew with its own settings alone: memory.max is 8192, "
-                    "and MemoryMax=infinity")
+        told = Told.of(Restart("/system.slice/a.service", "a.service", (LostLimit("memory.max", "8192", "MemoryMax=infinity"),)))
         report = replace(report, unseen=(*report.unseen, told))
         [found] = [each for each in mends.mends_of(report, findings_of(report)) if each.unit]
         self.assertEqual(found.settings, ("MemoryHigh=4096", "MemoryMax=8192"))

@@ -9,6 +9,7 @@ import typing
 from collections.abc import Mapping
 
 from made_up import TOP
+from zirofen_host.judge.as_json import fields_of
 from zirofen_host.judge.model import VERSION, Absent, Filled, Matching, Report
 
 FILE = f"{TOP}/host/zirofen_host/judge/report.schema.json"
@@ -30,11 +31,11 @@ def add(kind, parts):
     if kind.__name__ in parts:
         return
     parts[kind.__name__] = {}
-    hints = typing.get_type_hints(kind, include_extras=True)
+    fields = fields_of(kind)
     told = {} if kind.__doc__.startswith(f"{kind.__name__}(") else {"description": kind.__doc__}
     parts[kind.__name__] = {
-        **told, "type": "object", "properties": {name: of_hint(hint, parts) for name, hint in hints.items()},
-        "required": [each.name for each in dataclasses.fields(kind) if each.default is dataclasses.MISSING],
+        **told, "type": "object", "properties": {name: of_hint(hint, parts) for name, hint, _ in fields},
+        "required": [name for name, _, is_wanted in fields if is_wanted],
         "additionalProperties": False}
 
 
@@ -73,7 +74,7 @@ def faults_of(value, schema=None, whole=None, place="report"):
     if "anyOf" in schema:
         return [] if any(not faults_of(value, each, whole, place) for each in schema["anyOf"]) else [place]
     types = schema["type"] if isinstance(schema["type"], list) else [schema["type"]]
-    if type(value) not in [PYTHON[each] for each in types]:
+    if (dict if isinstance(value, dict) else type(value)) not in [PYTHON[each] for each in types]:
         return [place]
     if value != schema.get("const", value):
         return [place]

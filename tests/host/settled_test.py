@@ -5,7 +5,7 @@ from dataclasses import replace
 from unittest import mock
 
 from check_test import MARK, HostTest, owned
-from zirofen_host.collect.model import Note
+from zirofen_host.collect.notes import CarriedNote, WrongName
 from zirofen_host.judge import check, long_lists
 from zirofen_host.judge.one import ask
 from zirofen_host.options import AskOptions
@@ -62,7 +62,7 @@ class SettledTest(HostTest):
     def test_nothing_is_settled_where_cgroups_are_left_out(self):
         self.given("cgroup.procs", "settle")
         snapshot = self.host.snapshot()
-        notes = Note("name", "/a", "left out"), Note("large", "/", "left out")
+        notes = WrongName("/a", 0), CarriedNote("/", "large", "left out")
         for other in (replace(snapshot, changing={b"/other": "changed"}), *(replace(snapshot, notes=(note,)) for note in notes)):
             report = check.report(other, self.options(), False)
             self.assertEqual([each.answer for each in report.entries], ["unsettled"])

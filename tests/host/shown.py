@@ -8,12 +8,23 @@ from zirofen_host.judge.saved import LACKING
 from zirofen_host.show import lines
 
 
+class Value(dict):
+    """The value of a report, with the report: what is printed is made of notes, which JSON has the texts of alone."""
+    report = None
+
+
 def value_of(report):
-    return json.loads("".join(as_json.parts_of(report)))
+    value = Value(json.loads("".join(as_json.parts_of(report))))
+    value.report = report
+    return value
 
 
 def made(value, kind=Report):
-    return value if isinstance(value, kind) else as_json.made_of(kind, value, "report", LACKING)
+    """The report of a value, as it was made where nothing in the value was changed since, or else as it is read."""
+    if isinstance(value, kind):
+        return value
+    report = getattr(value, "report", None)
+    return report if report and value == value_of(report) else as_json.made_of(kind, value, "report", LACKING)
 
 
 def lines_of(report):

@@ -19,7 +19,8 @@ from zirofen_host.ask.program import UNSETTLED, Answered, Program, TreeRefused
 from zirofen_host.ask.reasons import TextRefused, TooLargeForText, TooLong, TooManyCgroups
 from zirofen_host.collect import snapshot as snapshots
 from zirofen_host.collect.looks import Looks
-from zirofen_host.collect.model import Note, Placed, Snapshot, Tree, User
+from zirofen_host.collect.model import Placed, Snapshot, Tree, User
+from zirofen_host.collect.notes import Failed
 from zirofen_host.collect.reasons import Reason
 from zirofen_host.collect.tree import head_text, in_order, process_text, row_text
 from zirofen_host.options import Options
@@ -243,7 +244,7 @@ class Programs:
     texts: Sequence[Text]
     of: Mapping[CgroupPath, Program]
     # where a text couldn't be kept, and why
-    failed: Sequence[Note] = ()
+    failed: Sequence[Failed] = ()
 
     def ask(self, questions: Sequence[Question], has_audit_all: bool) -> Tuple[Answered, Dict[CgroupPath, Reason]]:
         """The answers that aren't contained, and the subtrees whose text was refused, each with the program's line."""

@@ -12,9 +12,10 @@ from zirofen_host.collect import fitting
 from zirofen_host.collect import snapshot as snapshots
 from zirofen_host.collect.accounts import Accounts, is_id
 from zirofen_host.collect.holds import Holds
-from zirofen_host.collect.model import (About, Account, AccountLists, Carried, Cgroup, CgroupMount, Entry, Group, Inside, Note, Process,
-                                        Range, Row, Snapshot, Source, Tree, User)
+from zirofen_host.collect.model import (About, Account, AccountLists, Carried, Cgroup, CgroupMount, Entry, Group, Inside, Process, Range,
+                                        Row, Snapshot, Source, Tree, User)
 from zirofen_host.collect.mount import read_kernel_list
+from zirofen_host.collect.notes import CarriedNote, LimitsOfVersion1, Note, OtherType
 from zirofen_host.collect.reasons import CHANGED, CarriedOfSomebody, CarriedReason, Reason
 from zirofen_host.collect.tree import number_in, parts_in, table_in, text_in, texts_in
 from zirofen_host.fault import Fault
@@ -94,7 +95,7 @@ class Gathered:
         kind, place, detail = map(str, parts_in(value))
         # a place is a path, or one as it is shown
         path_of(place)
-        self.notes.append(Note(kind, place, detail))
+        self.notes.append(CarriedNote(place, kind, detail))
 
     def take_inside(self, value: object) -> None:
         path, processes, by, mounts, capabilities, *flags = parts_in(value)
@@ -108,7 +109,8 @@ class Gathered:
 
     def kind(self, path: CgroupPath) -> str:
         """What a cgroup's type is, where a note tells that it isn't in domain mode."""
-        return next((note.detail.partition(":")[0] for note in self.notes if (note.kind, note.place) == ("type", text_of(path))), "domain")
+        of_type = (note.text for note in self.notes if (note.kind, note.place) == (OtherType.kind, text_of(path)))
+        return next(of_type, "domain").partition(":")[0]
 
     def carried(self) -> Optional[Carried]:
         if self.mount is None:
@@ -172,20 +174,8 @@ def cgroup_of(tree: Tree, row: Row, gathered: Gathered) -> Cgroup:
 
 def version_1_in(notes: Iterable[Note]) -> Tuple[str, ...]:
     """The controllers with limits of version 1, which a note names."""
-    words = {word.strip(",") for note in notes if note.kind == "version-1" for word in note.detail.split()}
+    words = {word.strip(",") for note in notes if note.kind == LimitsOfVersion1.kind for word in note.text.split()}
     return tuple(sorted(words & OF_LIMITS))
-
-
-def told_unseen(snapshot: Snapshot, has_accounts: bool) -> str:
-    """What a text doesn't tell, where the accounts of its host may have been named beside it."""
-    if snapshot.source.carried:
-        return "this is judged by a text: open descriptors and the settings of units aren't told by it"
-    by_number = "" if has_accounts else (", and so it is judged by number: names, who is in which group and whose ids are subordinate "
-                                         "aren't known, which --accounts FOLDER tells too")
-    return ("this is judged by a text that carries nothing of its host: open descriptors, settings of units, marks, other files, "
-            "capabilities, the groups of processes and containers of root's aren't told; zirofen-host snapshot --with-host carries all but "
-            "the first two"
-            f"{by_number}")
 
 
 def reason_in(sentence: str) -> Reason:
@@ -231,7 +221,7 @@ def carried(snapshot: Snapshot, accounts: Accounts) -> Iterator[Mapping[str, obj
     yield {"about": {"host": about.host, "kernel": about.kernel, "time": about.time, "mount": snapshot.mount,
                      "options": list(snapshot.mount_options), "delegate": sorted(snapshot.kernel_list)}}
     for note in snapshot.notes:
-        yield {"note": [note.kind, note.place, note.detail]}
+        yield {"note": [note.kind, note.place, note.text]}
     for path, found in snapshot.cgroups.items():
         yield {"cgroup": carried_of(snapshot, path, found)}
     for process in snapshot.processes.values():

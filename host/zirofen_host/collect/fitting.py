@@ -5,7 +5,8 @@ from dataclasses import replace
 from typing import Callable, DefaultDict, Dict, Iterable, List, Mapping, Optional
 
 from zirofen_host.collect.holds import Holds
-from zirofen_host.collect.model import Note, Placed, Snapshot
+from zirofen_host.collect.model import Placed, Snapshot
+from zirofen_host.collect.notes import ProcessesOverText, TooLarge
 from zirofen_host.collect.reasons import LeftOutToFit
 from zirofen_host.collect.tree import row_text
 from zirofen_host.profile import CgroupPath, ancestors, parent_of, path_of, text_of, topmost
@@ -39,7 +40,7 @@ def length(snapshot: Snapshot) -> Weight:
     """How long a cgroup's lines in a text are, with what is carried of it."""
     lengths: Dict[CgroupPath, int] = Counter()
     for note in snapshot.notes:
-        lengths[path_of(note.place)] += len(note.place) + len(note.detail)
+        lengths[path_of(note.place)] += len(note.place) + len(note.text)
 
     def of(path: CgroupPath) -> int:
         marks = snapshot.cgroups[path].marks.values()
@@ -59,16 +60,16 @@ def without_inside(snapshot: Snapshot, holds: Holds, person: int, most: int, wha
         if parent is not None:
             by_parent[parent].append(path)
     counts = Counter(top for path in lost for top in (path, *ancestors(path)) if top in by_parent)
-    changing = {**snapshot.changing, **{paths[0]: LeftOutToFit(person, counts[parent], text_of(parent), most, what)
-                                        for parent, paths in by_parent.items()}}
+    reasons = {parent: LeftOutToFit(person, counts[parent], text_of(parent), most, what) for parent in by_parent}
     tree = snapshot.tree
     return replace(
         snapshot, cgroups={path: found for path, found in snapshot.cgroups.items() if path not in lost},
         tree=replace(tree, rows={path: row for path, row in tree.rows.items() if path not in lost},
                      processes=[each for each in tree.processes if each.at not in lost]),
         notes=(*(note for note in snapshot.notes if holds.within(path_of(note.place)) != person),
-               *(Note("large", text_of(parent), str(changing[paths[0]])) for parent, paths in by_parent.items())),
-        changing=changing, makers={**snapshot.makers, **{paths[0]: person for paths in by_parent.values()}})
+               *(TooLarge(text_of(parent), reason) for parent, reason in reasons.items())),
+        changing={**snapshot.changing, **{by_parent[parent][0]: reason for parent, reason in reasons.items()}},
+        makers={**snapshot.makers, **{paths[0]: person for paths in by_parent.values()}})
 
 
 def without_processes(snapshot: Snapshot, holds: Holds) -> Snapshot:
@@ -79,7 +80,7 @@ def without_processes(snapshot: Snapshot, holds: Holds) -> Snapshot:
         counts = Counter(holds.payer(each.uid) if each.uid else 0 for each in processes)
         person = max(sorted(counts), key=lambda each: (each != 0, counts[each]))
         processes = [each for each in processes if (holds.payer(each.uid) if each.uid else 0) != person]
-        notes.append(Note("processes", "/", f"{counts[person]} of uid {person} left out: a text has {most} at most"))
+        notes.append(ProcessesOverText("/", person, counts[person], most))
     return replace(snapshot, tree=replace(snapshot.tree, processes=processes), notes=tuple(notes))
 
 

@@ -1,10 +1,8 @@
 """Looks that stand alone: where one fails, a line says which and why, and all others are told."""
 from typing import Callable, Iterable, List, Tuple, TypeVar
 
-from zirofen_host.collect.model import Note
+from zirofen_host.collect.notes import Failed
 from zirofen_host.fault import Fault
-
-FAILED = "failed"
 
 Item = TypeVar("Item")
 Made = TypeVar("Made")
@@ -23,7 +21,7 @@ class Looks:
     """What failed so far."""
 
     def __init__(self) -> None:
-        self.failed: List[Note] = []
+        self.failed: List[Failed] = []
 
     def at(self, what: str, look: Callable[[], Made], instead: Made, is_asked_for: bool = False) -> Made:
         """What a look gives, or something instead where it fails. A fault of what was asked for isn't kept back."""
@@ -32,7 +30,7 @@ class Looks:
         except Exception as error:
             if is_asked_for and isinstance(error, Fault):
                 raise
-            self.failed.append(Note(FAILED, what, why_of(error)))
+            self.failed.append(Failed(what, why_of(error)))
             return instead
 
     def all(self, what: str, look: Callable[[], Iterable[Made]]) -> Tuple[Made, ...]:
@@ -54,6 +52,5 @@ class Looks:
             except Exception as error:
                 wrong.append(why_of(error))
         if wrong:
-            more = f", and {len(wrong) - 1} more" if len(wrong) > 1 else ""
-            self.failed.append(Note(FAILED, what, f"{wrong[0]}{more}"))
+            self.failed.append(Failed(what, wrong[0], len(wrong) - 1))
         return tuple(made)

@@ -2,6 +2,7 @@
 from dataclasses import dataclass, field
 from typing import Collection, FrozenSet, List, Mapping, NamedTuple, Optional, Sequence, Tuple, Union
 
+from zirofen_host.collect.notes import Note
 from zirofen_host.collect.reasons import Reason
 from zirofen_host.profile import (DIRECTORY_MODE, FILE_MODE, FURTHER_FILES, LIMIT_FILES, TEXT_FORMATS, CgroupPath, TextFormat,
                                   parent_of)
@@ -165,14 +166,6 @@ class Scope(NamedTuple):
     id: str
     name: Optional[str]
     holder: Optional[int]
-
-
-@dataclass(frozen=True)
-class Note:
-    """What a tree text bends or leaves out, and where."""
-    kind: str
-    place: str
-    detail: str
 
 
 @dataclass(frozen=True)

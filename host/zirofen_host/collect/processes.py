@@ -3,7 +3,8 @@ from typing import Dict, Iterator, List, Mapping, Optional, Tuple
 
 from zirofen_host.collect import bounded
 from zirofen_host.collect.bounded import Payer, Spent
-from zirofen_host.collect.model import Note, Process, User
+from zirofen_host.collect.model import Process, User
+from zirofen_host.collect.notes import Failed, Lacking
 from zirofen_host.collect.reasons import Reason
 
 KERNEL_THREAD = 0x00200000
@@ -41,7 +42,7 @@ class Reader:
         self.found: Dict[int, Process] = {}
         # of which what is told isn't known
         self.unknown: List[int] = []
-        self.failed: List[Note] = []
+        self.failed: List[Failed] = []
 
     def over(self) -> Mapping[int, Reason]:
         """Of whom not all processes were looked at, each with why."""
@@ -124,13 +125,13 @@ def capabilities_of(proc: str, pid: int, bits: int) -> Tuple[str, ...]:
         return names
 
 
-def lacking_notes(proc: str) -> Iterator[Note]:
+def lacking_notes(proc: str) -> Iterator[Lacking]:
     """What this process can't see for want of a capability."""
     status = bounded.read_file(f"{proc}/self/status", bounded.STATUS).text("utf-8", "replace")
     bits = int(status_fields(status)["CapEff"][0], 16)
     for numbers, name, unseen in NEEDED:
         if not any(bits >> number & 1 for number in numbers):
-            yield Note("lacking", "/", f"this helper hasn't CAP_{name}: {unseen}")
+            yield Lacking("/", name, unseen)
 
 
 def read_processes(proc: str) -> Dict[int, Process]:

@@ -9,8 +9,11 @@ from zirofen_host.collect import containers, inside, walk
 from zirofen_host.collect.accounts import payer_of
 from zirofen_host.collect.bounded import Payer
 from zirofen_host.collect.looks import Looks
-from zirofen_host.collect.model import About, Cgroup, Entry, Note, Placed, Process, Row, Snapshot, Tree, Value
+from zirofen_host.collect.model import About, Cgroup, Entry, Placed, Process, Row, Snapshot, Tree, Value
 from zirofen_host.collect.mount import Mounts, read_kernel_list, refuse_what_is_no_host
+from zirofen_host.collect.notes import (ANY_MODE, Changing, FileOfNoController, LimitsOfVersion1, NamedAsFile, NoFile, Note, NoValue,
+                                        OtherControllers, OtherModes, OtherPid, OtherType, OtherValue, ProcessesBeside,
+                                        UnknownProcess, UnlistedProcesses, WrongName)
 from zirofen_host.collect.processes import Reader, lacking_notes
 from zirofen_host.collect.tree import tree_text as text_of_tree
 from zirofen_host.fault import Fault
@@ -19,10 +22,7 @@ from zirofen_host.options import PROC, Options
 from zirofen_host.profile import (CONTROL_FILES, FURTHER_FILES, KERNEL_LIST, LIMIT_FILES, ROOT, CgroupPath, TextFormat, accepts, is_inside,
                                   is_line, is_root, parent_of, shown, text_of, topmost)
 
-ANY_MODE = 0o777
 LARGEST_PID = 4194303
-# letters of a value that a note shows
-SHOWN = 64
 # names of files that may stand nowhere yet
 KNOWN = {name.encode() for name in (*KINDS, *FURTHER_FILES)}
 
@@ -33,37 +33,35 @@ SubtreesOf = Callable[[Snapshot, walk.Whys], Iterable[CgroupPath]]
 
 def changing_notes(changing: walk.Whys) -> Iterator[Note]:
     for path in sorted(topmost(changing)):
-        yield Note("changing", shown(path), f"left out, with all inside: {changing[path]}")
+        yield Changing(shown(path), changing[path])
 
 
 def name_notes(walked: walk.Walk) -> Iterator[Note]:
     for path, count in sorted(walked.left_out.items()):
-        inside = "" if count == 1 else f", and {count - 1} cgroups inside"
-        yield Note("name", shown(path), f"left out{inside}: no name of the format, or too long a path")
+        yield WrongName(shown(path), count - 1)
     files = {*map(os.fsencode, {file for found in walked.found.values() for file in found.files}), *KNOWN}
     for path in sorted({*walked.found, *walked.left_out}):
         if path.rpartition(b"/")[2] in files:
-            yield Note("file-name", shown(path), "named as a file: a controller with that file can't be enabled above")
+            yield NamedAsFile(shown(path))
 
 
 def controller_notes(cgroups: Cgroups, text_format: TextFormat) -> Iterator[Note]:
     """Controllers that a format leaves out, as far as a cgroup enables them."""
     others = Counter(name for found in cgroups.values() for name in found.enabled if name not in text_format.controllers)
     if others:
-        told = ", ".join(f"{name} ({count})" for name, count in sorted(others.items()))
-        yield Note("controller", "/", f"left out, with how many cgroups enable each: {told}")
+        yield OtherControllers("/", tuple(sorted(others.items())))
 
 
 def process_notes(reader: Reader) -> Iterator[Note]:
     for pid in sorted(reader.unknown):
-        yield Note("pid", "/", f"{pid} left out: what is told of the process isn't known")
+        yield UnknownProcess("/", pid)
 
 
 def version_1_notes(mounts: Mounts) -> Iterator[Note]:
     """Controllers of limits that a version 1 hierarchy has are no part of what is looked at."""
     names = mounts.limits_of_version_1()
     if names:
-        yield Note("version-1", "/", f"limits of {', '.join(names)} are v1's and weren't looked at")
+        yield LimitsOfVersion1("/", names)
 
 
 class Bending:
@@ -73,17 +71,14 @@ class Bending:
         self.cgroups = cgroups
         self.text_format = text_format
         self.notes: List[Note] = []
-        # what is told of modes of the cgroup whose row is made
-        self.modes: List[str] = []
+        # the entries of the cgroup whose row is made that have more in their modes than a text has
+        self.modes: List[Tuple[str, int]] = []
         # the further limit files that are told of, by the table of files that cgroups with the same ones share
         self.reached: Dict[int, List[str]] = {}
 
-    def note(self, kind: str, path: CgroupPath, detail: str) -> None:
-        self.notes.append(Note(kind, text_of(path), detail))
-
     def row(self, path: CgroupPath, found: Cgroup) -> Row:
         if found.kind != "domain":
-            self.note("type", path, f"{found.kind}: threaded mode is left out")
+            self.notes.append(OtherType(text_of(path), found.kind))
         self.modes = []
         directory = self.plain("dir", found.directory)
         files = {file: self.plain(file, found.files[file]) for file in CONTROL_FILES}
@@ -94,19 +89,19 @@ class Bending:
             stands = controller is None or controller in available
             if file not in found.files:
                 if stands and parent:
-                    self.note("no-file", path, f"{file} isn't there, and is written with its default, {default}")
+                    self.notes.append(NoFile(text_of(path), file, default))
             elif stands:
                 files[file] = self.plain(file, found.files[file])
                 values[file] = self.value(path, file, found.texts[file])
             else:
-                self.note("file", path, f"{file} left out: the parent doesn't enable {controller}")
+                self.notes.append(FileOfNoController(text_of(path), file, controller))
         for file in self.further(path, found, available):
             files[file] = self.plain(file, found.files[file])
             value = self.further_value(path, file, found.further.get(file, ""))
             if value is not None:
                 values[file] = value
         if self.modes:
-            self.note("mode", path, "; ".join(self.modes))
+            self.notes.append(OtherModes(text_of(path), tuple(self.modes)))
         return Row(path, directory, files, values, tuple(name for name in self.text_format.controllers if name in found.enabled))
 
     def further(self, path: CgroupPath, found: Cgroup, available: Sequence[str]) -> List[str]:
@@ -118,7 +113,7 @@ class Bending:
             return []
         brought = [file for file in reached if FURTHER_FILES[file] is None or FURTHER_FILES[file] in available]
         for file in sorted(set(reached).difference(brought)):
-            self.note("file", path, f"{file} left out: the parent doesn't enable {FURTHER_FILES[file]}")
+            self.notes.append(FileOfNoController(text_of(path), file, FURTHER_FILES[file]))
         return brought
 
     def further_value(self, path: CgroupPath, file: str, text: str) -> Optional[str]:
@@ -127,8 +122,7 @@ class Bending:
         if text and all(map(is_line, lines)):
             return "\n".join(lines)
         if text:
-            cut = f"{text[:SHOWN]!a}{'' if len(text) <= SHOWN else '..'}"
-            self.note("value", path, f"{file} is {cut}, and is written without it: the format has no such value")
+            self.notes.append(NoValue(text_of(path), file, text))
         return None
 
     def plain(self, name: str, entry: Entry) -> Entry:
@@ -136,7 +130,7 @@ class Bending:
         it is told in one note of a cgroup."""
         if entry.mode <= ANY_MODE:
             return entry
-        self.modes.append(f"{name} has mode 0o{entry.mode:o}, written as 0o{entry.mode & ANY_MODE:03o}")
+        self.modes.append((name, entry.mode))
         return Entry(entry.uid, entry.gid, entry.mode & ANY_MODE)
 
     def value(self, path: CgroupPath, file: str, text: str) -> Value:
@@ -144,7 +138,7 @@ class Bending:
         if value == "max" and file != "cpu.weight" or isinstance(value, int) and accepts(file, value):
             return value
         bent = 1 if value == 0 else LIMIT_FILES[file][1]
-        self.note("value", path, f"{file} is {text!r}, written as {bent}")
+        self.notes.append(OtherValue(text_of(path), file, text, bent))
         return bent
 
     def places(self) -> Dict[int, CgroupPath]:
@@ -152,12 +146,12 @@ class Bending:
         places = {}
         for path, found in self.cgroups.items():
             if found.pids is None:
-                self.note("processes", path, "left out: the cgroup is threaded and doesn't list them")
+                self.notes.append(UnlistedProcesses(text_of(path)))
             for pid in found.pids or ():
                 if 1 <= pid <= LARGEST_PID:
                     places[pid] = path
                 else:
-                    self.note("pid", path, f"{pid} left out: a process of another PID namespace, or no PID of the format")
+                    self.notes.append(OtherPid(text_of(path), pid))
         return places
 
     def placed(self, rows: Mapping[CgroupPath, Row], processes: Mapping[int, Process]) -> Tuple[List[Placed], int]:
@@ -175,7 +169,7 @@ class Bending:
             else:
                 placed.append(Placed(pid, process.uid, path))
         for path, count in sorted(beside.items()):
-            self.note("processes", path, f"{count} left out: the cgroup enables {' '.join(rows[path].enabled)}")
+            self.notes.append(ProcessesBeside(text_of(path), count, rows[path].enabled))
         return placed, threads
 
 
@@ -277,4 +271,4 @@ def tree_text(snapshot: Snapshot, with_processes: bool = True) -> str:
 
 
 def note_lines(snapshot: Snapshot) -> List[str]:
-    return [f"{note.kind}: {note.place}: {note.detail}" for note in snapshot.notes]
+    return [note.line for note in snapshot.notes]

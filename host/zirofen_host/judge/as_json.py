@@ -6,7 +6,7 @@ import re
 import typing
 from typing import Annotated, Dict, Iterator, List, Mapping, Tuple, Type, TypeVar, Union, cast
 
-from zirofen_host.judge.model import ABSENT, Absent, Report
+from zirofen_host.judge.model import ABSENT, NO_KEY, Absent, Report
 
 Json = Union[None, bool, int, str, List["Json"], Dict[str, "Json"]]
 Made = TypeVar("Made")
@@ -35,14 +35,17 @@ def keys_of(made: object) -> Dict[str, object]:
     """The keys of a dataclass, of which those that are ABSENT have none."""
     if not dataclasses.is_dataclass(made):
         raise TypeError(f"a report has no {type(made).__name__}")
-    return {name: value for name, value in vars(made).items() if value is not ABSENT}
+    kind: type = type(made)
+    values = vars(made)
+    return {name: values[name] for name, _, _ in fields_of(kind) if values[name] is not ABSENT}
 
 
 @functools.lru_cache(maxsize=None)
 def fields_of(kind: type) -> Tuple[Tuple[str, object, bool], ...]:
-    """The name and the type of each field, and whether its key has to be there."""
+    """The name and the type of each field that has a key, and whether that has to be there."""
     hints = typing.get_type_hints(kind, include_extras=True)
-    return tuple((each.name, hints[each.name], each.default is dataclasses.MISSING) for each in dataclasses.fields(kind))
+    return tuple((each.name, hints[each.name], each.default is dataclasses.MISSING) for each in dataclasses.fields(kind)
+                 if each.metadata != NO_KEY)
 
 
 def made_of(kind: Type[Made], value: Json, place: str, lacking: Lacking) -> Made:

@@ -14,7 +14,7 @@ from zirofen_host.judge.finding_lines import (above_line, differs_line, entry_li
                                               version_1_line)
 from zirofen_host.judge.gravity import ACCEPTED as HOLDS
 from zirofen_host.judge.gravity import Gravity, is_empty, of_answer, of_fault, worst
-from zirofen_host.collect.looks import FAILED
+from zirofen_host.collect.notes import FAILED
 from zirofen_host.judge.model import (ABSENT, VERSION, Absent, Comparison, Difference, DiffersFinding, EntryFinding,
                                       OpenedFinding, Report, RootInside, Subtree, Whom, Within)
 from zirofen_host.judge.saved import LACKING
@@ -104,7 +104,7 @@ def found_in(report: Report) -> Dict[Key, Found]:
         found["above", above.handed, above.who] = Found(Gravity.CONTAINED, above_line(above), within=above.within)
     for told in (*report.unseen, *report.snapshot):
         if told.kind == FAILED:
-            found[FAILED, told.place, told.text] = Found(Gravity.FAULT, f"{FAILED}: {told.place}: {told.text}")
+            found[FAILED, told.place, told.text] = Found(Gravity.FAULT, told.line)
     if report.version_1:
         found["version-1", "", ""] = Found(Gravity.NOT_LOOKED_AT, version_1_line(report.version_1))
     return found

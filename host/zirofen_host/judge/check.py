@@ -11,7 +11,8 @@ from zirofen_host.ask.questions import unit_of
 from zirofen_host.collect.accounts import Accounts, accounts_of
 from zirofen_host.collect.holds import holds_of
 from zirofen_host.collect.looks import Looks
-from zirofen_host.collect.model import GROUP, OWNER, Note, Scope, Snapshot, User
+from zirofen_host.collect.model import GROUP, OWNER, Scope, Snapshot, User
+from zirofen_host.collect.notes import Note
 from zirofen_host.fault import Fault
 from zirofen_host.judge import inside, long_lists, unseen, whole
 from zirofen_host.judge.advised import Advised, advise
@@ -127,7 +128,7 @@ def named_scope(checked: Checked, each: Scope) -> NamedScope:
 def noted(checked: Checked, note: Note) -> Told:
     # a name that isn't shown as it is stands quoted, as what is told of alone
     place = note.place[2:] if note.place[:2] in ("b'", 'b"') else note.place
-    return Told(note.kind, note.place, note.detail, checked.within(path_of(place)))
+    return Told.of(note, checked.within(path_of(place)))
 
 
 def report(snapshot: Snapshot, options: Options, is_whole: bool, settings: Settings = NO_SETTINGS) -> Report:

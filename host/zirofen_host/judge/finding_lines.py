@@ -3,6 +3,7 @@ import shlex
 from typing import Iterable, Optional, Sequence
 
 from zirofen_host.collect.model import GROUP, OTHERS, OWNER
+from zirofen_host.collect.notes import LimitsOfVersion1
 from zirofen_host.judge.model import (AboveFinding, Acceptance, DiffersFinding, EntryFinding, FaultFinding, OpenedFinding, Owner,
                                       RootInside, Whom)
 
@@ -96,4 +97,4 @@ def acceptance_line(each: Acceptance) -> str:
 
 
 def version_1_line(controllers: Iterable[str]) -> str:
-    return f"limits of {', '.join(controllers)} are v1's and weren't looked at"
+    return LimitsOfVersion1("/", tuple(controllers)).text

@@ -4,7 +4,7 @@ from typing import Iterable, Iterator
 
 from zirofen_host.ask.program import CONTAINED, ESCAPES, UNSETTLED, WORDS
 from zirofen_host.fault import FAULT
-from zirofen_host.collect.looks import FAILED
+from zirofen_host.collect.notes import FAILED
 from zirofen_host.judge.model import ABSENT, NOTHING_ASKED, Absent, FaultFinding, Report
 
 # how an acceptance stands that holds

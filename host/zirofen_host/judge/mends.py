@@ -6,11 +6,12 @@ from typing import Callable, DefaultDict, Dict, Iterable, Iterator, List, Mappin
 
 from zirofen_host.arguments import MENDS
 from zirofen_host.ask.questions import is_slice, unit_of
-from zirofen_host.collect.looks import FAILED
+from zirofen_host.collect.notes import FAILED
 from zirofen_host.collect.model import OWNER
 from zirofen_host.judge.judged import OVER, UNKNOWN
-from zirofen_host.judge.model import ABSENT, Absent, Report, ReportCgroup, Told
-from zirofen_host.judge.rules import ACCEPTABLE, DIFFERS, NOTHING_ASKED, OPENED, OPENED_DIRECTORY, RESTART, VERSION_1, Finding
+from zirofen_host.judge.model import ABSENT, Absent, Report, ReportCgroup
+from zirofen_host.judge.notes import Restart
+from zirofen_host.judge.rules import ACCEPTABLE, DIFFERS, NOTHING_ASKED, OPENED, OPENED_DIRECTORY, VERSION_1, Finding
 from zirofen_host.profile import HANDED_OVER, SETTINGS, is_root, is_usual, path_of
 
 # the kinds of mends that are written
@@ -119,7 +120,7 @@ class Place:
     row: Optional[ReportCgroup]
     found: Sequence[Finding]
     # the limits that its next start doesn't bring back
-    restarts: Sequence[Told]
+    restarts: Sequence[Restart]
 
     @property
     def unit(self) -> Optional[Unit]:
@@ -128,7 +129,7 @@ class Place:
     @property
     def files(self) -> List[str]:
         """The limit files whose values are to stay: those of the findings, and those that the next start doesn't bring back."""
-        gone = (file for file in (self.row.files if self.row else ()) if any(f" {file} is " in told.text for told in self.restarts))
+        gone = (limit.file for told in self.restarts for limit in told.limits if self.row and limit.file in self.row.files)
         return sorted({*(each.entry for each in self.found), *gone})
 
     @property
@@ -203,10 +204,10 @@ def mends_of(report: Report, found: Iterable[Finding]) -> Tuple[Mend, ...]:
             by_path[each.path].append(each)
         else:
             others.append(each)
-    restarts: DefaultDict[str, List[Told]] = defaultdict(list)
+    restarts: DefaultDict[str, List[Restart]] = defaultdict(list)
     for told in report.unseen:
-        if told.kind == RESTART and told.within is ABSENT:
-            restarts[told.place].append(told)
+        if isinstance(told.note, Restart) and told.within is ABSENT:
+            restarts[told.place].append(told.note)
     rows: Mapping[str, ReportCgroup] = {} if isinstance(report.cgroups, Absent) else {each.path: each for each in report.cgroups}
     places = [Place(path, rows.get(path), by_path.get(path, ()), restarts.get(path, ()))
               for path in dict.fromkeys([*by_path, *restarts])]
@@ -215,7 +216,7 @@ def mends_of(report: Report, found: Iterable[Finding]) -> Tuple[Mend, ...]:
 
 
 def mend_at(place: Place) -> Mend:
-    lines = (*(each.line for each in place.found), *(f"{each.kind}: {each.place}: {each.text}" for each in place.restarts))
+    lines = (*(each.line for each in place.found), *(each.line for each in place.restarts))
     changes = tuple(dict.fromkeys(change for each in place.found for change in each.changes))
     return Mend(lines, changes, tuple(place.told()), place.unit if place.settings() else None, place.settings())
 

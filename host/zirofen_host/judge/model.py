@@ -1,14 +1,20 @@
 """A report: the third form of what is told. Its JSON has the keys and the order of these fields, of which those that are ABSENT
 have no key; the paths in it are texts, as they are shown."""
 import re
-from dataclasses import dataclass
+from dataclasses import dataclass, field
 from enum import Enum
 from typing import Annotated, Mapping, Optional, Tuple, Union
+
+from zirofen_host.collect.notes import Note, line_of
 
 # of the keys that a report has
 VERSION = 1
 # the status of a report of a host on which nothing was found to ask
 NOTHING_ASKED = 4
+
+
+# of a field that a report's JSON has no key for
+NO_KEY: Mapping[str, bool] = {"has no key": True}
 
 
 class Absent(Enum):
@@ -212,6 +218,16 @@ class Told:
     place: str
     text: str
     within: Within = ABSENT
+    # the note that it is made of; of a report that was read there is none
+    note: Optional[Note] = field(default=None, compare=False, metadata=NO_KEY)
+
+    @classmethod
+    def of(cls, note: Note, within: Within = ABSENT) -> "Told":
+        return cls(note.kind, note.place, note.text, within, note)
+
+    @property
+    def line(self) -> str:
+        return line_of(self.kind, self.place, self.text)
 
 
 @dataclass(frozen=True)

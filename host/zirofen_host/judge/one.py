@@ -173,7 +173,7 @@ def standing(snapshot: Snapshot, options: AskOptions, warn: Warn) -> Iterator[St
         delegations = Delegations(snapshot.tree, accounts)
         programs = program_for(snapshot, options, folder, delegations, {user.uid for user in users})
         for note in programs.failed:
-            warn(note.detail)
+            warn(note.text)
         is_whole = has_all_cgroups(snapshot, options, programs.texts)
         one = One(path_of(options.path), snapshot.mount, delegations, programs.of[path_of(options.path)],
                   "settle" if is_whole and abilities_of(options.program).has_settle else "check")

@@ -2,7 +2,7 @@
 from dataclasses import dataclass
 from typing import Dict, Iterator, Optional, Tuple, Union
 
-from zirofen_host.collect.looks import FAILED
+from zirofen_host.collect.notes import FAILED
 from zirofen_host.collect.model import OWNER
 from zirofen_host.judge import long_lists
 from zirofen_host.judge.finding_lines import NOTHING_ASKED as NOTHING_ASKED_LINE
@@ -14,8 +14,6 @@ from zirofen_host.judge.model import (ABSENT, Absent, DiffersFinding, EntryFindi
 from zirofen_host.profile import FURTHER_FILES, LIMIT_FILES
 
 NOTHING_ASKED, VERSION_1, DIFFERS = "nothing-asked", "version-1", "differs"
-# a look's kind: limits that a unit's next start doesn't bring back
-RESTART = "restart"
 OPENED, OPENED_DIRECTORY = "opened", "opened/dir"
 ROOT_INSIDE, ROOT_HELD = "root-inside", "root-inside/held"
 # whom a container lets out
@@ -129,7 +127,7 @@ def findings_of(report: Report) -> Iterator[Finding]:
         yield from (Finding(rule, path, "", fault_line(fault, [path])) for path in fault.subtrees)
     for told in (*report.unseen, *report.snapshot):
         if told.kind == FAILED:
-            yield Finding(RULES[FAILED], "", "", f"{FAILED}: {told.place}: {told.text}")
+            yield Finding(RULES[FAILED], "", "", told.line)
     if report.version_1:
         yield Finding(RULES[VERSION_1], "", "", version_1_line(report.version_1))
     yield from map(of_differs, report.differs)

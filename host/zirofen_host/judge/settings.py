@@ -11,8 +11,9 @@ from zirofen_host import ending
 from zirofen_host.collect.model import Snapshot, Value
 from zirofen_host.collect.snapshot import value_of
 from zirofen_host.files import Kind, kind_of
+from zirofen_host.judge.notes import LostLimit, Restart
 from zirofen_host.options import Options
-from zirofen_host.profile import LIMIT_FILES, SETTINGS, CgroupPath, is_usual
+from zirofen_host.profile import LIMIT_FILES, SETTINGS, CgroupPath, is_usual, text_of
 
 # by a unit's name, and by what a setting is called where it is asked for
 Settings = Mapping[str, Mapping[str, str]]
@@ -60,24 +61,24 @@ def values_of(snapshot: Snapshot, path: CgroupPath) -> Dict[str, Optional[Value]
     return values
 
 
-def lost(values: Mapping[str, Optional[Value]], settings: Mapping[str, str]) -> List[str]:
+def lost(values: Mapping[str, Optional[Value]], settings: Mapping[str, str]) -> List[LostLimit]:
     """The limits that a unit's next start doesn't bring back, each with why."""
     return [*different(values, settings), *unsettable(values)]
 
 
-def different(values: Mapping[str, Optional[Value]], settings: Mapping[str, str]) -> Iterator[str]:
+def different(values: Mapping[str, Optional[Value]], settings: Mapping[str, str]) -> Iterator[LostLimit]:
     for name, file in NUMBERS.items():
         value = values.get(file)
         if name in settings and value is not None and not is_same(settings[name], file, value):
-            yield f"{file} is {value}, and {name}={settings[name]}"
+            yield LostLimit(file, str(value), f"{name}={settings[name]}")
     quota = str(values.get("cpu.max") or "")
     if settings.get(QUOTA) == "infinity" and not is_usual("cpu.max", quota) and quota.split(" ")[0] != "max":
-        yield f"cpu.max is {quota}, and CPUQuota= isn't set"
+        yield LostLimit("cpu.max", quota, "CPUQuota= isn't set")
 
 
-def unsettable(values: Mapping[str, Optional[Value]]) -> Iterable[str]:
+def unsettable(values: Mapping[str, Optional[Value]]) -> Iterable[LostLimit]:
     """Limits that are set and that no setting brings."""
-    return (f"{file} is {' '.join(str(value).split())}, and no setting brings it" for file, value in values.items()
+    return (LostLimit(file, " ".join(str(value).split()), "no setting brings it") for file, value in values.items()
             if not SETTINGS.get(file) and not is_usual(file, value))
 
 
@@ -91,12 +92,12 @@ def is_same(setting: str, file: str, value: Value) -> bool:
     return str(value).isdigit() and int(setting) // pages == int(value) // pages
 
 
-def told(snapshot: Snapshot, units: Mapping[str, CgroupPath], systemctl: Optional[str],
-         before: Settings) -> Iterator[Tuple[CgroupPath, str]]:
+def restarts(snapshot: Snapshot, units: Mapping[str, CgroupPath], systemctl: Optional[str],
+             before: Settings) -> Iterator[Tuple[CgroupPath, Restart]]:
     """For each unit what goes at its next start. Values are read before the settings are asked for again."""
     values = {unit: values_of(snapshot, path) for unit, path in sorted(units.items()) if unit in before}
     found = agreed(before, read(systemctl, list(values)))
     for unit, settings in found.items():
         limits = lost(values[unit], settings) if unit in values else []
         if limits:
-            yield units[unit], f"{unit} is started anew with its own settings alone: {'; '.join(limits)}"
+            yield units[unit], Restart(text_of(units[unit]), unit, tuple(limits))

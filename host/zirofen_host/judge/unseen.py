@@ -1,34 +1,36 @@
 """What no answer looks at, as far as a host tells of it: a line each, of a user, a cgroup or the host."""
 from bisect import bisect_left
 from collections import Counter, defaultdict
-from typing import DefaultDict, Dict, Iterable, Iterator, List, Optional, Set, Tuple
+from typing import DefaultDict, Dict, Iterator, List, Optional, Set, Tuple
 
 from zirofen_host.ask.questions import unit_of
 from zirofen_host.collect import bounded
 from zirofen_host.collect.descriptors import Descriptors, inodes_of
-from zirofen_host.collect.elsewhere import told_unseen
 from zirofen_host.collect.looks import Looks
 from zirofen_host.collect.model import GROUP, OWNER, Entry, Snapshot, User
+from zirofen_host.collect.notes import Note
 from zirofen_host.collect.walk import MANAGERS_MARK, OWNERS_MARK
 from zirofen_host.judge import settings
 from zirofen_host.judge.advised import Advised
 from zirofen_host.judge.checked import Checked
-from zirofen_host.judge.finding_lines import some
+from zirofen_host.judge.finding_lines import NSDELEGATE, some
 from zirofen_host.judge.findings import texts_of
 from zirofen_host.judge.model import Told
+from zirofen_host.judge.notes import (Capable, Deputy, GroupClass, HasNsdelegate, HeldDescriptor, LeftOutGroups, NotAdvised, OfText,
+                                      Outside, OwnersMark, Subordinate, UnaskedUsers, UnknownFiles, UnlookedDescriptors, UnlookedProcesses,
+                                      UnlookedThreads, Unsearched, WithoutProcesses)
 from zirofen_host.judge.opened import unknown_files
-from zirofen_host.judge.rules import RESTART
 from zirofen_host.profile import ANYBODY, CgroupPath, ancestors, is_inside, text_of
 
 
-def of_user(checked: Checked, kind: str, uid: int, text: str) -> Told:
-    """What is told of a user, charged to whose uid it is."""
-    return Told(kind, checked.names.user(uid), text, checked.holds.payer(uid))
+def of_user(checked: Checked, uid: int, note: Note) -> Told:
+    """A note of a user, charged to whose uid it is."""
+    return Told.of(note, checked.holds.payer(uid))
 
 
-def of_cgroup(checked: Checked, kind: str, path: CgroupPath, text: str) -> Told:
-    """What is told of a cgroup, charged to whose making it is."""
-    return Told(kind, text_of(path), text, checked.within(path))
+def of_cgroup(checked: Checked, path: CgroupPath, note: Note) -> Told:
+    """A note of a cgroup, charged to whose making it is."""
+    return Told.of(note, checked.within(path))
 
 
 def lines(checked: Checked, advised: Advised, looks: Looks) -> Tuple[Told, ...]:
@@ -58,11 +60,9 @@ def descriptors(checked: Checked) -> Iterator[Told]:
         if entry and name != "cgroup.procs" and not any(user.reaches(entry) for user in users[pids[pid]]):
             held[pids[pid], path, name, is_sure].add(pid)
     for (uid, path, name, is_sure), of in sorted(held.items()):
-        perhaps = "" if is_sure else "perhaps "
-        yield of_user(checked, "descriptor", uid, f"{name} at {path} is {perhaps}open for writing in process {numbers(of)}, and they may "
-                      "not open it now")
+        yield of_user(checked, uid, HeldDescriptor(checked.names.user(uid), name, path, tuple(sorted(of)), is_sure))
     for uid, why in looked.unlooked:
-        yield of_user(checked, "descriptor", uid, why)
+        yield of_user(checked, uid, UnlookedDescriptors(checked.names.user(uid), why))
 
 
 def entry_at(snapshot: Snapshot, found: Tuple[CgroupPath, str]) -> Tuple[Optional[Entry], str, str]:
@@ -70,10 +70,6 @@ def entry_at(snapshot: Snapshot, found: Tuple[CgroupPath, str]) -> Tuple[Optiona
     place, name = found
     cgroup = snapshot.cgroups.get(place)
     return cgroup.files.get(name) if cgroup else None, text_of(place), name
-
-
-def numbers(found: Iterable[int]) -> str:
-    return some(list(map(str, sorted(found))))
 
 
 def group_class(checked: Checked) -> Iterator[Told]:
@@ -85,8 +81,7 @@ def group_class(checked: Checked) -> Iterator[Told]:
             if entry.gid and entry.mode & 0o002 and not entry.mode & 0o020:
                 walls[path, entry.gid].add(name)
     for (path, gid), names in sorted(walls.items()):
-        yield of_cgroup(checked, "group-class", path,
-                        f"only {checked.names.group(gid)} keeps its members from {' '.join(sorted(names))}, which they can drop")
+        yield of_cgroup(checked, path, GroupClass(text_of(path), checked.names.group(gid), tuple(sorted(names))))
 
 
 def subordinates(checked: Checked) -> Iterator[Told]:
@@ -95,9 +90,7 @@ def subordinates(checked: Checked) -> Iterator[Told]:
         for each in checked.questions.accounts.subordinate_to(uid):
             last = each.first + each.count - 1
             found = asked[bisect_left(asked, each.first):bisect_left(asked, last + 1)]
-            told = "theirs too, and asked above" if found else "theirs too, and none of them has anything here"
-            asked_of = f", asked {numbers(found)}" if found else ""
-            yield of_user(checked, "subordinate", uid, f"{told}: uids {each.first} to {last}{asked_of}")
+            yield of_user(checked, uid, Subordinate(checked.names.user(uid), each.first, last, tuple(found)))
 
 
 def deputies(checked: Checked) -> Iterator[Told]:
@@ -105,8 +98,7 @@ def deputies(checked: Checked) -> Iterator[Told]:
     for uid, paths in sorted(checked.held.items()):
         found = [path for path in paths if path in checked.questions.meant and checked.questions.holders[path].by == OWNER]
         if found:
-            yield of_user(checked, "deputy", uid, "the service manager moves their processes, from anywhere, on request: into "
-                          + some(texts_of(found)))
+            yield of_user(checked, uid, Deputy(checked.names.user(uid), texts_of(found)))
 
 
 def outside(checked: Checked) -> Iterator[Told]:
@@ -117,7 +109,7 @@ def outside(checked: Checked) -> Iterator[Told]:
         if uid in held and held[uid].isdisjoint((at, *ancestors(at))):
             places[uid].add(at)
     for uid, found in sorted(places.items()):
-        yield of_user(checked, "outside", uid, f"processes of theirs are outside of what they hold: in {some(texts_of(sorted(found)))}")
+        yield of_user(checked, uid, Outside(checked.names.user(uid), texts_of(sorted(found))))
 
 
 def capabilities(checked: Checked) -> Iterator[Told]:
@@ -131,14 +123,13 @@ def capabilities(checked: Checked) -> Iterator[Told]:
         if process.capabilities and (held or process.user.uid):
             found[held[0] if held else at, bool(held), process.user.uid][process.capabilities].append(pid)
     for (place, inside, uid), by_names in sorted(found.items()):
-        told = "; ".join(f"process {numbers(pids)} of {checked.names.user(uid)} has {' '.join('CAP_' + name for name in names)}"
-                         for names, pids in sorted(by_names.items()))
-        yield of_cgroup(checked, "capability", place, f"{'inside' if inside else 'beside'}: {told}, and passes over owners")
+        processes = tuple((names, tuple(pids)) for names, pids in sorted(by_names.items()))
+        yield of_cgroup(checked, place, Capable(text_of(place), checked.names.user(uid), inside, processes))
     left: Counter[int] = Counter()
     for process in checked.snapshot.processes.values():
         left[process.uid] += process.threads_left
     for uid, count in sorted((uid, count) for uid, count in left.items() if count):
-        yield of_user(checked, "capability", uid, f"{count} threads weren't looked at: more than {bounded.THREADS.most} run")
+        yield of_user(checked, uid, UnlookedThreads(checked.names.user(uid), count, bounded.THREADS.most))
 
 
 def search_bits(checked: Checked) -> Iterator[Told]:
@@ -148,7 +139,7 @@ def search_bits(checked: Checked) -> Iterator[Told]:
             seen |= {(uid, place) for path in paths for place in ancestors(path)
                      if not searches(user, checked.snapshot.cgroups[place].directory)}
     for uid, place in sorted(seen):
-        yield of_user(checked, "search", uid, f"they can't search {text_of(place)}: safer than the answer")
+        yield of_user(checked, uid, Unsearched(checked.names.user(uid), text_of(place)))
 
 
 def searches(user: User, directory: Entry) -> bool:
@@ -159,46 +150,42 @@ def marks(checked: Checked) -> Iterator[Told]:
     for path, found in sorted(checked.questions.marks.items()):
         if OWNERS_MARK in found and MANAGERS_MARK not in found:
             owner = checked.names.user(checked.snapshot.cgroups[path].directory.uid)
-            yield of_cgroup(checked, "mark", path,
-                            f"{OWNERS_MARK} alone, which its owner can set, so that nothing is asked for it: of {owner}")
+            yield of_cgroup(checked, path, OwnersMark(text_of(path), OWNERS_MARK, owner))
 
 
 def groups(checked: Checked) -> Iterator[Told]:
     for uid, count in sorted(checked.answers.plan.left_out.items()):
         if count:
-            yield of_user(checked, "groups", uid, f"{count} of their groups that stand in the tree were left out; "
-                          "no entry that a guard stands on names them")
+            yield of_user(checked, uid, LeftOutGroups(checked.names.user(uid), count))
 
 
 def everybody(checked: Checked) -> Iterator[Told]:
     """Users who weren't asked of what everybody is let in to."""
     counts = set(checked.answers.not_asked.values())
     if counts:
-        many = f"{max(counts)} more" if len(counts) == 1 else f"up to {max(counts)} more"
-        yield Told("everybody", some(texts_of(checked.answers.not_asked)), f"{many} users are let in as everybody is, and weren't asked: "
-                   "where the answer is unsettled, one of them may escape")
+        yield Told.of(UnaskedUsers(some(texts_of(checked.answers.not_asked)), tuple(sorted(counts))))
 
 
 def unknown(checked: Checked) -> Iterator[Told]:
     """Files of names that aren't in the table of them."""
-    names = [f"{name} ({'a limit' if is_limit else 'it only tells'})" for name, is_limit in unknown_files(checked.snapshot).items()]
-    if names:
-        yield Told("unknown-file", "", f"{some(names)}: by the mode that most cgroups have these with, since their names aren't known")
+    files = tuple(unknown_files(checked.snapshot).items())
+    if files:
+        yield Told.of(UnknownFiles("", files))
 
 
 def restarts(checked: Checked) -> Iterator[Told]:
     """Limits that a service's settings don't bring, and that are gone when it is started anew."""
     units = {unit: path for path in checked.questions.subtrees if (unit := unit_of(path)) and unit.endswith(".service")}
-    for path, text in settings.told(checked.snapshot, units, settings.systemctl_of(checked.options), checked.settings):
-        yield of_cgroup(checked, RESTART, path, text)
+    for path, note in settings.restarts(checked.snapshot, units, settings.systemctl_of(checked.options), checked.settings):
+        yield of_cgroup(checked, path, note)
 
 
 def about_the_mount(checked: Checked) -> Iterator[Told]:
     """What is different about a text, and about how the hierarchy is mounted."""
     if checked.snapshot.source.file is not None:
-        yield Told("elsewhere", "", told_unseen(checked.snapshot, checked.options.accounts is not None))
-    if "nsdelegate" in checked.snapshot.mount_options:
-        yield Told("nsdelegate", "", "the mount has it: what runs in a cgroup namespace is kept in there, safer than the answers")
+        yield Told.of(OfText("", checked.snapshot.source.carried is not None, checked.options.accounts is not None))
+    if NSDELEGATE in checked.snapshot.mount_options:
+        yield Told.of(HasNsdelegate(""))
 
 
 def processes(checked: Checked) -> Iterator[Told]:
@@ -206,14 +193,12 @@ def processes(checked: Checked) -> Iterator[Told]:
     holders = {checked.holds.payer(uid) for uid in checked.held}
     for person, why in sorted(checked.snapshot.over.items()):
         if person not in holders:
-            yield of_user(checked, "processes", person, f"{why}: not all were looked at")
+            yield of_user(checked, person, UnlookedProcesses(checked.names.user(person), why))
     for path in checked.answers.without_processes:
         count = sum(is_inside(at, path) for _, _, at in checked.snapshot.tree.processes)
-        yield of_cgroup(checked, "processes", path, f"{count} inside, more than a text takes: it was asked of without any, so that an "
-                        "unsettled answer might have been an escape")
+        yield of_cgroup(checked, path, WithoutProcesses(text_of(path), count))
 
 
 def not_advised(advised: Advised) -> Iterator[Told]:
     if advised.unasked:
-        yield Told("advice", "", f"what to change isn't told of {advised.unasked} entries: the program is asked {bounded.ADVICE} times, "
-                   "once in each text. Ask again after these changes")
+        yield Told.of(NotAdvised("", advised.unasked, bounded.ADVICE))

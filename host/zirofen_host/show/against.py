@@ -2,7 +2,7 @@
 from collections import Counter
 from typing import Iterator, Sequence
 
-from zirofen_host.collect.looks import FAILED
+from zirofen_host.collect.notes import FAILED
 from zirofen_host.judge.finding_lines import acceptance_line, version_1_line
 from zirofen_host.judge.gravity import ACCEPTED as STANDS
 from zirofen_host.judge.model import Told

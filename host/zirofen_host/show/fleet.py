@@ -8,7 +8,8 @@ from datetime import datetime, timedelta, timezone
 from typing import Callable, Iterable, Iterator, List, Mapping, Optional, Sequence, Set, Tuple
 
 from zirofen_host.collect import bounded
-from zirofen_host.collect.looks import FAILED, why_of
+from zirofen_host.collect.looks import why_of
+from zirofen_host.collect.notes import FAILED
 from zirofen_host.fault import FAULT, Fault
 from zirofen_host.judge import saved
 from zirofen_host.judge.finding_lines import differs_line, entry_line, fault_line, inside_line, opened_line, version_1_line
@@ -162,7 +163,7 @@ def row_of(name: str, host: Host, is_listed: bool) -> Row:
     kinds = [each.kind for each in host.findings if each.kind != DIFFERS]
     kind = kinds[0] if kinds else CONTAINED if report.asked else NOT_ASKED
     notes = [*([version_1_line(report.version_1)] if report.version_1 else []),
-             *(f"{each.kind}: {each.place}: {each.text}" for each in report.unseen if each.kind == FAILED)]
+             *(each.line for each in report.unseen if each.kind == FAILED)]
     status = min(report.status, gravity_of(report).status, key=WORST.index)
     alike, lines = hashlib.sha256(repr((status, kind, notes)).encode()), []
     for number, finding in enumerate(host.findings):

@@ -3,6 +3,7 @@ import itertools
 from collections import Counter
 from typing import Callable, Dict, Iterable, Iterator, List, Mapping, Optional, Sequence, Tuple, TypeVar, Union
 
+from zirofen_host.collect.notes import LimitsOfVersion1
 from zirofen_host.fault import FAULT
 from zirofen_host.installed import MANUAL
 from zirofen_host.judge import long_lists
@@ -13,13 +14,12 @@ from zirofen_host.judge.finding_lines import (INSIDE_MEANS, NOTHING_ASKED, SHOWN
 from zirofen_host.judge.gravity import is_empty
 from zirofen_host.judge.model import (ABSENT, AboveFinding, Absent, Comparison, Difference, DiffersFinding, EntryFinding,
                                       HolderAnswer, NamedScope, OpenedFinding, Report, RootInside, Subtree, Told)
+from zirofen_host.judge.notes import JOINED, JoinedNote
 from zirofen_host.profile import ancestors
 from zirofen_host.show.folded import GRAVITY, Part, counted, folded
 
 # how far the table's columns are filled up; a longer word stands out
 WIDEST = (20, 24, 48)
-# kinds of which a line has all, each behind its colon
-JOINED = ("deputy", "mark", "outside", "subordinate")
 # behind an answer where limits are those of version 1
 VERSION_1 = " [v1]"
 # lines of each kind of what no answer looks at, for what one person made
@@ -158,10 +158,6 @@ def others_in(found: Sequence[Union[EntryFinding, OpenedFinding]]) -> Optional[s
     return None if all(each.is_own is True for each in found) else whom_text(found[0].whom)
 
 
-def place_text(each: Told) -> str:
-    return ": ".join(word for word in (each.kind, each.place, each.text) if word)
-
-
 def inside_lines(report: Report) -> Iterator[str]:
     """The containers of root's, each with what to set where it isn't held."""
     scopes = report.scopes_by_path
@@ -175,25 +171,27 @@ def told_lines(found: Iterable[Told], is_each: bool) -> Iterator[str]:
     """What no answer looks at; of what somebody made, so many lines of each kind."""
     told = list(found)
     listed = [each for each in told if is_each or each.kind not in JOINED]
-    yield from (place_text(each) for each in listed if each.within is ABSENT)
+    yield from (each.line for each in listed if each.within is ABSENT)
     yield from joined_lines(each for each in told if not is_each and each.kind in JOINED)
     for kind in sorted({each.kind for each in listed}):
-        yield from folded((Part(each.within, (number,), each.kind, None, [place_text(each)]) for number, each in enumerate(listed)
+        yield from folded((Part(each.within, (number,), each.kind, None, [each.line]) for number, each in enumerate(listed)
                            if each.kind == kind and not isinstance(each.within, Absent)), is_each, TOLD)
 
 
 def joined_lines(found: Iterable[Told]) -> Iterator[str]:
-    """What is one fact of several, in one line: of each person one, and then further ones."""
+    """What is one fact of several, in one line: of each person one, and then further ones. A report that was read has no facts."""
     facts: Dict[Tuple[str, str], List[Told]] = {}
     for each in found:
-        facts.setdefault((each.kind, each.text.partition(": ")[0]), []).append(each)
+        fact = each.note.fact if isinstance(each.note, JoinedNote) else each.line
+        facts.setdefault((each.kind, fact), []).append(each)
     for (kind, fact), of in facts.items():
         first = {each.within: each for each in reversed(of)}
         told = [*reversed(first.values()), *(each for each in of if first[each.within] is not each)]
-        if len(told) == 1:
-            yield place_text(told[0])
+        notes = [each.note for each in told if isinstance(each.note, JoinedNote)]
+        if len(notes) < 2:
+            yield from (each.line for each in told)
             continue
-        parts = [" ".join(filter(None, (each.place, each.text.partition(": ")[2]))) for each in told[:SHOWN]]
+        parts = [" ".join(filter(None, (note.place, note.rest))) for note in notes[:SHOWN]]
         more = [f"{len(told) - SHOWN} more"] if len(told) > SHOWN else []
         yield f"{kind}: {fact}: {'; '.join(parts + more)}"
 
@@ -273,7 +271,8 @@ def lines_of(report: Report, is_each: bool = False) -> Iterator[str]:
     yield f"What none of these answers looks at ({MANUAL}):"
     yield from told_lines(report.unseen, is_each)
     # what is version 1's is said in the sum
-    yield from (f"snapshot: {line}" for line in told_lines((each for each in report.snapshot if each.kind != "version-1"), is_each))
+    snapshot = (each for each in report.snapshot if each.kind != LimitsOfVersion1.kind)
+    yield from (f"snapshot: {line}" for line in told_lines(snapshot, is_each))
     if not report.unseen and not report.snapshot:
         yield "this host tells of nothing"
     yield sum_line(report)

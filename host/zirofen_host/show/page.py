@@ -7,6 +7,7 @@ from typing import Dict, List, NamedTuple, Sequence, Tuple
 
 from zirofen_host import output
 from zirofen_host.judge.model import Absent, Difference, Report, RootInside
+from zirofen_host.judge.notes import MEANINGS as WHAT_NO_ANSWER_SEES
 from zirofen_host.show import against, chart, groups, insides, words
 from zirofen_host.show.branches import Branches
 from zirofen_host.show.finding import Place
@@ -156,7 +157,7 @@ class HostPage:
             return "<p>This host tells of nothing.</p>"
         heading = self.at.level(3)
         return "\n".join(f"<{heading}>{'Left out of the tree text: ' if key == 'snapshot' else ''}{text(kind)}</{heading}>"
-                         f"{paragraph(words.WHAT_NO_ANSWER_SEES.get(kind, ''))}<ul>\n{chr(10).join(lines)}\n</ul>"
+                         f"{paragraph(WHAT_NO_ANSWER_SEES.get(kind, ''))}<ul>\n{chr(10).join(lines)}\n</ul>"
                          for (key, kind), lines in kinds.items())
 
     def overview(self) -> str:

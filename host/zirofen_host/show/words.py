@@ -24,22 +24,6 @@ MEANINGS = {
     ABOVE: "it lies in what was handed to the same person, and isn't counted",
     CONTAINED: "nobody who was asked can break it, whatever they do",
 }
-WHAT_NO_ANSWER_SEES = {
-    "descriptor": "What was opened before is still written through. Restart these processes, also after mending a finding.",
-    "group-class": "A group that only keeps its members out is no wall: they can drop it.",
-    "subordinate": "Subordinate uids are their owner's.",
-    "deputy": "The service manager acts as root for whoever asks it.",
-    "outside": "Other services start processes for these users outside of what they hold.",
-    "capability": "A process with such capabilities passes over owners, and over these answers.",
-    "search": "A directory that isn't searched keeps out whom the answers let in.",
-    "mark": "A mark that its owner can set proves nothing.",
-    "groups": "The program takes 32 groups of a user.",
-    "everybody": "Where everybody is let in, some users stand for all.",
-    "unknown-file": "A newer kernel's files, taken as the mode tells that most cgroups have them with.",
-    "restart": "A unit's cgroup is made anew when it is started again, with its own settings alone.",
-    "lacking": "The helper ran without a capability by which it would have seen more.",
-    "nsdelegate": "A mount option that keeps containers in.",
-}
 SHOWN_USERS = 8
 SIZES = (("T", 2**40), ("G", 2**30), ("M", 2**20), ("K", 2**10))
 

@@ -1,0 +1,313 @@
+"""Notes of what no answer looks at, a class for each: who and where it is, what was seen and how many, and the text made of that."""
+from abc import abstractmethod
+from dataclasses import dataclass
+from typing import Iterable, Mapping, Tuple
+
+from zirofen_host.collect.notes import Note, classes
+from zirofen_host.collect.reasons import Reason
+from zirofen_host.judge.finding_lines import NSDELEGATE, some
+
+
+def numbers(found: Iterable[int]) -> str:
+    return some(list(map(str, sorted(found))))
+
+
+@dataclass(frozen=True)
+class JoinedNote(Note):
+    """One fact of several, which a line has together: what they have in common, and what is of each."""
+
+    @property
+    @abstractmethod
+    def fact(self) -> str:
+        """What they have in common."""
+
+    @property
+    @abstractmethod
+    def rest(self) -> str:
+        """What is of this one."""
+
+    @property
+    def text(self) -> str:
+        return f"{self.fact}: {self.rest}"
+
+
+@dataclass(frozen=True)
+class HeldDescriptor(Note):
+    """A file that processes of a user hold open for writing, and that they may not open now."""
+    kind = "descriptor"
+    meaning = "What was opened before is still written through. Restart these processes, also after mending a finding."
+    file: str
+    path: str
+    pids: Tuple[int, ...]
+    # where nothing tells of the mount it may be another file
+    is_sure: bool
+
+    @property
+    def text(self) -> str:
+        perhaps = "" if self.is_sure else "perhaps "
+        return (f"{self.file} at {self.path} is {perhaps}open for writing in process {numbers(self.pids)}, and they may not open it now")
+
+
+@dataclass(frozen=True)
+class UnlookedDescriptors(Note):
+    """Descriptors of a user that weren't looked at."""
+    kind = "descriptor"
+    why: str
+
+    @property
+    def text(self) -> str:
+        return self.why
+
+
+@dataclass(frozen=True)
+class GroupClass(Note):
+    """Entries that nothing but a group keeps its members from."""
+    kind = "group-class"
+    meaning = "A group that only keeps its members out is no wall: they can drop it."
+    group: str
+    entries: Tuple[str, ...]
+
+    @property
+    def text(self) -> str:
+        return f"only {self.group} keeps its members from {' '.join(self.entries)}, which they can drop"
+
+
+@dataclass(frozen=True)
+class Subordinate(JoinedNote):
+    """Uids that are a user's too, and those of them that were asked of."""
+    kind = "subordinate"
+    meaning = "Subordinate uids are their owner's."
+    first: int
+    last: int
+    asked: Tuple[int, ...]
+
+    @property
+    def fact(self) -> str:
+        return "theirs too, and asked above" if self.asked else "theirs too, and none of them has anything here"
+
+    @property
+    def rest(self) -> str:
+        return f"uids {self.first} to {self.last}" + (f", asked {numbers(self.asked)}" if self.asked else "")
+
+
+@dataclass(frozen=True)
+class Deputy(JoinedNote):
+    """Units into which the service manager moves a user's processes."""
+    kind = "deputy"
+    meaning = "The service manager acts as root for whoever asks it."
+    units: Tuple[str, ...]
+
+    @property
+    def fact(self) -> str:
+        return "the service manager moves their processes, from anywhere, on request"
+
+    @property
+    def rest(self) -> str:
+        return f"into {some(self.units)}"
+
+
+@dataclass(frozen=True)
+class Outside(JoinedNote):
+    """Where a user has processes outside of what they hold."""
+    kind = "outside"
+    meaning = "Other services start processes for these users outside of what they hold."
+    paths: Tuple[str, ...]
+
+    @property
+    def fact(self) -> str:
+        return "processes of theirs are outside of what they hold"
+
+    @property
+    def rest(self) -> str:
+        return f"in {some(self.paths)}"
+
+
+@dataclass(frozen=True)
+class Capable(Note):
+    """Processes of a user in one place that pass over owners: the PIDs with each list of capabilities."""
+    kind = "capability"
+    meaning = "A process with such capabilities passes over owners, and over these answers."
+    who: str
+    is_inside: bool
+    processes: Tuple[Tuple[Tuple[str, ...], Tuple[int, ...]], ...]
+
+    @property
+    def text(self) -> str:
+        told = "; ".join(f"process {numbers(pids)} of {self.who} has {' '.join('CAP_' + name for name in names)}"
+                         for names, pids in self.processes)
+        return f"{'inside' if self.is_inside else 'beside'}: {told}, and passes over owners"
+
+
+@dataclass(frozen=True)
+class UnlookedThreads(Note):
+    """Threads of a user that weren't looked at."""
+    kind = "capability"
+    count: int
+    most: int
+
+    @property
+    def text(self) -> str:
+        return f"{self.count} threads weren't looked at: more than {self.most} run"
+
+
+@dataclass(frozen=True)
+class Unsearched(Note):
+    """A directory that a user can't search."""
+    kind = "search"
+    meaning = "A directory that isn't searched keeps out whom the answers let in."
+    path: str
+
+    @property
+    def text(self) -> str:
+        return f"they can't search {self.path}: safer than the answer"
+
+
+@dataclass(frozen=True)
+class OwnersMark(JoinedNote):
+    """A mark that an owner can set, with none of root's beside it."""
+    kind = "mark"
+    meaning = "A mark that its owner can set proves nothing."
+    mark: str
+    owner: str
+
+    @property
+    def fact(self) -> str:
+        return f"{self.mark} alone, which its owner can set, so that nothing is asked for it"
+
+    @property
+    def rest(self) -> str:
+        return f"of {self.owner}"
+
+
+@dataclass(frozen=True)
+class LeftOutGroups(Note):
+    """Groups of a user that the program wasn't told."""
+    kind = "groups"
+    meaning = "The program takes 32 groups of a user."
+    count: int
+
+    @property
+    def text(self) -> str:
+        return f"{self.count} of their groups that stand in the tree were left out; no entry that a guard stands on names them"
+
+
+@dataclass(frozen=True)
+class UnaskedUsers(Note):
+    """Users who weren't asked of what everybody is let in to: the counts of some subtrees."""
+    kind = "everybody"
+    meaning = "Where everybody is let in, some users stand for all."
+    counts: Tuple[int, ...]
+
+    @property
+    def text(self) -> str:
+        many = f"{'' if len(self.counts) == 1 else 'up to '}{max(self.counts)} more"
+        return (f"{many} users are let in as everybody is, and weren't asked: where the answer is unsettled, one of them may escape")
+
+
+@dataclass(frozen=True)
+class UnknownFiles(Note):
+    """Files whose names aren't known, each with whether it counts as a limit."""
+    kind = "unknown-file"
+    meaning = "A newer kernel's files, taken as the mode tells that most cgroups have them with."
+    files: Tuple[Tuple[str, bool], ...]
+
+    @property
+    def text(self) -> str:
+        names = [f"{name} ({'a limit' if is_limit else 'it only tells'})" for name, is_limit in self.files]
+        return f"{some(names)}: by the mode that most cgroups have these with, since their names aren't known"
+
+
+@dataclass(frozen=True)
+class LostLimit:
+    """A limit that isn't there behind a unit's next start, and the setting that it has then, or none."""
+    file: str
+    value: str
+    # how a setting is told, and whether nothing is set
+    why: str
+
+    def __str__(self) -> str:
+        return f"{self.file} is {self.value}, and {self.why}"
+
+
+@dataclass(frozen=True)
+class Restart(Note):
+    """Limits that a unit's settings don't bring."""
+    kind = "restart"
+    meaning = "A unit's cgroup is made anew when it is started again, with its own settings alone."
+    unit: str
+    limits: Tuple[LostLimit, ...]
+
+    @property
+    def text(self) -> str:
+        return f"{self.unit} is started anew with its own settings alone: {'; '.join(map(str, self.limits))}"
+
+
+@dataclass(frozen=True)
+class OfText(Note):
+    """What a text doesn't tell: one that carries something of its host or nothing, with accounts beside it or without."""
+    kind = "elsewhere"
+    is_carried: bool
+    has_accounts: bool
+
+    @property
+    def text(self) -> str:
+        if self.is_carried:
+            return "this is judged by a text: open descriptors and the settings of units aren't told by it"
+        by_number = "" if self.has_accounts else (
+            ", and so it is judged by number: names, who is in which group and whose ids are subordinate aren't known, which "
+            "--accounts FOLDER tells too")
+        return ("this is judged by a text that carries nothing of its host: open descriptors, settings of units, marks, other files, "
+                "capabilities, the groups of processes and containers of root's aren't told; zirofen-host snapshot --with-host carries "
+                f"all but the first two{by_number}")
+
+
+@dataclass(frozen=True)
+class HasNsdelegate(Note):
+    """The mount keeps a cgroup namespace's processes in."""
+    kind = NSDELEGATE
+    meaning = "A mount option that keeps containers in."
+
+    @property
+    def text(self) -> str:
+        return "the mount has it: what runs in a cgroup namespace is kept in there, safer than the answers"
+
+
+@dataclass(frozen=True)
+class UnlookedProcesses(Note):
+    """Processes of a user that weren't looked at."""
+    kind = "processes"
+    reason: Reason
+
+    @property
+    def text(self) -> str:
+        return f"{self.reason}: not all were looked at"
+
+
+@dataclass(frozen=True)
+class WithoutProcesses(Note):
+    """Processes in a subtree that was asked of without them."""
+    kind = "processes"
+    count: int
+
+    @property
+    def text(self) -> str:
+        return (f"{self.count} inside, more than a text takes: it was asked of without any, so that an unsettled answer might have been "
+                "an escape")
+
+
+@dataclass(frozen=True)
+class NotAdvised(Note):
+    """Entries of which it isn't told what to change, and how often the program is asked."""
+    kind = "advice"
+    entries: int
+    most: int
+
+    @property
+    def text(self) -> str:
+        return (f"what to change isn't told of {self.entries} entries: the program is asked {self.most} times, once in each text. Ask "
+                "again after these changes")
+
+
+# what is said once of all notes of a kind, by its word
+MEANINGS: Mapping[str, str] = {str(each.kind): each.meaning for each in classes() if each.meaning}
+JOINED = frozenset(str(each.kind) for each in classes() if issubclass(each, JoinedNote))
