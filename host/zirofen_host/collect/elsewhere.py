@@ -109,8 +109,8 @@ class Gathered:
 
     def kind(self, path: CgroupPath) -> str:
         """What a cgroup's type is, where a note tells that it isn't in domain mode."""
-        of_type = (note.text for note in self.notes if (note.kind, note.place) == (OtherType.kind, text_of(path)))
-        return next(of_type, "domain").partition(":")[0]
+        here = OtherType.kind, text_of(path)
+        return next((note.text.partition(":")[0] for note in self.notes if (note.kind, note.place) == here), "domain")
 
     def carried(self) -> Optional[Carried]:
         if self.mount is None:

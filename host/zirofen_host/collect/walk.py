@@ -14,7 +14,7 @@ from zirofen_host import progress
 from zirofen_host.collect import bounded
 from zirofen_host.collect.bounded import Payer, Spent
 from zirofen_host.collect.model import Cgroup, Entry, FilePlace
-from zirofen_host.collect.reasons import CHANGED, NeverSettled, Reason, Unreadable
+from zirofen_host.collect.reasons import CHANGED, Changed, NeverSettled, Reason, Unreadable
 from zirofen_host.fault import Fault
 from zirofen_host.files import may_set
 from zirofen_host.profile import (CONTROL_FILES, CONTROLLERS, FURTHER_FILES, LIMIT_FILES, LONGEST_PATH, ROOT, CgroupPath, ancestors,
@@ -445,7 +445,7 @@ def settled(mount: str, only: Optional[CgroupPath], subtrees_of: Callable[[Walk,
     changing: Whys = walk.differing(before)
     spoiled: Whys = spoiled_by(changing, subtrees_of(walk, changing)) if changing else {}
     for _ in range(MOST_WALKS):
-        again: Sequence[CgroupPath] = [ROOT] if ROOT in changing else [path for path, why in spoiled.items() if why == CHANGED]
+        again: Sequence[CgroupPath] = [ROOT] if ROOT in changing else [path for path, why in spoiled.items() if isinstance(why, Changed)]
         if not again:
             break
         part = walk_over(mount, again, walk, payer, further)
@@ -461,9 +461,9 @@ def settled(mount: str, only: Optional[CgroupPath], subtrees_of: Callable[[Walk,
 
 def spoiled_of(changing: Whys, subtrees: Iterable[CgroupPath]) -> Dict[CgroupPath, Reason]:
     """The subtrees that are spoiled at last; what can't be read is told of also where it is in no subtree that is known of."""
-    spoiled = {path: NeverSettled(MOST_WALKS) if why == CHANGED else why for path, why in spoiled_by(changing, subtrees).items()}
+    spoiled = {path: NeverSettled(MOST_WALKS) if isinstance(why, Changed) else why for path, why in spoiled_by(changing, subtrees).items()}
     for path, why in changing.items():
-        if why != CHANGED and spoiled.keys().isdisjoint((path, *ancestors(path))):
+        if not isinstance(why, Changed) and spoiled.keys().isdisjoint((path, *ancestors(path))):
             spoiled[path] = why
     return spoiled
 

@@ -11,9 +11,9 @@ from zirofen_host.collect import bounded
 from zirofen_host.collect.model import GROUP, OTHERS, OWNER
 from zirofen_host.collect.tree import parts_in, table_in, text_in, texts_in, toml_reader
 from zirofen_host.fault import Fault
-from zirofen_host.judge.gravity import ACCEPTED, gravity_of
+from zirofen_host.judge.gravity import ACCEPTED, Gravity, gravity_of
 from zirofen_host.judge.model import ABSENT, Acceptance, EntryFinding, OpenedFinding, Report, RootInside, Whom
-from zirofen_host.judge.rules import ACCEPTABLE, OPENED, ROOT_INSIDE, Finding, findings_of
+from zirofen_host.judge.rules import ACCEPTABLE, OPENED, ROOT_INSIDE, RULES, Finding, Rule, findings_of
 from zirofen_host.output import opened_back, refused
 from zirofen_host.profile import ANYBODY, ancestors, shown
 
@@ -33,7 +33,8 @@ class Named(NamedTuple):
     members: Optional[FrozenSet[int]]
 
     def covers(self, whom: Whom) -> bool:
-        return (self.by, self.id) == (whom.by, whom.id) and (self.members is None or members_in(" ".join(whom.users)) <= self.members)
+        return (self.by, self.id) == (whom.by, whom.id) and (
+            self.members is None or whom.members is not None and whom.members <= self.members)
 
 
 @dataclass(frozen=True)
@@ -49,12 +50,12 @@ class Given:
 
     def is_met_by(self, found: Finding) -> bool:
         """Whether a finding is what was accepted: at the same entry, no graver, and letting in nobody else."""
-        answer, _, guard = self.what.partition("/")
-        of, _, at = found.rule.id.partition("/")
-        is_graver = answer == "unsettled" and of == "escapes"
+        given = RULES[self.what]
+        is_graver = (given.gravity, found.rule.gravity) == (Gravity.UNSETTLED, Gravity.ESCAPES)
         # of a container each thing that lets it out is accepted by itself
-        is_entry = set(found.entry.split()) <= set(self.entry.split()) if of == ROOT_INSIDE else found.entry == self.entry
-        same = (found.path, at) == (self.path, guard) and is_entry and kind_of(of) == kind_of(answer)
+        is_inside = found.rule.word == ROOT_INSIDE
+        is_entry = set(found.entry.split()) <= set(self.entry.split()) if is_inside else found.entry == self.entry
+        same = (found.path, found.rule.at) == (self.path, given.at) and is_entry and kind_of(found.rule) == kind_of(given)
         return same and not is_graver and all(any(each.covers(whom) for each in self.named) for whom in found.whom)
 
 
@@ -150,7 +151,7 @@ def applied(report: Report, given: Iterable[Given], today: datetime.date) -> Rep
         if found.rule.id in ACCEPTABLE:
             by_path.setdefault(found.path, []).append(found)
     met = [(each, next((found for found in by_path.get(each.path, ()) if each.is_met_by(found)), None)) for each in given]
-    why = {(found.path, found.entry, kind_of(found.rule.id)): f"{each.reason}, until {each.until}"
+    why = {(found.path, found.entry, kind_of(found.rule)): f"{each.reason}, until {each.until}"
            for each, found in met if found and today <= each.until}
     report = replace(report, entries=tuple(accepted_entry(each, why) for each in report.entries),
                      opened=tuple(accepted_opened(each, why) for each in report.opened),
@@ -174,9 +175,9 @@ def accepted_inside(each: RootInside, why: Why) -> RootInside:
     return replace(each, accepted=why.get((each.path, " ".join(each.ways), ROOT_INSIDE), ABSENT))
 
 
-def standing(each: Given, found: Optional[Finding], beside: Iterable[Finding], why: Why, today: datetime.date) -> Acceptance:
+def standing(each: Given, found: Optional[Finding], beside: Iterable[Finding], granted: Why, today: datetime.date) -> Acceptance:
     """How an acceptance stands: where nothing is what was accepted, what stands there and nobody accepted is what got worse."""
-    others = [other for other in beside if (other.path, other.entry, kind_of(other.rule.id)) not in why]
+    others = [other for other in beside if (other.path, other.entry, kind_of(other.rule)) not in granted]
     # the same entry first
     others.sort(key=lambda other: other.entry != each.entry)
     state = OVER if today > each.until else ACCEPTED if found else WORSE if others else UNMET
@@ -184,10 +185,9 @@ def standing(each: Given, found: Optional[Finding], beside: Iterable[Finding], w
     return Acceptance(each.what, each.path, each.entry, each.whom, each.reason, str(each.until), state, told.line if told else None)
 
 
-def kind_of(rule: str) -> str:
-    """What findings at one place may be beside one another, by the id of a rule: an entry's, one that is opened, or a container."""
-    word = rule.partition("/")[0]
-    return word if word in (OPENED, ROOT_INSIDE) else ""
+def kind_of(rule: Rule) -> str:
+    """What findings at one place may be beside one another: an entry's, one that is opened, or a container."""
+    return rule.word if rule.word in (OPENED, ROOT_INSIDE) else ""
 
 
 def accepted_subtrees(report: Report) -> FrozenSet[str]:

@@ -114,7 +114,7 @@ def subtree_found(subtree: Subtree, is_accepted: bool) -> Found:
     """What those who hold a subtree were answered."""
     if not subtree.answers:
         return Found(Gravity.CONTAINED, f"{subtree.path}: held by root alone", within=subtree.within)
-    gravities = [Gravity.CONTAINED if each.is_above else of_answer(each.lines[0].split(" ")[0]) for each in subtree.answers]
+    gravities = [Gravity.CONTAINED if each.is_above else of_answer(each.word) for each in subtree.answers]
     told = "; ".join(f"{each.lines[0]}, by {each.who} who holds it" for each in subtree.answers)
     return Found(worst(gravities), f"{subtree.path}: {told}", within=subtree.within, is_accepted=is_accepted)
 

@@ -16,7 +16,7 @@ from zirofen_host.judge.finding_lines import some
 from zirofen_host.collect.looks import Looks
 from zirofen_host.judge.judged import LetIn, LetsIn, Place
 from zirofen_host.judge.model import (ABSENT, AboveFinding, Absent, DiffersFinding, EntryFinding, Example, FaultFinding, OpenedFinding,
-                                      Owner, Whom)
+                                      Owner, Whom, word_of)
 from zirofen_host.judge.names import Names
 from zirofen_host.judge.opened import GROUP_WRITES, OTHERS_WRITE, WHO_IS_FIRST, what_differs
 from zirofen_host.judge.shell import closing_commands
@@ -43,7 +43,7 @@ def texts_of(paths: Iterable[CgroupPath]) -> Tuple[str, ...]:
 def whom_of(names: Names, let_in: Iterable[LetIn]) -> Tuple[Whom, ...]:
     """Whom an entry lets in, by owner, group and everybody."""
     return tuple(Whom(each.by, each.id, names.by_class(each.by, each.id),
-                      tuple(names.member(uid) for uid in sorted(each.uids)) if each.by == GROUP else ()) for each in let_in)
+                      tuple(names.member(uid) for uid in sorted(each.uids)) if each.by == GROUP else (), each.uids) for each in let_in)
 
 
 def entry_findings(checked: Checked, advised: Advised, looks: Looks) -> Tuple[EntryFinding, ...]:
@@ -60,7 +60,7 @@ def entry_finding(checked: Checked, advised: Advised, found: LetsIn, closing: Tu
     kept = long_lists.kept(lines, user.uid, text_of(subtree), checked.options.tree)
     example = None if is_own else Example(checked.names.who(user), user.uid, user.gids, text_of(subtree), kept)
     changes = checked.commands(advised.changes_of(found))
-    return EntryFinding(path, place.name, owner_of(found.entry) if found.entry else None, lines[0].split(" ")[0],
+    return EntryFinding(path, place.name, owner_of(found.entry) if found.entry else None, word_of(lines),
                         whom_of(checked.names, found.whom), texts_of(found.subtrees), example,
                         (*changes, *(() if place.name == "dir" else closing)), None, checked.within(place.path),
                         is_own_affair(checked, place, found.whom, found.subtrees))
@@ -209,8 +209,8 @@ def faults_of_pairs(names: Names, advised: Advised) -> Iterable[FaultFinding]:
 def differs_findings(checked: Checked, opened: Iterable[Place]) -> Iterable[DiffersFinding]:
     """What else isn't as the manager leaves it where its mark stands."""
     told = {*opened, *checked.judged.entries}
-    for path, why in checked.questions.meant.items():
-        differs = what_differs(checked.snapshot, path) if why == MANAGERS_MARK else {}
+    for path, by in checked.questions.meant.items():
+        differs = what_differs(checked.snapshot, path) if by == MANAGERS_MARK else {}
         differs = {name: entry for name, entry in differs.items() if Place(path, name) not in told}
         if differs:
             yield DiffersFinding(text_of(path), tuple(sorted(differs)), setting_of(path),

@@ -3,7 +3,7 @@ have no key; the paths in it are texts, as they are shown."""
 import re
 from dataclasses import dataclass, field
 from enum import Enum
-from typing import Annotated, Mapping, Optional, Tuple, Union
+from typing import Annotated, FrozenSet, Mapping, Optional, Tuple, Union
 
 from zirofen_host.collect.notes import Note, line_of
 
@@ -50,6 +50,11 @@ Mode = Annotated[str, Matching("[0-7]{3,4}")]
 Lines = Annotated[Tuple[str, ...], Filled()]
 
 
+def word_of(lines: Lines) -> str:
+    """The word of an answer."""
+    return lines[0].split(" ")[0]
+
+
 @dataclass(frozen=True)
 class Owner:
     uid: int
@@ -76,6 +81,10 @@ class HolderAnswer:
     # of those that `who` numbers, where one has a name
     names: Union[Tuple[str, ...], Absent] = ABSENT
 
+    @property
+    def word(self) -> str:
+        return word_of(self.lines)
+
 
 @dataclass(frozen=True)
 class Subtree:
@@ -94,6 +103,8 @@ class Whom:
     id: Optional[int]
     name: str
     users: Tuple[str, ...]
+    # the uids of its users; of a report that was read they aren't known
+    members: Optional[FrozenSet[int]] = field(default=None, compare=False, metadata=NO_KEY)
 
 
 AllLetIn = Annotated[Tuple[Whom, ...], Filled()]

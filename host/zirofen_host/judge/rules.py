@@ -31,41 +31,51 @@ LETS: Dict[str, str] = {
     UNKNOWN: "the program tells it, and this helper finds no entry that it rests on"}
 PROVED = {Gravity.ESCAPES: ("escapes", "Proved: there are operations of theirs that break the subtree"),
           Gravity.UNSETTLED: ("unsettled", "Nothing that was tried breaks the subtree, and nothing shows that it holds")}
+SEEN = "Seen by the helper, and not proved."
 
 
 @dataclass(frozen=True)
 class Rule:
-    """A kind of finding, how grave each of it is, and what it is in a sentence."""
-    id: str
+    """A kind of finding, how grave each of it is, and what it is: in a sentence, with what is to be said of it."""
+    word: str
+    # of an entry the guard that stands on it, or what else tells it from others of its word
+    at: str
     gravity: Gravity
-    told: str
+    what: str
+    more: str = ""
+
+    @property
+    def id(self) -> str:
+        return f"{self.word}/{self.at}" if self.at else self.word
+
+    @property
+    def told(self) -> str:
+        return f"{self.what} {self.more}" if self.more else self.what
 
 
 def made_rules() -> Iterator[Rule]:
     for gravity, (word, proof) in PROVED.items():
         for guard, lets in LETS.items():
-            yield Rule(f"{word}/{guard}", gravity, f"{lets[0].upper()}{lets[1:]}. {proof}.")
-    yield Rule(OPENED, Gravity.ESCAPES, "Somebody writes a limit that they shouldn't, or an entry that the service manager keeps for "
-               "itself. Seen by the helper, and not proved.")
-    yield Rule(OPENED_DIRECTORY, Gravity.ESCAPES, "Somebody writes a directory in which a service manager will make what others run in. "
-               "Seen by the helper, and not proved.")
-    yield Rule(ROOT_INSIDE, Gravity.ESCAPES, "Processes of root's in a container get at cgroup files outside of it. Seen by the helper, "
-               "and not proved.")
-    yield Rule(ROOT_HELD, Gravity.CONTAINED, "Processes of root's in a container don't get at cgroup files outside of it. It speaks of "
-               "cgroup files alone, and is seen by the helper, and not proved.")
-    yield Rule(DIFFERS, Gravity.CONTAINED, "What was handed over isn't as a service manager leaves it. It isn't counted.")
-    yield Rule("fault", Gravity.FAULT, "There is no answer for a subtree or for somebody.")
-    yield Rule("fault/own", Gravity.OWN_FAULT, "There is no answer for a subtree, which is the making of those alone who hold it.")
-    yield Rule(FAILED, Gravity.FAULT, "A look at the host failed; all else stands.")
-    yield Rule(VERSION_1, Gravity.NOT_LOOKED_AT, "Limits are in the hands of cgroup v1, and weren't looked at.")
-    yield Rule("acceptance", Gravity.STALE, "An acceptance is over, meets nothing, or what it is of got worse.")
-    yield Rule(NOTHING_ASKED, Gravity.NOTHING_ASKED, "Nothing was found to ask: neither a delegation nor a container of root's.")
+            yield Rule(word, guard, gravity, f"{lets[0].upper()}{lets[1:]}.", f"{proof}.")
+    yield Rule(OPENED, "", Gravity.ESCAPES, "Somebody writes a limit that they shouldn't, or an entry that the service manager keeps for "
+               "itself.", SEEN)
+    yield Rule(OPENED, "dir", Gravity.ESCAPES, "Somebody writes a directory in which a service manager will make what others run in.", SEEN)
+    yield Rule(ROOT_INSIDE, "", Gravity.ESCAPES, "Processes of root's in a container get at cgroup files outside of it.", SEEN)
+    yield Rule(ROOT_INSIDE, "held", Gravity.CONTAINED, "Processes of root's in a container don't get at cgroup files outside of it.",
+               "It speaks of cgroup files alone, and is seen by the helper, and not proved.")
+    yield Rule(DIFFERS, "", Gravity.CONTAINED, "What was handed over isn't as a service manager leaves it.", "It isn't counted.")
+    yield Rule("fault", "", Gravity.FAULT, "There is no answer for a subtree or for somebody.")
+    yield Rule("fault", "own", Gravity.OWN_FAULT, "There is no answer for a subtree, which is the making of those alone who hold it.")
+    yield Rule(FAILED, "", Gravity.FAULT, "A look at the host failed; all else stands.")
+    yield Rule(VERSION_1, "", Gravity.NOT_LOOKED_AT, "Limits are in the hands of cgroup v1, and weren't looked at.")
+    yield Rule("acceptance", "", Gravity.STALE, "An acceptance is over, meets nothing, or what it is of got worse.")
+    yield Rule(NOTHING_ASKED, "", Gravity.NOTHING_ASKED, "Nothing was found to ask: neither a delegation nor a container of root's.")
 
 
 RULES: Dict[str, Rule] = {rule.id: rule for rule in made_rules()}
 # what somebody may accept by itself
 ACCEPTABLE = tuple(rule.id for rule in RULES.values()
-                   if rule.id == ROOT_INSIDE or rule.id.partition("/")[0] in (OPENED, *(word for word, _ in PROVED.values())))
+                   if rule.id == ROOT_INSIDE or rule.word in (OPENED, *(word for word, _ in PROVED.values())))
 
 
 @dataclass(frozen=True)

@@ -1,6 +1,6 @@
 """A finding as an article of the page."""
 from dataclasses import dataclass, replace
-from typing import Dict, Iterable, Iterator, List, Optional
+from typing import Dict, Iterator, List, Optional
 
 from zirofen_host.collect.model import User
 from zirofen_host.fault import Fault
@@ -13,15 +13,6 @@ from zirofen_host.show.markup import capital, code, commands, filled, items, par
 from zirofen_host.show.steps import OVER, Steps, steps_of
 from zirofen_host.show.view import Escape, Grouped, Host, Part, accepted_of, entry_of, place_of, subtrees_of, whom_of
 from zirofen_host.show.words import ESCAPES, UNSETTLED
-
-
-def settings_by_unit(settings: Iterable[str]) -> List[str]:
-    """Settings as sentences list them, those of one unit together."""
-    units: Dict[str, List[str]] = {}
-    for setting in dict.fromkeys(settings):
-        name, _, unit = setting.rpartition(" of ")
-        units.setdefault(unit, []).append(name)
-    return [f"{words.listed(names)} of {unit}" for unit, names in units.items()]
 
 
 @dataclass(frozen=True)
@@ -174,8 +165,8 @@ class Article:
 
     def change(self) -> str:
         changes = self.changes()
-        settings = settings_by_unit(each.setting for each in self.finding.parts
-                                    if not isinstance(each, (FaultFinding, RootInside)) and each.setting)
+        settings = dict.fromkeys(each.setting for each in self.finding.parts
+                                 if not isinstance(each, (FaultFinding, RootInside)) and each.setting)
         if isinstance(self.finding.parts[0], RootInside):
             return self.of_container(self.finding.parts[0])
         if not changes and not settings:

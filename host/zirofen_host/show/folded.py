@@ -16,7 +16,7 @@ class Part:
     # what it has in common with others that are alike
     alike: Hashable
     # a word that it is counted by
-    reason: str
+    word: str
     # whom it lets in beside whose making it is, which is never left out
     others: Optional[str]
     lines: Sequence[str]
@@ -30,7 +30,7 @@ class Run:
 
     def gravity(self) -> Tuple[bool, int]:
         """What lets in another goes first, and then by its word."""
-        return self.first.others is None, GRAVITY.index(self.first.reason) if self.first.reason in GRAVITY else len(GRAVITY)
+        return self.first.others is None, GRAVITY.index(self.first.word) if self.first.word in GRAVITY else len(GRAVITY)
 
     def lines(self) -> Iterator[str]:
         yield from self.first.lines
@@ -64,16 +64,16 @@ def runs_of(parts: Iterable[Part]) -> List[Run]:
 
 
 def left_out(runs: Iterable[Run]) -> Iterator[str]:
-    """How many more there are, by whom they let in and by reason."""
+    """How many more there are, by whom they let in and by their words."""
     counts: Dict[Tuple[int, Optional[str]], Counter[str]] = {}
     for run in runs:
-        counts.setdefault((run.first.within, run.first.others), Counter())[run.first.reason] += run.count
-    for (within, others), reasons in counts.items():
+        counts.setdefault((run.first.within, run.first.others), Counter())[run.first.word] += run.count
+    for (within, others), words in counts.items():
         let_in = f" that let in {others}" if others else ""
-        yield f".. and {sum(reasons.values())} more in what uid {within} made{let_in}: {counted(reasons)}"
+        yield f".. and {sum(words.values())} more in what uid {within} made{let_in}: {counted(words)}"
 
 
-def counted(reasons: Dict[str, int]) -> str:
-    """Counts by reason, the gravest first."""
-    words = sorted(reasons, key=lambda word: (GRAVITY.index(word) if word in GRAVITY else len(GRAVITY), word))
-    return ", ".join(f"{reasons[word]} {word}" for word in words)
+def counted(counts: Dict[str, int]) -> str:
+    """Counts by word, the gravest first."""
+    words = sorted(counts, key=lambda word: (GRAVITY.index(word) if word in GRAVITY else len(GRAVITY), word))
+    return ", ".join(f"{counts[word]} {word}" for word in words)

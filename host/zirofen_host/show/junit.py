@@ -65,12 +65,12 @@ def holder_case(cases: Cases, subtree: Subtree, by_subtree: Mapping[str, List[Fi
     behind = [found for place in (subtree.path, *ancestors(subtree.path)) for found in by_subtree.get(place, ())]
     for each in subtree.answers:
         case = cases.at(subtree.path, f"held by {each.who}")
-        gravity = Gravity.CONTAINED if each.is_above else of_answer(each.lines[0].split(" ")[0])
+        gravity = Gravity.CONTAINED if each.is_above else of_answer(each.word)
         if gravity is Gravity.CONTAINED:
             continue
         is_accepted = bool(behind) and not any(isinstance(found.accepted, Absent) for found in behind)
         outcome = SKIPPED if is_accepted else OF_GRAVITY.get(gravity, ERROR)
-        case.add(outcome, each.lines[0].split(" ")[0], [*each.lines, *(line for found in behind for line in told(found))])
+        case.add(outcome, each.word, [*each.lines, *(line for found in behind for line in told(found))])
     if not subtree.answers:
         cases.at(subtree.path, "held by root alone")
 

@@ -61,19 +61,24 @@ def rows_of(subtree: Subtree, mark: str = "", is_named: bool = False) -> Iterato
         yield "-", "-", "held by root alone" + mark, subtree.path, ()
 
 
+def words_of(subtree: Subtree) -> List[str]:
+    """A word for each of the table's rows of a subtree, by which those that are alike are counted."""
+    return ["above" if each.is_above else each.word for each in subtree.answers] or ["held"]
+
+
 def table(report: Report, is_each: bool = False) -> Iterator[str]:
     """Columns of who holds a subtree, their groups, the answer and the path, which may be long; what it shows stands below. What
     somebody made below their own delegation stands last."""
     mark = VERSION_1 if report.version_1 else ""
     scopes = report.scopes_by_path
-    rows = [(subtree.within, (who, gids, answer, path + beside(scopes, path), below)) for subtree in report.subtrees
-            for who, gids, answer, path, below in rows_of(subtree, mark, True)]
+    rows = [(subtree.within, word, (who, gids, answer, path + beside(scopes, path), below)) for subtree in report.subtrees
+            for word, (who, gids, answer, path, below) in zip(words_of(subtree), rows_of(subtree, mark, True))]
     head: Row = ("UID", "GIDS", "ANSWER", "PATH", ())
-    shown = [head, *(row for _, row in rows)]
+    shown = [head, *(row for _, _, row in rows)]
     widths = [min(most, max(len(row[at]) for row in shown)) for at, most in enumerate(WIDEST)]
-    yield from (line for row in (head, *(row for within, row in rows if within is ABSENT)) for line in row_lines(row, widths))
-    made = [Part(within, (within, row[:2], row[2].split(" ")[0]), row[2].split(" ")[0].rstrip(":"), None, list(row_lines(row, widths)))
-            for within, row in rows if not isinstance(within, Absent)]
+    yield from (line for row in (head, *(row for within, _, row in rows if within is ABSENT)) for line in row_lines(row, widths))
+    made = [Part(within, (within, row[:2], word), word, None, list(row_lines(row, widths)))
+            for within, word, row in rows if not isinstance(within, Absent)]
     yield from folded(made, is_each)
 
 
@@ -238,7 +243,7 @@ def standings(report: Report) -> Dict[str, str]:
 
 def standing(subtree: Subtree) -> str:
     """How a subtree stands by the answers of who holds it."""
-    words = {"above" if each.is_above else each.lines[0].split(" ")[0] for each in subtree.answers}
+    words = set(words_of(subtree)) if subtree.answers else set()
     words = {word if word in GRAVITY else "fault" for word in words} - ({"above"} if len(words) > 1 else set())
     return min(words, key=GRAVITY.index, default="contained")
 

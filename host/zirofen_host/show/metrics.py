@@ -27,8 +27,7 @@ class Gauge(NamedTuple):
 
 def kind_labels(rule: Rule) -> Tuple[Tuple[str, str], ...]:
     """Labels of a kind of finding: of an entry's the guard, which the gravity stands beside."""
-    word, _, guard = rule.id.partition("/")
-    kind = guard if word == NAMES[rule.gravity] else rule.id
+    kind = rule.at if rule.word == NAMES[rule.gravity] else rule.id
     return ("kind", kind), ("gravity", NAMES[rule.gravity])
 
 

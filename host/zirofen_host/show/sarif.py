@@ -37,7 +37,7 @@ def level_of(gravity: Gravity) -> str:
 
 
 def rule_object(rule: Rule) -> Object:
-    return {"id": rule.id, "shortDescription": {"text": rule.told.partition(". ")[0].rstrip(".") + "."},
+    return {"id": rule.id, "shortDescription": {"text": rule.what},
             "fullDescription": {"text": rule.told}, "help": {"text": f"{MANUAL}, section {rule.id}"},
             "defaultConfiguration": {"level": level_of(rule.gravity)}}
 

@@ -290,7 +290,7 @@ class Host:
         let_in = {each.id for each in part.whom if each.by == "owner"}
         found = [(not let_in.intersection(answer.uids), path, answer) for path in part.subtrees if path in self.subtrees
                  for answer in self.subtrees[path].answers
-                 if not answer.is_above and answer.lines[0].split(" ")[0] == part.answer]
+                 if not answer.is_above and answer.word == part.answer]
         if not found:
             return None
         _, path, answer = min(found, key=lambda each: each[:2])
