@@ -147,7 +147,7 @@ class CgroupsTest(ThreeTest):
         self.host.cgroup("/alice/c0", owners=owned(1000), marks=("user.delegate",))
 
         def marks_of(folder):
-            return bounded.Attributes({"user.delegate": b"1" * 16}, 60000) if os.fstat(folder).st_uid else bounded.NO_MARKS
+            return bounded.Attributes({"user.delegate": b"1" * 16}, 60000) if os.fstat(folder).st_uid else bounded.Attributes({}, 0)
         with mock.patch.object(self.host, "marks_of", marks_of):
             found = self.report(json=True)
             self.others(found)

@@ -9,7 +9,7 @@ from datetime import datetime, timezone
 import example
 from page_reader import PageReader
 from shown import made, value_of
-from zirofen_host.judge.gravity import gravity_of
+from zirofen_host.judge.severity import severity_of
 from zirofen_host.judge.model import Acceptance
 from zirofen_host.show import chart, fleet, page, tree_view
 from zirofen_host.show.finding import Place
@@ -25,7 +25,7 @@ def accepted(which=lambda each: True):
     report = made(example.kept())
     report = replace(report, entries=tuple(replace(each, accepted=WHY) if which(each) else each for each in report.entries),
                      opened=tuple(replace(each, accepted=WHY) if which(each) else each for each in report.opened))
-    return replace(report, status=gravity_of(report).status)
+    return replace(report, status=severity_of(report).status)
 
 
 def is_of_build(each):

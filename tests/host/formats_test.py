@@ -83,7 +83,7 @@ class SarifTest(unittest.TestCase):
             self.assertTrue(each["message"]["text"].replace("\n", "").isprintable())
             self.assertNotRegex(each["message"]["text"], r"(?<!\\)\[[^\]]*\]\(|(?<!\{)\{0")
 
-    def test_levels_are_by_gravity(self):
+    def test_levels_are_by_severity(self):
         levels = {each["ruleId"]: each["level"] for each in self.results(run_of(odd_report()))}
         self.assertLessEqual({"escapes/limit-file", "unsettled/common-ancestor", "opened", "fault", "fault/own", "failed", "version-1",
                               "nothing-asked"}, set(levels))

@@ -164,7 +164,7 @@ class Program:
             runs = [Question(some, run.subtrees) for run in runs for some in shares_of(run.users, os.cpu_count() or 1)]
         found: Answered = {}
         try:
-            for answers in at_once(lambda run: settle(audit, run.users, run.subtrees), runs, self.memory):
+            for answers in at_once(lambda run: asked_in_halves(audit, run.users, run.subtrees), runs, self.memory):
                 found.update(answers)
         except Refused as refused:
             raise refused.fault() from None
@@ -291,7 +291,7 @@ def fitting(questions: Iterable[Question]) -> Iterator[Question]:
                 yield Question(tuple(users), tuple(subtrees))
 
 
-def settle(audit: Audit, users: Sequence[User], subtrees: Sequence[CgroupPath]) -> Answered:
+def asked_in_halves(audit: Audit, users: Sequence[User], subtrees: Sequence[CgroupPath]) -> Answered:
     """The answers of a run; where it ends with a fault, those of its halves, down to the pair that has it."""
     try:
         return audit(users, subtrees)
@@ -303,10 +303,10 @@ def settle(audit: Audit, users: Sequence[User], subtrees: Sequence[CgroupPath]) 
     found: Answered = {}
     if len(subtrees) > 1:
         for some in shares_of(subtrees, 2):
-            found.update(settle(audit, users, some))
+            found.update(asked_in_halves(audit, users, some))
     else:
         for of in shares_of(users, 2):
-            found.update(settle(audit, of, subtrees))
+            found.update(asked_in_halves(audit, of, subtrees))
     return found
 
 

@@ -140,9 +140,6 @@ class Attributes(NamedTuple):
     read: int
 
 
-NO_MARKS = Attributes({}, 0)
-
-
 def read_opened(opened: int, most: int) -> Read:
     """What an opened file has from where it stands, up to so many bytes."""
     parts, left = [], most + 1

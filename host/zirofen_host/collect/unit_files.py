@@ -169,7 +169,7 @@ def read_units(files: Sequence[str], folders: Sequence[str]) -> List[UnitFile]:
     return units
 
 
-def unescaped(text: str) -> str:
+def systemd_unescaped(text: str) -> str:
     """A name without what systemd-escape made of it."""
     return re.sub(r"\\x([0-9a-fA-F]{2})", lambda found: chr(int(found[1], 16)), text.replace("-", "/"))
 
@@ -178,9 +178,11 @@ def specifiers(name: UnitName, known: Mapping[str, str]) -> Mapping[str, str]:
     """What each specifier stands for that can be known: those of the unit's name, and what else is given."""
     instance = name.instance or ""
     last = name.prefix.rpartition("-")[2]
-    return {"n": name.text, "N": name.stem, "p": name.prefix, "P": unescaped(name.prefix), "i": instance, "I": unescaped(instance),
-            "j": last, "J": unescaped(last), "%": "%", "u": "root", "U": "0", "g": "root", "G": "0", "h": "/root", "t": "/run",
-            "S": "/var/lib", "C": "/var/cache", "L": "/var/log", "E": "/etc", "T": "/tmp", "V": "/var/tmp", **known}
+    return {"n": name.text, "N": name.stem, "p": name.prefix, "P": systemd_unescaped(name.prefix), "i": instance,
+            "I": systemd_unescaped(instance), "j": last, "J": systemd_unescaped(last), "%": "%", "u": "root", "U": "0", "g": "root",
+            "G": "0",
+            "h": "/root", "t": "/run", "S": "/var/lib", "C": "/var/cache", "L": "/var/log", "E": "/etc", "T": "/tmp", "V": "/var/tmp",
+            **known}
 
 
 def filled(value: str, known: Mapping[str, str]) -> Optional[str]:

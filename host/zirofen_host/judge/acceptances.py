@@ -11,7 +11,7 @@ from zirofen_host.collect import bounded
 from zirofen_host.collect.model import GROUP, OTHERS, OWNER
 from zirofen_host.collect.tree import parts_in, table_in, text_in, texts_in, toml_reader
 from zirofen_host.fault import Fault
-from zirofen_host.judge.gravity import ACCEPTED, Gravity, gravity_of
+from zirofen_host.judge.severity import ACCEPTED, Severity, severity_of
 from zirofen_host.judge.model import ABSENT, Acceptance, EntryFinding, OpenedFinding, Report, RootInside, Whom
 from zirofen_host.judge.rules import ACCEPTABLE, OPENED, ROOT_INSIDE, RULES, Finding, Rule, findings_of
 from zirofen_host.output import opened_back, refused
@@ -51,7 +51,7 @@ class Given:
     def is_met_by(self, found: Finding) -> bool:
         """Whether a finding is what was accepted: at the same entry, no graver, and letting in nobody else."""
         given = RULES[self.what]
-        is_graver = (given.gravity, found.rule.gravity) == (Gravity.UNSETTLED, Gravity.ESCAPES)
+        is_graver = (given.severity, found.rule.severity) == (Severity.UNSETTLED, Severity.ESCAPES)
         # of a container each thing that lets it out is accepted by itself
         is_inside = found.rule.word == ROOT_INSIDE
         is_entry = set(found.entry.split()) <= set(self.entry.split()) if is_inside else found.entry == self.entry
@@ -157,7 +157,7 @@ def applied(report: Report, given: Iterable[Given], today: datetime.date) -> Rep
                      opened=tuple(accepted_opened(each, why) for each in report.opened),
                      root_inside=tuple(accepted_inside(each, why) for each in report.containers) or ABSENT,
                      acceptances=tuple(standing(each, found, by_path.get(each.path, ()), why, today) for each, found in met))
-    return replace(report, status=gravity_of(report).status)
+    return replace(report, status=severity_of(report).status)
 
 
 Why = Mapping[Tuple[str, str, str], str]

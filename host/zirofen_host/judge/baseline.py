@@ -12,8 +12,8 @@ from zirofen_host.judge import as_json
 from zirofen_host.judge.acceptances import accepted_subtrees
 from zirofen_host.judge.finding_lines import (above_line, differs_line, entry_line, fault_line, inside_line, opened_line,
                                               version_1_line)
-from zirofen_host.judge.gravity import ACCEPTED as HOLDS
-from zirofen_host.judge.gravity import Gravity, is_empty, of_answer, of_fault, worst
+from zirofen_host.judge.severity import ACCEPTED as HOLDS
+from zirofen_host.judge.severity import Severity, is_empty, of_answer, of_fault, worst
 from zirofen_host.collect.notes import FAILED
 from zirofen_host.judge.model import (ABSENT, VERSION, Absent, Comparison, Difference, DiffersFinding, EntryFinding,
                                       OpenedFinding, Report, RootInside, Subtree, Whom, Within)
@@ -29,7 +29,7 @@ Key = Tuple[str, str, str]
 
 class Found(NamedTuple):
     """A finding: how grave it is, its line, what it lets in, and what mends it."""
-    gravity: Gravity
+    severity: Severity
     line: str
     lets_in: FrozenSet[Tuple[object, ...]] = frozenset()
     mended: Union[EntryFinding, OpenedFinding, DiffersFinding, RootInside, None] = None
@@ -65,7 +65,7 @@ def read(file: str) -> Optional[Report]:
 
 def accepted_lines(report: Report) -> Iterator[str]:
     """What a baseline of a report accepts. Nobody accepts a fault."""
-    found = [(key, each) for key, each in sorted(found_in(report).items(), key=lambda pair: (pair[1].gravity.rank, pair[0]))
+    found = [(key, each) for key, each in sorted(found_in(report).items(), key=lambda pair: (pair[1].severity.rank, pair[0]))
              if is_standing(key, each, False)]
     for key, each in found[:ACCEPTED]:
         yield f"accepted: {each.line}" if key[0] != "fault" else f"not accepted: {each.line}: a fault counts in each run"
@@ -88,35 +88,35 @@ def found_in(report: Report) -> Dict[Key, Found]:
             of_answer(entry.answer), entry_line([entry]), let_in(entry.whom, entry.subtrees), entry, entry.within,
             entry.accepted is not ABSENT)
     for opened in report.opened:
-        found["opened", opened.path, opened.file] = Found(Gravity.ESCAPES, opened_line(opened), let_in(opened.whom, ()), opened,
+        found["opened", opened.path, opened.file] = Found(Severity.ESCAPES, opened_line(opened), let_in(opened.whom, ()), opened,
                                                           opened.within, opened.accepted is not ABSENT)
     for inside in report.containers:
         found["root-inside", inside.path, ""] = Found(
-            Gravity.CONTAINED if inside.held else Gravity.ESCAPES, inside_line(inside), frozenset((way,) for way in inside.ways),
+            Severity.CONTAINED if inside.held else Severity.ESCAPES, inside_line(inside), frozenset((way,) for way in inside.ways),
             inside, is_accepted=inside.accepted is not ABSENT)
     for fault in report.faults:
         for path in fault.subtrees:
             found["fault", path, fault.fault] = Found(of_fault(fault), fault_line(fault, [path]))
     for differs in report.differs:
         found["differs", differs.path, ""] = Found(
-            Gravity.CONTAINED, differs_line(differs), frozenset((name,) for name in differs.entries), differs)
+            Severity.CONTAINED, differs_line(differs), frozenset((name,) for name in differs.entries), differs)
     for above in report.above:
-        found["above", above.handed, above.who] = Found(Gravity.CONTAINED, above_line(above), within=above.within)
+        found["above", above.handed, above.who] = Found(Severity.CONTAINED, above_line(above), within=above.within)
     for told in (*report.unseen, *report.snapshot):
         if told.kind == FAILED:
-            found[FAILED, told.place, told.text] = Found(Gravity.FAULT, told.line)
+            found[FAILED, told.place, told.text] = Found(Severity.FAULT, told.line)
     if report.version_1:
-        found["version-1", "", ""] = Found(Gravity.NOT_LOOKED_AT, version_1_line(report.version_1))
+        found["version-1", "", ""] = Found(Severity.NOT_LOOKED_AT, version_1_line(report.version_1))
     return found
 
 
 def subtree_found(subtree: Subtree, is_accepted: bool) -> Found:
     """What those who hold a subtree were answered."""
     if not subtree.answers:
-        return Found(Gravity.CONTAINED, f"{subtree.path}: held by root alone", within=subtree.within)
-    gravities = [Gravity.CONTAINED if each.is_above else of_answer(each.word) for each in subtree.answers]
+        return Found(Severity.CONTAINED, f"{subtree.path}: held by root alone", within=subtree.within)
+    severities = [Severity.CONTAINED if each.is_above else of_answer(each.word) for each in subtree.answers]
     told = "; ".join(f"{each.lines[0]}, by {each.who} who holds it" for each in subtree.answers)
-    return Found(worst(gravities), f"{subtree.path}: {told}", within=subtree.within, is_accepted=is_accepted)
+    return Found(worst(severities), f"{subtree.path}: {told}", within=subtree.within, is_accepted=is_accepted)
 
 
 def let_in(whom: Iterable[Whom], subtrees: Iterable[str]) -> FrozenSet[Tuple[object, ...]]:
@@ -129,31 +129,31 @@ def compared(report: Report, before: Report, file: str) -> Comparison:
     """What differs from an earlier report, and what stands since then, with its status."""
     now, then = found_in(report), found_in(before)
     differing: Dict[str, List[Difference]] = {kind: [] for kind in KINDS}
-    gravities = []
+    severities = []
     for key in sorted({*now, *then}):
         if key in now and now[key].is_accepted:
             continue
         kind = kind_of(now.get(key), then.get(key))
         if kind in ("new", "worse"):
-            gravities.append(now[key].gravity)
+            severities.append(now[key].severity)
         elif key in now and is_standing(key, now[key], before.accepted is True):
-            gravities.append(now[key].gravity)
+            severities.append(now[key].severity)
             differing["stand"].append(difference(key, now[key], then[key]))
         if kind:
             differing[kind].append(difference(key, now.get(key), then.get(key)))
     differing["changed"] += changes_of_host(report, before)
     if not isinstance(report.acceptances, Absent):
-        gravities += [Gravity.STALE for each in report.acceptances if each.state != HOLDS]
+        severities += [Severity.STALE for each in report.acceptances if each.state != HOLDS]
     if is_empty(report) and not is_empty(before):
-        gravities.append(Gravity.NOTHING_ASKED)
+        severities.append(Severity.NOTHING_ASKED)
     new, worse, stand, changed, gone = (tuple(differing[kind]) for kind in KINDS)
-    return Comparison(file, before.time, new, worse, stand, changed, gone, worst(gravities).status)
+    return Comparison(file, before.time, new, worse, stand, changed, gone, worst(severities).status)
 
 
 def is_standing(key: Key, now: Found, is_accepted: bool) -> bool:
     """Whether a finding that was there already counts: a fault always does, and others where nobody accepted them. A subtree's
     row is told by the entries that it rests on."""
-    if now.is_accepted or now.gravity is Gravity.CONTAINED or key[0] == "subtree":
+    if now.is_accepted or now.severity is Severity.CONTAINED or key[0] == "subtree":
         return False
     return not is_accepted or key[0] in ("fault", FAILED)
 
@@ -170,7 +170,7 @@ def kind_of(now: Optional[Found], then: Optional[Found]) -> Optional[str]:
         return "new"
     if now is None:
         return "gone"
-    if now.gravity.rank < then.gravity.rank or now.lets_in - then.lets_in:
+    if now.severity.rank < then.severity.rank or now.lets_in - then.lets_in:
         return "worse"
     return "changed" if now.line != then.line else None
 
@@ -178,5 +178,5 @@ def kind_of(now: Optional[Found], then: Optional[Found]) -> Optional[str]:
 def difference(key: Key, now: Optional[Found], then: Optional[Found]) -> Difference:
     mended = now.mended if now else None
     told = now or then
-    return Difference(key[0], told.line if told else "", then.line if now and then else None, now.gravity.status if now else CONTAINED,
+    return Difference(key[0], told.line if told else "", then.line if now and then else None, now.severity.status if now else CONTAINED,
                       mended.changes if mended else (), mended.setting if mended else None, told.within if told else ABSENT)

@@ -19,7 +19,7 @@ from zirofen_host.judge.advised import Advised, advise
 from zirofen_host.judge.checked import Checked
 from zirofen_host.judge.finding_lines import SHOWN
 from zirofen_host.judge.findings import above_findings, differs_findings, entry_findings, fault_findings, opened_findings
-from zirofen_host.judge.gravity import gravity_of
+from zirofen_host.judge.severity import severity_of
 from zirofen_host.judge.judged import Own, judge
 from zirofen_host.judge.lists import shown_lists
 from zirofen_host.judge.model import ABSENT, VERSION, HeldBy, HolderAnswer, NamedScope, Report, Subtree, Told
@@ -117,7 +117,7 @@ def report_of(checked: Checked, is_whole: bool) -> Report:
                        groups=looks.all("groups", lambda: whole.groups_of(checked)), cgroups=whole.cgroups_of(checked, looks),
                        processes=looks.all("processes", lambda: whole.processes_of(checked)))
     made = replace(made, unseen=(*(noted(checked, note) for note in looks.failed), *told))
-    return replace(made, status=gravity_of(made).status)
+    return replace(made, status=severity_of(made).status)
 
 
 def named_scope(checked: Checked, each: Scope) -> NamedScope:

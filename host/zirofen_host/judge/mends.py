@@ -15,7 +15,8 @@ from zirofen_host.judge.rules import ACCEPTABLE, DIFFERS, NOTHING_ASKED, OPENED,
 from zirofen_host.profile import HANDED_OVER, SETTINGS, is_root, is_usual, path_of
 
 # the kinds of mends that are written
-SYSTEMD, SHELL = KINDS = MENDS
+KINDS = MENDS
+SHELL = KINDS[1]
 # a drop-in's name, which stands behind those that systemctl set-property writes
 DROP_IN = "60-zirofen.conf"
 SERVICE, SLICE = "Service", "Slice"

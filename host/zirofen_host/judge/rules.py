@@ -8,7 +8,7 @@ from zirofen_host.judge import long_lists
 from zirofen_host.judge.finding_lines import NOTHING_ASKED as NOTHING_ASKED_LINE
 from zirofen_host.judge.finding_lines import (INSIDE_MEANS, acceptance_line, differs_line, entry_line, fault_line, inside_line,
                                               opened_line, version_1_line)
-from zirofen_host.judge.gravity import ACCEPTED, Gravity, is_empty, of_answer, of_fault
+from zirofen_host.judge.severity import ACCEPTED, Severity, is_empty, of_answer, of_fault
 from zirofen_host.judge.judged import OVER, UNKNOWN
 from zirofen_host.judge.model import (ABSENT, Absent, DiffersFinding, EntryFinding, OpenedFinding, Report, RootInside, Whom, Within)
 from zirofen_host.profile import FURTHER_FILES, LIMIT_FILES
@@ -29,8 +29,8 @@ LETS: Dict[str, str] = {
     "parent-dir": "somebody writes the directory above a subtree, and so removes it or makes others beside it",
     OVER: "a subtree has more cgroups or levels than its own limits let it have",
     UNKNOWN: "the program tells it, and this helper finds no entry that it rests on"}
-PROVED = {Gravity.ESCAPES: ("escapes", "Proved: there are operations of theirs that break the subtree"),
-          Gravity.UNSETTLED: ("unsettled", "Nothing that was tried breaks the subtree, and nothing shows that it holds")}
+PROVED = {Severity.ESCAPES: ("escapes", "Proved: there are operations of theirs that break the subtree"),
+          Severity.UNSETTLED: ("unsettled", "Nothing that was tried breaks the subtree, and nothing shows that it holds")}
 SEEN = "Seen by the helper, and not proved."
 
 
@@ -40,7 +40,7 @@ class Rule:
     word: str
     # of an entry the guard that stands on it, or what else tells it from others of its word
     at: str
-    gravity: Gravity
+    severity: Severity
     what: str
     more: str = ""
 
@@ -54,22 +54,23 @@ class Rule:
 
 
 def made_rules() -> Iterator[Rule]:
-    for gravity, (word, proof) in PROVED.items():
+    for severity, (word, proof) in PROVED.items():
         for guard, lets in LETS.items():
-            yield Rule(word, guard, gravity, f"{lets[0].upper()}{lets[1:]}.", f"{proof}.")
-    yield Rule(OPENED, "", Gravity.ESCAPES, "Somebody writes a limit that they shouldn't, or an entry that the service manager keeps for "
+            yield Rule(word, guard, severity, f"{lets[0].upper()}{lets[1:]}.", f"{proof}.")
+    yield Rule(OPENED, "", Severity.ESCAPES, "Somebody writes a limit that they shouldn't, or an entry that the service manager keeps for "
                "itself.", SEEN)
-    yield Rule(OPENED, "dir", Gravity.ESCAPES, "Somebody writes a directory in which a service manager will make what others run in.", SEEN)
-    yield Rule(ROOT_INSIDE, "", Gravity.ESCAPES, "Processes of root's in a container get at cgroup files outside of it.", SEEN)
-    yield Rule(ROOT_INSIDE, "held", Gravity.CONTAINED, "Processes of root's in a container don't get at cgroup files outside of it.",
+    yield Rule(OPENED, "dir", Severity.ESCAPES,
+               "Somebody writes a directory in which a service manager will make what others run in.", SEEN)
+    yield Rule(ROOT_INSIDE, "", Severity.ESCAPES, "Processes of root's in a container get at cgroup files outside of it.", SEEN)
+    yield Rule(ROOT_INSIDE, "held", Severity.CONTAINED, "Processes of root's in a container don't get at cgroup files outside of it.",
                "It speaks of cgroup files alone, and is seen by the helper, and not proved.")
-    yield Rule(DIFFERS, "", Gravity.CONTAINED, "What was handed over isn't as a service manager leaves it.", "It isn't counted.")
-    yield Rule("fault", "", Gravity.FAULT, "There is no answer for a subtree or for somebody.")
-    yield Rule("fault", "own", Gravity.OWN_FAULT, "There is no answer for a subtree, which is the making of those alone who hold it.")
-    yield Rule(FAILED, "", Gravity.FAULT, "A look at the host failed; all else stands.")
-    yield Rule(VERSION_1, "", Gravity.NOT_LOOKED_AT, "Limits are in the hands of cgroup v1, and weren't looked at.")
-    yield Rule("acceptance", "", Gravity.STALE, "An acceptance is over, meets nothing, or what it is of got worse.")
-    yield Rule(NOTHING_ASKED, "", Gravity.NOTHING_ASKED, "Nothing was found to ask: neither a delegation nor a container of root's.")
+    yield Rule(DIFFERS, "", Severity.CONTAINED, "What was handed over isn't as a service manager leaves it.", "It isn't counted.")
+    yield Rule("fault", "", Severity.FAULT, "There is no answer for a subtree or for somebody.")
+    yield Rule("fault", "own", Severity.OWN_FAULT, "There is no answer for a subtree, which is the making of those alone who hold it.")
+    yield Rule(FAILED, "", Severity.FAULT, "A look at the host failed; all else stands.")
+    yield Rule(VERSION_1, "", Severity.NOT_LOOKED_AT, "Limits are in the hands of cgroup v1, and weren't looked at.")
+    yield Rule("acceptance", "", Severity.STALE, "An acceptance is over, meets nothing, or what it is of got worse.")
+    yield Rule(NOTHING_ASKED, "", Severity.NOTHING_ASKED, "Nothing was found to ask: neither a delegation nor a container of root's.")
 
 
 RULES: Dict[str, Rule] = {rule.id: rule for rule in made_rules()}
@@ -100,11 +101,11 @@ class Finding:
     @property
     def is_counted(self) -> bool:
         """Whether it is part of the status."""
-        return self.accepted is ABSENT and self.rule.gravity is not Gravity.CONTAINED
+        return self.accepted is ABSENT and self.rule.severity is not Severity.CONTAINED
 
 
 def of_entry(each: EntryFinding) -> Finding:
-    word = PROVED.get(of_answer(each.answer), PROVED[Gravity.ESCAPES])[0]
+    word = PROVED.get(of_answer(each.answer), PROVED[Severity.ESCAPES])[0]
     example = tuple(long_lists.shown(each.example.lines)) if each.example else ()
     return Finding(RULES[f"{word}/{GUARDS.get(each.entry, UNKNOWN)}"], each.path, each.entry, entry_line([each]), each.whom,
                    each.subtrees, example, each.changes, each.setting, each.accepted, each.within)
@@ -133,7 +134,7 @@ def findings_of(report: Report) -> Iterator[Finding]:
     yield from map(of_opened, report.opened)
     yield from map(of_inside, report.containers)
     for fault in report.faults:
-        rule = RULES["fault" if of_fault(fault) is Gravity.FAULT else "fault/own"]
+        rule = RULES["fault" if of_fault(fault) is Severity.FAULT else "fault/own"]
         yield from (Finding(rule, path, "", fault_line(fault, [path])) for path in fault.subtrees)
     for told in (*report.unseen, *report.snapshot):
         if told.kind == FAILED:

@@ -10,21 +10,21 @@ from zirofen_host.collect.model import AccountLists, Snapshot
 from zirofen_host.collect.snapshot import LARGEST_PID
 from zirofen_host.collect.unit_files import UnitFile, filled, specifiers
 from zirofen_host.fault import Fault
-from zirofen_host.profile import (CONTROL_FILES, CONTROLLERS, FURTHER_FILES, LIMIT_FILES, ROOT, SETTINGS, CgroupPath, ancestors, is_root,
-                                  parent_of, path_of, text_of)
+from zirofen_host.profile import (CONTROL_FILES, CONTROLLERS, FURTHER_FILES, HANDED_OVER, LIMIT_FILES, ROOT, SETTINGS, CgroupPath,
+                                  ancestors, is_root, parent_of, path_of, text_of)
 
 SERVICE, SLICE = "service", "slice"
 # what a manager of this version and of newer ones knows: subgroups, and giving a unit to a group alone
 SUBGROUPS = 254
 # handed over with a delegated unit; where the cgroup above enables memory what is in OF_MEMORY, too
-HANDED_OVER = ("dir", *CONTROL_FILES, "cgroup.threads")
+DELEGATED = (*HANDED_OVER, "cgroup.threads")
 OF_MEMORY = ("memory.oom.group", "memory.reclaim")
 # of a subgroup all of its files are, and these are limits
 OF_A_SUBGROUP = tuple(file for file, (controller, _) in LIMIT_FILES.items() if controller is None)
 PAGE = 4096
 # uids that a manager takes for users that are there while a service runs
 DYNAMIC = range(61184, 65520)
-UNITS = {"": 1, "B": 1, "K": 2**10, "M": 2**20, "G": 2**30, "T": 2**40, "P": 2**50, "E": 2**60}
+FACTORS = {"": 1, "B": 1, "K": 2**10, "M": 2**20, "G": 2**30, "T": 2**40, "P": 2**50, "E": 2**60}
 YES, NO = ("1", "yes", "y", "true", "t", "on"), ("0", "no", "n", "false", "f", "off")
 # the limit file that each setting sets, with what it is in
 LIMITS: Dict[str, str] = {setting.rstrip("="): file for file, setting in SETTINGS.items() if setting and file in LIMIT_FILES}
@@ -269,7 +269,7 @@ class Started:
     def handed_over(self, path: CgroupPath, is_subgroup: bool) -> Iterator[str]:
         """The entries of a cgroup that are given to whoever runs in it, as far as the text has a place for them."""
         has_memory = "memory" in self.plan.enabled[parent_of(path) or ROOT]
-        for name in (*HANDED_OVER, *(OF_MEMORY if has_memory else ()), *(OF_A_SUBGROUP if is_subgroup else ())):
+        for name in (*DELEGATED, *(OF_MEMORY if has_memory else ()), *(OF_A_SUBGROUP if is_subgroup else ())):
             if self.plan.can_carry or name in ("dir", *CONTROL_FILES, *LIMIT_FILES):
                 yield name
 
@@ -315,7 +315,7 @@ def of_text(file: str, value: str) -> Optional[str]:
     found = _SIZE.match(value)
     if found is None or found[2] and not file.startswith(("memory.", "pids.")):
         return None
-    number = int(found[1]) * UNITS[found[2]]
+    number = int(found[1]) * FACTORS[found[2]]
     return str(number // PAGE * PAGE if file.startswith("memory.") else number)
 
 

@@ -4,7 +4,7 @@ from typing import Iterator, Sequence
 
 from zirofen_host.collect.notes import FAILED
 from zirofen_host.judge.finding_lines import acceptance_line, version_1_line
-from zirofen_host.judge.gravity import ACCEPTED as STANDS
+from zirofen_host.judge.severity import ACCEPTED as STANDS
 from zirofen_host.judge.model import Told
 from zirofen_host.show import insides, words
 from zirofen_host.show.finding import Place, id_of

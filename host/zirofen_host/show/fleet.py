@@ -13,7 +13,7 @@ from zirofen_host.collect.notes import FAILED
 from zirofen_host.fault import FAULT, Fault
 from zirofen_host.judge import saved
 from zirofen_host.judge.finding_lines import differs_line, entry_line, fault_line, inside_line, opened_line, version_1_line
-from zirofen_host.judge.gravity import gravity_of
+from zirofen_host.judge.severity import severity_of
 from zirofen_host.judge.model import DiffersFinding, EntryFinding, FaultFinding, OpenedFinding, Report, RootInside
 from zirofen_host.profile import shown
 from zirofen_host.show.view import DIFFERS, Grouped, Host, accepted_of, host_of
@@ -164,7 +164,7 @@ def row_of(name: str, host: Host, is_listed: bool) -> Row:
     kind = kinds[0] if kinds else CONTAINED if report.asked else NOT_ASKED
     notes = [*([version_1_line(report.version_1)] if report.version_1 else []),
              *(each.line for each in report.unseen if each.kind == FAILED)]
-    status = min(report.status, gravity_of(report).status, key=WORST.index)
+    status = min(report.status, severity_of(report).status, key=WORST.index)
     alike, lines = hashlib.sha256(repr((status, kind, notes)).encode()), []
     for number, finding in enumerate(host.findings):
         told = list(finding_lines(finding))

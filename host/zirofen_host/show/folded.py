@@ -6,7 +6,7 @@ from typing import Dict, Hashable, Iterable, Iterator, List, Optional, Sequence,
 from zirofen_host.collect.bounded import LINES
 
 # the gravest first
-GRAVITY = ("fault", "escapes", "opened", "unsettled", "accepted", "contained", "above")
+SEVERITY = ("fault", "escapes", "opened", "unsettled", "accepted", "contained", "above")
 
 
 @dataclass(frozen=True)
@@ -28,9 +28,9 @@ class Run:
     first: Part
     count: int
 
-    def gravity(self) -> Tuple[bool, int]:
+    def severity(self) -> Tuple[bool, int]:
         """What lets in another goes first, and then by its word."""
-        return self.first.others is None, GRAVITY.index(self.first.word) if self.first.word in GRAVITY else len(GRAVITY)
+        return self.first.others is None, SEVERITY.index(self.first.word) if self.first.word in SEVERITY else len(SEVERITY)
 
     def lines(self) -> Iterator[str]:
         yield from self.first.lines
@@ -60,7 +60,7 @@ def runs_of(parts: Iterable[Part]) -> List[Run]:
     for part in parts:
         first.setdefault(part.alike, part)
         counts[part.alike] += 1
-    return sorted((Run(part, counts[alike]) for alike, part in first.items()), key=Run.gravity)
+    return sorted((Run(part, counts[alike]) for alike, part in first.items()), key=Run.severity)
 
 
 def left_out(runs: Iterable[Run]) -> Iterator[str]:
@@ -75,5 +75,5 @@ def left_out(runs: Iterable[Run]) -> Iterator[str]:
 
 def counted(counts: Dict[str, int]) -> str:
     """Counts by word, the gravest first."""
-    words = sorted(counts, key=lambda word: (GRAVITY.index(word) if word in GRAVITY else len(GRAVITY), word))
+    words = sorted(counts, key=lambda word: (SEVERITY.index(word) if word in SEVERITY else len(SEVERITY), word))
     return ", ".join(f"{counts[word]} {word}" for word in words)

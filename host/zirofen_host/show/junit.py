@@ -7,16 +7,16 @@ from xml.sax.saxutils import escape, quoteattr
 
 from zirofen_host.collect.model import OWNER
 from zirofen_host.fault import plain
-from zirofen_host.judge.gravity import Gravity, of_answer
+from zirofen_host.judge.severity import Severity, of_answer
 from zirofen_host.judge.model import Absent, Subtree
 from zirofen_host.judge.rules import DIFFERS, NOTHING_ASKED, OPENED, OPENED_DIRECTORY, ROOT_HELD, ROOT_INSIDE, VERSION_1, Finding
 from zirofen_host.profile import ancestors
 from zirofen_host.show.run import Run
 
 PASSED, SKIPPED, FAILURE, ERROR = "passed", "skipped", "failure", "error"
-OF_GRAVITY: Dict[Gravity, str] = {Gravity.ESCAPES: FAILURE, Gravity.UNSETTLED: FAILURE, Gravity.NOT_LOOKED_AT: FAILURE,
-                                  Gravity.STALE: FAILURE,
-                                  Gravity.CONTAINED: PASSED}
+OF_SEVERITY: Dict[Severity, str] = {
+    Severity.ESCAPES: FAILURE, Severity.UNSETTLED: FAILURE, Severity.NOT_LOOKED_AT: FAILURE, Severity.STALE: FAILURE,
+    Severity.CONTAINED: PASSED}
 HOST = "the host"
 # what is told of the host as a whole has a case in each report
 OF_HOST = {NOTHING_ASKED: "something is asked", VERSION_1: "no limits are v1's"}
@@ -50,7 +50,7 @@ class Cases:
 
 
 def outcome_of(found: Finding) -> str:
-    return OF_GRAVITY.get(found.rule.gravity, ERROR) if isinstance(found.accepted, Absent) else SKIPPED
+    return OF_SEVERITY.get(found.rule.severity, ERROR) if isinstance(found.accepted, Absent) else SKIPPED
 
 
 def told(found: Finding) -> List[str]:
@@ -65,11 +65,11 @@ def holder_case(cases: Cases, subtree: Subtree, by_subtree: Mapping[str, List[Fi
     behind = [found for place in (subtree.path, *ancestors(subtree.path)) for found in by_subtree.get(place, ())]
     for each in subtree.answers:
         case = cases.at(subtree.path, f"held by {each.who}")
-        gravity = Gravity.CONTAINED if each.is_above else of_answer(each.word)
-        if gravity is Gravity.CONTAINED:
+        severity = Severity.CONTAINED if each.is_above else of_answer(each.word)
+        if severity is Severity.CONTAINED:
             continue
         is_accepted = bool(behind) and not any(isinstance(found.accepted, Absent) for found in behind)
-        outcome = SKIPPED if is_accepted else OF_GRAVITY.get(gravity, ERROR)
+        outcome = SKIPPED if is_accepted else OF_SEVERITY.get(severity, ERROR)
         case.add(outcome, each.word, [*each.lines, *(line for found in behind for line in told(found))])
     if not subtree.answers:
         cases.at(subtree.path, "held by root alone")
@@ -96,7 +96,7 @@ def place_of(found: Finding) -> Tuple[str, str]:
         return found.path, f"opened {found.entry}"
     if found.rule.id in (ROOT_INSIDE, ROOT_HELD):
         return found.path, "root inside"
-    if found.rule.gravity is Gravity.STALE:
+    if found.rule.severity is Severity.STALE:
         return found.path, f"acceptance {found.entry}".rstrip()
     return found.path or HOST, DIFFERS if found.rule.id == DIFFERS else "answered"
 

@@ -11,12 +11,12 @@ from zirofen_host.judge.acceptances import accepted_subtrees
 from zirofen_host.judge.baseline import KINDS
 from zirofen_host.judge.finding_lines import (INSIDE_MEANS, NOTHING_ASKED, SHOWN, above_line, acceptance_line, differs_line, entry_line,
                                               fault_line, inside_count, inside_line, opened_line, version_1_line, whom_text, why_command)
-from zirofen_host.judge.gravity import is_empty
+from zirofen_host.judge.severity import is_empty
 from zirofen_host.judge.model import (ABSENT, AboveFinding, Absent, Comparison, Difference, DiffersFinding, EntryFinding,
                                       HolderAnswer, NamedScope, OpenedFinding, Report, RootInside, Subtree, Told)
 from zirofen_host.judge.notes import JOINED, JoinedNote
 from zirofen_host.profile import ancestors
-from zirofen_host.show.folded import GRAVITY, Part, counted, folded
+from zirofen_host.show.folded import SEVERITY, Part, counted, folded
 
 # how far the table's columns are filled up; a longer word stands out
 WIDEST = (20, 24, 48)
@@ -238,14 +238,14 @@ def standings(report: Report) -> Dict[str, str]:
     told |= {(path, "fault") for fault in report.faults for path in fault.subtrees}
     paths = {path for path, _ in told}
     told |= {(each.path, "opened") for each in report.opened if each.path in paths and each.accepted is ABSENT}
-    return {path: word for path, word in sorted(told, key=lambda each: (each[0], -GRAVITY.index(each[1])))}
+    return {path: word for path, word in sorted(told, key=lambda each: (each[0], -SEVERITY.index(each[1])))}
 
 
 def standing(subtree: Subtree) -> str:
     """How a subtree stands by the answers of who holds it."""
     words = set(words_of(subtree)) if subtree.answers else set()
-    words = {word if word in GRAVITY else "fault" for word in words} - ({"above"} if len(words) > 1 else set())
-    return min(words, key=GRAVITY.index, default="contained")
+    words = {word if word in SEVERITY else "fault" for word in words} - ({"above"} if len(words) > 1 else set())
+    return min(words, key=SEVERITY.index, default="contained")
 
 
 def lines_of(report: Report, is_each: bool = False) -> Iterator[str]:

@@ -2,18 +2,18 @@
 from collections import Counter
 from typing import Dict, Iterator, Mapping, NamedTuple, Tuple
 
-from zirofen_host.judge.gravity import Gravity
+from zirofen_host.judge.severity import Severity
 from zirofen_host.judge.model import ABSENT, Absent
 from zirofen_host.judge.rules import RULES, Rule
-from zirofen_host.show.folded import GRAVITY
+from zirofen_host.show.folded import SEVERITY
 from zirofen_host.show.lines import standings
 from zirofen_host.show.run import Run
 
 # what isn't a finding of an entry is a fault, or told by the status
 FAULTS: Dict[str, str] = {"fault": "anybody", "fault/own": "holders", "failed": "look"}
-NAMES: Dict[Gravity, str] = {Gravity.ESCAPES: "escapes", Gravity.UNSETTLED: "unsettled", Gravity.CONTAINED: "contained",
-                             Gravity.NOT_LOOKED_AT: "not_looked_at", Gravity.NOTHING_ASKED: "nothing_asked",
-                             Gravity.STALE: "stale"}
+NAMES: Dict[Severity, str] = {
+    Severity.ESCAPES: "escapes", Severity.UNSETTLED: "unsettled", Severity.CONTAINED: "contained",
+    Severity.NOT_LOOKED_AT: "not_looked_at", Severity.NOTHING_ASKED: "nothing_asked", Severity.STALE: "stale"}
 Values = Mapping[Tuple[Tuple[str, str], ...], float]
 ALONE: Tuple[Tuple[str, str], ...] = ()
 
@@ -26,9 +26,9 @@ class Gauge(NamedTuple):
 
 
 def kind_labels(rule: Rule) -> Tuple[Tuple[str, str], ...]:
-    """Labels of a kind of finding: of an entry's the guard, which the gravity stands beside."""
-    kind = rule.at if rule.word == NAMES[rule.gravity] else rule.id
-    return ("kind", kind), ("gravity", NAMES[rule.gravity])
+    """Labels of a kind of finding: of an entry's the guard, which the severity stands beside."""
+    kind = rule.at if rule.word == NAMES[rule.severity] else rule.id
+    return ("kind", kind), ("gravity", NAMES[rule.severity])
 
 
 def gauges(run: Run) -> Iterator[Gauge]:
@@ -38,7 +38,7 @@ def gauges(run: Run) -> Iterator[Gauge]:
     answers = Counter(standing.values())
     yield Gauge("zirofen_subtrees_asked", "Subtrees that were asked of.", {ALONE: len(standing)})
     yield Gauge("zirofen_subtrees", "Subtrees by the gravest that is told of each.",
-                {(("answer", word),): answers[word] for word in GRAVITY})
+                {(("answer", word),): answers[word] for word in SEVERITY})
     yield Gauge("zirofen_findings", "Findings by kind and gravity, without those that were accepted.",
                 {kind_labels(rule): counts[rule.id] for rule in RULES.values() if rule.id not in FAULTS})
     yield Gauge("zirofen_faults", "What has no answer, by whose making.", {(("of", word),): counts[kind] for kind, word in FAULTS.items()})

@@ -173,7 +173,7 @@ def sum_of(inline: str) -> str:
     return "'sha256-" + base64.b64encode(hashlib.sha256(inline.encode("utf-8")).digest()).decode("ascii") + "'"
 
 
-def gravity(page: HostPage) -> Tuple[int, List[int]]:
+def severity(page: HostPage) -> Tuple[int, List[int]]:
     """The worst first: by the gravest finding, then by how many of each kind there are."""
     counts = [-sum(each.kind == kind for each in page.host.findings) for kind in COUNTED]
     return STANDINGS.index(page.kind), counts
@@ -204,7 +204,7 @@ def page(reports: Sequence[Report], unread: Sequence[Unread] = (), above: str = 
     """The page of one report or more, with what stands above it; reports that couldn't be read are told first."""
     hosts = [host_of(report) for report in reports]
     is_alone = len(hosts) == 1 and not unread
-    pages = sorted((HostPage(host, Place(f"host-{number}", is_alone)) for number, host in enumerate(hosts, 1)), key=gravity)
+    pages = sorted((HostPage(host, Place(f"host-{number}", is_alone)) for number, host in enumerate(hosts, 1)), key=severity)
     title = text(words.name_of(hosts[0].report) if is_alone else words.count(len(hosts) + len(unread), "host"))
     overview = filled("overview.html", title=f"Zirofen: cgroup delegations of {title}",
                       hosts="\n".join([*map(unread_row, unread), *(each.overview() for each in pages)]))

@@ -11,7 +11,7 @@ from zirofen_host.collect.bounded import read_file
 from zirofen_host.collect.tree import toml_reader
 from zirofen_host.fault import FAULT, plain
 from zirofen_host.installed import MANUAL
-from zirofen_host.judge.gravity import Gravity
+from zirofen_host.judge.severity import Severity
 from zirofen_host.judge.model import Absent
 from zirofen_host.judge.rules import RULES, Finding, Rule
 from zirofen_host.profile import LONGEST_TEXT
@@ -19,7 +19,7 @@ from zirofen_host.show.run import Run
 
 SCHEMA = "https://docs.oasis-open.org/sarif/sarif/v2.1.0/os/schemas/sarif-schema-2.1.0.json"
 # what counts as an error; what else counts is a warning, and what doesn't a note
-ERRORS = (Gravity.FAULT, Gravity.ESCAPES)
+ERRORS = (Severity.FAULT, Severity.ESCAPES)
 FINGERPRINT = "zirofen/v1"
 _LINK = re.compile(r"\[(?=[^\]]*\]\()")
 _PATH_ROW = re.compile(r"""\s*(?:path|"path"|'path')\s*=""")
@@ -32,14 +32,14 @@ def message(lines: Sequence[str]) -> Object:
     return {"text": _LINK.sub(r"\\[", text)}
 
 
-def level_of(gravity: Gravity) -> str:
-    return "error" if gravity in ERRORS else "note" if gravity is Gravity.CONTAINED else "warning"
+def level_of(severity: Severity) -> str:
+    return "error" if severity in ERRORS else "note" if severity is Severity.CONTAINED else "warning"
 
 
 def rule_object(rule: Rule) -> Object:
     return {"id": rule.id, "shortDescription": {"text": rule.what},
             "fullDescription": {"text": rule.told}, "help": {"text": f"{MANUAL}, section {rule.id}"},
-            "defaultConfiguration": {"level": level_of(rule.gravity)}}
+            "defaultConfiguration": {"level": level_of(rule.severity)}}
 
 
 def rows_in(text: Optional[str]) -> Mapping[str, int]:
@@ -89,7 +89,7 @@ def fingerprint(run: Run, found: Finding) -> str:
 def result(run: Run, found: Finding, number: int, rows: Mapping[str, int]) -> Object:
     setting = [f"setting, at the next start: {found.setting}"] if found.setting else []
     mend = [*(f"change: {each}" for each in found.changes), *setting]
-    made: Object = {"ruleId": found.rule.id, "ruleIndex": number, "level": level_of(found.rule.gravity),
+    made: Object = {"ruleId": found.rule.id, "ruleIndex": number, "level": level_of(found.rule.severity),
                     "message": message([found.line, *found.example, *mend]), "locations": [location(run, found, rows)],
                     "partialFingerprints": {FINGERPRINT: fingerprint(run, found)},
                     "properties": {"changes": list(map(plain, found.changes))}}

@@ -11,7 +11,7 @@ from zirofen_host.judge.model import ABSENT, NOTHING_ASKED, Absent, FaultFinding
 ACCEPTED = "accepted"
 
 
-class Gravity(Enum):
+class Severity(Enum):
     """The gravest first. A fault of a holder's own making stands behind what was found, so that nobody hides another's."""
     FAULT = "fault"
     ESCAPES = "escapes"
@@ -33,24 +33,24 @@ class Gravity(Enum):
         return ORDER.index(self)
 
 
-ORDER = tuple(Gravity)
-STATUSES = {Gravity.FAULT: FAULT, Gravity.ESCAPES: ESCAPES, Gravity.UNSETTLED: UNSETTLED, Gravity.OWN_FAULT: FAULT,
-            Gravity.NOTHING_ASKED: NOTHING_ASKED, Gravity.NOT_LOOKED_AT: UNSETTLED, Gravity.STALE: UNSETTLED,
-            Gravity.CONTAINED: CONTAINED}
-ANSWERS = {ESCAPES: Gravity.ESCAPES, UNSETTLED: Gravity.UNSETTLED, CONTAINED: Gravity.CONTAINED}
+ORDER = tuple(Severity)
+STATUSES = {Severity.FAULT: FAULT, Severity.ESCAPES: ESCAPES, Severity.UNSETTLED: UNSETTLED, Severity.OWN_FAULT: FAULT,
+            Severity.NOTHING_ASKED: NOTHING_ASKED, Severity.NOT_LOOKED_AT: UNSETTLED, Severity.STALE: UNSETTLED,
+            Severity.CONTAINED: CONTAINED}
+ANSWERS = {ESCAPES: Severity.ESCAPES, UNSETTLED: Severity.UNSETTLED, CONTAINED: Severity.CONTAINED}
 
 
-def of_answer(word: str) -> Gravity:
-    """The gravity of an answer by its word; what is no answer is a fault."""
-    return ANSWERS.get(WORDS.get(word, FAULT), Gravity.FAULT)
+def of_answer(word: str) -> Severity:
+    """The severity of an answer by its word; what is no answer is a fault."""
+    return ANSWERS.get(WORDS.get(word, FAULT), Severity.FAULT)
 
 
-def of_fault(found: FaultFinding) -> Gravity:
-    return Gravity.FAULT if found.made_by is None else Gravity.OWN_FAULT
+def of_fault(found: FaultFinding) -> Severity:
+    return Severity.FAULT if found.made_by is None else Severity.OWN_FAULT
 
 
-def worst(found: Iterable[Gravity]) -> Gravity:
-    return min(found, key=lambda each: each.rank, default=Gravity.CONTAINED)
+def worst(found: Iterable[Severity]) -> Severity:
+    return min(found, key=lambda each: each.rank, default=Severity.CONTAINED)
 
 
 def is_empty(report: Report) -> bool:
@@ -58,21 +58,21 @@ def is_empty(report: Report) -> bool:
     return not report.asked and not report.containers
 
 
-def gravities_in(report: Report) -> Iterator[Gravity]:
+def severities_in(report: Report) -> Iterator[Severity]:
     """Of each thing that a report tells of."""
     yield from (of_answer(each.answer) for each in report.entries if each.accepted is ABSENT)
-    yield from (Gravity.ESCAPES for each in report.opened if each.accepted is ABSENT)
+    yield from (Severity.ESCAPES for each in report.opened if each.accepted is ABSENT)
     yield from map(of_fault, report.faults)
-    yield from (Gravity.FAULT for each in (*report.unseen, *report.snapshot) if each.kind == FAILED)
-    yield from (Gravity.ESCAPES for each in report.containers if not each.held and each.accepted is ABSENT)
+    yield from (Severity.FAULT for each in (*report.unseen, *report.snapshot) if each.kind == FAILED)
+    yield from (Severity.ESCAPES for each in report.containers if not each.held and each.accepted is ABSENT)
     if is_empty(report):
-        yield Gravity.NOTHING_ASKED
+        yield Severity.NOTHING_ASKED
     if report.version_1:
-        yield Gravity.NOT_LOOKED_AT
+        yield Severity.NOT_LOOKED_AT
     if not isinstance(report.acceptances, Absent):
-        yield from (Gravity.STALE for each in report.acceptances if each.state != ACCEPTED)
+        yield from (Severity.STALE for each in report.acceptances if each.state != ACCEPTED)
 
 
-def gravity_of(report: Report) -> Gravity:
+def severity_of(report: Report) -> Severity:
     """The worst that a report tells of."""
-    return worst(gravities_in(report))
+    return worst(severities_in(report))
