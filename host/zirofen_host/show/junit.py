@@ -3,7 +3,7 @@ import time
 from collections import defaultdict
 from dataclasses import dataclass, field
 from typing import DefaultDict, Dict, Iterable, Iterator, List, Mapping, Optional, Tuple
-from xml.sax.saxutils import escape, quoteattr
+from xml.etree import ElementTree
 
 from zirofen_host.collect.model import OWNER
 from zirofen_host.fault import plain
@@ -122,21 +122,18 @@ def cases_of(run: Run) -> Iterable[Case]:
     return cases.found.values()
 
 
-def case_lines(case: Case) -> Iterator[str]:
-    name, subject = quoteattr(plain(case.name)), quoteattr(plain(case.subject))
-    text = "\n".join(map(plain, dict.fromkeys(case.lines)))
-    if not text:
-        yield f"  <testcase classname={subject} name={name} time=\"0\"/>\n"
+def add_case(suite: ElementTree.Element, case: Case) -> None:
+    names = {"classname": plain(case.subject), "name": plain(case.name), "time": "0"}
+    told = "\n".join(map(plain, dict.fromkeys(case.lines)))
+    element = ElementTree.SubElement(suite, "testcase", names)
+    if not told:
         return
-    yield f"  <testcase classname={subject} name={name} time=\"0\">\n"
-    first = quoteattr(plain(case.lines[0]))
-    if case.outcome == PASSED:
-        yield f"   <system-out>{escape(text)}</system-out>\n"
-    elif case.outcome == SKIPPED:
-        yield f"   <skipped message={quoteattr(plain(case.lines[-1]))}/>\n   <system-out>{escape(text)}</system-out>\n"
+    if case.outcome == SKIPPED:
+        ElementTree.SubElement(element, SKIPPED, message=plain(case.lines[-1]))
+    if case.outcome in (PASSED, SKIPPED):
+        ElementTree.SubElement(element, "system-out").text = told
     else:
-        yield f"   <{case.outcome} type={quoteattr(case.kind)} message={first}>{escape(text)}</{case.outcome}>\n"
-    yield "  </testcase>\n"
+        ElementTree.SubElement(element, case.outcome, type=case.kind, message=plain(case.lines[0])).text = told
 
 
 def parts_of(run: Run) -> Iterator[str]:
@@ -144,12 +141,13 @@ def parts_of(run: Run) -> Iterator[str]:
     cases = list(cases_of(run))
     numbers = {"tests": len(cases), **{f"{word}s": sum(case.outcome == word for case in cases) for word in (FAILURE, ERROR)},
                "skipped": sum(case.outcome == SKIPPED for case in cases)}
-    counts = " ".join(f'{name}="{number}"' for name, number in numbers.items())
-    moment = time.strftime("%Y-%m-%dT%H:%M:%S", time.gmtime(run.ended))
-    suite, seconds = plain(run.subject), f'{run.seconds:.3f}'
-    yield '<?xml version="1.0" encoding="UTF-8"?>\n'
-    yield f'<testsuites name="zirofen" {counts} time="{seconds}">\n'
-    yield f' <testsuite name={quoteattr(suite)} {counts} time="{seconds}" timestamp="{moment}" hostname={quoteattr(suite)}>\n'
+    counts = {**{name: str(number) for name, number in numbers.items()}, "time": f"{run.seconds:.3f}"}
+    moment, subject = time.strftime("%Y-%m-%dT%H:%M:%S", time.gmtime(run.ended)), plain(run.subject)
+    suites = ElementTree.Element("testsuites", {"name": "zirofen", **counts})
+    suite = ElementTree.SubElement(suites, "testsuite", {"name": subject, **counts, "timestamp": moment, "hostname": subject})
     for case in cases:
-        yield from case_lines(case)
-    yield " </testsuite>\n</testsuites>\n"
+        add_case(suite, case)
+    ElementTree.indent(suites, " ")
+    yield '<?xml version="1.0" encoding="UTF-8"?>\n'
+    yield ElementTree.tostring(suites, encoding="unicode")
+    yield "\n"
