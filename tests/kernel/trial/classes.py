@@ -199,6 +199,13 @@ LEFT_OUT = {
     "weight of the idle": "no tree has the weight 0, which the program refuses",
     "long writes": "no line of a case is as long",
     "zombies": "the init waits for what has ended",
+    "dead first thread": "a process of the init's has one thread",
+    "exec": "a process of the init's has one thread",
+    "stale descriptor": "each step opens what it writes",
+    "inherited descriptor": "each step opens what it writes",
+    "threaded": "no step writes cgroup.type",
+    "kernel threads": "the machine has no kvm and no vhost",
+    "lines of devices": "no device goes",
     "setgid directories": "no case has a mode past 0777",
     "no identity": "the cases have 4294967294 in its place",
 }
