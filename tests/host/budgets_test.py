@@ -17,14 +17,14 @@ from zirofen_host.ask import accepted
 from zirofen_host.ask import program as asking
 from zirofen_host.ask.model import Question
 from zirofen_host.ask.questions import Runs, bounded_further, subtrees_by
-from zirofen_host.collect import bounded, descriptors, processes, snapshot, walk
+from zirofen_host.collect import bounded, descriptors, mount_kinds, processes, snapshot, walk
 from zirofen_host.collect.notes import FAILED
 from zirofen_host.collect.accounts import Accounts
 from zirofen_host.collect.bounded import Budget, Spent
 from zirofen_host.collect.holds import Holds
-from zirofen_host.collect.model import AccountLists, Range, User
-from zirofen_host.judge import check, findings, unseen, whole
-from zirofen_host.profile import path_of
+from zirofen_host.collect.model import AccountLists, Process, Range, User
+from zirofen_host.judge import check, findings, held, unseen, whole
+from zirofen_host.profile import ROOT, path_of
 from zirofen_host.show import lines
 
 OTHERS = [("contained", "/bob"), ("escapes", "/carol")]
@@ -235,7 +235,8 @@ class DescriptorsTest(ThreeTest):
     def setUp(self):
         super().setUp()
         self.host.process(7, uid=1000)
-        self.text = ("alice(1000): cgroup.max.depth at /bob is {}open for writing in process 7, and they may not open it now")
+        self.sure, self.perhaps = ([("alice(1000)", "cgroup.max.depth", "/bob", f"{word}open for writing", [7])]
+                                   for word in ("", "perhaps "))
 
     def test_a_mount_that_another_namespace_has(self):
         self.host.opens(7, 3, "/bob/cgroup.max.depth", os.O_WRONLY, mount=31)
@@ -243,37 +244,37 @@ class DescriptorsTest(ThreeTest):
         self.host.process(8, uid=1001)
         self.host.mounts(8, MOUNT.replace("3 1", "31 1"), namespace=4026531832)
         self.host.cgroup("/bob", owners=owned(1001), pids=(8,))
-        self.assertEqual(self.told(self.report(), "descriptor"), [self.text.format("")])
+        self.assertEqual(self.held(self.report()), self.sure)
 
     def test_a_file_that_a_service_of_roots_handed_out(self):
         """As a login's manager does, in whose own namespace the file was opened: it is another's, though its inode is a limit's."""
         self.host.opens(7, 3, "/bob/cgroup.max.depth", os.O_WRONLY, mount=188)
         self.host.process(9)
-        for kind, told in (("tmpfs", []), ("cgroup2", [self.text.format("")])):
+        for kind, told in (("tmpfs", []), ("cgroup2", self.sure)):
             self.host.mounts(9, f"188 1 0:30 / /run rw - {kind} none rw\n")
-            self.assertEqual(self.told(self.report(), "descriptor"), told)
+            self.assertEqual(self.held(self.report()), told)
 
     def test_a_mount_that_nothing_tells_of(self):
         self.host.opens(7, 3, "/bob/cgroup.max.depth", os.O_WRONLY, mount=31)
         with mock.patch.object(bounded, "hold") as asked:
             found = self.report()
-        self.assertEqual((self.told(found, "descriptor"), asked.called), ([self.text.format("perhaps ")], False))
+        self.assertEqual((self.held(found), asked.called), (self.perhaps, False))
         self.others(found)
 
     def test_a_file_of_memory_is_none_of_cgroups(self):
         self.host.opens(7, 3, "/bob/cgroup.max.depth", os.O_RDWR, mount=31)
-        with mock.patch.object(descriptors, "memory_mount", lambda proc: 31):
-            self.assertEqual(self.told(self.report(), "descriptor"), [])
+        with mock.patch.object(mount_kinds, "memory_mount", lambda proc: 31):
+            self.assertEqual(self.held(self.report()), [])
         # of this process: one whose inode a cgroup's file might have
         opened = os.memfd_create("held")
         self.addCleanup(os.close, opened)
-        looked = descriptors.Descriptors("/proc", lambda uid: uid, {os.fstat(opened).st_ino: None})
-        self.assertEqual(([*looked.held({os.getpid(): 1000})], looked.unlooked), ([], []))
-        self.assertIs(looked.mounts.kinds[descriptors.mount_of(opened)], False)
+        looked = descriptors.Descriptors("/proc", lambda uid: uid, descriptors.Hierarchy("/", {os.fstat(opened).st_ino: (ROOT, "file")}))
+        self.assertEqual(([*looked.held([(Process(os.getpid(), 1000, User(1000, ()), False), 1000)])], looked.unlooked), ([], []))
+        self.assertIs(looked.mounts.kinds[mount_kinds.mount_of(opened)], False)
         # a made-up host tells nothing of it, and then no mount is taken for that one
-        mounts = descriptors.MountKinds(self.host.proc, lambda uid: uid)
+        mounts = mount_kinds.MountKinds(self.host.proc, lambda uid: uid)
         mounts.read_own()
-        self.assertEqual((descriptors.memory_mount(self.host.proc), mounts.kinds.get(-1)), (-1, None))
+        self.assertEqual((mount_kinds.memory_mount(self.host.proc), mounts.kinds.get(-1)), (-1, None))
 
     def test_without_an_inode_it_is_told_as_not_looked_at(self):
         self.host.opens(7, 3, "/bob/cgroup.max.depth", os.O_WRONLY, mount=31, has_inode=False)
@@ -284,8 +285,11 @@ class DescriptorsTest(ThreeTest):
 
     def test_of_an_older_kernel_a_file_is_held_before_it_is_asked(self):
         self.host.opens(7, 3, "/bob/cgroup.max.depth", os.O_WRONLY, has_inode=False)
-        with mock.patch.object(descriptors, "number_in", lambda fields, key: 3 if key == "mnt_id" else -1):
-            self.assertEqual(self.told(self.report(), "descriptor"), [self.text.format("")])
+
+        def number_in(fields, key):
+            return 3 if key == "mnt_id" else -1
+        with mock.patch.object(descriptors, "number_in", number_in), mock.patch.object(mount_kinds, "number_in", number_in):
+            self.assertEqual(self.held(self.report()), self.sure)
         self.assertEqual(descriptors.inode_of(f"{self.host.mount}/bob/cgroup.max.depth", {}), -1)
         self.assertEqual(descriptors.inode_of(f"{self.host.mount}/none", {3: True}), -1)
 
@@ -297,7 +301,7 @@ class DescriptorsTest(ThreeTest):
         self.host.opens(7, 40, "/bob/cgroup.max.depth", os.O_WRONLY)
         found = self.counted(self.report)
         self.others(found)
-        self.assertEqual(self.told(found, "descriptor"), [self.text.format("")])
+        self.assertEqual(self.held(found), self.sure)
         self.assertLess(self.bytes, 30000)
 
     def test_what_tells_much_is_looked_at_a_few_times(self):
@@ -305,8 +309,9 @@ class DescriptorsTest(ThreeTest):
             self.host.opens(7, number, "/bob/cgroup.max.depth", os.O_WRONLY, more="lock: 1\n" * 15000)
         found = self.counted(self.report)
         self.others(found)
+        self.assertEqual(self.held(found), self.sure)
         self.assertEqual(self.told(found, "descriptor"), [
-            self.text.format(""), "alice(1000): more than 16 open files that /proc tells much of are in their processes: not all were "
+            "alice(1000): more than 16 open files that /proc tells much of are in their processes: not all were "
             "looked at"])
         self.assertLess(self.bytes, 150000)
 
@@ -445,7 +450,7 @@ class LooksTest(ThreeTest):
         self.addCleanup(patched.stop)
 
     def test_each_look_stands_alone(self):
-        for module, name, what in ((unseen, "inodes_of", "descriptors"), (whole, "users_of", "users"), (unseen, "unknown_files", "unknown"),
+        for module, name, what in ((held, "held_in", "descriptors"), (whole, "users_of", "users"), (unseen, "unknown_files", "unknown"),
                                    (findings, "closing_of_directories", "closing"), (findings, "what_differs", "differs")):
             with self.subTest(name):
                 self.host.cgroup("/m.service", owners=owned(1001), marks=("trusted.delegate",))

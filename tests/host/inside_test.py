@@ -184,7 +184,7 @@ class WhoTest(InsideTest):
                 patched.enter_context(mock.patch.object(os, name, noted(getattr(os, name))))
             self.found()
         of = {place.partition("/proc/100/")[2] for place in asked if "/proc/100/" in place}
-        self.assertEqual(of, {"status", "stat", "mountinfo", "ns/cgroup", "ns/mnt", "ns/pid", "ns/user"})
+        self.assertEqual(of, {"status", "stat", "mountinfo", "fd", "ns/cgroup", "ns/mnt", "ns/pid", "ns/user"})
 
 
 class HeldTest(InsideTest):

@@ -519,8 +519,7 @@ class BusyTest(HostTest):
                 os.unlink(file)
         found = self.busy(act, b"/alice")
         self.assertEqual((self.turn, found["faults"]), (4, []))
-        self.assertEqual(self.told(found, "descriptor"), [
-            "alice(1000): cgroup.subtree_control at / is open for writing in process 7, and they may not open it now"])
+        self.assertEqual(self.held(found), [("alice(1000)", "cgroup.subtree_control", "/", "open for writing", [7])])
 
     def test_what_cant_matter_begins_no_walk_again(self):
         self.host.cgroup("/system")

@@ -117,6 +117,11 @@ class MadeUp:
         if not os.path.exists(f"{self.proc}/{pid}/mountinfo"):
             self.mounts(pid, "3 1 0:29 / /sys/fs/cgroup rw - cgroup2 cgroup2 rw\n")
 
+    def replaced(self, pid, number, link):
+        """Has a descriptor lead elsewhere."""
+        os.remove(f"{self.proc}/{pid}/fd/{number}")
+        os.symlink(link, f"{self.proc}/{pid}/fd/{number}")
+
     def mounts(self, pid, text, namespace=None):
         """The mounts that a process sees, and maybe in which namespace."""
         os.makedirs(f"{self.proc}/{pid}/ns", exist_ok=True)

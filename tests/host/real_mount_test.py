@@ -118,7 +118,7 @@ class RealMountTest(unittest.TestCase):
 
         def seen(found):
             return ([each["path"] for each in found["subtrees"] if each["meant"]],
-                    [each["text"] for each in found["unseen"] if each["kind"] == "descriptor" and "cgroup.max.depth" in each["text"]])
+                    [each["file"] for each in found.get("held_entries", ()) if each["file"] == "cgroup.max.depth"])
         marked, descriptor = seen(self.report()[0])
         self.assertEqual((marked, len(descriptor)), ([f"{self.top}/marked"], 1))
         found, lacking = self.without("sys_admin")

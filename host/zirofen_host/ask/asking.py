@@ -2,6 +2,7 @@
 from dataclasses import dataclass
 from typing import Callable, Iterable, List, Mapping, Sequence
 
+from zirofen_host.ask.held import movers
 from zirofen_host.ask.model import Answers, Plan, Question
 from zirofen_host.ask.program import TooLarge, abilities_of
 from zirofen_host.ask.questions import Questions, Runs, bounded_further, bounded_plan, further_of, plan_of, questions_of
@@ -75,8 +76,10 @@ def ask_in_texts(snapshot: Snapshot, accounts: Accounts, options: Options, folde
     more, refused_then = programs.ask(further, abilities.has_audit_all)
     found.update(more)
     if abilities.has_settle and abilities.has_audit_all:
-        found = programs.settled(found, everybody(snapshot.tree, plan, further), settleable(
+        settled = programs.settled(found, everybody(snapshot.tree, plan, further), settleable(
             has_all_cgroups(snapshot, options, texts.texts), plan, not_asked), made)
+        moving = movers(snapshot, accounts)
+        found = {**settled, **{pair: answer for pair, answer in found.items() if pair.user.uid in moving}}
     refused = {**lost, **refused, **refused_then}
     return Asked(questions.without(refused),
                  Answers(plan, further, found, not_asked, refused, () if options.no_processes else texts.without_processes(),

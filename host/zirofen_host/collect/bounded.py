@@ -35,6 +35,8 @@ ATTRIBUTE = 16
 NAMES = 1 << 30
 # bytes of what /proc tells of one process, of its flags, and of one descriptor: its first lines, which are all that is used
 STATUS, FLAGS, DESCRIPTOR = 1 << 20, 1 << 12, 1 << 12
+# bytes of what it tells of one io_uring, with the files that are registered there
+RING = 1 << 20
 # bytes of the host's own list of mounts
 HOST_MOUNTS = 1 << 26
 # bytes of a report that another host sent, how many lists and keys it has in all, and how many values
@@ -68,11 +70,14 @@ CGROUP_BYTES = Budget("bytes in the files and marks of cgroups", 1 << 26)
 # of /proc: what is over them is no part of any answer but that person's own
 PROCESSES = Budget("processes", 16384)
 THREADS = Budget("threads", 4096)
+# threads that are asked whether they share their table of descriptors
+TABLE_THREADS = Budget("threads", 65536)
 PROCESS_BYTES = Budget("bytes in what /proc tells of processes", 1 << 26)
 MOUNT_BYTES = Budget("bytes in lists of mounts", 1 << 22)
 LINKS = Budget("open files", 65536)
 DESCRIPTORS = Budget("open files with a path", 4096)
 LONG_DESCRIPTORS = Budget("open files that /proc tells much of", 16)
+RINGS, RING_BYTES = Budget("io_urings", 1024), Budget("bytes in what /proc tells of io_urings", 1 << 22)
 # of one unit with containers of root's: cgroups of theirs, and processes of one mount namespace whose root is looked at
 INSIDES, ROOTS = 64, 256
 # of the program

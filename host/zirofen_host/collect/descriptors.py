@@ -1,162 +1,179 @@
-"""Files of cgroups that processes hold open for writing, as /proc tells of them.
+"""Files of cgroups that processes hold open for writing, as /proc tells of them: in each table of descriptors, and registered with an
+io_uring.
 
 No file system is asked but that of cgroups: another may be a user's own, which answers when they like.
 """
 import os
-from typing import Dict, Iterable, Iterator, List, Mapping, NamedTuple, Optional, Set, Tuple
+from typing import Dict, Iterable, Iterator, List, Mapping, NamedTuple, Optional, Sequence, Tuple
 
-from zirofen_host.collect import bounded
+from zirofen_host.collect import bounded, rings
 from zirofen_host.collect.bounded import Budget, Payer, Spent
-from zirofen_host.collect.processes import Fields, names_in, status_fields
+from zirofen_host.collect.model import Holding, Process
+from zirofen_host.collect.mount_kinds import Kinds, MountKinds, mount_of, number_in
+from zirofen_host.collect.processes import names_in, status_fields
+from zirofen_host.collect.reasons import (MoreThanLookedAt, Reason, UnlookedHeadless, UnlookedRing, UnlookedTables, UntoldMounts,
+                                          UntoldPaths)
+from zirofen_host.collect.tables import Tables
+from zirofen_host.collect.threads import Fields
 from zirofen_host.profile import CgroupPath
 
 WRITES = os.O_WRONLY | os.O_RDWR
-CGROUPS = b"cgroup2"
 
-# a mount by its number, which is no other's in any namespace, and whether it is one of cgroups
-Kinds = Dict[int, bool]
+# a file of a hierarchy by its cgroup and its name
+FileOf = Tuple[CgroupPath, str]
 
 
 class Held(NamedTuple):
-    """A file by its inode that a process may write; one of a mount that nothing tells of is perhaps another's."""
+    """A file of the hierarchy that a process may write by what it holds."""
     pid: int
-    inode: int
-    is_sure: bool
+    path: CgroupPath
+    file: str
+    holding: Holding
 
 
 class Unlooked(NamedTuple):
-    """What of a user's isn't looked at: their uid, and why."""
-    uid: int
-    why: str
+    """What isn't looked at: whose it is, and why."""
+    whose: int
+    why: Reason
 
 
 class Stopped(Exception):
-    """A user has more than is looked at."""
+    """Somebody has more than is looked at."""
+
+    def __init__(self, budget: Budget) -> None:
+        super().__init__(budget)
+        self.why = MoreThanLookedAt(budget.most, budget.what)
 
 
-class MountKinds:
-    """The mounts of each namespace that processes are in; each namespace is read once."""
+class Untold(Exception):
+    """Which file a descriptor is of isn't told."""
 
-    def __init__(self, proc: str, payer: Payer, roots: Iterable[int] = ()) -> None:
-        self.proc, self.roots = proc, roots
-        self.spent = Spent(bounded.MOUNT_BYTES, payer)
-        self.namespaces: Set[str] = set()
-        self.kinds: Kinds = {}
 
-    def read_own(self) -> None:
-        """Reads the mounts that this process sees, and the one that no list has."""
-        self.read("self", 0, bounded.HOST_MOUNTS)
-        number = memory_mount(self.proc)
-        if number >= 0:
-            self.kinds.setdefault(number, False)
-
-    def read_of(self, pid: int, uid: int) -> None:
-        """Reads the mounts that a process sees, where no other of its namespace was asked and there is room for them."""
-        if not self.spent.is_over(uid):
-            self.spent.take(uid, self.read(str(pid), uid, max(self.spent.left(uid), 0)))
-
-    def kind_by_root(self, number: int) -> Optional[bool]:
-        """Whether a mount that no list has so far is one of cgroups, by the namespaces of root's processes, which are read once: a
-        service of root's hands out files that it opened in its own."""
-        left = bounded.HOST_MOUNTS
-        for pid in self.roots:
-            left -= self.read(str(pid), 0, max(left, 0))
-        self.roots = ()
-        return self.kinds.get(number)
-
-    def read(self, process: str, uid: int, most: int) -> int:
-        """The bytes that were read."""
-        try:
-            namespace = bounded.read_link(f"{self.proc}/{process}/ns/mnt")
-        except OSError:
-            namespace = process
-        if namespace in self.namespaces:
-            return 0
-        self.namespaces.add(namespace)
-        lines = bounded.Lines(f"{self.proc}/{process}/mountinfo", most)
-        try:
-            for line in lines:
-                before, _, after = line.partition(b" - ")
-                number = before.partition(b" ")[0]
-                if number.isdigit() and len(number) < 20:
-                    self.kinds[int(number)] = after.partition(b" ")[0] == CGROUPS
-        except OSError:
-            pass
-        return lines.read
+class Hierarchy(NamedTuple):
+    """A hierarchy whose files are looked for: where it is mounted, and those by which something is set, by their inodes."""
+    mount: str
+    files: Mapping[int, FileOf]
 
 
 class Descriptors:
-    """What some users' processes hold, and what of it isn't looked at."""
+    """What processes hold, charged to whose they are, and what of it isn't looked at."""
 
-    def __init__(self, proc: str, payer: Payer, inodes: Mapping[int, object], roots: Iterable[int] = ()) -> None:
-        self.proc, self.inodes = proc, inodes
-        self.links, self.infos, self.long = (
-            Spent(budget, payer) for budget in (bounded.LINKS, bounded.DESCRIPTORS, bounded.LONG_DESCRIPTORS))
+    def __init__(self, proc: str, payer: Payer, hierarchy: Hierarchy, roots: Iterable[int] = (), release: str = "") -> None:
+        self.proc, self.hierarchy = proc, hierarchy
+        self.links, self.infos, self.long, self.threads, self.rings, self.ring_bytes = (
+            Spent(budget, payer) for budget in (bounded.LINKS, bounded.DESCRIPTORS, bounded.LONG_DESCRIPTORS, bounded.TABLE_THREADS,
+                                                bounded.RINGS, bounded.RING_BYTES))
         self.mounts = MountKinds(proc, payer, roots)
+        self.tables = Tables(proc)
         self.unlooked: List[Unlooked] = []
+        self.has_paths = rings.lists_paths(release)
+        self.names = frozenset(os.fsencode(name) for _, name in hierarchy.files.values())
 
-    def held(self, processes: Mapping[int, int]) -> Iterator[Held]:
-        """What processes hold, which are given with their users: one of these after another."""
-        by_user: Dict[int, List[int]] = {}
+    def held(self, processes: Iterable[Tuple[Process, int]]) -> Iterator[Held]:
+        """What processes hold, which are given with whose they are: those of one after another's."""
+        by: Dict[int, List[Process]] = {}
         self.mounts.read_own()
-        for pid, uid in sorted(processes.items()):
-            by_user.setdefault(uid, []).append(pid)
+        for process, whose in sorted(processes, key=lambda each: each[0].pid):
+            by.setdefault(whose, []).append(process)
             # a descriptor may be of a mount in another's namespace, so these are all known first
-            self.mounts.read_of(pid, uid)
-        for uid, pids in sorted(by_user.items()):
+            self.mounts.read_of(process.thread, whose)
+        for whose, of in sorted(by.items()):
             try:
-                yield from self.held_by(uid, pids)
+                yield from self.held_by(whose, of)
             except Stopped as stopped:
-                self.unlooked.append(Unlooked(uid, str(stopped)))
+                self.unlooked.append(Unlooked(whose, stopped.why))
 
-    def held_by(self, uid: int, pids: Iterable[int]) -> Iterator[Held]:
+    def held_by(self, whose: int, processes: Iterable[Process]) -> Iterator[Held]:
         untold = 0
-        for pid in pids:
-            for number in self.numbers(pid):
-                self.charge(self.links, uid)
-                fields = self.fields(uid, pid, number)
-                if fields is None or not is_for_writing(fields):
-                    continue
-                mount, inode = number_in(fields, "mnt_id"), number_in(fields, "ino")
-                kind = self.mounts.kinds.get(mount)
-                if kind is None and (inode < 0 or inode in self.inodes):
-                    kind = self.mounts.kind_by_root(mount)
-                if inode < 0 and kind:
-                    inode = inode_of(f"{self.proc}/{pid}/fd/{number}", self.mounts.kinds)
-                if kind is not False and inode in self.inodes:
-                    yield Held(pid, inode, bool(kind))
-                untold += kind is None and inode < 0
+        for process in processes:
+            for folder in self.folders(process, whose):
+                for number in self.numbers(f"{folder}/fd"):
+                    self.charge(self.links, whose)
+                    try:
+                        yield from self.of_descriptor(process.pid, whose, folder, number)
+                    except Untold:
+                        untold += 1
         if untold:
-            self.unlooked.append(Unlooked(uid, f"{untold} open files are on mounts that nothing tells of, and this kernel doesn't "
-                                          "tell which files they are: they weren't looked at"))
+            self.unlooked.append(Unlooked(whose, UntoldMounts(untold)))
 
-    def numbers(self, pid: int) -> Iterable[str]:
+    def folders(self, process: Process, whose: int) -> Sequence[str]:
+        """The folders of a process that tell of its tables, each table once."""
+        own = f"{self.proc}/{process.pid}"
+        if process.threads < 2:
+            return [own]
+        threads = [int(name) for name in self.numbers(f"{own}/task") if name.isdigit() and int(name) != process.thread]
+        if not self.threads.take(whose, len(threads)):
+            # what other processes hold is looked at all the same
+            self.unlooked.append(Unlooked(whose, UnlookedTables(process.pid, len(threads), self.threads.budget.most)))
+            threads = []
+        if process.is_headless and process.living is None:
+            self.unlooked.append(Unlooked(whose, UnlookedHeadless(process.pid)))
+        found = self.tables.apart(process.pid, [process.thread, *threads], lambda count: self.charge(self.links, whose, count))
+        return [own if thread == process.pid else f"{own}/task/{thread}" for thread in found]
+
+    def numbers(self, folder: str) -> Iterable[str]:
         try:
-            return names_in(f"{self.proc}/{pid}/fd", bounded.LINKS.most + 1)
+            return names_in(folder, bounded.LINKS.most + 1)
         except OSError:
             return ()
 
-    def fields(self, uid: int, pid: int, number: str) -> Optional[Fields]:
-        """What is told of a descriptor that has a path; of others /proc may have much to tell, as of all that is waited for."""
+    def of_descriptor(self, pid: int, whose: int, folder: str, number: str) -> Iterable[Held]:
+        """What a descriptor with a path is of, or what is registered with a ring; of others /proc may have much to tell, as of all that
+        is waited for."""
         try:
-            if bounded.read_link(f"{self.proc}/{pid}/fd/{number}")[:1] != "/":
-                return None
-            self.charge(self.infos, uid)
-            read = bounded.read_file(f"{self.proc}/{pid}/fdinfo/{number}", bounded.DESCRIPTOR)
+            link = bounded.read_link(f"{folder}/fd/{number}")
+        except OSError:
+            return ()
+        if link == rings.RING:
+            return self.of_ring(pid, whose, f"{folder}/fdinfo/{number}")
+        fields = self.fields(whose, folder, number) if link[:1] == "/" else None
+        return () if fields is None or not is_for_writing(fields) else self.of_file(pid, f"{folder}/fd/{number}", fields)
+
+    def of_file(self, pid: int, link: str, fields: Fields) -> Iterable[Held]:
+        mount, inode, files = number_in(fields, "mnt_id"), number_in(fields, "ino"), self.hierarchy.files
+        kind = self.mounts.kinds.get(mount)
+        if kind is None and (inode < 0 or inode in files):
+            kind = self.mounts.kind_by_root(mount)
+        if kind is None and inode < 0:
+            raise Untold
+        if inode < 0 and kind:
+            inode = inode_of(link, self.mounts.kinds)
+        return [Held(pid, *files[inode], Holding.OPEN if kind else Holding.PERHAPS)] if kind is not False and inode in files else ()
+
+    def fields(self, whose: int, folder: str, number: str) -> Optional[Fields]:
+        """What is told of a descriptor."""
+        self.charge(self.infos, whose)
+        try:
+            read = bounded.read_file(f"{folder}/fdinfo/{number}", bounded.DESCRIPTOR)
         except OSError:
             return None
         if read.is_cut:
             # a kernel makes all of it before it gives the first byte
-            self.charge(self.long, uid)
+            self.charge(self.long, whose)
         return status_fields(read.text("utf-8", "replace"))
 
-    def charge(self, spent: Spent, uid: int) -> None:
-        if not spent.take(uid):
-            raise Stopped(told(spent.budget))
+    def of_ring(self, pid: int, whose: int, place: str) -> Iterable[Held]:
+        """The files that are registered with a ring."""
+        self.charge(self.rings, whose)
+        found = None
+        for _ in range(rings.TURNS):
+            try:
+                read = bounded.read_file(place, bounded.RING)
+            except OSError:
+                return ()
+            self.charge(self.ring_bytes, whose, len(read.data))
+            found = rings.registered(read.data, os.fsencode(self.hierarchy.mount), self.names, self.has_paths)
+            if found is not None and not read.is_cut:
+                break
+        if found is None or read.is_cut:
+            self.unlooked.append(Unlooked(whose, UnlookedRing(pid)))
+        elif found.untold:
+            self.unlooked.append(Unlooked(whose, UntoldPaths(pid, found.untold)))
+        return () if found is None else [Held(pid, path, file, Holding.RING) for path, file in found.files]
 
-
-def told(budget: Budget) -> str:
-    return f"more than {budget.most} {budget.what} are in their processes: not all were looked at"
+    def charge(self, spent: Spent, whose: int, amount: int = 1) -> None:
+        if not spent.take(whose, amount):
+            raise Stopped(spent.budget)
 
 
 def is_for_writing(fields: Fields) -> bool:
@@ -164,12 +181,6 @@ def is_for_writing(fields: Fields) -> bool:
         return int(fields["flags"][0], 8) & WRITES != 0
     except (ValueError, KeyError, IndexError):
         return False
-
-
-def number_in(fields: Fields, key: str) -> int:
-    """A number that is told of a descriptor, or -1."""
-    words = fields.get(key, [])
-    return int(words[0]) if words and words[0].isascii() and words[0].isdigit() and len(words[0]) <= 20 else -1
 
 
 def inode_of(link: str, kinds: Kinds) -> int:
@@ -187,28 +198,6 @@ def inode_of(link: str, kinds: Kinds) -> int:
         os.close(opened)
 
 
-def mount_of(opened: int, proc: str = "/proc") -> int:
-    """The mount of a file that this process has open, or -1."""
-    try:
-        read = bounded.read_file(f"{proc}/self/fdinfo/{opened}", bounded.DESCRIPTOR)
-    except OSError:
-        return -1
-    return number_in(status_fields(read.text("utf-8", "replace")), "mnt_id")
-
-
-def memory_mount(proc: str) -> int:
-    """The mount that a kernel has files of memory on, as memfd_create makes them, or -1: many processes hold such files, whose
-    inodes are small numbers as those of cgroups are."""
-    try:
-        opened = os.memfd_create("mount")
-    except OSError:
-        return -1
-    try:
-        return mount_of(opened, proc)
-    finally:
-        os.close(opened)
-
-
-def inodes_of(places: Mapping[Tuple[int, int], Tuple[CgroupPath, str]]) -> Mapping[int, Tuple[CgroupPath, str]]:
+def inodes_of(places: Mapping[Tuple[int, int], FileOf]) -> Mapping[int, FileOf]:
     """Files by their inodes alone; all are of one hierarchy."""
     return {inode: place for (_, inode), place in places.items()}

@@ -12,8 +12,8 @@ from zirofen_host.collect import fitting
 from zirofen_host.collect import snapshot as snapshots
 from zirofen_host.collect.accounts import Accounts, is_id
 from zirofen_host.collect.holds import Holds
-from zirofen_host.collect.model import (About, Account, AccountLists, Carried, Cgroup, CgroupMount, Entry, Group, Inside, Process, Range,
-                                        Row, Snapshot, Source, Tree, User)
+from zirofen_host.collect.model import (About, Account, AccountLists, Carried, Cgroup, CgroupMount, Entry, Group, HeldEntry, Holding,
+                                        Inside, Process, Range, Row, Snapshot, Source, Tree, Unheld, User)
 from zirofen_host.collect.mount import read_kernel_list
 from zirofen_host.collect.notes import CarriedNote, LimitsOfVersion1, Note, OtherType
 from zirofen_host.collect.reasons import CHANGED, CarriedOfSomebody, CarriedReason, Reason
@@ -23,6 +23,8 @@ from zirofen_host.files import OF_LIMITS, is_known
 from zirofen_host.profile import CONTROL_FILES, LIMIT_FILES, CgroupPath, is_other_limit, is_root, path_of, text_of
 
 MARK = "#= "
+# of a text that tells where threads run and what processes hold
+HOLDS = "threads and descriptors"
 ABOUT = {"host", "kernel", "time", "mount", "options", "delegate"}
 _ENTRY = re.compile(r"([0-9]{1,10}):([0-9]{1,10}):([0-7]{3,4})\Z")
 
@@ -49,6 +51,10 @@ class Gathered:
         self.subordinate_gids: List[Range] = []
         self.notes: List[Note] = []
         self.inside: List[Inside] = []
+        self.held: List[HeldEntry] = []
+        self.unheld: List[Unheld] = []
+        # what further was looked at
+        self.looked: Tuple[str, ...] = ()
         self.changing: Dict[CgroupPath, Reason] = {}
         self.about = About()
         self.mount: Optional[str] = None
@@ -103,6 +109,25 @@ class Gathered:
         self.inside.append(Inside(path_of(text_in(path)), number_in(processes), texts_in(by), tuple(map(mount_in, parts_in(mounts))),
                                   texts_in(capabilities), has_own_namespace, has_host_pids, is_cut))
 
+    def take_looked(self, value: object) -> None:
+        self.looked = texts_in(value)
+
+    def take_runs(self, value: object) -> None:
+        """What a process that runs elsewhere tells beside the others."""
+        pid, program, threads, is_headless, left, places = parts_in(value)
+        self.processes[number_in(pid)] = replace(
+            self.processes[number_in(pid)], program=text_in(program), threads=number_in(threads), is_headless=flag_in(is_headless),
+            threads_left=number_in(left), places=tuple(map(path_of, texts_in(places))))
+
+    def take_held(self, value: object) -> None:
+        uid, path, file, pid, program, holding = parts_in(value)
+        self.held.append(HeldEntry(id_of(uid), path_of(text_in(path)), text_in(file), number_in(pid), text_in(program),
+                                   Holding(text_in(holding))))
+
+    def take_unheld(self, value: object) -> None:
+        uid, path, why = parts_in(value)
+        self.unheld.append(Unheld(id_of(uid), None if path is None else path_of(text_in(path)), CarriedReason(text_in(why))))
+
     def take_changing(self, value: object) -> None:
         path, why = parts_in(value)
         self.changing[path_of(text_in(path))] = reason_in(str(why))
@@ -116,14 +141,15 @@ class Gathered:
         if self.mount is None:
             return None
         lists = AccountLists(tuple(self.accounts), tuple(self.groups), tuple(self.subordinate_uids), tuple(self.subordinate_gids))
-        return Carried(lists, self.values)
+        return Carried(lists, self.values, HOLDS in self.looked)
 
 
 # what takes a value by its key
 TAKERS: Mapping[str, Callable[[Gathered, object], None]] = {
     "about": Gathered.take_about, "account": Gathered.take_account, "cgroup": Gathered.take_cgroup,
-    "changing": Gathered.take_changing, "group": Gathered.take_group, "inside": Gathered.take_inside, "note": Gathered.take_note,
-    "process": Gathered.take_process, "subgid": Gathered.take_subgid, "subuid": Gathered.take_subuid}
+    "changing": Gathered.take_changing, "group": Gathered.take_group, "held": Gathered.take_held, "inside": Gathered.take_inside,
+    "looked": Gathered.take_looked, "note": Gathered.take_note, "process": Gathered.take_process, "runs": Gathered.take_runs,
+    "subgid": Gathered.take_subgid, "subuid": Gathered.take_subuid, "unheld": Gathered.take_unheld}
 
 
 def read(accepted: Accepted, mount: str) -> Snapshot:
@@ -138,7 +164,8 @@ def read(accepted: Accepted, mount: str) -> Snapshot:
                     kernel_threads=0, places={}, kernel_list=frozenset(gathered.kernel_list) or read_kernel_list(None),
                     notes=tuple(gathered.notes), changing=gathered.changing, spoiled={}, version_1=version_1_in(gathered.notes),
                     source=Source(accepted.file, gathered.carried()),
-                    inside=tuple(each for each in gathered.inside if each.path in tree.rows))
+                    inside=tuple(each for each in gathered.inside if each.path in tree.rows), held=tuple(gathered.held),
+                    unheld=tuple(gathered.unheld))
 
 
 def with_defaults(tree: Tree) -> Tree:
@@ -228,6 +255,7 @@ def carried(snapshot: Snapshot, accounts: Accounts) -> Iterator[Mapping[str, obj
         if not process.is_kernel_thread:
             yield {"process": [process.pid, process.uid, process.user.uid, list(process.user.gids), process.name,
                                list(process.capabilities)]}
+    yield from carried_of_premises(snapshot)
     for each in snapshot.inside:
         yield {"inside": [text_of(each.path), each.processes, list(each.by),
                           [[mount.place, text_of(mount.top), mount.is_writable, mount.is_above] for mount in each.mounts],
@@ -238,6 +266,19 @@ def carried(snapshot: Snapshot, accounts: Accounts) -> Iterator[Mapping[str, obj
         yield {"group": [group.gid, list(group.members), group.name]}
     for name, ranges in (("subuid", accounts.lists.subordinate_uids), ("subgid", accounts.lists.subordinate_gids)):
         yield from ({name: [each.owner, each.first, each.count]} for each in ranges)
+
+
+def carried_of_premises(snapshot: Snapshot) -> Iterator[Mapping[str, object]]:
+    """What a text carries of processes that run elsewhere and of what they hold, behind the processes."""
+    yield {"looked": [HOLDS]}
+    for process in snapshot.processes.values():
+        if (process.places or process.is_headless) and not process.is_kernel_thread:
+            yield {"runs": [process.pid, process.program, process.threads, process.is_headless, process.threads_left,
+                            list(map(text_of, process.places))]}
+    for each in snapshot.held:
+        yield {"held": [each.uid, text_of(each.path), each.file, each.pid, each.program, each.holding.value]}
+    for unheld in snapshot.unheld:
+        yield {"unheld": [unheld.uid, None if unheld.path is None else text_of(unheld.path), str(unheld.why)]}
 
 
 def carried_of(snapshot: Snapshot, path: CgroupPath, found: Cgroup) -> Mapping[str, object]:

@@ -1,11 +1,12 @@
 """Containers of root's: processes of root's whose cgroup namespace or root isn't PID 1's, and what of cgroups they get at.
 
-Of a process its status, its list of mounts and the names of its namespaces are read. Nothing below its root or its working folder is
-opened or asked: that may be a file system of a user's own, which answers when they like.
+Of a process its status, its list of mounts and the names of its namespaces are read, by a thread that lives. Nothing below its root or
+its working folder is opened or asked: that may be a file system of a user's own, which answers when they like.
 """
 import os
 from collections import Counter, defaultdict
 from dataclasses import dataclass
+from functools import cached_property
 from typing import AbstractSet, Collection, Counter as Counts, DefaultDict, Dict, Iterable, List, Mapping, Optional, Sequence, Set, Tuple
 
 from zirofen_host.collect import bounded
@@ -14,7 +15,7 @@ from zirofen_host.collect.mount import FIRST_NAMESPACE, FIRST_PID_NAMESPACE, une
 from zirofen_host.collect.processes import FIRST_USER_NAMESPACE
 from zirofen_host.profile import ROOT, CgroupPath, is_inside, is_root, parts_of, path_of
 
-BY_NAMESPACE, BY_ROOT = "cgroup namespace", "root"
+BY_NAMESPACE, BY_ROOT, BY_UNREAD = "cgroup namespace", "root", "namespaces that aren't told"
 # by their numbers, the capabilities of a bounding set that decide whether cgroup files are kept from a container
 SEARCH, MODULE, RAWIO, ADMIN = "DAC_READ_SEARCH", "SYS_MODULE", "SYS_RAWIO", "SYS_ADMIN"
 DECIDING = {2: SEARCH, 16: MODULE, 17: RAWIO, 21: ADMIN}
@@ -40,6 +41,8 @@ class First:
 class Found:
     """A process of root's in a container."""
     pid: int
+    # by which thread it is read
+    thread: int
     by: Tuple[str, ...]
     cgroups: str
     seen_from: SeenFrom
@@ -120,7 +123,8 @@ class Look:
         self.proc, self.first, self.processes = proc, first, processes
         self.at = {pid: path for path, found in cgroups.items() for pid in found.pids or ()
                    if pid in processes and not processes[pid].is_kernel_thread}
-        self.cgroups = {pid: name for pid in self.at if (name := namespace(proc, pid, "cgroup"))}
+        self.threads = {pid: processes[pid].thread for pid in self.at}
+        self.cgroups = {pid: name for pid, thread in self.threads.items() if (name := namespace(proc, thread, "cgroup"))}
         # where the processes of each cgroup namespace are
         self.places: DefaultDict[str, Set[CgroupPath]] = defaultdict(set)
         for pid, name in self.cgroups.items():
@@ -132,47 +136,78 @@ class Look:
         self.read: Counts[CgroupPath] = Counter()
         self.mounts: Dict[SeenFrom, Tuple[List[Tuple[str, CgroupPath, bool]], bool]] = {}
 
-    def found(self) -> Iterable[Inside]:
-        """Each cgroup with such processes; of a unit with more of them than are looked at, the others together."""
+    @cached_property
+    def by_path(self) -> Mapping[CgroupPath, Sequence[Found]]:
+        """The processes of root's in containers, by their cgroups."""
         by_path: DefaultDict[CgroupPath, List[Found]] = defaultdict(list)
-        for pid in sorted(self.cgroups):
-            process = self.process(pid)
+        for pid in sorted(self.at):
+            process = self.process(pid) if pid in self.cgroups else self.unread(pid)
             if process:
                 by_path[self.at[pid]].append(process)
+        return by_path
+
+    @property
+    def pids(self) -> Iterable[int]:
+        return (each.pid for found in self.by_path.values() for each in found)
+
+    def found(self) -> Iterable[Inside]:
+        """Each cgroup with such processes; of a unit with more of them than are looked at, the others together."""
         by_unit: DefaultDict[CgroupPath, List[CgroupPath]] = defaultdict(list)
-        for path in sorted(by_path):
+        for path in sorted(self.by_path):
             by_unit[unit_above(path)].append(path)
         for unit, paths in by_unit.items():
-            yield from (self.inside(path, by_path[path]) for path in paths[:bounded.INSIDES])
+            yield from (self.inside(path, self.by_path[path]) for path in paths[:bounded.INSIDES])
             if len(paths) > bounded.INSIDES:
-                yield self.unlooked(unit, [each for path in paths[bounded.INSIDES:] for each in by_path[path]])
+                yield self.unlooked(unit, [each for path in paths[bounded.INSIDES:] for each in self.by_path[path]])
+
+    def unit_of(self, pid: int) -> CgroupPath:
+        return unit_above(self.at[pid])
+
+    def writes(self, pid: int, path: CgroupPath) -> bool:
+        """Whether a process sees a cgroup on a mount that may be written."""
+        found = next(each for each in self.by_path[self.at[pid]] if each.pid == pid)
+        return any(is_writable and is_inside(path, top) for _, top, is_writable in self.mounts_of(self.unit_of(pid), found)[0])
+
+    def unread(self, pid: int) -> Optional[Found]:
+        """A process of root's that is listed, and whose namespaces can't be read; one that has ended is none."""
+        process = self.processes[pid]
+        if process.uid and process.user.uid or pid == 1:
+            return None
+        try:
+            bounded.read_link(f"{self.proc}/{process.thread}/ns/cgroup")
+            return None
+        except (FileNotFoundError, ProcessLookupError):
+            is_there = process.is_headless and process.living is None
+        except OSError:
+            is_there = True
+        return Found(pid, pid, (BY_UNREAD,), self.first.cgroups, ("", b"")) if is_there else None
 
     def process(self, pid: int) -> Optional[Found]:
         """A process of root's in a container, or None where it is none."""
         process = self.processes[pid]
         if process.uid and process.user.uid:
             return None
-        mounts = namespace(self.proc, pid, "mnt")
+        mounts = namespace(self.proc, process.thread, "mnt")
         if mounts is None:
-            return None
+            return self.unread(pid)
         words, name = self.root(pid, mounts), self.cgroups[pid]
         differs = {BY_NAMESPACE: name != self.first.cgroups, BY_ROOT: root_in(words) != self.first.root}
         by = tuple(each for each, is_so in differs.items() if is_so)
-        return Found(pid, by, name, (mounts, words[0] if words else b"")) if by else None
+        return Found(pid, process.thread, by, name, (mounts, words[0] if words else b"")) if by else None
 
     def root(self, pid: int, mounts: str) -> Sequence[bytes]:
         """The line of a process's root; of a unit and a mount namespace so many are read, and others are taken as the last."""
         key = unit_above(self.at[pid]), mounts
         if self.roots[key] < bounded.ROOTS:
             self.roots[key] += 1
-            self.last[key] = root_line(self.proc, pid)
+            self.last[key] = root_line(self.proc, self.threads[pid])
         return self.last[key]
 
     def mounts_of(self, unit: CgroupPath, found: Found) -> Tuple[List[Tuple[str, CgroupPath, bool]], bool]:
         """What a process sees of cgroups, read once for all that see the same, and whether that isn't all."""
         if found.seen_from not in self.mounts:
             left = bounded.MOUNT_BYTES.most - self.read[unit]
-            mounts, read, is_cut = cgroup_mounts(self.proc, found.pid, left) if left > 0 else ([], 0, True)
+            mounts, read, is_cut = cgroup_mounts(self.proc, found.thread, left) if left > 0 else ([], 0, True)
             self.read[unit] += read
             self.mounts[found.seen_from] = mounts, is_cut
         return self.mounts[found.seen_from]
@@ -186,25 +221,24 @@ class Look:
             is_own, is_cut = each.cgroups != self.first.cgroups, is_cut or cut
             mounts |= {CgroupMount(place, top, is_writable, is_own and shows_above(top, self.places[each.cgroups]))
                        for place, top, is_writable in seen}
-        return self.made(path, found, sorted(mounts), is_cut)
+        return self.made(path, found, sorted(mounts), is_cut or any(BY_UNREAD in each.by for each in found))
 
     def unlooked(self, unit: CgroupPath, found: Sequence[Found]) -> Inside:
         return self.made(unit, found, (), True)
 
     def made(self, path: CgroupPath, found: Sequence[Found], mounts: Collection[CgroupMount], is_cut: bool) -> Inside:
-        pids = [each.pid for each in found]
         bits = 0
-        for pid in pids:
+        for each in found:
             # what a process may get by a user namespace of its own reaches its mounts, and nothing else of the host
-            is_first = namespace(self.proc, pid, "user") in (FIRST_USER_NAMESPACE, None)
-            bits |= self.processes[pid].bounding & (-1 if is_first else 1 << 21)
-        return Inside(path, len(pids), tuple(by for by in (BY_NAMESPACE, BY_ROOT) if any(by in each.by for each in found)),
+            is_first = namespace(self.proc, each.thread, "user") in (FIRST_USER_NAMESPACE, None)
+            bits |= self.processes[each.pid].bounding & (-1 if is_first else 1 << 21)
+        return Inside(path, len(found), tuple(by for by in (BY_NAMESPACE, BY_ROOT, BY_UNREAD) if any(by in each.by for each in found)),
                       tuple(mounts), tuple(name for number, name in DECIDING.items() if bits >> number & 1),
                       all(each.cgroups != self.first.cgroups for each in found),
-                      any(namespace(self.proc, pid, "pid") in (self.first.pids, None) for pid in pids), is_cut)
+                      any(namespace(self.proc, each.thread, "pid") in (self.first.pids, None) for each in found), is_cut)
 
 
-def look(proc: str, cgroups: Mapping[CgroupPath, Cgroup], processes: Mapping[int, Process]) -> Tuple[Inside, ...]:
-    """The containers of root's, each cgroup of theirs by itself; none where what PID 1 has isn't seen."""
+def look(proc: str, cgroups: Mapping[CgroupPath, Cgroup], processes: Mapping[int, Process]) -> Optional[Look]:
+    """A look at the containers of root's; none where what PID 1 has isn't seen."""
     first = first_of(proc)
-    return tuple(Look(proc, first, cgroups, processes).found()) if first else ()
+    return Look(proc, first, cgroups, processes) if first else None

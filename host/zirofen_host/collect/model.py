@@ -1,5 +1,6 @@
 """What is collected of a host, or read back from a text of another one: the first form of what is told."""
 from dataclasses import dataclass, field
+from enum import Enum
 from typing import Collection, FrozenSet, List, Mapping, NamedTuple, Optional, Sequence, Tuple, Union
 
 from zirofen_host.collect.notes import Note
@@ -129,6 +130,21 @@ class Process:
     threads_left: int = 0
     # the capabilities that it or one of its threads may ever get, as bits
     bounding: int = 0
+    threads: int = 1
+    # its first thread has ended, and others live on
+    is_headless: bool = False
+    # of such a process a thread that lives, where one was found
+    living: Optional[int] = None
+    # where its first thread is, and behind it where else threads of it run; nothing where all are in one place. One that was removed
+    # is named as a kernel names it, with a word behind its path
+    places: Tuple[CgroupPath, ...] = ()
+    # of one that runs elsewhere, the place of its program
+    program: str = ""
+
+    @property
+    def thread(self) -> int:
+        """The thread by which /proc tells of its namespaces, its mounts and its files."""
+        return self.living or self.pid
 
 
 class CgroupMount(NamedTuple):
@@ -156,6 +172,33 @@ class Inside:
     has_host_pids: bool
     # not all mounts were looked at
     is_cut: bool
+
+
+class Holding(Enum):
+    """How a process holds an entry, as far as /proc tells."""
+    OPEN = "open for writing"
+    # on a mount that nothing tells of, so that it may be another file
+    PERHAPS = "perhaps open for writing"
+    # of which the flags aren't told
+    RING = "registered with an io_uring"
+
+
+class HeldEntry(NamedTuple):
+    """An entry that a process may write by what it holds open, whatever its owner and mode are now."""
+    uid: int
+    path: CgroupPath
+    file: str
+    pid: int
+    # the place of its program, as a link of /proc has it; nothing where that isn't told
+    program: str
+    holding: Holding
+
+
+class Unheld(NamedTuple):
+    """Processes of which not all that they hold was looked at: whose they are, of a container of root's which, and why."""
+    uid: int
+    path: Optional[CgroupPath]
+    why: Reason
 
 
 class Scope(NamedTuple):
@@ -210,6 +253,8 @@ class Carried:
     """What a text of another host carries beside its tree: accounts, and values that a tree has no place for."""
     accounts: AccountLists
     values: Mapping[Tuple[CgroupPath, str], str]
+    # where threads run, and what processes hold open, was looked at
+    has_holds: bool = False
 
 
 @dataclass(frozen=True)
@@ -250,6 +295,9 @@ class Snapshot:
     inside: Tuple[Inside, ...] = ()
     # containers and pods by their names
     scopes: Tuple[Scope, ...] = ()
+    # what processes hold open, and what of that wasn't looked at
+    held: Tuple[HeldEntry, ...] = ()
+    unheld: Tuple[Unheld, ...] = ()
 
     @property
     def processes_told(self) -> Collection[Process]:

@@ -6,6 +6,7 @@ from zirofen_host.collect.bounded import Payer, Spent
 from zirofen_host.collect.model import Process, User
 from zirofen_host.collect.notes import Failed, Lacking
 from zirofen_host.collect.reasons import Reason
+from zirofen_host.collect.threads import Fields, ThreadReader
 
 KERNEL_THREAD = 0x00200000
 
@@ -18,9 +19,6 @@ NEEDED = (({21}, "SYS_ADMIN", "the mark trusted.delegate can't be seen, so that 
           ({19}, "SYS_PTRACE", "what others' processes hold open, and their namespaces, can't be seen"),
           ({1, 2}, "DAC_READ_SEARCH", "what its owner closed to others can't be read"))
 FIRST_USER_NAMESPACE = "user:[4026531837]"
-ALL = "ffffffffffffffff"
-
-Fields = Mapping[str, List[str]]
 
 
 def status_fields(text: str) -> Fields:
@@ -37,8 +35,8 @@ class Reader:
 
     def __init__(self, proc: str, payer: Payer = int) -> None:
         self.proc = proc
-        self.count, self.bytes, self.threads = (
-            Spent(budget, payer) for budget in (bounded.PROCESSES, bounded.PROCESS_BYTES, bounded.THREADS))
+        self.count, self.bytes = (Spent(budget, payer) for budget in (bounded.PROCESSES, bounded.PROCESS_BYTES))
+        self.threads = ThreadReader(proc, payer, self.bytes)
         self.found: Dict[int, Process] = {}
         # of which what is told isn't known
         self.unknown: List[int] = []
@@ -67,9 +65,12 @@ class Reader:
             flags = int(stat.rpartition(")")[2].split()[6])
             gid = int(fields["Gid"][1])
             others = [int(group) for group in fields.get("Groups", ()) if int(group) != gid]
-            (bits, bounding), left = self.permitted(pid, fields)
+            threads = self.threads.look(pid, fields)
+            names = capabilities_of(self.proc, threads.living or pid, threads.permitted)
             return Process(pid, int(fields["Uid"][0]), User(int(fields["Uid"][1]), (gid, *others)), flags & KERNEL_THREAD != 0,
-                           " ".join(fields.get("Name", ())), capabilities_of(self.proc, pid, bits), bits != 0, left, bounding)
+                           " ".join(fields.get("Name", ())), names, threads.permitted != 0, threads.left, threads.bounding,
+                           threads.number, threads.is_headless, threads.living, threads.places,
+                           program_of(self.proc, threads.living or pid) if threads.places or threads.is_headless else "")
         except (FileNotFoundError, ProcessLookupError):
             return None
         except (ValueError, KeyError, IndexError, OSError):
@@ -88,33 +89,6 @@ class Reader:
             read = bounded.read_file(file, bounded.STATUS)
         return status_fields(read.text("utf-8", "replace")) if self.bytes.take(uid, len(read.data)) else None
 
-    def permitted(self, pid: int, fields: Fields) -> Tuple[Tuple[int, int], int]:
-        """The capabilities that a process or one of its threads is permitted, and those of a bounding set, as bits, and how many
-        threads weren't looked at."""
-        bits, count, uid = bits_in(fields), int(fields.get("Threads", ["1"])[0]), int(fields["Uid"][0])
-        if count < 2:
-            return bits, 0
-        try:
-            names = bounded.list_folder(f"{self.proc}/{pid}/task", min(count, max(self.threads.left(uid), 0)) if uid else count).names
-        except OSError:
-            return bits, 0
-        for name, _ in names:
-            self.threads.take(uid)
-            try:
-                read = bounded.read_file(f"{self.proc}/{pid}/task/{name}/status", bounded.STATUS)
-                self.bytes.take(uid, len(read.data))
-                of_thread = bits_in(status_fields(read.text("utf-8", "replace")))
-                bits = bits[0] | of_thread[0], bits[1] | of_thread[1]
-            except OSError:
-                # it has ended
-                continue
-        return bits, max(count - len(names), 0)
-
-
-def bits_in(fields: Fields) -> Tuple[int, int]:
-    """The capabilities that a status says are permitted, and those of its bounding set, which is all where it doesn't say."""
-    return int(fields.get("CapPrm", ["0"])[0], 16), int(fields.get("CapBnd", [ALL])[0], 16)
-
 
 def capabilities_of(proc: str, pid: int, bits: int) -> Tuple[str, ...]:
     """Those that count on the host: a user namespace's own don't reach outside of it."""
@@ -123,6 +97,14 @@ def capabilities_of(proc: str, pid: int, bits: int) -> Tuple[str, ...]:
         return names if not names or bounded.read_link(f"{proc}/{pid}/ns/user") == FIRST_USER_NAMESPACE else ()
     except OSError:
         return names
+
+
+def program_of(proc: str, thread: int) -> str:
+    """The place of a process's program; nothing where it isn't told."""
+    try:
+        return bounded.read_link(f"{proc}/{thread}/exe")
+    except OSError:
+        return ""
 
 
 def lacking_notes(proc: str) -> Iterator[Lacking]:

@@ -83,3 +83,63 @@ class CarriedOfSomebody(CarriedReason):
 
 
 CHANGED = Changed()
+
+
+@dataclass(frozen=True)
+class MoreThanLookedAt(Reason):
+    """Somebody's processes have more of something than is looked at."""
+    most: int
+    what: str
+
+    def __str__(self) -> str:
+        return f"more than {self.most} {self.what} are in their processes: not all were looked at"
+
+
+@dataclass(frozen=True)
+class UntoldMounts(Reason):
+    """So many open files are on mounts that nothing tells of."""
+    count: int
+
+    def __str__(self) -> str:
+        return (f"{self.count} open files are on mounts that nothing tells of, and this kernel doesn't tell which files they are: they "
+                "weren't looked at")
+
+
+@dataclass(frozen=True)
+class UnlookedTables(Reason):
+    """So many threads of a process may have a table of descriptors of their own."""
+    pid: int
+    count: int
+    most: int
+
+    def __str__(self) -> str:
+        return f"{self.count} threads of process {self.pid} weren't looked at: more than {self.most} run"
+
+
+@dataclass(frozen=True)
+class UnlookedHeadless(Reason):
+    """No thread is known that lives of a process whose first one has ended."""
+    pid: int
+
+    def __str__(self) -> str:
+        return f"what process {self.pid} holds, whose first thread has ended, wasn't looked at"
+
+
+@dataclass(frozen=True)
+class UnlookedRing(Reason):
+    """A kernel doesn't tell what is registered with an io_uring."""
+    pid: int
+
+    def __str__(self) -> str:
+        return f"an io_uring of process {self.pid} wasn't looked at: its files aren't told"
+
+
+@dataclass(frozen=True)
+class UntoldPaths(Reason):
+    """So many files that are registered with an io_uring have names of cgroups' files, and no path on the mount."""
+    pid: int
+    count: int
+
+    def __str__(self) -> str:
+        return (f"an io_uring of process {self.pid} wasn't looked at: no path on this mount is told of {self.count} of its files, which "
+                "are named as a cgroup's")

@@ -5,7 +5,7 @@ from collections import Counter
 from dataclasses import replace
 from typing import Callable, Dict, Iterable, Iterator, List, Mapping, Optional, Sequence, Tuple
 
-from zirofen_host.collect import containers, inside, walk
+from zirofen_host.collect import containers, held, inside, walk
 from zirofen_host.collect.accounts import payer_of
 from zirofen_host.collect.bounded import Payer
 from zirofen_host.collect.looks import Looks
@@ -23,6 +23,7 @@ from zirofen_host.profile import (CONTROL_FILES, FURTHER_FILES, KERNEL_LIST, LIM
                                   is_line, is_root, parent_of, shown, text_of, topmost)
 
 LARGEST_PID = 4194303
+NOTHING_HELD: held.Found = (), ()
 # names of files that may stand nowhere yet
 KNOWN = {name.encode() for name in (*KINDS, *FURTHER_FILES)}
 
@@ -220,9 +221,11 @@ def take(options: Options, subtrees_of: SubtreesOf) -> Snapshot:
 
     settled = walk.settled(options.mount, options.only, subtrees_in, payer, options.text_format.further)
     found, looks = snapshot_of(settled, look_at_processes(options, payer), options, mounts), Looks()
-    insides = looks.all("root-inside", lambda: inside.look(options.proc, found.cgroups, found.processes))
+    look = looks.at("root-inside", lambda: inside.look(options.proc, found.cgroups, found.processes), None)
+    insides = looks.all("root-inside", look.found) if look else ()
+    entries, unheld = looks.at("descriptors", lambda: held.look(options.proc, found, payer, look), NOTHING_HELD)
     # of a part what is above it is there for the answers, and isn't told of by itself
-    return replace(found, inside=tuple(each for each in insides if is_inside(each.path, options.only or ROOT)),
+    return replace(found, inside=tuple(each for each in insides if is_inside(each.path, options.only or ROOT)), held=entries, unheld=unheld,
                    scopes=() if options.plain_folder else looks.all("containers", lambda: containers.scopes(found.cgroups)),
                    notes=(*found.notes, *looks.failed))
 

@@ -5,15 +5,16 @@ import os
 import re
 import stat
 from dataclasses import dataclass, replace
-from typing import Dict, FrozenSet, Iterable, List, Mapping, NamedTuple, NoReturn, Optional, Tuple
+from typing import Dict, FrozenSet, Iterable, List, Mapping, NamedTuple, NoReturn, Optional, Tuple, Union
 
 from zirofen_host.collect import bounded
 from zirofen_host.collect.model import GROUP, OTHERS, OWNER
 from zirofen_host.collect.tree import parts_in, table_in, text_in, texts_in, toml_reader
 from zirofen_host.fault import Fault
 from zirofen_host.judge.severity import ACCEPTED, Severity, severity_of
-from zirofen_host.judge.model import ABSENT, Acceptance, EntryFinding, OpenedFinding, Report, RootInside, Whom
-from zirofen_host.judge.rules import ACCEPTABLE, OPENED, ROOT_INSIDE, RULES, Finding, Rule, findings_of
+from zirofen_host.judge.model import ABSENT, Absent, Acceptance, EntryFinding, OpenedFinding, Report, RootInside, Whom
+from zirofen_host.judge.rules import (ACCEPTABLE, HELD, OPENED, ROOT_INSIDE, RULES, RUNS, Finding, Rule, findings_of, of_held,
+                                      of_running)
 from zirofen_host.output import opened_back, refused
 from zirofen_host.profile import ANYBODY, ancestors, shown
 
@@ -151,11 +152,13 @@ def applied(report: Report, given: Iterable[Given], today: datetime.date) -> Rep
         if found.rule.id in ACCEPTABLE:
             by_path.setdefault(found.path, []).append(found)
     met = [(each, next((found for found in by_path.get(each.path, ()) if each.is_met_by(found)), None)) for each in given]
-    why = {(found.path, found.entry, kind_of(found.rule)): f"{each.reason}, until {each.until}"
+    why = {(found.path, entry_key(found), kind_of(found.rule)): f"{each.reason}, until {each.until}"
            for each, found in met if found and today <= each.until}
     report = replace(report, entries=tuple(accepted_entry(each, why) for each in report.entries),
                      opened=tuple(accepted_opened(each, why) for each in report.opened),
                      root_inside=tuple(accepted_inside(each, why) for each in report.containers) or ABSENT,
+                     runs_elsewhere=tuple(replace(each, accepted=why_of(of_running(each), why)) for each in report.running) or ABSENT,
+                     held_entries=tuple(replace(each, accepted=why_of(of_held(each), why)) for each in report.held) or ABSENT,
                      acceptances=tuple(standing(each, found, by_path.get(each.path, ()), why, today) for each, found in met))
     return replace(report, status=severity_of(report).status)
 
@@ -175,9 +178,19 @@ def accepted_inside(each: RootInside, why: Why) -> RootInside:
     return replace(each, accepted=why.get((each.path, " ".join(each.ways), ROOT_INSIDE), ABSENT))
 
 
+def why_of(found: Finding, granted: Why) -> Union[str, Absent]:
+    """Why a finding of a program was accepted, which is one of somebody's by itself."""
+    return granted.get((found.path, entry_key(found), kind_of(found.rule)), ABSENT)
+
+
+def entry_key(found: Finding) -> str:
+    """What of findings at one place is told apart; programs of several users by whose they are too."""
+    return f"{found.entry} {found.whom[0].id}" if found.rule.word in (RUNS, HELD) else found.entry
+
+
 def standing(each: Given, found: Optional[Finding], beside: Iterable[Finding], granted: Why, today: datetime.date) -> Acceptance:
     """How an acceptance stands: where nothing is what was accepted, what stands there and nobody accepted is what got worse."""
-    others = [other for other in beside if (other.path, other.entry, kind_of(other.rule)) not in granted]
+    others = [other for other in beside if (other.path, entry_key(other), kind_of(other.rule)) not in granted]
     # the same entry first
     others.sort(key=lambda other: other.entry != each.entry)
     state = OVER if today > each.until else ACCEPTED if found else WORSE if others else UNMET
@@ -186,8 +199,8 @@ def standing(each: Given, found: Optional[Finding], beside: Iterable[Finding], g
 
 
 def kind_of(rule: Rule) -> str:
-    """What findings at one place may be beside one another: an entry's, one that is opened, or a container."""
-    return rule.word if rule.word in (OPENED, ROOT_INSIDE) else ""
+    """What findings at one place may be beside one another: an entry's, one that is opened, a container, or a program's."""
+    return rule.word if rule.word in (OPENED, ROOT_INSIDE, RUNS, HELD) else ""
 
 
 def accepted_subtrees(report: Report) -> FrozenSet[str]:

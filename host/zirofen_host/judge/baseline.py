@@ -17,6 +17,7 @@ from zirofen_host.judge.severity import Severity, is_empty, of_answer, of_fault,
 from zirofen_host.collect.notes import FAILED
 from zirofen_host.judge.model import (ABSENT, VERSION, Absent, Comparison, Difference, DiffersFinding, EntryFinding,
                                       OpenedFinding, Report, RootInside, Subtree, Whom, Within)
+from zirofen_host.judge.rules import Finding, of_held, of_running
 from zirofen_host.judge.saved import LACKING
 from zirofen_host.profile import shown
 
@@ -32,7 +33,7 @@ class Found(NamedTuple):
     severity: Severity
     line: str
     lets_in: FrozenSet[Tuple[object, ...]] = frozenset()
-    mended: Union[EntryFinding, OpenedFinding, DiffersFinding, RootInside, None] = None
+    mended: Union[EntryFinding, OpenedFinding, DiffersFinding, RootInside, Finding, None] = None
     # whose own making it is
     within: Within = ABSENT
     # it is accepted by itself, and told so
@@ -94,6 +95,9 @@ def found_in(report: Report) -> Dict[Key, Found]:
         found["root-inside", inside.path, ""] = Found(
             Severity.CONTAINED if inside.held else Severity.ESCAPES, inside_line(inside), frozenset((way,) for way in inside.ways),
             inside, is_accepted=inside.accepted is not ABSENT)
+    for premise in (*map(of_running, report.running), *map(of_held, report.held)):
+        found[premise.rule.word, premise.path, f"{premise.entry} {premise.whom[0].id}"] = Found(
+            premise.rule.gravity, premise.line, frozenset(), premise, premise.within, premise.accepted is not ABSENT)
     for fault in report.faults:
         for path in fault.subtrees:
             found["fault", path, fault.fault] = Found(of_fault(fault), fault_line(fault, [path]))

@@ -4,14 +4,17 @@ from typing import Iterable, Optional, Sequence
 
 from zirofen_host.collect.model import GROUP, OTHERS, OWNER
 from zirofen_host.collect.notes import LimitsOfVersion1
-from zirofen_host.judge.model import (AboveFinding, Acceptance, DiffersFinding, EntryFinding, FaultFinding, OpenedFinding, Owner,
-                                      RootInside, Whom)
+from zirofen_host.judge.model import (AboveFinding, Acceptance, DiffersFinding, EntryFinding, FaultFinding, HeldFinding, OpenedFinding,
+                                      Owner, RootInside, RunsElsewhere, Whom)
+from zirofen_host.profile import shown
 
 # names in a line; where there are more, it tells how many
 SHOWN = 8
 NOTHING_ASKED = ("nothing was found to ask: looked for were cgroups that somebody but root was handed, by a mark, a unit or the owners "
                  "and modes of their entries, and processes of root's in a container, by their cgroup namespace and root")
 NSDELEGATE = "nsdelegate"
+# what each report says of what an answer takes for granted
+PREMISES_MEAN = "an answer takes these not to be; seen and not proved"
 # what each report says of root inside
 INSIDE_MEANS = "held speaks of cgroup files alone, and is seen and not proved"
 
@@ -85,6 +88,23 @@ def inside_text(each: RootInside) -> str:
 def inside_count(each: RootInside) -> str:
     """How many processes a container has, and by what it is known."""
     return f"{each.processes} process{'' if each.processes == 1 else 'es'}, by {' and '.join(each.by)}"
+
+
+def runs_line(each: RunsElsewhere) -> str:
+    """The line of what runs elsewhere, without the PIDs, which differ from run to run."""
+    elsewhere = f"run in {some(tuple(map(shown, each.elsewhere)))}" if each.elsewhere else "aren't known to run there"
+    why = f": {'; '.join(each.why)}" if each.why else ""
+    return f"runs-elsewhere {shown(each.path)}: threads of {each.program} of {whom_text(each.whom)} {elsewhere}{why}"
+
+
+def held_line(each: HeldFinding) -> str:
+    """The line of an entry that is held, without the PIDs."""
+    return (f"held-entry {each.path} {each.file} ({owner_text(each.owner)}): {' and '.join(each.how)} in {each.program} of "
+            f"{whom_text(each.whom)}, who can't open it now")
+
+
+def processes_text(pids: Sequence[int]) -> str:
+    return f"process {some(tuple(map(str, pids)))}"
 
 
 def acceptance_line(each: Acceptance) -> str:

@@ -80,6 +80,8 @@ class HolderAnswer:
     is_above: bool
     # of those that `who` numbers, where one has a name
     names: Union[Tuple[str, ...], Absent] = ABSENT
+    # what it takes for granted that isn't so
+    marks: Union[Tuple[str, ...], Absent] = ABSENT
 
     @property
     def word(self) -> str:
@@ -94,6 +96,8 @@ class Subtree:
     held_by: HeldBy
     answers: Tuple[HolderAnswer, ...]
     within: Within = ABSENT
+    # what every answer of it takes for granted that isn't so
+    marks: Union[Tuple[str, ...], Absent] = ABSENT
 
 
 @dataclass(frozen=True)
@@ -200,6 +204,45 @@ class RootInside:
     changes: Tuple[str, ...]
     # of the container, what to set
     setting: Optional[str]
+    accepted: Union[str, Absent] = ABSENT
+
+
+@dataclass(frozen=True)
+class RunsElsewhere:
+    """A program of somebody's of which threads run in other cgroups than the one by which it is listed; seen, and not proved."""
+    path: str
+    elsewhere: Tuple[str, ...]
+    # whose it is
+    whom: AllLetIn
+    # the place of its program, or its name
+    program: str
+    processes: Tuple[int, ...]
+    # it is a user's, and an edge is between two places, or one is kept from them
+    is_across: bool
+    why: Tuple[str, ...]
+    changes: Tuple[str, ...]
+    setting: Optional[str]
+    within: Within = ABSENT
+    accepted: Union[str, Absent] = ABSENT
+
+
+@dataclass(frozen=True)
+class HeldFinding:
+    """An entry that a program of somebody's holds, and that they couldn't open now; seen, and not proved."""
+    path: str
+    file: str
+    owner: Owner
+    # who holds it
+    whom: AllLetIn
+    program: str
+    processes: Tuple[int, ...]
+    # how it is held
+    how: Tuple[str, ...]
+    # it is this entry
+    is_sure: bool
+    changes: Tuple[str, ...]
+    setting: Optional[str]
+    within: Within = ABSENT
     accepted: Union[str, Absent] = ABSENT
 
 
@@ -345,6 +388,8 @@ class Report:
     # where there are some
     root_inside: Union[Tuple[RootInside, ...], Absent] = ABSENT
     scopes: Union[Tuple[NamedScope, ...], Absent] = ABSENT
+    runs_elsewhere: Union[Tuple[RunsElsewhere, ...], Absent] = ABSENT
+    held_entries: Union[Tuple[HeldFinding, ...], Absent] = ABSENT
     # the host itself, where the report is to be whole
     users: Union[Tuple[ReportUser, ...], Absent] = ABSENT
     groups: Union[Tuple[ReportGroup, ...], Absent] = ABSENT
@@ -360,6 +405,16 @@ class Report:
     def containers(self) -> Tuple[RootInside, ...]:
         """Those whose processes are root's."""
         return () if isinstance(self.root_inside, Absent) else self.root_inside
+
+    @property
+    def running(self) -> Tuple[RunsElsewhere, ...]:
+        """What runs elsewhere than it is listed."""
+        return () if isinstance(self.runs_elsewhere, Absent) else self.runs_elsewhere
+
+    @property
+    def held(self) -> Tuple[HeldFinding, ...]:
+        """What is held open by whoever couldn't open it now."""
+        return () if isinstance(self.held_entries, Absent) else self.held_entries
 
     @property
     def scopes_by_path(self) -> Mapping[str, NamedScope]:

@@ -32,31 +32,29 @@ class JoinedNote(Note):
 
 
 @dataclass(frozen=True)
-class HeldDescriptor(Note):
-    """A file that processes of a user hold open for writing, and that they may not open now."""
+class UnlookedDescriptors(Note):
+    """What processes of a user, or of root's in a container, hold and wasn't looked at."""
     kind = "descriptor"
-    meaning = "What was opened before is still written through. Restart these processes, also after mending a finding."
-    file: str
-    path: str
-    pids: Tuple[int, ...]
-    # where nothing tells of the mount it may be another file
-    is_sure: bool
+    meaning = "What was opened before is still written through, and this wasn't looked at."
+    why: Reason
 
     @property
     def text(self) -> str:
-        perhaps = "" if self.is_sure else "perhaps "
-        return (f"{self.file} at {self.path} is {perhaps}open for writing in process {numbers(self.pids)}, and they may not open it now")
+        return str(self.why)
 
 
 @dataclass(frozen=True)
-class UnlookedDescriptors(Note):
-    """Descriptors of a user that weren't looked at."""
-    kind = "descriptor"
-    why: str
+class MakesAbove(Note):
+    """Where a user makes cgroups above subtrees of others'."""
+    kind = "makes-above"
+    meaning = "Who makes cgroups above another's subtree can make it invalid while it is empty."
+    path: str
+    subtrees: Tuple[str, ...]
 
     @property
     def text(self) -> str:
-        return self.why
+        return (f"they make cgroups in {self.path}, above {some(self.subtrees)}: by a threaded one they keep processes from being moved "
+                "there")
 
 
 @dataclass(frozen=True)
@@ -247,18 +245,21 @@ class OfText(Note):
     """What a text doesn't tell: one that carries something of its host or nothing, with accounts beside it or without."""
     kind = "elsewhere"
     is_carried: bool
+    # it carries where threads run and what processes hold
+    has_holds: bool
     has_accounts: bool
 
     @property
     def text(self) -> str:
         if self.is_carried:
-            return "this is judged by a text: open descriptors and the settings of units aren't told by it"
+            untold = "" if self.has_holds else "where threads run, open descriptors and "
+            return f"this is judged by a text: {untold}the settings of units aren't told by it"
         by_number = "" if self.has_accounts else (
             ", and so it is judged by number: names, who is in which group and whose ids are subordinate aren't known, which "
             "--accounts FOLDER tells too")
-        return ("this is judged by a text that carries nothing of its host: open descriptors, settings of units, marks, other files, "
-                "capabilities, the groups of processes and containers of root's aren't told; zirofen-host snapshot --with-host carries "
-                f"all but the first two{by_number}")
+        return ("this is judged by a text that carries nothing of its host: settings of units, where threads run, open descriptors, marks, "
+                "other files, capabilities, the groups of processes and containers of root's aren't told; zirofen-host snapshot "
+                f"--with-host carries all but the first{by_number}")
 
 
 @dataclass(frozen=True)

@@ -8,6 +8,7 @@ from typing import AbstractSet, Callable, Dict, Iterable, Iterator, List, Mappin
 from zirofen_host import output
 from zirofen_host.ask.asking import has_all_cgroups
 from zirofen_host.ask.delegations import Delegations
+from zirofen_host.ask.held import movers
 from zirofen_host.ask.model import Answer, Holders, Pair
 from zirofen_host.ask.program import Program, Refused, abilities_of, answer_of, user_words, worst
 from zirofen_host.ask.questions import holders_of, with_groups
@@ -16,6 +17,7 @@ from zirofen_host.ask.texts import Programs, texts_of, write
 from zirofen_host.collect.accounts import Accounts, accounts_of, is_id
 from zirofen_host.collect.model import OTHERS, Snapshot, Tree, User
 from zirofen_host.fault import FAULT, Fault
+from zirofen_host.judge import premises
 from zirofen_host.judge.shell import change_commands
 from zirofen_host.options import AskOptions
 from zirofen_host.profile import MOST_GROUPS, CgroupPath, ancestors, is_root, path_of, shown, text_of
@@ -175,8 +177,11 @@ def standing(snapshot: Snapshot, options: AskOptions, warn: Warn) -> Iterator[St
         for note in programs.failed:
             warn(note.text)
         is_whole = has_all_cgroups(snapshot, options, programs.texts)
+        is_moving = any(user.uid in movers(snapshot, accounts) for user in users)
+        for line in premises.told(snapshot, accounts, users, path_of(options.path)):
+            warn(line)
         one = One(path_of(options.path), snapshot.mount, delegations, programs.of[path_of(options.path)],
-                  "settle" if is_whole and abilities_of(options.program).has_settle else "check")
+                  "settle" if is_whole and not is_moving and abilities_of(options.program).has_settle else "check")
         asked = dict(sorted(as_asked(one, users, warn).items()))
         yield Standing(one, accounts, asked, is_whole, {FAULT} if programs.failed else set())
 

@@ -6,16 +6,20 @@ from zirofen_host.collect.notes import FAILED
 from zirofen_host.collect.model import OWNER
 from zirofen_host.judge import long_lists
 from zirofen_host.judge.finding_lines import NOTHING_ASKED as NOTHING_ASKED_LINE
-from zirofen_host.judge.finding_lines import (INSIDE_MEANS, acceptance_line, differs_line, entry_line, fault_line, inside_line,
-                                              opened_line, version_1_line)
+from zirofen_host.judge.finding_lines import (INSIDE_MEANS, acceptance_line, differs_line, entry_line, fault_line, held_line, inside_line,
+                                              opened_line, processes_text, runs_line, version_1_line)
 from zirofen_host.judge.severity import ACCEPTED, Severity, is_empty, of_answer, of_fault
 from zirofen_host.judge.judged import OVER, UNKNOWN
-from zirofen_host.judge.model import (ABSENT, Absent, DiffersFinding, EntryFinding, OpenedFinding, Report, RootInside, Whom, Within)
+from zirofen_host.judge.model import (ABSENT, Absent, DiffersFinding, EntryFinding, HeldFinding, OpenedFinding, Report, RootInside,
+                                      RunsElsewhere, Whom, Within)
 from zirofen_host.profile import FURTHER_FILES, LIMIT_FILES
 
 NOTHING_ASKED, VERSION_1, DIFFERS = "nothing-asked", "version-1", "differs"
 OPENED, OPENED_DIRECTORY = "opened", "opened/dir"
 ROOT_INSIDE, ROOT_HELD = "root-inside", "root-inside/held"
+# what an answer takes not to be, and where it may be
+RUNS, RUNS_UNSETTLED = "runs-elsewhere", "runs-elsewhere/unsettled"
+HELD, HELD_PERHAPS = "held-entry", "held-entry/perhaps"
 # whom a container lets out
 ROOT = Whom(OWNER, 0, "root(0)", ())
 # the guard that stands on an entry, by the entry's name; what is no entry has its own word
@@ -64,6 +68,7 @@ def made_rules() -> Iterator[Rule]:
     yield Rule(ROOT_INSIDE, "", Severity.ESCAPES, "Processes of root's in a container get at cgroup files outside of it.", SEEN)
     yield Rule(ROOT_INSIDE, "held", Severity.CONTAINED, "Processes of root's in a container don't get at cgroup files outside of it.",
                "It speaks of cgroup files alone, and is seen by the helper, and not proved.")
+    yield from rules_of_premises()
     yield Rule(DIFFERS, "", Severity.CONTAINED, "What was handed over isn't as a service manager leaves it.", "It isn't counted.")
     yield Rule("fault", "", Severity.FAULT, "There is no answer for a subtree or for somebody.")
     yield Rule("fault", "own", Severity.OWN_FAULT, "There is no answer for a subtree, which is the making of those alone who hold it.")
@@ -73,10 +78,20 @@ def made_rules() -> Iterator[Rule]:
     yield Rule(NOTHING_ASKED, "", Severity.NOTHING_ASKED, "Nothing was found to ask: neither a delegation nor a container of root's.")
 
 
+def rules_of_premises() -> Iterator[Rule]:
+    """What an answer takes not to be."""
+    yield Rule(RUNS, "", Severity.ESCAPES, "Threads of a user's process run in another cgroup than the one by which it is listed, over an "
+               "edge or where root keeps them.", SEEN)
+    yield Rule(RUNS, "unsettled", Severity.UNSETTLED, "Threads of a process run in another cgroup than the one by which it is listed, on "
+               "the same side of each edge, or as root's, or it isn't known where.", SEEN)
+    yield Rule(HELD, "", Severity.ESCAPES, "Somebody holds an entry open for writing that they couldn't open now.", SEEN)
+    yield Rule(HELD, "perhaps", Severity.UNSETTLED, "Somebody perhaps holds an entry open for writing that they couldn't open now.", SEEN)
+
+
 RULES: Dict[str, Rule] = {rule.id: rule for rule in made_rules()}
 # what somebody may accept by itself
 ACCEPTABLE = tuple(rule.id for rule in RULES.values()
-                   if rule.id == ROOT_INSIDE or rule.word in (OPENED, *(word for word, _ in PROVED.values())))
+                   if rule.id == ROOT_INSIDE or rule.word in (OPENED, RUNS, HELD, *(word for word, _ in PROVED.values())))
 
 
 @dataclass(frozen=True)
@@ -128,11 +143,27 @@ def of_inside(each: RootInside) -> Finding:
                    accepted=each.accepted)
 
 
+def of_running(each: RunsElsewhere) -> Finding:
+    """A process that runs elsewhere; in the place of an entry stands its program."""
+    return Finding(RULES[RUNS if each.is_across else RUNS_UNSETTLED], each.path, each.program, runs_line(each), each.whom,
+                   example=(processes_text(each.processes),), changes=each.changes, setting=each.setting, accepted=each.accepted,
+                   within=each.within)
+
+
+def of_held(each: HeldFinding) -> Finding:
+    """An entry that is held; behind it stands the program."""
+    return Finding(RULES[HELD if each.is_sure else HELD_PERHAPS], each.path, f"{each.file} {each.program}", held_line(each), each.whom,
+                   example=(processes_text(each.processes),), changes=each.changes, setting=each.setting, accepted=each.accepted,
+                   within=each.within)
+
+
 def findings_of(report: Report) -> Iterator[Finding]:
     """Everything that a report tells of, in its order; a fault once for each subtree that it is of."""
     yield from map(of_entry, report.entries)
     yield from map(of_opened, report.opened)
     yield from map(of_inside, report.containers)
+    yield from map(of_running, report.running)
+    yield from map(of_held, report.held)
     for fault in report.faults:
         rule = RULES["fault" if of_fault(fault) is Severity.FAULT else "fault/own"]
         yield from (Finding(rule, path, "", fault_line(fault, [path])) for path in fault.subtrees)

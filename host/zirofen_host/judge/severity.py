@@ -49,6 +49,11 @@ def of_fault(found: FaultFinding) -> Severity:
     return Severity.FAULT if found.made_by is None else Severity.OWN_FAULT
 
 
+def of_premise(is_broken: bool) -> Severity:
+    """The severity of what an answer takes not to be: it is so, or it may be."""
+    return Severity.ESCAPES if is_broken else Severity.UNSETTLED
+
+
 def worst(found: Iterable[Severity]) -> Severity:
     return min(found, key=lambda each: each.rank, default=Severity.CONTAINED)
 
@@ -65,6 +70,8 @@ def severities_in(report: Report) -> Iterator[Severity]:
     yield from map(of_fault, report.faults)
     yield from (Severity.FAULT for each in (*report.unseen, *report.snapshot) if each.kind == FAILED)
     yield from (Severity.ESCAPES for each in report.containers if not each.held and each.accepted is ABSENT)
+    yield from (of_premise(each.is_across) for each in report.running if each.accepted is ABSENT)
+    yield from (of_premise(each.is_sure) for each in report.held if each.accepted is ABSENT)
     if is_empty(report):
         yield Severity.NOTHING_ASKED
     if report.version_1:

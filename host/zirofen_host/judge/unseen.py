@@ -1,13 +1,12 @@
 """What no answer looks at, as far as a host tells of it: a line each, of a user, a cgroup or the host."""
 from bisect import bisect_left
 from collections import Counter, defaultdict
-from typing import DefaultDict, Dict, Iterator, List, Optional, Set, Tuple
+from typing import DefaultDict, Dict, FrozenSet, Iterator, List, Set, Tuple
 
 from zirofen_host.ask.questions import unit_of
 from zirofen_host.collect import bounded
-from zirofen_host.collect.descriptors import Descriptors, inodes_of
 from zirofen_host.collect.looks import Looks
-from zirofen_host.collect.model import GROUP, OWNER, Entry, Snapshot, User
+from zirofen_host.collect.model import GROUP, OWNER, Entry, User
 from zirofen_host.collect.notes import Note
 from zirofen_host.collect.walk import MANAGERS_MARK, OWNERS_MARK
 from zirofen_host.judge import settings
@@ -16,7 +15,7 @@ from zirofen_host.judge.checked import Checked
 from zirofen_host.judge.finding_lines import NSDELEGATE, some
 from zirofen_host.judge.findings import texts_of
 from zirofen_host.judge.model import Told
-from zirofen_host.judge.notes import (Capable, Deputy, GroupClass, HasNsdelegate, HeldDescriptor, LeftOutGroups, NotAdvised, OfText,
+from zirofen_host.judge.notes import (Capable, Deputy, GroupClass, HasNsdelegate, LeftOutGroups, MakesAbove, NotAdvised, OfText,
                                       Outside, OwnersMark, Subordinate, UnaskedUsers, UnknownFiles, UnlookedDescriptors, UnlookedProcesses,
                                       UnlookedThreads, Unsearched, WithoutProcesses)
 from zirofen_host.judge.opened import unknown_files
@@ -36,40 +35,38 @@ def of_cgroup(checked: Checked, path: CgroupPath, note: Note) -> Told:
 def lines(checked: Checked, advised: Advised, looks: Looks) -> Tuple[Told, ...]:
     """Looks at a host once, each look by itself."""
     found: List[Told] = []
-    for look in (descriptors, group_class, subordinates, deputies, outside, capabilities, search_bits, marks, groups, everybody,
-                 unknown, restarts, about_the_mount, processes):
+    for look in (descriptors, makers_above, group_class, subordinates, deputies, outside, capabilities, search_bits, marks, groups,
+                 everybody, unknown, restarts, about_the_mount, processes):
         found += looks.all(look.__name__, lambda: look(checked))
     return (*found, *not_advised(advised))
 
 
 def descriptors(checked: Checked) -> Iterator[Told]:
-    """Files that a user was kept from after one of their processes had opened them. A kernel asks again at cgroup.procs, and of a
-    file that went while the host was looked at there is nothing to tell."""
-    if checked.snapshot.source.file is not None:
-        return
-    users: DefaultDict[int, List[User]] = defaultdict(list)
-    for user in checked.answers.plan.users:
-        users[user.uid].append(user)
-    pids = {pid: process.user.uid for pid, process in checked.snapshot.processes.items() if process.user.uid in users}
-    inodes = inodes_of(checked.snapshot.places)
-    roots = [pid for pid, process in checked.snapshot.processes.items() if not process.user.uid and not process.is_kernel_thread]
-    looked = Descriptors(checked.options.proc, checked.holds.payer, inodes, roots)
-    held: DefaultDict[Tuple[int, str, str, bool], Set[int]] = defaultdict(set)
-    for pid, inode, is_sure in looked.held(pids):
-        entry, path, name = entry_at(checked.snapshot, inodes[inode])
-        if entry and name != "cgroup.procs" and not any(user.reaches(entry) for user in users[pids[pid]]):
-            held[pids[pid], path, name, is_sure].add(pid)
-    for (uid, path, name, is_sure), of in sorted(held.items()):
-        yield of_user(checked, uid, HeldDescriptor(checked.names.user(uid), name, path, tuple(sorted(of)), is_sure))
-    for uid, why in looked.unlooked:
-        yield of_user(checked, uid, UnlookedDescriptors(checked.names.user(uid), why))
+    """What of what processes hold open wasn't looked at."""
+    for each in checked.snapshot.unheld:
+        if each.path is None:
+            yield of_user(checked, each.uid, UnlookedDescriptors(checked.names.user(each.uid), each.why))
+        else:
+            yield of_cgroup(checked, each.path, UnlookedDescriptors(text_of(each.path), each.why))
 
 
-def entry_at(snapshot: Snapshot, found: Tuple[CgroupPath, str]) -> Tuple[Optional[Entry], str, str]:
-    """The entry of a file that a walk found, with its place; none where it isn't there any more."""
-    place, name = found
-    cgroup = snapshot.cgroups.get(place)
-    return cgroup.files.get(name) if cgroup else None, text_of(place), name
+def makers_above(checked: Checked) -> Iterator[Told]:
+    """Who makes cgroups further above a subtree of another's than a guard stands: a threaded one there makes the subtree's cgroup
+    invalid, and no process can be moved into it."""
+    delegations, payer = checked.questions.delegations, checked.holds.payer
+    below: DefaultDict[Tuple[CgroupPath, FrozenSet[int]], List[CgroupPath]] = defaultdict(list)
+    for subtree in checked.questions.subtrees:
+        holders = frozenset(map(payer, checked.questions.holders[subtree].uids))
+        for place in [*ancestors(subtree)][1:-1]:
+            if delegations.entry(place, "dir").is_reached:
+                below[place, holders].append(subtree)
+    found: DefaultDict[Tuple[int, CgroupPath], List[CgroupPath]] = defaultdict(list)
+    for (place, holders), subtrees in below.items():
+        for uid in {user.uid for user in delegations.users_at(delegations.entry(place, "dir"))} - {0}:
+            if payer(uid) not in holders:
+                found[uid, place] += subtrees
+    for (uid, place), subtrees in sorted(found.items()):
+        yield of_user(checked, uid, MakesAbove(checked.names.user(uid), text_of(place), texts_of(subtrees)))
 
 
 def group_class(checked: Checked) -> Iterator[Told]:
@@ -183,7 +180,8 @@ def restarts(checked: Checked) -> Iterator[Told]:
 def about_the_mount(checked: Checked) -> Iterator[Told]:
     """What is different about a text, and about how the hierarchy is mounted."""
     if checked.snapshot.source.file is not None:
-        yield Told.of(OfText("", checked.snapshot.source.carried is not None, checked.options.accounts is not None))
+        carried = checked.snapshot.source.carried
+        yield Told.of(OfText("", carried is not None, carried is not None and carried.has_holds, checked.options.accounts is not None))
     if NSDELEGATE in checked.snapshot.mount_options:
         yield Told.of(HasNsdelegate(""))
 

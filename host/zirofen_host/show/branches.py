@@ -7,7 +7,7 @@ from zirofen_host.profile import ancestors
 from zirofen_host.show import words
 from zirofen_host.show.finding import Place, id_of
 from zirofen_host.show.markup import code, css, items, text
-from zirofen_host.show.view import Host, entry_of, whom_of
+from zirofen_host.show.view import HELD, RUNNING, Host, entry_of, whom_of
 from zirofen_host.show.words import ACCEPTED, QUIET, SIGNS
 
 # so many cgroups beside one another of which nothing is to be told aren't folded: of delegations, and of others
@@ -110,6 +110,9 @@ class Branches:
         for number, finding in self.host.notes.get(path, ()):
             if finding.key == "root_inside":
                 yield f'<a class="{css(finding.kind)}" href="#{id_of(self.at, number)}">root inside</a>'
+            if finding.key in (RUNNING, HELD):
+                told = "runs elsewhere" if finding.key == RUNNING else f"{entry_of(finding.parts[0])} held open"
+                yield f'<a class="{css(finding.kind)}" href="#{id_of(self.at, number)}">{text(told)}</a>'
             if finding.key == "entries":
                 names = ", ".join(map(entry_of, finding.parts))
                 let_in = f"{names} let{'s' if len(finding.parts) == 1 else ''} in {words.who(whom_of(finding.parts[0]))}"

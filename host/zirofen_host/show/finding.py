@@ -5,8 +5,8 @@ from typing import Dict, Iterator, List, Optional
 from zirofen_host.collect.model import User
 from zirofen_host.fault import Fault
 from zirofen_host.judge import long_lists, shell
-from zirofen_host.judge.finding_lines import explaining, inside_count, owner_text
-from zirofen_host.judge.model import DiffersFinding, EntryFinding, FaultFinding, OpenedFinding, RootInside
+from zirofen_host.judge.finding_lines import explaining, held_line, inside_count, owner_text, processes_text, runs_line
+from zirofen_host.judge.model import DiffersFinding, EntryFinding, FaultFinding, HeldFinding, OpenedFinding, RootInside, RunsElsewhere
 from zirofen_host.show import picture, words
 from zirofen_host.show.lines import together
 from zirofen_host.show.markup import capital, code, commands, filled, items, paragraph, places, sentence, text
@@ -68,6 +68,11 @@ class Article:
             return f"{code(part.path)} isn't as a service manager leaves it"
         if isinstance(part, RootInside):
             return f"Root in {code(part.path)} gets at cgroup files outside of its container"
+        if isinstance(part, RunsElsewhere):
+            return f"{text(capital(words.who(part.whom)))} {words.verb(part.whom, 'runs', 'run')} elsewhere than in {code(part.path)}"
+        if isinstance(part, HeldFinding):
+            verb = words.verb(part.whom, "holds", "hold")
+            return f"{text(capital(words.who(part.whom)))} {verb} {code(part.file)} of {code(part.path)} open"
         if isinstance(part, FaultFinding):
             return f"No answer of {self.titled(part.subtrees[0])}"
         if isinstance(part, OpenedFinding) and part.why:
@@ -113,6 +118,9 @@ class Article:
         if isinstance(part, RootInside):
             told = "; ".join(part.why)
             return f"{text(told[:1].upper() + told[1:])}. {text(inside_count(part))}."
+        if isinstance(part, (RunsElsewhere, HeldFinding)):
+            line = runs_line(part) if isinstance(part, RunsElsewhere) else held_line(part)
+            return f"{text(line.partition(': ')[2].capitalize())} ({text(processes_text(part.processes))})."
         entry = entry_of(part)
         if entry in words.NO_ENTRY:
             return f"{text(words.NO_ENTRY[entry])}: {code(part.path)}, {text(words.who(part.whom))}."

@@ -12,9 +12,11 @@ from zirofen_host.collect.looks import why_of
 from zirofen_host.collect.notes import FAILED
 from zirofen_host.fault import FAULT, Fault
 from zirofen_host.judge import saved
-from zirofen_host.judge.finding_lines import differs_line, entry_line, fault_line, inside_line, opened_line, version_1_line
+from zirofen_host.judge.finding_lines import (differs_line, entry_line, fault_line, held_line, inside_line, opened_line, runs_line,
+                                              version_1_line)
 from zirofen_host.judge.severity import severity_of
-from zirofen_host.judge.model import DiffersFinding, EntryFinding, FaultFinding, OpenedFinding, Report, RootInside
+from zirofen_host.judge.model import (DiffersFinding, EntryFinding, FaultFinding, HeldFinding, OpenedFinding, Report, RootInside,
+                                      RunsElsewhere)
 from zirofen_host.profile import shown
 from zirofen_host.show.view import DIFFERS, Grouped, Host, accepted_of, host_of
 from zirofen_host.show.words import CONTAINED, NOT_ASKED, STANDINGS
@@ -116,7 +118,7 @@ def report_in(path: str) -> Report:
         value = json.loads(read.text())
     except (ValueError, RecursionError) as error:
         raise Fault(f"no JSON: {error}") from None
-    keys = ("entries", "opened", "faults", "differs", "above", "unseen", "snapshot", "root_inside")
+    keys = ("entries", "opened", "faults", "differs", "above", "unseen", "snapshot", "root_inside", "runs_elsewhere", "held_entries")
     lists = [value.get(key) for key in keys] if isinstance(value, dict) else []
     if sum(len(each) for each in lists if isinstance(each, list)) > MOST_FINDINGS:
         raise Fault(f"it has over {MOST_FINDINGS} findings")
@@ -155,6 +157,10 @@ def plain_lines(found: Grouped) -> Iterator[str]:
             yield differs_line(each)
         elif isinstance(each, RootInside):
             yield inside_line(each)
+        elif isinstance(each, RunsElsewhere):
+            yield runs_line(each)
+        elif isinstance(each, HeldFinding):
+            yield held_line(each)
 
 
 def row_of(name: str, host: Host, is_listed: bool) -> Row:

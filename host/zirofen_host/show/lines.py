@@ -9,11 +9,13 @@ from zirofen_host.installed import MANUAL
 from zirofen_host.judge import long_lists
 from zirofen_host.judge.acceptances import accepted_subtrees
 from zirofen_host.judge.baseline import KINDS
-from zirofen_host.judge.finding_lines import (INSIDE_MEANS, NOTHING_ASKED, SHOWN, above_line, acceptance_line, differs_line, entry_line,
-                                              fault_line, inside_count, inside_line, opened_line, version_1_line, whom_text, why_command)
+from zirofen_host.judge.finding_lines import (INSIDE_MEANS, NOTHING_ASKED, PREMISES_MEAN, SHOWN, above_line, acceptance_line, differs_line,
+                                              entry_line, fault_line, held_line, inside_count, inside_line, opened_line, processes_text,
+                                              runs_line, version_1_line, whom_text, why_command)
 from zirofen_host.judge.severity import is_empty
-from zirofen_host.judge.model import (ABSENT, AboveFinding, Absent, Comparison, Difference, DiffersFinding, EntryFinding,
-                                      HolderAnswer, NamedScope, OpenedFinding, Report, RootInside, Subtree, Told)
+from zirofen_host.judge.marked import is_marked, marks_text
+from zirofen_host.judge.model import (ABSENT, AboveFinding, Absent, Comparison, Difference, DiffersFinding, EntryFinding, HeldFinding,
+                                      HolderAnswer, NamedScope, OpenedFinding, Report, RootInside, RunsElsewhere, Subtree, Told)
 from zirofen_host.judge.notes import JOINED, JoinedNote
 from zirofen_host.profile import ancestors
 from zirofen_host.show.folded import SEVERITY, Part, counted, folded
@@ -25,7 +27,7 @@ VERSION_1 = " [v1]"
 # lines of each kind of what no answer looks at, for what one person made
 TOLD = 4
 # what brings changes and a setting
-Mended = Union[EntryFinding, OpenedFinding, DiffersFinding, RootInside, Difference]
+Mended = Union[EntryFinding, OpenedFinding, DiffersFinding, RootInside, RunsElsewhere, HeldFinding, Difference]
 One = TypeVar("One")
 # the table's columns, and what stands below them
 Row = Tuple[str, str, str, str, Sequence[str]]
@@ -56,9 +58,10 @@ def rows_of(subtree: Subtree, mark: str = "", is_named: bool = False) -> Iterato
     for each in subtree.answers:
         first = each.lines[0]
         answer, below = (f"above: {first}", ()) if each.is_above else (first, tuple(long_lists.shown(each.lines)))
-        yield who_text(each) if is_named else each.who, gids_text(each.gids), answer + mark, subtree.path, below
+        marks = marks_text(subtree.marks, each.marks) + mark
+        yield who_text(each) if is_named else each.who, gids_text(each.gids), answer + marks, subtree.path, below
     if not subtree.answers:
-        yield "-", "-", "held by root alone" + mark, subtree.path, ()
+        yield "-", "-", "held by root alone" + marks_text(subtree.marks) + mark, subtree.path, ()
 
 
 def words_of(subtree: Subtree) -> List[str]:
@@ -172,6 +175,17 @@ def inside_lines(report: Report) -> Iterator[str]:
             yield from what_to_change([each])
 
 
+def premise_lines(report: Report, is_each: bool = False) -> Iterator[str]:
+    """What an answer takes not to be, each with the processes that it is of; what one person's processes do, so many lines of it."""
+    found: List[Tuple[Union[RunsElsewhere, HeldFinding], str, str]] = [(each, runs_line(each), "runs-elsewhere") for each in report.running]
+    found += [(each, held_line(each), "held-entry") for each in report.held]
+    parts = [(each.within, reason, [f"{line} ({processes_text(each.processes)})", *what_to_change([each])])
+             for each, line, reason in found if each.accepted is ABSENT]
+    yield from (line for within, _, lines in parts if within is ABSENT for line in lines)
+    yield from folded((Part(within, (number,), reason, None, lines) for number, (within, reason, lines) in enumerate(parts)
+                       if not isinstance(within, Absent)), is_each)
+
+
 def told_lines(found: Iterable[Told], is_each: bool) -> Iterator[str]:
     """What no answer looks at; of what somebody made, so many lines of each kind."""
     told = list(found)
@@ -238,6 +252,7 @@ def standings(report: Report) -> Dict[str, str]:
     told |= {(path, "fault") for fault in report.faults for path in fault.subtrees}
     paths = {path for path, _ in told}
     told |= {(each.path, "opened") for each in report.opened if each.path in paths and each.accepted is ABSENT}
+    told |= {(each.path, "opened") for each in report.subtrees if is_marked(each)}
     return {path: word for path, word in sorted(told, key=lambda each: (each[0], -SEVERITY.index(each[1])))}
 
 
@@ -264,6 +279,11 @@ def lines_of(report: Report, is_each: bool = False) -> Iterator[str]:
         yield ""
         yield f"Containers whose processes are root's; {INSIDE_MEANS}:"
         yield from insides
+    premises = list(premise_lines(report, is_each))
+    if premises:
+        yield ""
+        yield f"What runs elsewhere or is held open; {PREMISES_MEAN}:"
+        yield from premises
     if not isinstance(report.acceptances, Absent) and report.acceptances:
         yield ""
         yield "What was accepted, each for a reason and until a day; what isn't so any more is counted:"

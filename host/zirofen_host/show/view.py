@@ -7,14 +7,16 @@ from typing import Callable, Dict, Iterable, Iterator, List, Mapping, Optional, 
 
 from zirofen_host.collect.model import Value
 from zirofen_host.collect.walk import OWNERS_MARK
-from zirofen_host.judge.model import (Absent, DiffersFinding, EntryFinding, FaultFinding, HeldBy, NamedScope, OpenedFinding, Owner, Report,
-                                      ReportCgroup, ReportFile, ReportProcess, ReportUser, RootInside, Subtree, Whom)
+from zirofen_host.judge.marked import is_marked
+from zirofen_host.judge.model import (Absent, DiffersFinding, EntryFinding, FaultFinding, HeldBy, HeldFinding, NamedScope, OpenedFinding,
+                                      Owner, Report, ReportCgroup, ReportFile, ReportProcess, ReportUser, RootInside, RunsElsewhere,
+                                      Subtree, Whom)
 from zirofen_host.profile import CONTROL_FILES, FURTHER_FILES, HANDED_OVER, LIMIT_FILES, ancestors, is_usual, parent_of
 from zirofen_host.show import words
 from zirofen_host.show.lines import alike, entry_in_common, opened_in_common
 from zirofen_host.show.words import ABOVE, ACCEPTED, CONTAINED, ESCAPES, FAULT, NOT_ASKED, OPENED, STANDINGS, UNSETTLED, visible
 
-Part = Union[EntryFinding, OpenedFinding, FaultFinding, DiffersFinding, RootInside]
+Part = Union[EntryFinding, OpenedFinding, FaultFinding, DiffersFinding, RootInside, RunsElsewhere, HeldFinding]
 SomePart = TypeVar("SomePart", bound=Part)
 One = TypeVar("One")
 Made = TypeVar("Made")
@@ -43,7 +45,7 @@ class Escape:
     told: str = ""
 
 
-DIFFERS = "differs"
+DIFFERS, RUNNING, HELD = "differs", "runs_elsewhere", "held_entries"
 KINDS = {"opened": OPENED, "faults": FAULT, "differs": DIFFERS}
 COUNTED = (ESCAPES, OPENED, UNSETTLED, FAULT)
 
@@ -95,17 +97,17 @@ def place_of(part: Part) -> str:
 
 def entry_of(part: Part) -> str:
     """The directory or the file that a finding is of."""
-    return part.entry if isinstance(part, EntryFinding) else part.file if isinstance(part, OpenedFinding) else ""
+    return part.entry if isinstance(part, EntryFinding) else part.file if isinstance(part, (OpenedFinding, HeldFinding)) else ""
 
 
 def whom_of(part: Part) -> Tuple[Whom, ...]:
     """Whom a finding lets in."""
-    return part.whom if isinstance(part, (EntryFinding, OpenedFinding)) else ()
+    return part.whom if isinstance(part, (EntryFinding, OpenedFinding, RunsElsewhere, HeldFinding)) else ()
 
 
 def accepted_of(part: Part) -> Optional[str]:
     """Why a finding isn't counted, where somebody accepted it."""
-    why = part.accepted if isinstance(part, (EntryFinding, OpenedFinding, RootInside)) else None
+    why = None if isinstance(part, (FaultFinding, DiffersFinding)) else part.accepted
     return None if isinstance(why, Absent) else why
 
 
@@ -117,6 +119,12 @@ def grouped(key: str, found: Sequence[SomePart], in_common: Callable[[SomePart],
         answer = KINDS.get(key, ESCAPES if isinstance(first, EntryFinding) and first.answer == ESCAPES else UNSETTLED)
         yield Grouped(answer if accepted_of(first) is None else ACCEPTED, answer, key, range(at, at + len(parts)), parts)
         at += len(parts)
+
+
+def premise(key: str, number: int, part: Part, is_broken: bool) -> Grouped:
+    """What an answer takes not to be: it is so, or it may be."""
+    answer = OPENED if is_broken else UNSETTLED
+    return Grouped(answer if accepted_of(part) is None else ACCEPTED, answer, key, (number,), (part,))
 
 
 @dataclass(frozen=True, eq=False)
@@ -145,6 +153,8 @@ class Host:
         found = [*grouped("entries", report.entries, entry_in_common), *grouped("opened", report.opened, opened_in_common),
                  *(Grouped(OPENED if accepted_of(each) is None else ACCEPTED, OPENED, "root_inside", (number,), (each,))
                    for number, each in enumerate(report.containers) if not each.held),
+                 *(premise(RUNNING, number, each, each.is_across) for number, each in enumerate(report.running)),
+                 *(premise(HELD, number, each, each.is_sure) for number, each in enumerate(report.held)),
                  *grouped("faults", report.faults, lambda each: (each.fault, each.subtrees)),
                  *grouped("differs", report.differs, lambda each: each.path)]
         return sorted(found, key=lambda each: (*STANDINGS, DIFFERS).index(each.kind))
@@ -168,6 +178,8 @@ class Host:
     def without_finding(self, subtree: Subtree) -> str:
         if not self.report.asked:
             return NOT_ASKED
+        if is_marked(subtree):
+            return OPENED
         return ABOVE if subtree.answers and all(each.is_above for each in subtree.answers) else CONTAINED
 
     @cached_property

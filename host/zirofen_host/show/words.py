@@ -77,6 +77,10 @@ def is_one(whom: Sequence[Whom]) -> bool:
     return len(whom) == 1 and whom[0].by != "group"
 
 
+def verb(whom: Sequence[Whom], one: str, many: str) -> str:
+    return one if is_one(whom) else many
+
+
 def how(each: Whom, most: int = SHOWN_USERS) -> str:
     """By what an entry lets somebody in: subject and verb."""
     if each.by == "others":

@@ -1,0 +1,92 @@
+"""The mounts that processes see, by their numbers: which are of cgroups."""
+import os
+from typing import Dict, Iterable, Optional, Set
+
+from zirofen_host.collect import bounded
+from zirofen_host.collect.bounded import Payer, Spent
+from zirofen_host.collect.processes import status_fields
+from zirofen_host.collect.threads import Fields
+
+CGROUPS = b"cgroup2"
+
+# a mount by its number, which is no other's in any namespace, and whether it is one of cgroups
+Kinds = Dict[int, bool]
+
+
+class MountKinds:
+    """The mounts of each namespace that processes are in; each namespace is read once."""
+
+    def __init__(self, proc: str, payer: Payer, roots: Iterable[int] = ()) -> None:
+        self.proc, self.roots = proc, roots
+        self.spent = Spent(bounded.MOUNT_BYTES, payer)
+        self.namespaces: Set[str] = set()
+        self.kinds: Kinds = {}
+
+    def read_own(self) -> None:
+        """Reads the mounts that this process sees, and the one that no list has."""
+        self.read("self", bounded.HOST_MOUNTS)
+        number = memory_mount(self.proc)
+        if number >= 0:
+            self.kinds.setdefault(number, False)
+
+    def read_of(self, thread: int, whose: int) -> None:
+        """Reads the mounts that a process sees, where no other of its namespace was asked and there is room for them."""
+        if not self.spent.is_over(whose):
+            self.spent.take(whose, self.read(str(thread), max(self.spent.left(whose), 0)))
+
+    def kind_by_root(self, number: int) -> Optional[bool]:
+        """Whether a mount that no list has so far is one of cgroups, by the namespaces of root's processes, which are read once: a
+        service of root's hands out files that it opened in its own."""
+        left = bounded.HOST_MOUNTS
+        for pid in self.roots:
+            left -= self.read(str(pid), max(left, 0))
+        self.roots = ()
+        return self.kinds.get(number)
+
+    def read(self, process: str, most: int) -> int:
+        """The bytes that were read."""
+        try:
+            namespace = bounded.read_link(f"{self.proc}/{process}/ns/mnt")
+        except OSError:
+            namespace = process
+        if namespace in self.namespaces:
+            return 0
+        self.namespaces.add(namespace)
+        lines = bounded.Lines(f"{self.proc}/{process}/mountinfo", most)
+        try:
+            for line in lines:
+                before, _, after = line.partition(b" - ")
+                number = before.partition(b" ")[0]
+                if number.isdigit() and len(number) < 20:
+                    self.kinds[int(number)] = after.partition(b" ")[0] == CGROUPS
+        except OSError:
+            pass
+        return lines.read
+
+
+def number_in(fields: Fields, key: str) -> int:
+    """A number that is told of a descriptor, or -1."""
+    words = fields.get(key, [])
+    return int(words[0]) if words and words[0].isascii() and words[0].isdigit() and len(words[0]) <= 20 else -1
+
+
+def mount_of(opened: int, proc: str = "/proc") -> int:
+    """The mount of a file that this process has open, or -1."""
+    try:
+        read = bounded.read_file(f"{proc}/self/fdinfo/{opened}", bounded.DESCRIPTOR)
+    except OSError:
+        return -1
+    return number_in(status_fields(read.text("utf-8", "replace")), "mnt_id")
+
+
+def memory_mount(proc: str) -> int:
+    """The mount that a kernel has files of memory on, as memfd_create makes them, or -1: many processes hold such files, whose
+    inodes are small numbers as those of cgroups are."""
+    try:
+        opened = os.memfd_create("mount")
+    except OSError:
+        return -1
+    try:
+        return mount_of(opened, proc)
+    finally:
+        os.close(opened)

@@ -1,0 +1,87 @@
+#!/usr/bin/env python3
+"""A process of a user's that runs elsewhere than its first thread, or that holds an entry open, for tests on a real mount:
+
+    holder.py WAY UID PLACE [FILE ..]
+
+Run as root, it goes to the cgroup PLACE, opens the files, becomes the user, writes a line when it is so far, and waits until its standard
+input ends. For each line of that, a cgroup, it writes itself to its cgroup.procs, and tells what became of that.
+"""
+import ctypes
+import os
+import struct
+import sys
+import threading
+
+LIBC = ctypes.CDLL(None, use_errno=True)
+# numbers of system calls that all machines but the oldest have in common, and that of exit by machine
+RING_SETUP, RING_REGISTER, REGISTER_FILES = 425, 427, 2
+EXIT = {"x86_64": 60}.get(os.uname().machine, 93)
+CLONE_FILES = 0x400
+
+
+def opened(files):
+    return [os.open(file, os.O_WRONLY) for file in files]
+
+
+def in_own_table(files):
+    """Opens files in a table of descriptors that one thread has for itself."""
+    ready = threading.Event()
+
+    def run():
+        if LIBC.unshare(CLONE_FILES):
+            os._exit(1)
+        opened(files)
+        ready.set()
+        threading.Event().wait()
+    threading.Thread(target=run, daemon=True).start()
+    ready.wait()
+
+
+def in_ring(files):
+    """Registers files with an io_uring, and closes them."""
+    parameters = ctypes.create_string_buffer(120)
+    ring = LIBC.syscall(RING_SETUP, 4, parameters)
+    numbers = opened(files)
+    if ring < 0 or LIBC.syscall(RING_REGISTER, ring, REGISTER_FILES, struct.pack(f"{len(numbers)}i", *numbers), len(numbers)):
+        sys.exit("there is no io_uring")
+    for number in numbers:
+        os.close(number)
+
+
+def put(path, text):
+    try:
+        number = os.open(path, os.O_WRONLY)
+        try:
+            os.write(number, text)
+        finally:
+            os.close(number)
+        return "done"
+    except OSError as error:
+        return error.strerror
+
+
+def obey():
+    """Moves this process to where it is told to, and ends with its standard input."""
+    while place := os.read(0, 4096).decode().strip():
+        os.write(1, f"{put(f'{place}/cgroup.procs', b'0')}\n".encode())
+    os._exit(0)
+
+
+def main():
+    way, uid, place, *files = sys.argv[1:]
+    put(f"{place}/cgroup.procs", b"0")
+    {"table": in_own_table, "ring": in_ring}.get(way, opened)(files)
+    os.setgroups([])
+    os.setresgid(int(uid), int(uid), int(uid))
+    os.setresuid(int(uid), int(uid), int(uid))
+    if way != "headless":
+        os.write(1, b"ready\n")
+        obey()
+    threading.Thread(target=obey).start()
+    os.write(1, b"ready\n")
+    # the first thread ends, and the process goes on
+    LIBC.syscall(EXIT, 0)
+
+
+if __name__ == "__main__":
+    main()
