@@ -11,6 +11,7 @@ import os
 import struct
 import sys
 import threading
+import time
 
 LIBC = ctypes.CDLL(None, use_errno=True)
 # numbers of system calls that all machines but the oldest have in common, and that of exit by machine
@@ -60,8 +61,25 @@ def put(path, text):
         return error.strerror
 
 
+def has_ended(thread):
+    # as this user no module may be there that isn't loaded
+    stat = os.open(f"/proc/self/task/{thread}/stat", os.O_RDONLY)
+    try:
+        return os.read(stat, 4096).rpartition(b")")[2].split()[0] == b"Z"
+    finally:
+        os.close(stat)
+
+
+def obey_alone():
+    """The same in a thread that is alone once the first one has ended."""
+    while not has_ended(os.getpid()):
+        time.sleep(0.01)
+    obey()
+
+
 def obey():
-    """Moves this process to where it is told to, and ends with its standard input."""
+    """Says that it is so far, moves this process to where it is told to, and ends with its standard input."""
+    os.write(1, b"ready\n")
     while place := os.read(0, 4096).decode().strip():
         os.write(1, f"{put(f'{place}/cgroup.procs', b'0')}\n".encode())
     os._exit(0)
@@ -75,10 +93,8 @@ def main():
     os.setresgid(int(uid), int(uid), int(uid))
     os.setresuid(int(uid), int(uid), int(uid))
     if way != "headless":
-        os.write(1, b"ready\n")
         obey()
-    threading.Thread(target=obey).start()
-    os.write(1, b"ready\n")
+    threading.Thread(target=obey_alone).start()
     # the first thread ends, and the process goes on
     LIBC.syscall(EXIT, 0)
 

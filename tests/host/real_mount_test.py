@@ -43,7 +43,8 @@ GOOD = 2 if MOUNT and mounts_of_host().limits_of_version_1() else 0
 
 
 @unittest.skipUnless(MOUNT, "there is no mount of cgroups here that can be written to")
-class RealMountTest(unittest.TestCase):
+class OnMountTest(unittest.TestCase):
+    """A part of a mount with two delegations and a cgroup that is nobody's."""
     def setUp(self):
         self.top = f"/zirofen-test-{os.getpid()}"
         self.make("")
@@ -67,6 +68,8 @@ class RealMountTest(unittest.TestCase):
         answers = {each["path"]: answer["lines"][0] for each in found["subtrees"] for answer in each["answers"]}
         return found, ended.returncode, {path[len(self.top):]: line for path, line in answers.items()}
 
+
+class RealMountTest(OnMountTest):
     def loop(self, path):
         running = subprocess.Popen([sys.executable, "-c", LOOP, f"{MOUNT}{self.top}{path}"])
         self.addCleanup(self.end, running, path)
