@@ -97,7 +97,7 @@ def found_in(report: Report) -> Dict[Key, Found]:
             inside, is_accepted=inside.accepted is not ABSENT)
     for premise in (*map(of_running, report.running), *map(of_held, report.held)):
         found[premise.rule.word, premise.path, f"{premise.entry} {premise.whom[0].id}"] = Found(
-            premise.rule.gravity, premise.line, frozenset(), premise, premise.within, premise.accepted is not ABSENT)
+            premise.rule.severity, premise.line, frozenset(), premise, premise.within, premise.accepted is not ABSENT)
     for fault in report.faults:
         for path in fault.subtrees:
             found["fault", path, fault.fault] = Found(of_fault(fault), fault_line(fault, [path]))
