@@ -1,7 +1,7 @@
 """The parts of ./verify beside proofs and edits: what each runs, and all that it reads.
 
 A part runs in a folder that has what its row names and nothing else of the repository, so it can't read what the row doesn't name.
-A row names Debian's packages of the tools that it calls; BASE is there for all.
+A row names Debian's packages of the tools that it calls, also by a pattern; BASE is there for all.
 """
 import dataclasses
 import glob
@@ -81,8 +81,10 @@ def host_tests():
         yield dataclasses.replace(part, is_fresh=file == "real_mount_test.py")
 
 
+# with what Debian's package of no version stands for
+COMPILER = ("gcc", "gcc-[0-9]*", "cpp-[0-9]*", "binutils*", "libc6-dev")
 # what reads what the helpers write, by the module that calls it
-READERS = {"debian_readers.py": ("prometheus", "prometheus-node-exporter", "python3-jsonschema", "python3-junitparser"), "browser.py": ("chromium",)}
+READERS = {"debian_readers.py": ("prometheus", "prometheus-node-exporter", "python3-jsonschema", "python3-junitparser"), "browser.py": ("chromium", "chromium-common")}
 PACKAGING = ("tests/packaging/*.py", "tools", "host", "examples", "docs", "*.md", *WRAPPER)
 MODEL = ("tests/model/[!d]*",)
 MAKERS = ("lintian", "groff", "mandoc", "man-db", "fish", "zsh", "ansible-core", "python3-pip", "python3-setuptools", "python3-wheel")
@@ -103,7 +105,7 @@ PARTS = [
     program_tests("words"),
     program_tests("help"),
     of_program("tests/program/devices.py PROGRAM", PROGRAM, "tests/program/case.py", "tests/program/device_rows.py", "tests/program/failing.c", "examples",
-               packages=("gcc", "libc6-dev")),
+               packages=COMPILER),
     of_model("run PROGRAM --seed 51 --cases 6000 --blind --table"),
     of_model("run PROGRAM --cases 1000", is_fresh=True),
     of_model("fuzz PROGRAM"),
@@ -115,9 +117,9 @@ PARTS = [
     Part("unit_tests", "host/lint", ("host", "tests/host"), ("mypy", "flake8")),
     of_folder("tests/model/tests", *MODEL, "examples", "tools/bench", PROGRAM),
     of_folder("tests/kernel/tests", "tests/kernel/[!fd]*", *MODEL, "tools/program.py", "gate/crates.py", "gate/kit.py",
-              "docs/MODEL.md", "examples", packages=("gcc", "libc6-dev", "binutils")),
+              "docs/MODEL.md", "examples", packages=COMPILER),
     of_folder("tests/packaging", *PACKAGING, packages=MAKERS, words=" package_test.py"),
-    of_folder("tests/packaging", *PACKAGING, packages=("systemd",), words=" parts_test.py"),
+    of_folder("tests/packaging", *PACKAGING, packages=("systemd", "python3-pip", "python3-setuptools", "python3-wheel"), words=" parts_test.py"),
 ]
 # those that gate/traced looks at in each ./verify; by hand it looks at any
 TRACED = ("promises: tools/promises", "plant: gate/plant --compare", "end_to_end: tests/program/examples.py", "unit_tests: tests/unit_tests tests/host lists_test.py")
