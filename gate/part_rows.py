@@ -76,13 +76,15 @@ def host_tests():
     for file in sorted(map(os.path.basename, glob.glob("tests/host/*_test.py"))):
         modules = modules_of("tests/host", file)
         packages = tuple(it for name, of_module in READERS.items() if f"tests/host/{name}" in modules for it in of_module)
-        part = of_folder("tests/host", *modules, *reads, packages=packages, words=f" {file}")
-        # it looks at the machine itself
-        yield dataclasses.replace(part, is_fresh=file == "real_mount_test.py")
+        asked = ("tests/kernel/refusals.c", "tests/tap.py") if file == "refusals_test.py" else ()
+        part = of_folder("tests/host", *modules, *asked, *reads, packages=packages, words=f" {file}")
+        yield dataclasses.replace(part, is_fresh=file in OF_THE_MACHINE)
 
 
 # with what Debian's package of no version stands for
 COMPILER = ("gcc", "gcc-[0-9]*", "cpp-[0-9]*", "binutils*", "libc6-dev")
+# what looks at the machine itself, which no row can name
+OF_THE_MACHINE = ("real_mount_test.py", "refusals_test.py")
 # what reads what the helpers write, by the module that calls it
 READERS = {"debian_readers.py": ("prometheus", "prometheus-node-exporter", "python3-jsonschema", "python3-junitparser"), "browser.py": ("chromium", "chromium-common")}
 PACKAGING = ("tests/packaging/*.py", "tools", "host", "examples", "docs", "*.md", *WRAPPER)
@@ -110,13 +112,14 @@ PARTS = [
     of_model("run PROGRAM --cases 1000", is_fresh=True),
     of_model("fuzz PROGRAM"),
     of_model("search PROGRAM --blind", is_fresh=True),
+    of_program("tests/model/walks --trees 500", "tests/model/second", "tests/model/trials", is_fresh=True),
     of_folder("tests/gate", "tests/gate", "gate", "verify", "tools", "zirofen", "crates.txt", "tests/program/trial_rows.py"),
     of_folder("tests/tools", "tests/tools", "tests/model/trials", "tests/model/second", "tests/program/*.py", "tools", "gate", "crates.txt", "crates", "docs",
               "examples", "zirofen", PROGRAM),
     *host_tests(),
     Part("unit_tests", "host/lint", ("host", "tests/host"), ("mypy", "flake8")),
     of_folder("tests/model/tests", *MODEL, "examples", "tools/bench", PROGRAM),
-    of_folder("tests/kernel/tests", "tests/kernel/[!fd]*", *MODEL, "tools/program.py", "gate/crates.py", "gate/kit.py",
+    of_folder("tests/kernel/tests", "tests/tap.py", "tests/kernel/[!fd]*", *MODEL, "tools/program.py", "gate/crates.py", "gate/kit.py",
               "docs/MODEL.md", "examples", packages=COMPILER),
     of_folder("tests/packaging", *PACKAGING, packages=MAKERS, words=" package_test.py"),
     of_folder("tests/packaging", *PACKAGING, packages=("systemd", "python3-pip", "python3-setuptools", "python3-wheel"), words=" parts_test.py"),
