@@ -20,6 +20,7 @@
 #include <sys/xattr.h>
 #include <termios.h>
 #include <unistd.h>
+#include "ways.h"
 
 #define TOP "/sys/fs/cgroup"
 #define PROCS "cgroup.procs"
@@ -634,8 +635,8 @@ static void run_refusals(char **words)
     waitpid(pid, NULL, 0);
 }
 
-/* case NUMBER | state | files NAME .. | watch NAME .. | others NAME .. | user UID GID .. | refusals [--opened] | an operation | a line of
-   building */
+/* case NUMBER | state | files NAME .. | watch NAME .. | others NAME .. | user UID GID .. | refusals [--opened] | way NAME |
+   an operation | a line of building */
 static void take(char **words, int count)
 {
     int wrong;
@@ -657,6 +658,8 @@ static void take(char **words, int count)
         name_user(words, count);
     } else if (strcmp(words[0], "refusals") == 0) {
         run_refusals(words);
+    } else if (strcmp(words[0], "way") == 0 && count > 1) {
+        carry_out_way(out, TOP, words[1]);
     } else if (!carry_out(words, count) && (wrong = do_word(building, words, count)) != 0) {
         fprintf(out, "! %d %s %s\n", wrong, words[0], count > 1 ? words[1] : "");
     }
@@ -690,11 +693,14 @@ static void tell_controllers(void)
     fprintf(out, "controllers %s\n", text);
 }
 
-int main(void)
+int main(int given_count, char **given)
 {
     char line[LONGEST], *words[MOST_WORDS + 1];
     FILE *cases;
 
+    if (given_count == 2 && strcmp(given[1], WAITS) == 0)
+        for (;;)
+            pause();
     umask(022);
     open_all();
     tell_controllers();

@@ -60,9 +60,9 @@ class KernelTest(unittest.TestCase):
             self.assertEqual([name for name, _, _ in machine.programs_in(room)], ["init", "refusals"])
 
     def test_classes_are_those_of_the_list(self):
-        names = {*classes.RULES, *classes.VALUES, *classes.SHOWN, *classes.LEFT_OUT}
+        names = {*classes.RULES, *classes.VALUES, *classes.SHOWN, *classes.WAYS, *classes.LEFT_OUT}
         self.assertEqual(sorted(classes.listed()), sorted(names))
-        self.assertFalse({*classes.RULES, *classes.VALUES, *classes.SHOWN} & classes.LEFT_OUT.keys())
+        self.assertFalse({*classes.RULES, *classes.VALUES, *classes.SHOWN, *classes.WAYS} & classes.LEFT_OUT.keys())
 
     def test_recorded_run_is_explained(self):
         found = [each for _, _, compared in self.compared() for each in compared.differences]

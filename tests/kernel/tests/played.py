@@ -7,7 +7,7 @@ from second import commands, rules, settled, texts
 from second.controllers import ALL_CONTROLLERS
 from second.further import FURTHER_FILES
 from second.rules import text_of
-from trial import advice, comparing, script, shown
+from trial import advice, classes, comparing, script, shown
 
 CONTROLLERS = [name for name in ALL_CONTROLLERS if name != "dmem"]
 BARE = f"""format = 4
@@ -131,6 +131,9 @@ class Kernel:
         answer = "not ok" if rest == "--opened" else "ok"
         self.said += [f"t {line}" for line in ("TAP version 13", "1..2", f"{answer} 1 move", "# why", f"{answer} 2 rmdir")]
 
+    def way(self, _line, rest):
+        self.said.append(" ".join(["w", rest, *map(str, classes.WAYS[rest.replace("-", " ")])]))
+
     def tell(self, *_):
         now = {f"p {pid} {uid} {text_of(path)}" for pid, (uid, path) in self.state.live.items()}
         now |= {self.line_of(path, row) for path, row in self.state.cgroups.items()}
@@ -148,4 +151,4 @@ def line_of(path, entries, values, enabled, brought):
 
 TAKERS = {"case": Kernel.start, "watch": Kernel.watch, "mkdir": Kernel.build, "control": Kernel.build, "set": Kernel.build, "process": Kernel.process,
           "own": Kernel.own, "user": Kernel.name, "mend": Kernel.mend, "do": Kernel.operate, "try": Kernel.operate,
-          "state": Kernel.tell, "refusals": Kernel.refuse, "files": lambda *_: None, "others": lambda *_: None}
+          "state": Kernel.tell, "refusals": Kernel.refuse, "way": Kernel.way, "files": lambda *_: None, "others": lambda *_: None}

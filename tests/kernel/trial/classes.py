@@ -2,7 +2,8 @@
 
 A rule of outcomes is asked of a difference of outcomes, and says whether the entry explains it. A rule of values is asked of a
 value of the eight limit files that a kernel keeps otherwise than it was written; those of further ones are held against shown.py, and
-`SHOWN` has the entries of these. Any other entry never comes up, since the cases are made so that it can't, or aren't compared in it:
+`SHOWN` has the entries of these. A rule of ways is asked of what threads and descriptors do, which no operation of the model has
+(ways.c). Any other entry never comes up, since the cases are made so that it can't, or aren't compared in it:
 `LEFT_OUT` says how.
 """
 import errno
@@ -195,15 +196,22 @@ RULES = {
 VALUES = {"range of values": value_kept, "file that turns another": weight_turned}
 # of what a kernel shows of further limit files after a set: comparing.further_differences says where
 SHOWN = ("read back", "one line of several")
+# of each way the numbers that it ends with: of errors, and of the second whether its process is listed where the thread was, before and
+# behind. Where one place were all that a process has, and each write opened what it writes, the second would be EACCES, 0 and 0, and EACCES
+WAYS = {
+    # root's move, and then theirs; the same where the first thread lives
+    "dead first thread": (0, 0, 0, errno.EACCES),
+    "exec": (0, 1),
+    # by what is held, and by what is opened now
+    "stale descriptor": (0, errno.EACCES),
+    "inherited descriptor": (0, errno.EACCES),
+    # the user's write, and root's move to what is beside it
+    "threaded": (0, errno.EOPNOTSUPP),
+}
 LEFT_OUT = {
     "weight of the idle": "no tree has the weight 0, which the program refuses",
     "long writes": "no line of a case is as long",
     "zombies": "the init waits for what has ended",
-    "dead first thread": "a process of the init's has one thread",
-    "exec": "a process of the init's has one thread",
-    "stale descriptor": "each step opens what it writes",
-    "inherited descriptor": "each step opens what it writes",
-    "threaded": "no step writes cgroup.type",
     "kernel threads": "the machine has no kvm and no vhost",
     "lines of devices": "no device goes",
     "setgid directories": "no case has a mode past 0777",
@@ -216,6 +224,11 @@ def listed():
     with open(LIST, encoding="utf-8") as text:
         part = text.read().partition("## Where a running kernel differs")[2].partition("\n## ")[0]
     return re.findall(r"^- \*\*(.+?)\*\*", part, re.MULTILINE)
+
+
+def way_differs(name, numbers):
+    """What a kernel does in a way that the entry doesn't say, or None."""
+    return None if numbers == WAYS[name] else f"{name}: {numbers} in place of {WAYS[name]}"
 
 
 def kind_of(outcome):

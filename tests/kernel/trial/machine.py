@@ -7,7 +7,8 @@ import subprocess
 import tempfile
 
 HERE = os.path.dirname(os.path.abspath(__file__))
-SOURCES = {"init": os.path.join(HERE, "..", "init.c"), "refusals": os.path.join(HERE, "..", "refusals.c")}
+SOURCES = {"init": ("init.c", "ways.c"), "refusals": ("refusals.c",)}
+WAYS = "ways.c"
 WARNINGS = ["-Wall", "-Wextra", "-Werror"]
 QEMU = "qemu-system-x86_64"
 NEEDED = {QEMU: "qemu-system-x86", "apt-cache": "apt", "dpkg-deb": "dpkg", "cc": "gcc"}
@@ -66,7 +67,17 @@ def kernel_of(version, kept):
 
 def compiled(name, to):
     """Compiles one of the programs; what the compiler says, which is nothing where it is right."""
-    return ran("cc", "-static", "-O1", *WARNINGS, "-o", to, SOURCES[name]).stderr
+    return of_sources(to, SOURCES[name])
+
+
+def compile_ways(to):
+    """Compiles what carries the ways out on a mount of this machine; what the compiler says."""
+    return of_sources(to, (WAYS,), "-DALONE")
+
+
+def of_sources(to, names, *words):
+    sources = [os.path.join(HERE, "..", name) for name in names]
+    return ran("cc", "-static", "-O1", *WARNINGS, *words, "-o", to, *sources).stderr
 
 
 def programs_in(room):

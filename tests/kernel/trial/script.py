@@ -6,7 +6,7 @@ from second import commands, rules
 from second.controllers import ALL_CONTROLLERS
 from second.further import FURTHER_FILES
 from second.rules import text_of
-from trial import shown
+from trial import classes, shown
 
 # a file of each controller that has no limit file here, which stands at the children of a cgroup that enables it
 OTHERS = {"cpuset": "cpuset.cpus", "io": "io.max", "hugetlb": "hugetlb.2MB.max", "rdma": "rdma.max", "misc": "misc.max",
@@ -90,8 +90,18 @@ def script_of(cases):
 def standing_script():
     """What has a kernel tell of the further limit files that it has."""
     enabling = [f"control / +{name}" for name in ALL_CONTROLLERS]
-    lines = [head(), "case 0", "watch " + " ".join(FURTHER_FILES), *enabling, "mkdir /a", "state"]
+    lines = [head(), "case 0", "watch " + " ".join(FURTHER_FILES), *enabling, "mkdir /a", "state", "case 1", *map(way_line, classes.WAYS)]
     return "\n".join(lines) + "\n"
+
+
+def way_line(name):
+    return f"way {name.replace(' ', '-')}"
+
+
+def ways_in(said):
+    """The numbers that each way ended with, by its name."""
+    words = [line.split(" ") for line in said.split("\n") if line.startswith("w ")]
+    return {name.replace("-", " "): tuple(map(int, numbers)) for _, name, *numbers in words}
 
 
 def standing_in(said):

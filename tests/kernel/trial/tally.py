@@ -7,7 +7,7 @@ import os
 from second.controllers import ALL_CONTROLLERS
 from second.further import FURTHER_FILES
 import tap
-from trial import asking, comparing, further, made, refusals, script, settled, shown, mutants
+from trial import asking, classes, comparing, further, made, refusals, script, settled, shown, mutants
 from trials.format_4 import FURTHER
 
 OF_OPERATIONS = {**mutants.MUTANTS, **mutants.OF_FORMAT_4}
@@ -42,6 +42,15 @@ class Tally:
         self.failures += len(faults)
         for it in faults:
             print(f"kernel: FAILED: {self.kernel}: refusals: {it}")
+
+    def take_ways(self, ways):
+        """What came of the ways of threads and descriptors; each that the list doesn't say is a failure, and so is one without an end."""
+        for name in classes.WAYS:
+            differs = classes.way_differs(name, ways.get(name, ()))
+            self.counts["way cases"] += 1
+            self.failures += differs is not None
+            if differs:
+                print(f"kernel: FAILED: {differs}")
 
     def fail(self, case, name, what):
         os.makedirs(self.folder, exist_ok=True)
@@ -248,6 +257,7 @@ def lines_of(tally):
         f"- Mutants of the program: {len(tally.told)} of {len(WRONG)} found" + (f"; not found: {', '.join(missed)}" if missed else "")
         + ". By the case of its kind: " + ", ".join(f"{name} {number}" for name, number in tally.told.items()) + "."]
     return [f"## {tally.kernel}", "", f"- Controllers: {in_order(tally.controllers)}.", refusals.line_of(tally.runs),
+            f"- Ways of threads and descriptors: {', '.join(classes.WAYS)}.",
             *(line for kind, line in kinds.items() if of[f"{kind} cases"]), *settled_lines(tally), *further_lines(tally),
             f"- Differences by kind: {listed(tally.kinds)}.", f"- Unexplained: {tally.failures}.",
             *(found if of["operations cases"] else []), *lines_of_files(tally), f"- Time: {tally.seconds:.0f} s.", ""]
