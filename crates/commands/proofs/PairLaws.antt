@@ -1,6 +1,6 @@
 -- The pairs of a text, line by line.
-use Rattle.std.proofs.Common.{◌≡◌, ◌≢◌, ℕ, ◌+◌, ◌<◌, ◌≤◌, Bool, true, false, cond, List, [], ◌∷◌, ◌++◌, length, take, get_or, add-one, take-append-drop, take_all, arith, refl, ap, sym, subst, inl, inr, ◌∙◌, append_assoc, append-nil}
-use Rattle.std.specs.Prelude.{drop, nat_lt, nat_le, ◌&&◌, ◌||◌, is_some, option_and_then, Option, Some, None, Result, Ok, Err}
+use Rattle.std.proofs.Common.{◌≡◌, ◌≢◌, ℕ, ◌+◌, ◌<◌, ◌≤◌, Bool, true, false, cond, List, [], ◌∷◌, ◌++◌, length, take, get_or, add-one, map, take-append-drop, take_all, arith, refl, ap, sym, subst, inl, inr, ◌∙◌, append_assoc, append-nil}
+use Rattle.std.specs.Prelude.{drop, nat_lt, nat_le, ◌&&◌, ◌||◌, option_and_then, Option, Some, None, Result, Ok, Err}
 use Rattle.std.specs.List.{slice_split, onto_first}
 use Rattle.std.specs.Option.{option_map}
 use Rattle.cg_format.specs.Readings.{OnText}
@@ -56,7 +56,7 @@ pub no_operation : (line : List ℕ) → ((op : Op) → IsInRange Format4 op →
 no_operation line none =
     let read : operation_at Format4 line ≡ None = nothing_read Format4 line none in
     rw read
-    (elim (nat_le (length line) 8192) as (λ b. (b && is_some (None {A = Op})) ≡ false) [ true ↦ refl | false ↦ refl ])
+    (elim (nat_le (length line) 8192) as (λ b. (b && false) ≡ false) [ true ↦ refl | false ↦ refl ])
 
 -- words that aren't UTF-8
 pub no_text : (words : List ℕ) → ¬ (IsUtf8 words) → words_read words ≡ None
@@ -163,18 +163,29 @@ module _ (long : Bool) (done : ℕ) (rest : List ℕ) (front : List GivenPair) (
 
 -- ---- a text
 
+-- what comes of a text without a pair, by whether it says that there is none
+abbrev listed_or : Bool → Result (List GivenPair) CliFault
+listed_or same = cond same (Ok []) (Err NoPair)
+
+some_is : {A B : Type 0} (f : A → B) (x : A) (xs : List A) → map f (x ∷ xs) ≡ [] → ⊥
+some_is f x xs is = cc
+
+pub mapped_none : {A B : Type 0} (f : A → B) (xs : List A) → map f xs ≡ [] → xs ≡ []
+mapped_none f [] is = refl
+mapped_none f (x ∷ xs) is = absurd (some_is f x xs is)
+
 -- some pair is asked for, or the text says that there is none
 pub pairs_asked : (text : List ℕ) (pairs : List GivenPair) → lines_read text ≡ Ok pairs → (pairs ≡ [] → text ≡ nothing_listed)
     → pairs_read text ≡ Ok pairs
 pairs_asked text [] is listed =
     let same : same_name text nothing_listed ≡ true = ap (λ t. same_name t nothing_listed) (listed refl) in
-    ap (λ lines. read_then lines (asked_of text)) is ∙ ap (λ b. cond b (Ok []) (Err NoPair)) same
+    ap (λ lines. read_then lines (asked_of text)) is ∙ ap listed_or same
 pairs_asked text (pair ∷ pairs) is listed = ap (λ lines. read_then lines (asked_of text)) is
 
 pub nobody_asked : (text : List ℕ) → lines_read text ≡ Ok [] → text ≢ nothing_listed → pairs_read text ≡ Err NoPair
 nobody_asked text is other =
     ap (λ lines. read_then lines (asked_of text)) is
-    ∙ elim (same_name text nothing_listed) as (λ b. b ≡ same_name text nothing_listed → cond b (Ok []) (Err NoPair) ≡ Err NoPair) [
+    ∙ elim (same_name text nothing_listed) as (λ b. b ≡ same_name text nothing_listed → listed_or b ≡ Err NoPair) [
       | true ↦ λ same. absurd (other (same_text text nothing_listed same))
       | false ↦ λ _. refl
     ] refl
@@ -182,7 +193,7 @@ nobody_asked text is other =
 no_fault_is : {A : Type 0} (fault : CliFault) (x : A) → ◌≡◌ {A = Result A CliFault} (Err fault) (Ok x) → ⊥
 no_fault_is fault x is = cc
 
-only_by_test : (text : List ℕ) (same : Bool) → same ≡ same_name text nothing_listed → cond same (Ok []) (Err NoPair) ≡ Ok []
+only_by_test : (text : List ℕ) (same : Bool) → same ≡ same_name text nothing_listed → listed_or same ≡ Ok []
     → text ≡ nothing_listed
 only_by_test text true same is = same_text text nothing_listed same
 only_by_test text false same is = absurd (no_fault_is NoPair [] is)
@@ -214,6 +225,9 @@ fault_said tree text NoMemory other stated known = inr (unread known NoMemory (E
 fault_said tree text fault other stated known =
     inl (on_text tree (λ read _.
     (ap (λ pairs. (report_on pairs (λ given. advise_pairs_report read given)).ending) (stated (λ same. cc)), Keeps-refl known)))
+
+pub memory_said : (tree text : List ℕ) (known : Option (List ℕ)) → ReportsOnPairs tree text known known (Err NoMemory)
+memory_said tree text known = inr (unread known NoMemory (Err NoMemory) refl (inr refl))
 
 -- and without one the report is that on the pairs
 pub pairs_reported : (tree text : List ℕ) (pairs : List GivenPair) (old new : Option (List ℕ)) (result : Result ℕ CliFault)

@@ -38,14 +38,26 @@ pub(crate) fn read_pairs<'a>(alloc: Global, text: &'a [u8]) -> Result<Vec<NamedP
     ensures pairs { MatchResult result
         (λ pairs. pairs_read text.now ≡ Ok (map ids_of_pair pairs.items))
         (λ fault. fault ≢ CliFault.NoMemory → pairs_read text.now ≡ Err fault) }
-    ensures asked { IfOk result (λ pairs. map ids_of_pair pairs.items ≡ [] → text.now ≡ nothing_listed) }
     ensures read { IfErr result (λ fault. fault ≢ CliFault.Write) }
 {
     let pairs = lines_of(alloc, text)?;
-    if pairs.is_empty() && text != NOTHING_LISTED {
-        return Err(CliFault::NoPair);
-    }
+    test_asked(text, pairs.as_slice())?;
     Ok(pairs)
+}
+
+/// Whether a text asks for some pair, or says that there is none.
+fn test_asked(text: &[u8], pairs: &[NamedPair<'_>]) -> Result<(), CliFault>
+    ensures asked { MatchResult result
+        (λ _. pairs.now ≡ [] → text.now ≡ nothing_listed)
+        (λ fault. (fault ≡ CliFault.NoPair) × (pairs.now ≡ []) × (text.now ≢ nothing_listed)) }
+{
+    if !pairs.is_empty() {
+        return Ok(());
+    }
+    if text == NOTHING_LISTED {
+        return Ok(());
+    }
+    Err(CliFault::NoPair)
 }
 
 /// The pairs of the lines of a text, which may be none.
@@ -127,7 +139,13 @@ fn test_other(alloc: Global, done: u32, line: &[u8]) -> Result<(), CliFault>
 fn is_answer(line: &[u8]) -> bool
     ensures { result ≡ is_answer_line line.now }
 {
-    line == CONTAINED || line == ESCAPES || line.starts_with(b"unsettled ")
+    if line == CONTAINED {
+        return true;
+    }
+    if line == ESCAPES {
+        return true;
+    }
+    line.strip_prefix(b"unsettled ").is_some()
 }
 
 /// Whether a line is an operation's.
@@ -135,9 +153,11 @@ fn is_operation(alloc: Global, line: &[u8]) -> Result<bool, NoMemory>
     ensures { IfOk result (λ is. is ≡ is_operation_line line.now) }
 {
     match read_op_in(alloc, Vocabulary::Format4, line) {
-        Ok(_) => Ok(true),
+        Ok(_op) => Ok(true),
         Err(LineFault::NoMemory) => Err(NoMemory),
-        Err(_) => Ok(false),
+        Err(LineFault::TooLong) => Ok(false),
+        Err(LineFault::BadWord) => Ok(false),
+        Err(LineFault::Cut) => Ok(false),
     }
 }
 

@@ -4,8 +4,8 @@ use Rattle.arguments.specs.Given.{ids_of_pair}
 use Rattle.commands.proofs.PairLaws.{line_pair}
 use Rattle.commands.proofs.pairs.push_line.Goals as goal
 
-pub returns-in_ok-push-clause-pairs : goal.returns-in_ok-push-clause-pairs
-returns-in_ok-push-clause-pairs c =
+pub returns-clause-pairs : goal.returns-clause-pairs
+returns-clause-pairs c =
     let pair = c.in_ok-pair_at.field-0 in (
       ids_of_pair pair ∷ [],
       line_pair c.args.done c.args.line.now c.in-Some.words.now (ids_of_pair pair) c.in-Some.ensures.cases.0
