@@ -51,7 +51,7 @@ def program_tests(name, *reads):
 
 
 def of_model(words, *reads, **more):
-    return of_program(f"tests/model/{words}", PROGRAM, "tests/model/second", "tests/model/trials", *reads, **more)
+    return of_program(f"tests/model/{words}", PROGRAM, "gate/kept.py", "tests/model/second", "tests/model/trials", *reads, **more)
 
 
 def of_folder(folder, *reads, packages=(), words=""):
@@ -108,7 +108,7 @@ PARTS = [
     program_tests("help"),
     of_program("tests/program/devices.py PROGRAM", PROGRAM, "tests/program/case.py", "tests/program/device_rows.py", "tests/program/failing.c", "examples",
                packages=COMPILER),
-    of_model("run PROGRAM --seed 51 --cases 6000 --blind --table"),
+    of_model("run PROGRAM --seed 51 --cases 6000 --blind --table --kept"),
     of_model("run PROGRAM --cases 1000", is_fresh=True),
     of_model("fuzz PROGRAM"),
     of_model("search PROGRAM --blind", is_fresh=True),
@@ -118,7 +118,7 @@ PARTS = [
               "examples", "zirofen", PROGRAM),
     *host_tests(),
     Part("unit_tests", "host/lint", ("host", "tests/host"), ("mypy", "flake8")),
-    of_folder("tests/model/tests", *MODEL, "examples", "tools/bench", PROGRAM),
+    of_folder("tests/model/tests", *MODEL, "gate/kept.py", "examples", "tools/bench", PROGRAM),
     of_folder("tests/kernel/tests", "tests/tap.py", "tests/kernel/[!fd]*", *MODEL, "tools/program.py", "gate/crates.py", "gate/kit.py",
               "docs/MODEL.md", "examples", packages=COMPILER),
     of_folder("tests/packaging", *PACKAGING, packages=MAKERS, words=" package_test.py"),

@@ -166,11 +166,12 @@ class FailureTest(PartsTest):
 
 class SeenTest(PartsTest):
     def test_a_part_sees_what_its_row_names_and_nothing_else(self):
-        self.assert_both(SOME_VARIABLE="1", PYTHONPATH="/some/where", LANG="de_DE.UTF-8", TZ="Europe/Berlin")
+        self.assert_both(SOME_VARIABLE="1", GATE_OTHER="1", PYTHONPATH="/some/where", LANG="de_DE.UTF-8", TZ="Europe/Berlin")
         self.assertEqual([line for line in self.said if line.startswith("./")],
                          ["./data/deep/other", "./data/row", "./list/a.txt", "./release/MANIFEST", "./release/zirofen", "./tests/one"])
         self.assertIn("ran", self.said)
-        self.assertFalse([line for line in self.said if line.startswith(("SOME_VARIABLE", "GATE_", "PYTHONPATH", "TZ"))])
+        self.assertFalse([line for line in self.said if line.startswith(("SOME_VARIABLE", "GATE_OTHER", "PYTHONPATH", "TZ"))])
+        self.assertFalse([line for line in self.said if line.startswith(f"HOME={os.environ['HOME']}") and "part-" not in line])
         self.assertIn("LANG=C.UTF-8", self.said)
 
     def test_what_changes_meanwhile_is_not_what_passed(self):
