@@ -87,6 +87,14 @@ class KeptTest(PartsTest):
         self.top = f"{self.room}/elsewhere"
         self.assert_none()
 
+    def test_the_program_wherever_it_was_built(self):
+        self.assert_both()
+        os.renames(f"{self.top}/release", f"{self.top}/built/in")
+        write(f"{self.top}/release/zirofen", "#!/bin/sh\necho an older one\n", executable=True)
+        self.assert_none("--program", "built/in/zirofen", "group")
+        self.assert_one()
+        self.assertIn("an older one", self.said)
+
     def test_each_thing_that_a_row_names(self):
         self.assert_both()
         changes = (("data/row", "changed"), ("data/deep/other", "changed"), ("data/new", "new"), ("list/a.txt", "changed"), ("list/c.txt", "new"),
