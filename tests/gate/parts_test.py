@@ -14,6 +14,7 @@ PARTS = [
     Part("group", "tests/two", ("tests/two",)),
     Part("random", "tests/random", ("tests/random",), is_fresh=True),
     Part("crates", "tests/list", ("tests/list", f"{CRATE}middle")),
+    Part("helpers", "tests/helpers", ("tests/helpers", "host")),
 ]
 '''
 # writes what it sees and its environment, and passes unless data/row says otherwise
@@ -27,6 +28,7 @@ echo '2 passed, 0 failed'
 """
 TWO = "#!/bin/sh\necho '3 passed, 0 failed'\n"
 LIST = "#!/bin/sh\nfind crates -type f | sort\ncat crates.txt\necho '1 passed, 0 failed'\n"
+HELPERS = "#!/bin/sh\nls -d host/*.py host/*/*.py host/__pycache__ host/deep/__pycache__\necho '1 passed, 0 failed'\n"
 DPKG = "#!/bin/sh\ncat \"$0.versions\"\n"
 
 
@@ -40,11 +42,13 @@ class PartsTest(unittest.TestCase):
             shutil.copy(f"{TOP}/gate/{file}", f"{self.top}/gate/{file}")
         shutil.copy(f"{TOP}/gate/part_rows.py", f"{self.top}/gate/part_rows_of_gate.py")
         write(f"{self.top}/gate/part_rows.py", ROWS)
-        for name, text in (("one", ONE), ("two", TWO), ("random", TWO), ("list", LIST)):
+        for name, text in (("one", ONE), ("two", TWO), ("random", TWO), ("list", LIST), ("helpers", HELPERS)):
             write(f"{self.top}/tests/{name}", text, executable=True)
         for path in ("data/row", "data/deep/other", "list/a.txt", "list/b.md", "secret", "release/MANIFEST", "data/out/made"):
             write(f"{self.top}/{path}", path)
         write(f"{self.top}/release/zirofen", "#!/bin/sh\necho ran\n", executable=True)
+        for path in ("host/deep/one.py", "host/two.py"):
+            write(f"{self.top}/{path}", "import os\n")
         write(f"{self.top}/crates.txt", "low: toml\nmiddle: low\nhigh: middle\n")
         for name in ("low", "middle", "high"):
             write(f"{self.top}/crates/{name}/src/lib.rt", name)
@@ -181,6 +185,15 @@ class SeenTest(PartsTest):
         self.assertFalse([line for line in self.said if line.startswith(("SOME_VARIABLE", "GATE_OTHER", "PYTHONPATH", "TZ"))])
         self.assertFalse([line for line in self.said if line.startswith(f"HOME={os.environ['HOME']}") and "part-" not in line])
         self.assertIn("LANG=C.UTF-8", self.said)
+
+    def test_the_helpers_have_byte_code_that_is_in_no_sum(self):
+        self.assertEqual(self.run_parts("helpers"), ["helpers: tests/helpers"])
+        self.assertEqual(self.said[1:-2], ["host/__pycache__", "host/deep/__pycache__", "host/deep/one.py", "host/two.py", "1 passed, 0 failed"])
+        self.assertFalse(os.path.exists(f"{self.top}/host/__pycache__"))
+        write(f"{self.top}/host/__pycache__/two.pyc", "other")
+        self.assertEqual(self.run_parts("helpers"), [])
+        write(f"{self.top}/host/two.py", "import re\n")
+        self.assertEqual(self.run_parts("helpers"), ["helpers: tests/helpers"])
 
     def test_what_changes_meanwhile_is_not_what_passed(self):
         write(f"{self.top}/data/checkout", self.top)
