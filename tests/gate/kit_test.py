@@ -129,14 +129,15 @@ class GateTest(ToolchainTest):
     def test_libraries_keep_their_work_and_are_said_to_be_proved(self):
         said = self.prove().stdout
         self.assertEqual([*kit.PROVED.findall(said)], ["low", "high", "program"])
-        self.assertRegex(said, r"called: build low --jobs 1 --incremental \S+/low\n")
-        self.assertIn("called: build program --jobs 1\n", said)
+        # where few crates are proved each has the processors that are free
+        self.assertRegex(said, r"called: build low --jobs [1-4] --incremental \S+/low\n")
+        self.assertRegex(said, r"called: build program --jobs [1-4]\n")
 
     def test_a_proof_that_was_killed_and_made_again(self):
         self.bring(NEW, SCRIPT.replace("KILLED = []", "KILLED = ['low']"))
         said = self.prove().stdout
         self.assertEqual([*kit.PROVED.findall(said)], ["low", "high", "program"])
-        self.assertEqual(re.findall(r"called: build low --jobs (\d)", said), ["1", "3"])
+        self.assertRegex(" ".join(re.findall(r"called: build low --jobs (\d)", said)), r"\A[1-4] 3\Z")
 
     def test_a_toolchain_that_keeps_nothing_of_earlier_runs(self):
         store = SCRIPT.index("STORE ="), SCRIPT.index("class Crate")
