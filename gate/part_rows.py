@@ -72,7 +72,7 @@ def modules_of(folder, file):
 def host_tests():
     """The tests of the helpers, file by file."""
     helpers = sorted({*glob.glob("tests/host/*")} - {*glob.glob("tests/host/*_test.py"), "tests/host/__pycache__"})
-    reads = ("host", "examples", "docs", "README.md", "CHANGELOG.md", "tools", "crates/cg_cgroup/specs", *helpers, *WRAPPER)
+    reads = ("host", "examples", "docs", "README.md", "CHANGELOG.md", "tools", "crates/cg_cgroup/specs", *helpers, *WRAPPER, *USERS)
     for file in sorted(map(os.path.basename, glob.glob("tests/host/*_test.py"))):
         modules = modules_of("tests/host", file)
         packages = tuple(it for name, of_module in READERS.items() if f"tests/host/{name}" in modules for it in of_module)
@@ -85,6 +85,8 @@ def host_tests():
 COMPILER = ("gcc", "gcc-[0-9]*", "cpp-[0-9]*", "binutils*", "libc6-dev")
 # what looks at the machine itself, which no row can name
 OF_THE_MACHINE = ("real_mount_test.py", "refusals_test.py")
+# of the machine: a file that is named whole is read where it is
+USERS = ("/etc/passwd", "/etc/group", "/etc/subuid", "/etc/subgid", "/etc/localtime")
 # what reads what the helpers write, by the module that calls it
 READERS = {"debian_readers.py": ("prometheus", "prometheus-node-exporter", "python3-jsonschema", "python3-junitparser"), "browser.py": ("chromium", "chromium-common")}
 PACKAGING = ("tests/packaging/*.py", "tools", "host", "examples", "docs", "*.md", *WRAPPER)

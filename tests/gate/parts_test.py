@@ -12,6 +12,7 @@ ROWS = '''from part_rows_of_gate import BASE, CRATE, PROGRAM, SOURCES, Part
 PARTS = [
     Part("group", "tests/one PROGRAM", ("tests/one", "data", "list/*.txt", PROGRAM), ("some-package",)),
     Part("group", "tests/two", ("tests/two",)),
+    Part("machine", "tests/two", ("tests/two", "MACHINE/passwd")),
     Part("random", "tests/random", ("tests/random",), is_fresh=True),
     Part("crates", "tests/list", ("tests/list", f"{CRATE}middle")),
     Part("helpers", "tests/helpers", ("tests/helpers", "host")),
@@ -41,7 +42,7 @@ class PartsTest(unittest.TestCase):
             os.makedirs(f"{self.top}/gate", exist_ok=True)
             shutil.copy(f"{TOP}/gate/{file}", f"{self.top}/gate/{file}")
         shutil.copy(f"{TOP}/gate/part_rows.py", f"{self.top}/gate/part_rows_of_gate.py")
-        write(f"{self.top}/gate/part_rows.py", ROWS)
+        write(f"{self.top}/gate/part_rows.py", ROWS.replace("MACHINE", self.room))
         for name, text in (("one", ONE), ("two", TWO), ("random", TWO), ("list", LIST), ("helpers", HELPERS)):
             write(f"{self.top}/tests/{name}", text, executable=True)
         for path in ("data/row", "data/deep/other", "list/a.txt", "list/b.md", "secret", "release/MANIFEST", "data/out/made"):
@@ -115,11 +116,17 @@ class KeptTest(PartsTest):
 
     def test_the_row_and_the_scripts(self):
         self.assert_both()
-        write(f"{self.top}/gate/part_rows.py", ROWS.replace('"data", ', '"data", "secret", '))
+        write(f"{self.top}/gate/part_rows.py", ROWS.replace('"data", ', '"data", "secret", ').replace("MACHINE", self.room))
         self.assert_one()
         for script in ("parts", "kept.py"):
             write(f"{self.top}/gate/{script}", read(f"{self.top}/gate/{script}") + "# changed\n", executable=script == "parts")
             self.assert_both()
+
+    def test_a_file_of_the_machine(self):
+        for text in ("root:0", "root:0 alice:1000"):
+            write(f"{self.room}/passwd", text)
+            self.assertEqual(self.run_parts("machine"), ["machine: tests/two"])
+            self.assertEqual(self.run_parts("machine"), [])
 
     def test_what_no_row_names(self):
         self.assert_both()
