@@ -22,7 +22,7 @@ from zirofen_host.collect.notes import FAILED
 from zirofen_host.collect.accounts import Accounts
 from zirofen_host.collect.bounded import Budget, Spent
 from zirofen_host.collect.holds import Holds
-from zirofen_host.collect.model import AccountLists, Process, Range, User
+from zirofen_host.collect.model import AccountLists, Process, Range, User, group_list
 from zirofen_host.judge import check, findings, held, unseen, whole
 from zirofen_host.profile import ROOT, path_of
 from zirofen_host.show import lines
@@ -208,6 +208,63 @@ class ProcessesTest(ThreeTest):
         self.others(found)
         self.assertLess(self.bytes, 400000)
         self.assertEqual([each["subtrees"] for each in found["faults"]], [["/alice"]])
+
+    def told_of_processes(self, gids=None):
+        reader = processes.Reader(self.host.proc, int, gids).look()
+        # a folder is in any order
+        uids = [process.uid for process in reader.found.values()]
+        return uids.count(1000), uids.count(1001), {person: str(why) for person, why in reader.over().items()}
+
+    def test_more_groups_than_are_looked_at(self):
+        """All of a user's processes together; the other users' are looked at."""
+        for pid in range(10, 20):
+            self.host.process(pid, uid=1000, gid=1000, groups=range(100, 150))
+        self.host.process(30, uid=1001, gid=1001, groups=range(100, 150))
+        self.small("GROUPS", 200)
+        self.assertEqual(self.told_of_processes(), (4, 1, {1000: "uid 1000 has over 200 groups"}))
+        found = self.report()
+        self.others(found)
+        self.assertEqual([(each["subtrees"], each["fault"]) for each in found["faults"]],
+                         [(["/alice"], "uid 1000 has over 200 groups: not all were looked at")])
+
+    def test_lists_of_groups_are_counted_where_they_differ(self):
+        for pid in range(10, 20):
+            self.host.process(pid, uid=1000, gid=1000, groups=(50, 100 + pid))
+        self.small("GROUP_LISTS", 3)
+        self.assertEqual(self.told_of_processes(), (3, 0, {1000: "uid 1000 has over 3 lists of groups"}))
+        self.assertEqual(self.told_of_processes({50}), (10, 0, {}))
+
+    def test_groups_are_kept_where_an_entry_has_them(self):
+        self.host.process(10, uid=1000, gid=1000, groups=(7, *range(100, 150)))
+        self.host.cgroup("/alice", owners={**owned(1000, 1000), "memory.max": (1000, 120)}, enabled="memory")
+        self.assertEqual(self.host.take().processes[10].user, User(1000, (1000, 120)))
+
+    def test_nothing_is_read_of_whoever_is_known_to_have_more(self):
+        """By the owner of a process's folder, which is its effective uid."""
+        for pid in range(10, 20):
+            self.host.process(pid, uid=1000, gid=1000)
+        self.small("PROCESSES", 3)
+        opened = []
+        with mock.patch.object(bounded, "owner_of", lambda path: 1000), \
+                mock.patch.object(bounded, "read_where", lambda *of, read=bounded.read_where: opened.append(of[0]) or read(*of)):
+            self.assertEqual(self.told_of_processes()[2], {1000: "uid 1000 has over 3 processes"})
+        self.assertEqual(len(opened), 4)
+
+    def test_threads_are_left_where_what_they_tell_is_too_much(self):
+        """A kernel makes a list of all groups for each of them."""
+        self.host.process(10, uid=1000, gid=1000, groups=range(100000, 110000), threads=(0,) * 50)
+        self.small("PROCESS_BYTES", 300000)
+        found = self.counted(self.report)
+        self.others(found)
+        self.assertLess(self.bytes, 1200000)
+        (line,) = self.told(found, "capability")
+        self.assertRegex(line, r"^alice\(1000\): 4[67] threads weren't looked at: uid 1000 has over 300000 bytes in what /proc tells of processes$")
+
+    def test_a_long_list_is_hashed_once(self):
+        groups = group_list(range(1000))
+        self.assertEqual((hash(groups), groups, 999 in groups, 1000 in groups), (hash(tuple(range(1000))), tuple(range(1000)), True, False))
+        self.assertEqual({User(1, groups)}, {User(1, tuple(range(1000)))})
+        self.assertIs(type(group_list(range(16))), tuple)
 
 
 class MountsTest(ThreeTest):

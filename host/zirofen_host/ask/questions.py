@@ -46,16 +46,28 @@ def is_slice(path: CgroupPath) -> bool:
     return _SLICE.match(text_of(path)) is not None
 
 
-def with_groups(user: User, matter: Container[int], gids_of_tree: Container[int]) -> Tuple[Optional[User], int]:
+def with_groups(user: User, matter: AbstractSet[int], gids_of_tree: Container[int]) -> Tuple[Optional[User], int]:
     """A user with their primary group and those further ones that stand in the tree, and how many of these were left out;
     or None, and how many matter, where these are too many."""
-    further = [gid for gid in user.gids[1:] if gid in gids_of_tree]
-    first = [gid for gid in further if gid in matter]
-    if 1 + len(first) > MOST_GROUPS:
-        return None, 1 + len(first)
-    others = [gid for gid in further if gid not in matter]
-    kept = first + others[:MOST_GROUPS - 1 - len(first)]
-    return User(user.uid, user.gids[:1] + tuple(sorted(kept))), len(further) - len(kept)
+    return Further(user, gids_of_tree).few(matter)
+
+
+class Further:
+    """A user's further groups that stand in the tree, which may be tens of thousands and are gone over once."""
+
+    def __init__(self, user: User, gids_of_tree: Container[int]) -> None:
+        self.user = user
+        self.gids = {gid: None for gid in user.gids[1:] if gid in gids_of_tree}
+
+    def few(self, matter: AbstractSet[int]) -> Tuple[Optional[User], int]:
+        """The user with no more groups than the program takes, those first that matter, and how many others were left out; or None,
+        and how many matter, where these are too many."""
+        first = self.gids.keys() & matter if len(self.gids) < len(matter) else {gid for gid in matter if gid in self.gids}
+        if 1 + len(first) > MOST_GROUPS:
+            return None, 1 + len(first)
+        others = itertools.islice((gid for gid in self.gids if gid not in matter), MOST_GROUPS - 1 - len(first))
+        kept = sorted((*first, *others))
+        return User(self.user.uid, (*self.user.gids[:1], *kept)), len(self.gids) - len(kept)
 
 
 @dataclass(frozen=True)
@@ -275,22 +287,26 @@ def plan_of(questions: Questions) -> Plan:
     asked_as: Dict[User, User] = {}
     left_out: Dict[int, int] = Counter()
     asked: DefaultDict[CgroupPath, Set[User]] = defaultdict(set)
-    cut = []
+    many: List[Further] = []
     for user in users:
-        few, count = with_groups(user, matter, questions.delegations.gids_of_tree)
+        further = Further(user, questions.delegations.gids_of_tree)
+        few, count = further.few(matter)
         if few:
             asked_as[user] = few
             left_out[few.uid] = max(left_out[few.uid], count)
-            continue
-        for path in questions.subtrees:
-            of_path = questions.gids_that_matter(path)
-            few, count = with_groups(user, of_path, questions.delegations.gids_of_tree)
+        else:
+            many.append(further)
+    cut: List[List[Cut]] = [[] for _ in many]
+    for path in questions.subtrees if many else ():
+        of_path = questions.gids_that_matter(path)
+        for further, of_user in zip(many, cut):
+            few, count = further.few(of_path)
             if few:
                 asked[path].add(few)
                 left_out[few.uid] = max(left_out[few.uid], count)
             else:
-                cut.append(Cut(user, path, len(of_path.intersection(user.gids[1:])) + 1))
-    plan = Plan((), tuple(cut), tuple(users), named, asked_as, left_out, {})
+                of_user.append(Cut(further.user, path, count))
+    plan = Plan((), tuple(itertools.chain.from_iterable(cut)), tuple(users), named, asked_as, left_out, {})
     return with_questions(plan, questions, asked)
 
 

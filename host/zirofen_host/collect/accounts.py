@@ -2,7 +2,7 @@
 import grp
 import os
 import pwd
-from bisect import bisect_right
+from bisect import bisect_left, bisect_right
 from collections import defaultdict
 from functools import cached_property
 from itertools import accumulate
@@ -10,7 +10,7 @@ from typing import DefaultDict, Dict, FrozenSet, Iterable, List, Mapping, Option
 
 from zirofen_host.collect import bounded
 from zirofen_host.collect.bounded import Payer
-from zirofen_host.collect.model import Account, AccountLists, Group, Process, Range, Snapshot, User
+from zirofen_host.collect.model import Account, AccountLists, Group, Process, Range, Snapshot, User, group_list, set_of_groups
 from zirofen_host.fault import Fault
 
 LARGEST_ID = 4294967295
@@ -116,37 +116,40 @@ class Accounts:
         return Counted(self.lists.subordinate_gids)
 
     @cached_property
-    def known(self) -> Tuple[Mapping[int, Set[User]], Mapping[int, Set[User]]]:
-        """The users of accounts and of running processes, by uid and by gid."""
+    def known(self) -> Tuple[Mapping[int, Sequence[User]], Mapping[int, Sequence[User]]]:
+        """The users of accounts and of running processes, by uid and by gid, each in order and once."""
         gids: DefaultDict[str, Set[int]] = defaultdict(set)
         for group in self.lists.groups:
             for member in group.members:
                 gids[member].add(group.gid)
-        by_uid: DefaultDict[int, Set[User]] = defaultdict(set)
-        by_gid: DefaultDict[int, Set[User]] = defaultdict(set)
-        users = {User(each.uid, (each.gid, *sorted(gids[each.name] - {each.gid}))) for each in self.lists.accounts}
-        for user in users | self.running:
-            by_uid[user.uid].add(user)
-            for gid in user.gids:
-                by_gid[gid].add(user)
+        by_uid: DefaultDict[int, List[User]] = defaultdict(list)
+        by_gid: DefaultDict[int, List[User]] = defaultdict(list)
+        users = {User(each.uid, group_list((each.gid, *sorted(gids[each.name] - {each.gid})))) for each in self.lists.accounts}
+        for user in distinct(users | self.running):
+            by_uid[user.uid].append(user)
+            for gid in set_of_groups(user.gids):
+                by_gid[gid].append(user)
         return by_uid, by_gid
 
     def users_of(self, uid: int) -> List[User]:
         """The users with a uid: of accounts, of running processes, of subordinate ids; else the uid alone."""
-        users = set(self.known[0].get(uid, ()))
-        if not users:
-            for owner, place in self.owners_of_uids.owners(uid):
-                gid = number_at(self.lists.subordinate_gids, owner, place)
-                users.add(User(uid, () if gid is None else (gid,)))
-        return distinct(users) or [User(uid, ())]
+        known = self.known[0].get(uid, ())
+        if known:
+            return list(known)
+        gids = (number_at(self.lists.subordinate_gids, owner, place) for owner, place in self.owners_of_uids.owners(uid))
+        return distinct({User(uid, () if gid is None else (gid,)) for gid in gids}) or [User(uid, ())]
 
     def members_of(self, gid: int) -> List[User]:
         """The users in a group, root left out."""
-        users = set(self.known[1].get(gid, ()))
+        users = [user for user in self.known[1].get(gid, ()) if user.uid != 0]
         for owner, place in self.owners_of_gids.owners(gid):
             uid = number_at(self.lists.subordinate_uids, owner, place)
-            users.add(User(gid if uid is None else uid, (gid,)))
-        return distinct(user for user in users if user.uid != 0)
+            user = User(gid if uid is None else uid, (gid,))
+            # those that are known may have long lists, and aren't compared with one another again
+            at = bisect_left(users, user)
+            if user.uid != 0 and users[at:at + 1] != [user]:
+                users.insert(at, user)
+        return users
 
     @cached_property
     def names(self) -> Mapping[int, str]:
@@ -197,7 +200,7 @@ def distinct(users: Iterable[User]) -> List[User]:
     """Users in order, without those that differ only in the order of their further groups."""
     kept: Dict[Tuple[int, Tuple[int, ...], FrozenSet[int]], User] = {}
     for user in sorted(users):
-        kept.setdefault((user.uid, user.gids[:1], frozenset(user.gids)), user)
+        kept.setdefault((user.uid, user.gids[:1], set_of_groups(user.gids)), user)
     return list(kept.values())
 
 

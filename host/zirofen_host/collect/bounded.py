@@ -73,6 +73,8 @@ THREADS = Budget("threads", 4096)
 # threads that are asked whether they share their table of descriptors
 TABLE_THREADS = Budget("threads", 65536)
 PROCESS_BYTES = Budget("bytes in what /proc tells of processes", 1 << 26)
+# of all their processes together, and of processes that differ in their uid or groups
+GROUPS, GROUP_LISTS = Budget("groups", 1 << 20), Budget("lists of groups", 4096)
 MOUNT_BYTES = Budget("bytes in lists of mounts", 1 << 22)
 LINKS = Budget("open files", 65536)
 DESCRIPTORS = Budget("open files with a path", 4096)
@@ -162,6 +164,25 @@ def read_file(path: Place, most: int, flags: int = NAMED, folder: Optional[int] 
         return read_opened(opened, most)
     finally:
         os.close(opened)
+
+
+def read_where(path: Place, first: int, most: int, is_wanted: Callable[[bytes], bool]) -> Optional[Read]:
+    """What a file has where its first bytes are of one that is wanted, or None. It is opened once, since a kernel makes all that it
+    tells for the first byte."""
+    opened = os.open(path, NAMED)
+    try:
+        head = os.read(opened, first)
+        if not is_wanted(head):
+            return None
+        rest = read_opened(opened, most - len(head))
+        return Read(head + rest.data, rest.is_cut)
+    finally:
+        os.close(opened)
+
+
+def owner_of(path: Place) -> int:
+    """The uid whose a file is; of a folder of /proc the effective one of its process."""
+    return os.stat(path).st_uid
 
 
 def read_named(file: str, most: int) -> Read:

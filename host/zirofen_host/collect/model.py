@@ -1,7 +1,8 @@
 """What is collected of a host, or read back from a text of another one: the first form of what is told."""
 from dataclasses import dataclass, field
 from enum import Enum
-from typing import Collection, FrozenSet, List, Mapping, NamedTuple, Optional, Sequence, Tuple, Union
+from functools import cached_property
+from typing import Collection, FrozenSet, Iterable, List, Mapping, NamedTuple, Optional, Sequence, Tuple, Union
 
 from zirofen_host.collect.notes import Note
 from zirofen_host.collect.reasons import Reason
@@ -33,6 +34,38 @@ class Entry:
 
 
 DEFAULT_FILE = Entry(0, 0, FILE_MODE)
+
+
+class LongList(Tuple[int, ...]):
+    """A list of groups that is hashed and searched without going over it again: a process may have 65,536 of them."""
+
+    @cached_property
+    def _hash(self) -> int:
+        return super().__hash__()
+
+    @cached_property
+    def numbers(self) -> FrozenSet[int]:
+        return frozenset(self)
+
+    def __hash__(self) -> int:
+        return self._hash
+
+    def __contains__(self, number: object) -> bool:
+        return number in self.numbers
+
+
+# a list of no more groups is a tuple as any other
+SHORT = 16
+
+
+def group_list(gids: Iterable[int]) -> Tuple[int, ...]:
+    """The groups of a user, in a form that is hashed once where they are many."""
+    found = tuple(gids)
+    return found if len(found) <= SHORT else LongList(found)
+
+
+def set_of_groups(gids: Tuple[int, ...]) -> FrozenSet[int]:
+    return gids.numbers if isinstance(gids, LongList) else frozenset(gids)
 
 
 class User(NamedTuple):

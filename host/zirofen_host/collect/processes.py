@@ -1,9 +1,9 @@
 """Processes, as /proc tells of them."""
-from typing import Dict, Iterator, List, Mapping, Optional, Tuple
+from typing import Container, Dict, Iterator, List, Mapping, Optional, Tuple
 
 from zirofen_host.collect import bounded
 from zirofen_host.collect.bounded import Payer, Spent
-from zirofen_host.collect.model import Process, User
+from zirofen_host.collect.model import Process, User, group_list
 from zirofen_host.collect.notes import Failed, Lacking
 from zirofen_host.collect.reasons import Reason
 from zirofen_host.collect.threads import Fields, ThreadReader
@@ -33,9 +33,13 @@ def names_in(folder: str, most: int = bounded.NAMES) -> List[str]:
 class Reader:
     """Reads processes, charged to whose they are."""
 
-    def __init__(self, proc: str, payer: Payer = int) -> None:
+    def __init__(self, proc: str, payer: Payer = int, gids: Optional[Container[int]] = None) -> None:
         self.proc = proc
-        self.count, self.bytes = (Spent(budget, payer) for budget in (bounded.PROCESSES, bounded.PROCESS_BYTES))
+        # the groups that are kept, where not all are
+        self.gids = gids
+        self.spent = self.groups, self.lists, self.bytes, self.count = [
+            Spent(budget, payer) for budget in (bounded.GROUPS, bounded.GROUP_LISTS, bounded.PROCESS_BYTES, bounded.PROCESSES)]
+        self.users: Dict[User, User] = {}
         self.threads = ThreadReader(proc, payer, self.bytes)
         self.found: Dict[int, Process] = {}
         # of which what is told isn't known
@@ -44,7 +48,7 @@ class Reader:
 
     def over(self) -> Mapping[int, Reason]:
         """Of whom not all processes were looked at, each with why."""
-        return {person: spent.budget.exceeded_by(person) for spent in (self.bytes, self.count) for person in spent.over()}
+        return {person: spent.budget.exceeded_by(person) for spent in self.spent for person in spent.over()}
 
     def look(self) -> "Reader":
         """Reads all processes, as far as the budgets of their users go."""
@@ -58,16 +62,17 @@ class Reader:
         """A process, or None where it has ended or isn't looked at. Its uid is the real one; as a user it acts under the effective
         ones."""
         try:
+            if self.is_over(bounded.owner_of(f"{self.proc}/{pid}")):
+                return None
             fields = self.fields(pid)
-            if fields is None:
+            user = self.user(fields) if fields else None
+            if fields is None or user is None:
                 return None
             stat = bounded.read_file(f"{self.proc}/{pid}/stat", bounded.FLAGS).text("utf-8", "replace")
             flags = int(stat.rpartition(")")[2].split()[6])
-            gid = int(fields["Gid"][1])
-            others = [int(group) for group in fields.get("Groups", ()) if int(group) != gid]
             threads = self.threads.look(pid, fields)
             names = capabilities_of(self.proc, threads.living or pid, threads.permitted)
-            return Process(pid, int(fields["Uid"][0]), User(int(fields["Uid"][1]), (gid, *others)), flags & KERNEL_THREAD != 0,
+            return Process(pid, int(fields["Uid"][0]), user, flags & KERNEL_THREAD != 0,
                            " ".join(fields.get("Name", ())), names, threads.permitted != 0, threads.left, threads.bounding,
                            threads.number, threads.is_headless, threads.living, threads.places,
                            program_of(self.proc, threads.living or pid) if threads.places or threads.is_headless else "")
@@ -80,14 +85,33 @@ class Reader:
     def fields(self, pid: int) -> Optional[Fields]:
         """What a process's status has, or None where its user has more than is looked at. The head says whose it is, and a list of
         groups may be long."""
-        file = f"{self.proc}/{pid}/status"
-        read = bounded.read_file(file, bounded.FLAGS)
-        uid = int(status_fields(read.text("utf-8", "replace"))["Uid"][0])
-        if not self.count.take(uid) or self.bytes.is_over(uid):
+        read = bounded.read_where(f"{self.proc}/{pid}/status", bounded.FLAGS, bounded.STATUS, self.is_wanted)
+        fields = status_fields(read.text("utf-8", "replace")) if read else {}
+        return fields if read and self.bytes.take(int(fields["Uid"][0]), len(read.data)) else None
+
+    def is_wanted(self, head: bytes) -> bool:
+        """Whether the process is looked at whose status begins so, which is charged."""
+        uid = int(status_fields(head.decode("utf-8", "replace"))["Uid"][0])
+        return self.count.take(uid) and not self.is_over(uid)
+
+    def is_over(self, uid: int) -> bool:
+        """Whether somebody has more of anything than is looked at."""
+        return any(spent.is_over(uid) for spent in self.spent)
+
+    def user(self, fields: Fields) -> Optional[User]:
+        """As whom a process acts, or None where whoever it is has more groups than are looked at. Of the further ones those are kept that
+        an entry has."""
+        uid, gid, words = int(fields["Uid"][0]), int(fields["Gid"][1]), fields.get("Groups", ())
+        if not self.groups.take(uid, len(words)):
             return None
-        if read.is_cut:
-            read = bounded.read_file(file, bounded.STATUS)
-        return status_fields(read.text("utf-8", "replace")) if self.bytes.take(uid, len(read.data)) else None
+        others = (int(word) for word in words)
+        kept = dict.fromkeys(other for other in others if other != gid and (self.gids is None or other in self.gids))
+        made = User(int(fields["Uid"][1]), group_list((gid, *kept)))
+        if made not in self.users:
+            if not self.lists.take(uid):
+                return None
+            self.users[made] = made
+        return self.users[made]
 
 
 def capabilities_of(proc: str, pid: int, bits: int) -> Tuple[str, ...]:
@@ -116,6 +140,6 @@ def lacking_notes(proc: str) -> Iterator[Lacking]:
             yield Lacking("/", name, unseen)
 
 
-def read_processes(proc: str) -> Dict[int, Process]:
-    """All processes by their PIDs."""
-    return Reader(proc).look().found
+def read_processes(proc: str, gids: Optional[Container[int]] = None) -> Dict[int, Process]:
+    """All processes by their PIDs, with all of their groups or with some."""
+    return Reader(proc, gids=gids).look().found

@@ -3,7 +3,7 @@ import os
 import time
 from collections import Counter
 from dataclasses import replace
-from typing import Callable, Dict, Iterable, Iterator, List, Mapping, Optional, Sequence, Tuple
+from typing import Callable, Container, Dict, Iterable, Iterator, List, Mapping, Optional, Sequence, Set, Tuple
 
 from zirofen_host.collect import containers, held, inside, walk
 from zirofen_host.collect.accounts import payer_of
@@ -215,12 +215,13 @@ def take(options: Options, subtrees_of: SubtreesOf) -> Snapshot:
 
     def subtrees_in(walked: walk.Walk, changing: walk.Whys) -> Iterable[CgroupPath]:
         if not running:
-            running.append(look_at_processes(options, payer))
+            running.append(look_at_processes(options, payer, gids_in(walked.found)))
         found = snapshot_of(walk.Settled(walked, {}, {}), running[0], options, mounts)
         return subtrees_of(found, changing)
 
     settled = walk.settled(options.mount, options.only, subtrees_in, payer, options.text_format.further)
-    found, looks = snapshot_of(settled, look_at_processes(options, payer), options, mounts), Looks()
+    reader = look_at_processes(options, payer, gids_in(settled.walk.found))
+    found, looks = snapshot_of(settled, reader, options, mounts), Looks()
     look = looks.at("root-inside", lambda: inside.look(options.proc, found.cgroups, found.processes), None)
     insides = looks.all("root-inside", look.found) if look else ()
     entries, unheld = looks.at("descriptors", lambda: held.look(options.proc, found, payer, look), NOTHING_HELD)
@@ -230,9 +231,16 @@ def take(options: Options, subtrees_of: SubtreesOf) -> Snapshot:
                    notes=(*found.notes, *looks.failed))
 
 
-def look_at_processes(options: Options, payer: Payer) -> Reader:
-    """Processes, as far as they can be read."""
-    looks, reader = Looks(), Reader(options.proc, payer)
+def gids_in(cgroups: Cgroups) -> Set[int]:
+    """The groups of entries. Cgroups with the same files share one table of them."""
+    tables = {id(found.files): found.files for found in cgroups.values()}
+    gids = {entry.gid for files in tables.values() for entry in files.values()}
+    return gids.union(found.directory.gid for found in cgroups.values())
+
+
+def look_at_processes(options: Options, payer: Payer, gids: Container[int]) -> Reader:
+    """Processes, as far as they can be read, each with those of its groups that matter."""
+    looks, reader = Looks(), Reader(options.proc, payer, gids)
     looks.at("processes", reader.look, reader)
     reader.failed += looks.failed
     return reader

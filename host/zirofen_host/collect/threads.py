@@ -63,7 +63,11 @@ class ThreadReader:
 
     def with_each(self, pid: int, uid: int, spent: Spent, found: Threads, numbers: Sequence[int]) -> Threads:
         """What is known of a process with what each of its threads tells."""
-        for number in numbers:
+        for place, number in enumerate(numbers):
+            if self.read.is_over(uid):
+                numbers = numbers[:place]
+                found = found._replace(left=found.number - place)
+                break
             spent.take(uid)
             told = self.told(pid, number, uid)
             if told:

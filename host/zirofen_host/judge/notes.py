@@ -1,7 +1,7 @@
 """Notes of what no answer looks at, a class for each: who and where it is, what was seen and how many, and the text made of that."""
 from abc import abstractmethod
 from dataclasses import dataclass
-from typing import Iterable, Mapping, Tuple
+from typing import Iterable, Mapping, Optional, Tuple
 
 from zirofen_host.collect.notes import Note, classes
 from zirofen_host.collect.reasons import Reason
@@ -142,10 +142,12 @@ class UnlookedThreads(Note):
     kind = "capability"
     count: int
     most: int
+    # of whoever has more of something else than is looked at
+    over: Optional[Reason] = None
 
     @property
     def text(self) -> str:
-        return f"{self.count} threads weren't looked at: more than {self.most} run"
+        return f"{self.count} threads weren't looked at: {self.over or f'more than {self.most} run'}"
 
 
 @dataclass(frozen=True)

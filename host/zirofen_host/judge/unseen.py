@@ -126,7 +126,8 @@ def capabilities(checked: Checked) -> Iterator[Told]:
     for process in checked.snapshot.processes.values():
         left[process.uid] += process.threads_left
     for uid, count in sorted((uid, count) for uid, count in left.items() if count):
-        yield of_user(checked, uid, UnlookedThreads(checked.names.user(uid), count, bounded.THREADS.most))
+        over = checked.snapshot.over.get(checked.holds.payer(uid))
+        yield of_user(checked, uid, UnlookedThreads(checked.names.user(uid), count, bounded.THREADS.most, over))
 
 
 def search_bits(checked: Checked) -> Iterator[Told]:

@@ -19,8 +19,9 @@ def write_lines(delegations: Delegations) -> bool:
              for each in delegations.guarded(path)}
     lines, all_matter = [], True
     cut: Dict[int, int] = {}
-    for path, user in found:
-        user, left_out = delegations.with_few_groups(user, first)
+    few = {user: delegations.with_few_groups(user, first) for user in {user for _, user in found}}
+    for path, each in found:
+        user, left_out = few[each]
         all_matter = all_matter and first.isdisjoint(left_out)
         cut.update({user.uid: len(left_out)} if left_out else {})
         lines.append(line(path, user))
