@@ -152,8 +152,13 @@ def is_root(path: AnyPath) -> bool:
 
 
 def parts_of(path: CgroupPath) -> List[bytes]:
-    """The names on the way to a cgroup, by which paths are in the order of their tree."""
+    """The names on the way to a cgroup."""
     return path.split(b"/")
+
+
+def tree_order(path: CgroupPath) -> bytes:
+    """What paths are sorted by to be in the order of their tree: as their names are, of which none has a byte of 0."""
+    return path.replace(b"/", b"\0")
 
 
 def text_of(path: CgroupPath) -> str:

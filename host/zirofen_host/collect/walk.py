@@ -103,7 +103,7 @@ class Walk:
         self.mount = os.fsencode(mount)
         self.payer = payer
         self.further = frozenset(further)
-        self.cgroups, self.bytes = Spent(bounded.CGROUPS, payer), Spent(bounded.CGROUP_BYTES, payer)
+        self.cgroups, self.bytes, self.levels = (Spent(budget, payer) for budget in (bounded.CGROUPS, bounded.CGROUP_BYTES, bounded.LEVELS))
         self.tops: Optional[FrozenSet[CgroupPath]] = None if tops is None else topmost(tops)
         self.on_the_way = {place for top in self.tops or () for place in ancestors(top)}
         self.found: Dict[CgroupPath, Cgroup] = {}
@@ -166,6 +166,7 @@ class Walk:
             self.hold_at(path, directory[0])
             self.charge(self.cgroups)
             self.charge(self.bytes, len(path))
+            self.charge(self.levels, path.count(b"/"))
             found, names = self.read_files(path, folder, directory)
             return found, self.children(path, folder, names)
         except (OSError, ValueError, Vanished) as error:

@@ -5,7 +5,7 @@ import os
 import re
 import stat
 from dataclasses import dataclass, replace
-from typing import Dict, FrozenSet, Iterable, List, Mapping, NamedTuple, NoReturn, Optional, Tuple, Union
+from typing import AbstractSet, Dict, FrozenSet, Iterable, Iterator, List, Mapping, NamedTuple, NoReturn, Optional, Tuple, Union
 
 from zirofen_host.collect import bounded
 from zirofen_host.collect.model import GROUP, OTHERS, OWNER
@@ -16,7 +16,7 @@ from zirofen_host.judge.model import ABSENT, Absent, Acceptance, EntryFinding, O
 from zirofen_host.judge.rules import (ACCEPTABLE, HELD, OPENED, ROOT_INSIDE, RULES, RUNS, Finding, Rule, findings_of, of_held,
                                       of_running)
 from zirofen_host.output import opened_back, refused
-from zirofen_host.profile import ANYBODY, ancestors, shown
+from zirofen_host.profile import ANYBODY, is_inside, path_of, shown, tree_order
 
 KEYS = ("what", "path", "entry", "whom", "reason", "until")
 OVER, UNMET, WORSE = "over", "unmet", "worse"
@@ -209,5 +209,17 @@ def accepted_subtrees(report: Report) -> FrozenSet[str]:
     if not accepted:
         return frozenset()
     others = {path for each in report.entries if each.accepted is ABSENT for path in each.subtrees}
-    places = {each.path: {each.path, *ancestors(each.path)} for each in report.subtrees}
-    return frozenset(path for path, above in places.items() if above & accepted and not above & others)
+    return frozenset(walked_down((each.path for each in report.subtrees), accepted, others))
+
+
+def walked_down(paths: Iterable[str], accepted: AbstractSet[str], others: AbstractSet[str]) -> Iterator[str]:
+    """Those of some paths that are inside of what is accepted and of nothing else: from the top down, so that each is looked at once."""
+    wanted = set(paths)
+    above = [("/", "/" in accepted, "/" in others)]
+    for path in sorted(wanted.union(accepted, others), key=lambda path: tree_order(path_of(path))):
+        while not is_inside(path, above[-1][0]):
+            above.pop()
+        _, is_accepted, is_other = above[-1]
+        above.append((path, is_accepted or path in accepted, is_other or path in others))
+        if path in wanted and above[-1][1:] == (True, False):
+            yield path

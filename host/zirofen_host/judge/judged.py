@@ -10,7 +10,7 @@ from zirofen_host.collect import bounded
 from zirofen_host.collect.bounded import Spent
 from zirofen_host.collect.model import GROUP, OTHERS, OWNER, Entry, User
 from zirofen_host.fault import FAULT
-from zirofen_host.profile import ANYBODY, CgroupPath, is_inside, parts_of
+from zirofen_host.profile import ANYBODY, CgroupPath, is_inside, tree_order
 
 # what lets somebody in where no entry does
 OVER, UNKNOWN = "already-over", "unknown"
@@ -96,8 +96,8 @@ def uncontained(questions: Questions, answers: Answers) -> List[Uncontained]:
     return found
 
 
-def in_turn(pair: Pair) -> Tuple[Sequence[bytes], bool, User]:
-    return parts_of(pair.subtree), pair.user.uid != ANYBODY, pair.user
+def in_turn(pair: Pair) -> Tuple[bytes, bool, User]:
+    return tree_order(pair.subtree), pair.user.uid != ANYBODY, pair.user
 
 
 def faults_of(found: Iterable[Uncontained]) -> Mapping[Tuple[User, str], Sequence[CgroupPath]]:

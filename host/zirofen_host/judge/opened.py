@@ -14,7 +14,7 @@ from zirofen_host.collect.model import GROUP, OTHERS, OWNER, Entry, Snapshot, Us
 from zirofen_host.collect.walk import MANAGERS_MARK
 from zirofen_host.files import PRESSURE, is_known, may_set
 from zirofen_host.judge.judged import LetIn, Place
-from zirofen_host.profile import ANYBODY, CONTROL_FILES, FURTHER_FILES, LIMIT_FILES, CgroupPath, is_root, parts_of
+from zirofen_host.profile import ANYBODY, CONTROL_FILES, FURTHER_FILES, LIMIT_FILES, CgroupPath, is_root, tree_order
 
 GROUP_WRITES, OTHERS_WRITE, SOMEBODY_WRITES = 0o020, 0o002, 0o222
 # why a directory counts in which a manager makes what it starts: it adopts a cgroup that it finds there
@@ -69,7 +69,7 @@ def unknown_files(snapshot: Snapshot) -> Mapping[str, bool]:
 def find_openings(snapshot: Snapshot, questions: Questions, spent: Spent) -> Iterator[Tuple[Place, Entry, List[LetIn]]]:
     """Every opening, with whom it lets in, but for what is over the budget of whoever made its cgroup."""
     looked = Looked(snapshot, questions, set(questions.subtrees), unknown_files(snapshot))
-    for path in sorted(snapshot.cgroups, key=parts_of):
+    for path in sorted(snapshot.cgroups, key=tree_order):
         found = snapshot.cgroups[path]
         for name, entry in sorted({"dir": found.directory, **found.files}.items()):
             if entry.is_reached and looked.covers(Place(path, name)):
