@@ -26,7 +26,13 @@ class OutOfTime(BaseException):
 class _Clock:
     """When the run has to have ended, where there is a bound."""
     end: Optional[float] = None
+    # when the program has to have been asked, so that what it answered is still told
+    end_of_asking: Optional[float] = None
     told = ""
+
+
+# the part of the time in which the program is asked
+ASKING = 0.8
 
 
 def bound(seconds: Optional[int]) -> None:
@@ -34,7 +40,7 @@ def bound(seconds: Optional[int]) -> None:
     if seconds:
         def end_run(*_: object) -> NoReturn:
             raise out_of_time()
-        _Clock.end = time.monotonic() + seconds
+        _Clock.end, _Clock.end_of_asking = time.monotonic() + seconds, time.monotonic() + ASKING * seconds
         _Clock.told = f"it took longer than {seconds} seconds, and this is no answer"
         signal.signal(signal.SIGALRM, end_run)
         signal.alarm(seconds)
@@ -43,6 +49,11 @@ def bound(seconds: Optional[int]) -> None:
 def seconds_left() -> Optional[float]:
     """The seconds that what is started now may take, where there is a bound."""
     return None if _Clock.end is None else max(_Clock.end - time.monotonic(), 0.0)
+
+
+def seconds_to_ask() -> Optional[float]:
+    """The seconds in which the program may still be asked, where there is a bound."""
+    return None if _Clock.end_of_asking is None else max(_Clock.end_of_asking - time.monotonic(), 0.0)
 
 
 def out_of_time() -> OutOfTime:

@@ -4,6 +4,7 @@ import json
 import os
 import subprocess
 import sys
+import time
 import unittest
 from unittest import mock
 
@@ -12,8 +13,8 @@ import scaling
 from check_test import HostTest, owned
 from made_up import COMMAND, MEMORY, accounts_with, small_texts
 from shown import made
-from zirofen_host import command
-from zirofen_host.ask import accepted
+from zirofen_host import command, fault
+from zirofen_host.ask import accepted, in_time
 from zirofen_host.ask import program as asking
 from zirofen_host.ask.model import Question
 from zirofen_host.ask.questions import Runs, bounded_further, subtrees_by
@@ -577,6 +578,33 @@ class SecondsTest(ThreeTest):
                                 "--accounts", self.host.etc, "--zirofen", program, "--seconds", "1"], capture_output=True, text=True)
         self.assertEqual((ended.stdout, ended.stderr, ended.returncode),
                          ("", "zirofen-host check: it took longer than 1 seconds, and this is no answer\n", 3))
+
+    def test_what_was_asked_in_time_is_told(self):
+        """A program that never comes to an end where one user's many subtrees are asked of: the others have their answers."""
+        for number in range(5):
+            self.host.cgroup(f"/alice{number}", owners=owned(1000))
+        start, slow = asking.Program.start, []
+
+        def started(of, words):
+            if any(word.startswith("/alice") for word in words):
+                slow.append(of.limit)
+                raise subprocess.TimeoutExpired(words, 1)
+            return start(words)
+        clock = mock.patch.multiple(fault._Clock, end_of_asking=time.monotonic() + 100, end=time.monotonic() + 200)
+        with clock, mock.patch.object(asking.Program, "start", started):
+            found = self.report()
+        self.others(found)
+        self.assertEqual((found["status"], len(slow)), (3, 2))
+        (fault_of,) = found["faults"]
+        self.assertRegex(fault_of["fault"], "^there was no time to ask of it: of [0-9]+ seconds [0-9]+ went to what uid [0-9]+ holds$")
+        self.assertEqual(fault_of["subtrees"], ["/alice", *(f"/alice{number}" for number in range(5))])
+
+    def test_whoever_holds_the_most_is_asked_of_last(self):
+        one, two = User(1, ()), User(2, ())
+        asked = [Question((one, two), (b"/a1", b"/b1", b"/a2")), Question((one,), (b"/a3", b"/c1"))]
+        found = in_time.by_holder(asked, lambda path: {b"a": 1000, b"b": 1001, b"c": 1002}[path[1:2]])
+        self.assertEqual([(person, [each.subtrees for each in some]) for person, some in found.items()],
+                         [(1002, [(b"/c1",)]), (1001, [(b"/b1",)]), (1000, [(b"/a1", b"/a2"), (b"/a3",)])])
 
 
 class LargeTest(ThreeTest):

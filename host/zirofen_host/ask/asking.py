@@ -3,6 +3,7 @@ from dataclasses import dataclass
 from typing import Callable, Iterable, List, Mapping, Sequence
 
 from zirofen_host.ask.held import movers
+from zirofen_host.ask.in_time import NotInTime
 from zirofen_host.ask.model import Answers, Plan, Question
 from zirofen_host.ask.program import TooLarge, abilities_of
 from zirofen_host.ask.questions import Questions, Runs, bounded_further, bounded_plan, further_of, plan_of, questions_of
@@ -71,9 +72,10 @@ def ask_in_texts(snapshot: Snapshot, accounts: Accounts, options: Options, folde
     plan, over = bounded_plan(questions, plan_of(questions), runs)
     lost.update(over)
     questions = questions.without(over)
-    found, refused = programs.ask(plan.questions, abilities.has_audit_all)
+    found, refused = programs.ask(plan.questions, abilities.has_audit_all, questions.person_of)
+    questions = questions.without({path for path, why in refused.items() if isinstance(why, NotInTime)})
     further, not_asked = bounded_further(*further_of(questions, plan, found), runs)
-    more, refused_then = programs.ask(further, abilities.has_audit_all)
+    more, refused_then = programs.ask(further, abilities.has_audit_all, questions.person_of)
     found.update(more)
     if abilities.has_settle and abilities.has_audit_all:
         settled = programs.settled(found, everybody(snapshot.tree, plan, further), settleable(

@@ -15,7 +15,7 @@ from typing import Callable, Collection, Container, Dict, Iterable, Iterator, Li
 from zirofen_host import ending, output, progress
 from zirofen_host.ask.model import Abilities, Advice, Answer, Pair, Question
 from zirofen_host.collect.model import User
-from zirofen_host.fault import FAULT, Fault, out_of_time, seconds_left
+from zirofen_host.fault import FAULT, Fault, out_of_time, seconds_left, seconds_to_ask
 from zirofen_host.installed import WRAPPER
 from zirofen_host.profile import CgroupPath, text_of
 
@@ -66,10 +66,20 @@ class Refused(Exception):
         super().__init__(line)
         self.is_whole, self.help_lines, self.is_too_large, self.is_of_tree = is_whole, tuple(help_lines), is_too_large, is_of_tree
 
-    def fault(self) -> Fault:
+    def fault(self) -> BaseException:
         if self.is_too_large:
             return TooLarge(str(self))
         return (TreeRefused if self.is_of_tree else Fault)(str(self), self.help_lines)
+
+
+class Late(Refused):
+    """There was no time for a run; by itself it ends all of what was to be answered."""
+
+    def __init__(self) -> None:
+        super().__init__(NO_TIME, True)
+
+    def fault(self) -> BaseException:
+        return out_of_time()
 
 
 def size(words: Iterable[str]) -> int:
@@ -114,13 +124,20 @@ class Program:
     is_large: bool = False
     # when what is asked in a large text has to have ended
     end: Optional[float] = None
+    # when a run has to have ended by itself
+    limit: Optional[float] = None
 
     def until(self, end: float) -> "Program":
         """The same, where the text is large as long as there is time."""
         return replace(self, end=end) if self.is_large else self
 
+    def in_half(self) -> "Program":
+        """The same, of which a run takes half of what is left of the time, so that the other half is there to tell what is known."""
+        left = seconds_left()
+        return self if left is None else replace(self, limit=time.monotonic() + left / 2)
+
     def start(self, words: Sequence[str]) -> "subprocess.CompletedProcess[str]":
-        bounds = (seconds_left(), None if self.end is None else max(self.end - time.monotonic(), 0.0))
+        bounds = (seconds_left(), *(None if end is None else max(end - time.monotonic(), 0.0) for end in (self.end, self.limit)))
         return ending.run([self.path, *words], min((each for each in bounds if each is not None), default=None))
 
     def try_start(self, words: Sequence[str]) -> "subprocess.CompletedProcess[str]":
@@ -131,7 +148,7 @@ class Program:
         except subprocess.TimeoutExpired:
             if self.end is not None:
                 raise Refused(NO_TIME, True, (), True) from None
-            raise out_of_time() from None
+            raise Late from None
 
     def run(self, *words: str) -> Ended:
         ended = self.try_start(words)
@@ -154,7 +171,8 @@ class Program:
         """Whether a user's operations come to their end and break a subtree; Refused is for the caller."""
         file = f"{self.tree}.{os.urandom(8).hex()}.ops"
         output.make(file, "".join(f"{line}\n" for line in operations).encode("ascii", "replace"))
-        return self.run("replay", "--tree", self.tree, *user_words(user), "--ops", file, "--subtree", text_of(subtree)).status == ESCAPES
+        words = ("replay", "--tree", self.tree, *user_words(user), "--ops", file, "--subtree", text_of(subtree))
+        return self.in_half().run(*words).status == ESCAPES
 
     def ask(self, questions: Iterable[Question], has_audit_all: bool) -> Answered:
         """The answers that aren't contained."""
@@ -166,6 +184,8 @@ class Program:
         try:
             for answers in at_once(lambda run: asked_in_halves(audit, run.users, run.subtrees), runs, self.memory):
                 found.update(answers)
+        except Late:
+            raise
         except Refused as refused:
             raise refused.fault() from None
         return found
@@ -183,13 +203,14 @@ class Program:
         asked: Dict[Pair, Optional[Answer]] = {}
         together = set(users)
         if sum(size(["--uid", user_word(user)]) for user in users) <= ROOM // 2:
-            bounded = replace(self, end=time.monotonic() + SETTLING_SECONDS)
+            seconds = seconds_to_ask()
+            bounded = replace(self, end=time.monotonic() + (SETTLING_SECONDS if seconds is None else min(seconds, SETTLING_SECONDS)))
             for subtrees in blocks_of(left, lambda path: ["--subtree", text_of(path)], ROOM // 2, SETTLED):
                 progress.tell(f"settling {len(subtrees)} subtrees")
                 try:
                     answers = bounded.listed(users, subtrees, "--all", "--settle")
                 except Refused as refused:
-                    if refused.is_too_large:
+                    if refused.is_too_large or isinstance(refused, Late):
                         break
                     if refused.is_whole:
                         raise refused.fault() from None

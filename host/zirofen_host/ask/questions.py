@@ -108,6 +108,10 @@ class Questions:
             return user.uid in holders.uids
         return user.gids[:1] == holders.ids[:1] if holders.by == GROUP else not user.gids
 
+    def person_of(self, path: CgroupPath) -> int:
+        """The person by whom a subtree is held, the first of several."""
+        return min((self.accounts.payer(uid) for uid in self.holders[path].uids), default=0)
+
     def is_asked_as_holder(self, user: User, path: CgroupPath) -> bool:
         """Whether a user holds a subtree and isn't above it, or nobody holds it who isn't."""
         return self.holds(user, path) and (not self.is_above(user.uid, path) or self.is_held_from_above(path))

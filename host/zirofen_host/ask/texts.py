@@ -14,6 +14,7 @@ from itertools import accumulate
 from typing import AbstractSet, Callable, Container, Dict, Iterable, List, Mapping, Sequence, Set, Tuple
 
 from zirofen_host import output, progress
+from zirofen_host.ask.in_time import HolderOf, ask_in_time
 from zirofen_host.ask.model import Advice, Pair, Question
 from zirofen_host.ask.program import UNSETTLED, Answered, Program, TreeRefused
 from zirofen_host.ask.reasons import TextRefused, TooLargeForText, TooLong, TooManyCgroups
@@ -246,8 +247,9 @@ class Programs:
     # where a text couldn't be kept, and why
     failed: Sequence[Failed] = ()
 
-    def ask(self, questions: Sequence[Question], has_audit_all: bool) -> Tuple[Answered, Dict[CgroupPath, Reason]]:
-        """The answers that aren't contained, and the subtrees whose text was refused, each with the program's line."""
+    def ask(self, questions: Sequence[Question], has_audit_all: bool, holder_of: HolderOf) -> Tuple[Answered, Dict[CgroupPath, Reason]]:
+        """The answers that aren't contained, and the subtrees whose text was refused, each with the program's line, or for which there
+        was no time."""
         found: Answered = {}
         refused: Dict[CgroupPath, Reason] = {}
         until = time.monotonic() + LARGE_SECONDS
@@ -258,7 +260,9 @@ class Programs:
             if some:
                 progress.tell(f"asking of {len(text.subtrees)} subtrees in text {number} of {len(self.texts)}")
                 try:
-                    found.update(self.of[text.subtrees[0]].until(until).ask(some, has_audit_all))
+                    answers, late = ask_in_time(self.of[text.subtrees[0]].until(until), some, has_audit_all, holder_of)
+                    found.update(answers)
+                    refused.update(late)
                 except TreeRefused as fault:
                     if len(self.texts) == 1:
                         raise
@@ -277,7 +281,7 @@ class Programs:
 
     def advise(self, pairs: Sequence[Pair]) -> List[Advice]:
         """What is advised for pairs of one text."""
-        return self.of[pairs[0].subtree].advise(pairs)
+        return self.of[pairs[0].subtree].in_half().advise(pairs)
 
 
 def write(texts: Texts, options: Options, place: str, snapshot: Snapshot) -> Programs:

@@ -2,6 +2,7 @@
 from collections import Counter, defaultdict
 from typing import DefaultDict, Dict, Iterable, List, Mapping, Optional, Set, Tuple, Union
 
+from zirofen_host.ask.in_time import NotInTime
 from zirofen_host.ask.program import ESCAPES
 from zirofen_host.ask.questions import unit_of
 from zirofen_host.ask.reasons import TextRefused, TooLargeForText
@@ -161,8 +162,8 @@ def makers_below(checked: Checked) -> Mapping[CgroupPath, Set[Optional[str]]]:
 def makers_of(checked: Checked, below: Mapping[CgroupPath, Set[Optional[str]]], path: CgroupPath,
               why: Reason) -> Optional[str]:
     """Those by whose own making alone a subtree goes without an answer: it is too large, or what they hold inside of it changes
-    all the time. What is above it, or what root alone has, is of nobody's making, and so is what can't be read."""
-    if isinstance(why, TextRefused) or not checked.snapshot.changing.keys().isdisjoint(ancestors(path)):
+    all the time. What is above it, or what root alone has, is of nobody's making, and so is what can't be read or asked in time."""
+    if isinstance(why, (NotInTime, TextRefused)) or not checked.snapshot.changing.keys().isdisjoint(ancestors(path)):
         return None
     largest = maker_of_most(checked, path) if isinstance(why, TooLargeForText) else None
     makers = below.get(path) or {largest or holder_at(checked, path)}
