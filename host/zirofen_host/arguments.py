@@ -4,11 +4,14 @@ import os
 from typing import Callable, Dict, Sequence, Type
 
 from zirofen_host.fault import Parser
-from zirofen_host.installed import MANUAL, TOLD_PROGRAM, default_program
+from zirofen_host.installed import MANUAL, NAME, TOLD_PROGRAM, default_program
 from zirofen_host.options import MOUNT, PROC, Way
 from zirofen_host.profile import NEWEST, TEXT_FORMATS, is_number
 
-NAME = "zirofen-host"
+ABOUT = f"""The helpers of zirofen for a running host: from its cgroups to answers. They are no part of what is proved.
+
+usage: {NAME} COMMAND ..      what each does: {NAME} COMMAND --help
+       {NAME} --version"""
 LARGEST_ID = 4294967295
 # what a check writes
 FORMATS = ("text", "json", "sarif", "junit", "metrics")

@@ -1,6 +1,7 @@
 """Where the package stands, in a clone or installed, and what is beside it."""
 import os
 
+NAME = "zirofen-host"
 TOP = os.path.dirname(os.path.dirname(os.path.dirname(os.path.realpath(__file__))))
 WRAPPER = os.path.join(TOP, "zirofen")
 PREFIX = os.path.normpath(os.path.join(TOP, "../.."))
@@ -18,3 +19,8 @@ TOLD_PROGRAM = "the wrapper beside this folder" if IS_CLONE else PROGRAM
 def default_program() -> str:
     """The program that is asked where none is named."""
     return os.environ.get("ZIROFEN", WRAPPER if IS_CLONE else PROGRAM)
+
+
+def has_command(name: str) -> bool:
+    """Whether there is a command of a name."""
+    return os.path.isfile(os.path.join(os.path.dirname(__file__), "runs", f"{name}.py"))

@@ -1,13 +1,12 @@
 """A report in each way that was asked for."""
-import functools
-from typing import Callable, Dict, Iterable, Iterator, Tuple
+import importlib
+from typing import Callable, Iterable, Iterator, Tuple
 
 from zirofen_host import fault, output
 from zirofen_host.judge import as_json
 from zirofen_host.judge.mends import KINDS
 from zirofen_host.options import CheckOptions, Way
 from zirofen_host.profile import shown
-from zirofen_host.show import junit, lines, mends, metrics, sarif
 from zirofen_host.show.run import Run
 
 STANDARD_OUTPUT = "-"
@@ -49,6 +48,7 @@ def name_of(way: Way) -> str:
 
 def text_parts(run: Run, is_each: bool) -> Iterator[str]:
     """The lines that are printed, which harm no terminal."""
+    from zirofen_host.show import lines
     report, compared = run.report, run.comparison
     told = lines.comparison_lines(report, compared, is_each) if compared else lines.lines_of(report, is_each)
     return (f"{fault.plain(line)}\n" for line in told)
@@ -59,14 +59,22 @@ def json_parts(run: Run) -> Iterator[str]:
     yield "\n"
 
 
-PARTS: Dict[str, Callable[[Run], Iterator[str]]] = {
-    "json": json_parts, "junit": junit.parts_of, "metrics": metrics.parts_of, "sarif": sarif.parts_of,
-    **{kind: functools.partial(mends.parts_of, kind=kind) for kind in KINDS}}
+def parts_of(kind: str, run: Run, is_each: bool) -> Iterator[str]:
+    """The parts of a report of one kind, each of which is imported where it is written."""
+    if kind == "text":
+        return text_parts(run, is_each)
+    if kind == "json":
+        return json_parts(run)
+    if kind in KINDS:
+        from zirofen_host.show import mends
+        return mends.parts_of(run, kind)
+    parts: Callable[[Run], Iterator[str]] = importlib.import_module(f"zirofen_host.show.{kind}").parts_of
+    return parts(run)
 
 
 def write(way: Way, run: Run, is_each: bool = False) -> None:
     """Writes a report in one way."""
-    write_parts(way, text_parts(run, is_each) if way.kind == "text" else PARTS[way.kind](run))
+    write_parts(way, parts_of(way.kind, run, is_each))
 
 
 def write_parts(way: Way, parts: Iterable[str]) -> None:

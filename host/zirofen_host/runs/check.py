@@ -1,0 +1,87 @@
+"""Asks of everybody, and writes a report in each way that was asked for."""
+import argparse
+import dataclasses
+import functools
+import time
+from datetime import datetime, timezone
+from typing import Callable, Iterable, List, Optional, Tuple
+
+from zirofen_host import fault
+from zirofen_host.ask import accepted
+from zirofen_host.ask.program import program_at
+from zirofen_host.ask.questions import subtrees_by
+from zirofen_host.collect.looks import why_of
+from zirofen_host.installed import NAME
+from zirofen_host.judge import acceptances, baseline, check, settings
+from zirofen_host.judge.model import Report
+from zirofen_host.options import CheckOptions, Way
+from zirofen_host.profile import shown
+from zirofen_host.show import formats
+from zirofen_host.show.run import Run
+
+
+def run(given: argparse.Namespace) -> int:
+    given.format, given.mends = tuple(given.format), tuple(given.mends)
+    options, began = CheckOptions(**vars(given)), time.monotonic()
+    ways = formats.ways_to_check(options)
+    options = dataclasses.replace(options, program=program_at(options.program))
+    before = baseline.read(options.baseline) if options.baseline else None
+    granted = acceptances_of(options)
+    is_first = bool(options.baseline) and before is None
+    is_whole = bool(formats.is_whole(ways) or options.html or options.baseline_update or is_first)
+    before_the_walk = settings.read(settings.systemctl_of(options))
+    taken = accepted.take(options, subtrees_by(options))
+    report = check.report(taken, options, is_whole, before_the_walk)
+    if granted is not None:
+        report = acceptances.applied(report, granted, datetime.now(timezone.utc).date())
+    comparison = baseline.compared(report, before, options.baseline) if before and options.baseline else None
+    if comparison:
+        report = dataclasses.replace(report, baseline=comparison)
+    status = comparison.status if comparison else report.status
+    run = Run(report, status, options.tree, taken.source.file, time.monotonic() - began, time.time())
+    return status if write_all(options, ways, run, is_first) else fault.FAULT
+
+
+def acceptances_of(options: CheckOptions) -> Optional[Tuple[acceptances.Given, ...]]:
+    """What somebody accepts one by one; where the file isn't there a line says that this is nothing."""
+    if options.accept is None:
+        return None
+    given = acceptances.read(options.accept)
+    if given is None:
+        fault.warn(f"{NAME} check: {shown(options.accept)} isn't there, and so nothing is accepted by it")
+    return given
+
+
+def write_all(options: CheckOptions, ways: Iterable[Way], run: Run, is_first: bool) -> bool:
+    """Writes a report in each way that was asked for. Where one fails a line says which, and the others are written; whether all
+    were."""
+    written: List[Tuple[str, Callable[[], None]]] = [
+        (formats.name_of(way), functools.partial(formats.write, way, run, options.each)) for way in ways]
+    if options.html:
+        written.append(("the page", functools.partial(write_page, options.html, run.report)))
+    if options.baseline or options.baseline_update:
+        written.append(("the baseline", lambda: keep_baseline(options, ways, run.report, is_first)))
+    failed = 0
+    for what, write in written:
+        try:
+            write()
+        except Exception as error:
+            failed += 1
+            fault.warn(f"{NAME} check: {'' if isinstance(error, fault.Fault) else what + ': '}{why_of(error)}")
+    return not failed
+
+
+def write_page(file: str, report: Report) -> None:
+    from zirofen_host.show import page
+    page.write(file, [report])
+
+
+def keep_baseline(options: CheckOptions, ways: Iterable[Way], report: Report, is_first: bool) -> None:
+    """Leaves what was found as a baseline: that of a first run accepts nothing, and one that was asked for all of it."""
+    if options.baseline and is_first and options.baseline != options.baseline_update:
+        baseline.write(options.baseline, report, False)
+        fault.warn(f"{NAME} check: {shown(options.baseline)} is a baseline from now on, which accepts nothing")
+    if options.baseline_update:
+        baseline.write(options.baseline_update, report, True)
+        if Way("text") in ways:
+            fault.write_lines(baseline.accepted_lines(report))

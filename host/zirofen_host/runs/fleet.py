@@ -1,0 +1,10 @@
+"""Tells of many hosts by their reports."""
+import argparse
+
+from zirofen_host.options import FleetOptions
+from zirofen_host.show import fleet_run
+
+
+def run(given: argparse.Namespace) -> int:
+    given.format = tuple(given.format)
+    return fleet_run.tell(FleetOptions(**vars(given)))

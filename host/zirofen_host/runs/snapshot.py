@@ -1,0 +1,27 @@
+"""Writes a host as a tree text."""
+import argparse
+from typing import Iterator, Mapping
+
+from zirofen_host import fault
+from zirofen_host.collect import elsewhere, fitting, snapshot
+from zirofen_host.collect.accounts import accounts_of, payer_of
+from zirofen_host.collect.holds import holds_of
+from zirofen_host.collect.model import Snapshot
+from zirofen_host.options import SnapshotOptions
+
+
+def run(given: argparse.Namespace) -> int:
+    options = SnapshotOptions(**vars(given))
+    taken = snapshot.take(options, snapshot.all_that_changes)
+    accounts = accounts_of(options.accounts, taken) if options.with_host else None
+
+    def carried(of: Snapshot) -> Iterator[Mapping[str, object]]:
+        yield from fitting.told_changing(of)
+        if accounts:
+            yield from elsewhere.carried(of, accounts)
+    holds = holds_of(taken, accounts.payer if accounts else payer_of(options.accounts))
+    taken, text = elsewhere.fitting_text(taken, holds, carried, not options.no_processes)
+    for line in snapshot.note_lines(taken):
+        fault.warn(line)
+    fault.write(text)
+    return 0
