@@ -53,6 +53,7 @@ class UnitsTest(unittest.TestCase):
     def planned(self, *files, systemd=257, folders=(), tree=TREE):
         snapshot = replace(snapshot_of(tree), source=Source("a.toml", Carried(ACCOUNTS, {})))
         lines, named = units.planned(snapshot, ACCOUNTS, read_units(files, folders), systemd, {"H": "web1.example", "l": "web1"})
+        lines = [" ".join(words) for words in lines]
         # whatever is planned can be carried out
         self.behind = changes.changed(snapshot, "\n".join(lines))
         return lines, named
@@ -120,8 +121,8 @@ Slice=b.slice\nDelegate=cpu\nUser=app\n{text}"""))
         snapshot = replace(snapshot_of(TREE), source=Source("a.toml", None))
         unit = self.write("a.service", "[Service]\nUser=app\nDelegate=yes\nExecStart=/x\n")
         lines, _ = units.planned(snapshot, ACCOUNTS, read_units((unit,), ()), 257, {})
-        changes.changed(snapshot, "\n".join(lines))
-        self.assertEqual([line.split()[2] for line in lines if line.startswith("chown")], ["dir", "cgroup.procs", "cgroup.subtree_control"])
+        changes.changed(snapshot, "\n".join(map(" ".join, lines)))
+        self.assertEqual([words[2] for words in lines if words[0] == "chown"], ["dir", "cgroup.procs", "cgroup.subtree_control"])
 
     def test_whose_it_is(self):
         for text, owner, uid in (("User=app\nGroup=ops\n", "900:77", 900), ("User=900\n", "900:901", 900),

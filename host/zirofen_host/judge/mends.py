@@ -1,5 +1,6 @@
 """What mends findings so that it stays: a drop-in of a unit where a setting brings what it should have, and else where to look."""
 import re
+import shlex
 from collections import defaultdict
 from dataclasses import dataclass
 from typing import Callable, DefaultDict, Dict, Iterable, Iterator, List, Mapping, Optional, Sequence, Tuple
@@ -31,6 +32,8 @@ ELSE: Dict[str, str] = {
     "acceptance": "mend the finding, or look at it anew and write down what is accepted now",
     FAILED: "run it as root, on the host and outside of containers"}
 NO_ANSWER = "no file of this host mends that: the line says why there is no answer"
+# what a manager takes as a unit's name, of which no letter has a meaning for a shell but the backslash
+_UNIT = re.compile(r"[A-Za-z0-9:_.@\\-]{1,255}\Z")
 _NUMBER = re.compile(r"[0-9]+")
 _QUOTA = re.compile(r"([0-9]+) ([1-9][0-9]*)")
 _LIST = re.compile(r"[0-9][0-9,-]*")
@@ -66,7 +69,7 @@ class Mend:
 def unit_at(path: str) -> Optional[Unit]:
     """The unit whose cgroup it is; a manager writes _ before a name that might be one of the kernel's."""
     name = unit_of(path_of(path)) or (path.rpartition("/")[2] if is_slice(path_of(path)) else None)
-    return None if name is None else Unit(name[1:] if name[:1] == "_" else name)
+    return Unit(name[1:] if name[:1] == "_" else name) if name is not None and _UNIT.match(name) else None
 
 
 def bytes_or_number(setting: str, value: str) -> List[str]:
@@ -181,8 +184,8 @@ def where_to_look(path: str, unit: Optional[Unit]) -> str:
     if unit is None:
         return f"Look for what makes {path}, and for chown and chmod in hooks and timers of root's"
     if unit.section == SERVICE:
-        return (f"Look at ExecStartPre=+, ExecStartPost=+ and their like (systemctl cat {unit.name}), and at hooks and timers of root's; "
-                f"what was done by hand ends when {unit.name} is started again")
+        return (f"Look at ExecStartPre=+, ExecStartPost=+ and their like (systemctl cat {shlex.quote(unit.name)}), and at hooks "
+                f"and timers of root's; what was done by hand ends when {unit.name} is started again")
     if unit.section == SLICE:
         return (f"Look at ExecStartPre=+ and ExecStartPost=+ of the units in {unit.name}, and at hooks and timers of root's; hand over a "
                 "unit with Delegate= and not its slice, which stays as it is as long as anything runs in it")

@@ -74,7 +74,7 @@ def lines_of(found: Accepted, options: PlanOptions) -> Tuple[str, List[str]]:
     host = taken.about.host
     known = {"H": host, "l": host.partition(".")[0]} if host else {}
     lines, named = units.planned(taken, accounts_of(options.accounts, taken).lists, files, version_of(options), known)
-    return "".join(f"{line}\n" for line in lines), named
+    return "".join(f"{' '.join(words)}\n" for words in lines), named
 
 
 def accept(text: str, options: PlanOptions) -> Accepted:

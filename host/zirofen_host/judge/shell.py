@@ -116,13 +116,25 @@ def commands(mount: str, text: str, user: Optional[User] = None) -> List[str]:
     return lines
 
 
+def is_change(words: Change) -> bool:
+    """Whether words are a change that can be advised: each of them by the rule of what it names."""
+    if len(words) != 4 or words[2] not in ENTRIES or not is_path(words[1]):
+        return False
+    word, _, entry, value = words
+    if word == "chown":
+        return re.fullmatch("[0-9]+:[0-9]+", value) is not None
+    if word == "chmod":
+        return re.fullmatch("[0-7]{3}", value) is not None
+    return word == "set" and (value == "max" or is_number(value))
+
+
 def change_commands(mount: str, changes: Iterable[Change], entry_of: Callable[[str, str], Entry]) -> Tuple[str, ...]:
     """The commands of all changes that the program advises, for one entry after another. Each mode that is advised takes
     bits from the one that stands, so that of several modes of an entry those bits are left which all of them have."""
     others: Dict[str, None] = {}
     modes: Dict[str, int] = {}
     for words in changes:
-        if len(words) != 4 or words[0] not in ("chown", "chmod", "set"):
+        if not is_change(words):
             raise Fault(f"an advice that isn't known: {' '.join(words)!r}")
         word, path, entry, value = words
         at = place(mount, path, entry)

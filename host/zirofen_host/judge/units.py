@@ -11,7 +11,7 @@ from zirofen_host.collect.snapshot import LARGEST_PID
 from zirofen_host.collect.unit_files import UnitFile, filled, specifiers
 from zirofen_host.fault import Fault
 from zirofen_host.profile import (CONTROL_FILES, CONTROLLERS, FURTHER_FILES, HANDED_OVER, LIMIT_FILES, ROOT, SETTINGS, CgroupPath,
-                                  ancestors, is_root, parent_of, path_of, text_of)
+                                  ancestors, is_name, is_root, parent_of, path_of, text_of)
 
 SERVICE, SLICE = "service", "slice"
 # what a manager of this version and of newer ones knows: subgroups, and giving a unit to a group alone
@@ -39,8 +39,14 @@ ACCOUNTING = re.compile(r"(CPU|Memory|IO|BlockIO|Tasks)Accounting\Z")
 RUNNING = ("PAMName", "SupplementaryGroups", "AmbientCapabilities", "PermissionsStartOnly", "PrivateUsers")
 CARRIED_OUT = {"User", "Group", "DynamicUser", "Delegate", "DelegateSubgroup", "Slice", *LIMITS}
 _SIZE = re.compile(r"([0-9]+)\s*([BKMGTPE]?)\Z")
+_SLICE = re.compile(r"[A-Za-z0-9:_.\\-]+\.slice\Z")
+_WORD = re.compile(r"[!-~]+\Z")
 # a command that root carries out; !! does so on kernels alone that nobody has any more
 _AS_ROOT = re.compile(r"[-@:|]*(\+|!(?!!))")
+
+
+# a change, as the words of a line
+Words = Tuple[str, ...]
 
 
 @dataclass
@@ -49,7 +55,7 @@ class Plan:
     snapshot: Snapshot
     accounts: AccountLists
     systemd: int
-    lines: List[str] = field(default_factory=list)
+    lines: List[Words] = field(default_factory=list)
     named: List[str] = field(default_factory=list)
     # the controllers that each cgroup enables
     enabled: Dict[CgroupPath, Set[str]] = field(default_factory=dict)
@@ -63,6 +69,12 @@ class Plan:
         self.taken = {entry.uid for entry in entries} | {each.uid for each in self.accounts.accounts}
         self.taken |= {each.uid for each in tree.processes}
         self.pids = {each.pid for each in tree.processes}
+
+    def change(self, *words: str) -> None:
+        """One more change, each word of which stays one in a line."""
+        if not all(map(_WORD.match, words)):
+            raise Fault(f"no change can be told with {' '.join(words)!a}: a word has printable ASCII alone, and no blank")
+        self.lines.append(words)
 
     @property
     def can_carry(self) -> bool:
@@ -79,7 +91,7 @@ class Plan:
         """A cgroup is there, and all above it; files of one that was there are as a new one's."""
         for place in [*reversed(list(ancestors(path))), path]:
             if place not in self.enabled:
-                self.lines.append(f"mkdir {text_of(place)}")
+                self.change("mkdir", text_of(place))
                 self.enabled[place] = set()
 
     def enable(self, path: CgroupPath, controllers: Iterable[str]) -> None:
@@ -88,7 +100,7 @@ class Plan:
         for place in reversed(list(ancestors(path))):
             more = [name for name in CONTROLLERS if name in wanted - self.enabled[place]]
             if more:
-                self.lines.append(f"control {text_of(place)} {' '.join('+' + name for name in more)}")
+                self.change("control", text_of(place), *(f"+{name}" for name in more))
                 self.enabled[place].update(more)
 
     def usual_tasks(self) -> Optional[str]:
@@ -139,7 +151,7 @@ class Started:
         if name.kind == SLICE:
             return slice_path(name.text)
         given = self.value("Slice")
-        if given and not given.endswith(".slice"):
+        if given and not _SLICE.match(given):
             self.name_it("Slice", given, "no name of a slice")
             given = None
         usual = "system.slice" if name.instance is None else f"system-{escaped(name.prefix)}.slice"
@@ -224,7 +236,7 @@ class Started:
 
     def start(self) -> None:
         path, delegated = self.path(), self.delegated()
-        lines, was_there = self.plan.lines, path in self.plan.enabled
+        was_there = path in self.plan.enabled
         if was_there and self.unit.name.kind == SERVICE:
             self.plan.named.append(f"{self.unit.name.text}: {text_of(path)} is there already: its files are planned as those of a new "
                                    "one, and what is inside stays as it is")
@@ -235,10 +247,14 @@ class Started:
                  if parent and (controller is None or controller in self.plan.enabled[parent])]
         if was_there and self.unit.name.kind == SERVICE:
             further = self.plan.further(path)
-            lines += [line for name in ("dir", *CONTROL_FILES, *files, *further) for line in
-                      (f"chown {text_of(path)} {name} 0:0", f"chmod {text_of(path)} {name} {'755' if name == 'dir' else '644'}")]
-            lines += [f"set {text_of(path)} {file} {LIMIT_FILES[file][1]}" for file in files]
-        lines += [f"set {text_of(path)} {file} {number}" for file, number in self.limits() if file in files]
+            for name in ("dir", *CONTROL_FILES, *files, *further):
+                self.plan.change("chown", text_of(path), name, "0:0")
+                self.plan.change("chmod", text_of(path), name, "755" if name == "dir" else "644")
+            for file in files:
+                self.plan.change("set", text_of(path), file, str(LIMIT_FILES[file][1]))
+        for file, number in self.limits():
+            if file in files:
+                self.plan.change("set", text_of(path), file, number)
         if self.unit.name.kind == SERVICE:
             self.run(path, delegated is not None)
         self.tell_the_rest()
@@ -247,24 +263,28 @@ class Started:
         """Who runs in it, and what is handed over to them."""
         uid, gid = self.user()
         subgroup = self.value("DelegateSubgroup")
+        if subgroup and not (subgroup.isascii() and is_name(subgroup.encode())):
+            self.name_it("DelegateSubgroup", subgroup, "no name of a cgroup")
+            subgroup = None
         if subgroup and self.plan.systemd < SUBGROUPS:
             self.name_it("DelegateSubgroup", subgroup, f"systemd {self.plan.systemd} doesn't know it")
             subgroup = None
         places = [path]
         if is_delegated:
             if self.plan.can_carry:
-                self.plan.lines.append(f"mark {text_of(path)}")
+                self.plan.change("mark", text_of(path))
             if subgroup:
                 places.append(path_of(f"{text_of(path)}/{subgroup}"))
                 self.plan.cgroup(places[-1])
             is_given = uid is not None or gid is not None and self.plan.systemd >= SUBGROUPS
             for place in places if is_given else ():
                 names = self.handed_over(place, place != path)
-                self.plan.lines += [f"chown {text_of(place)} {name} {uid or 0}:{gid or 0}" for name in names]
+                for name in names:
+                    self.plan.change("chown", text_of(place), name, f"{uid or 0}:{gid or 0}")
         commands = self.unit.listed("ExecStart")
         if commands:
             runs_as_root = all(map(_AS_ROOT.match, commands))
-            self.plan.lines.append(f"process {self.plan.pid()} {0 if runs_as_root else uid or 0} {text_of(places[-1])}")
+            self.plan.change("process", str(self.plan.pid()), str(0 if runs_as_root else uid or 0), text_of(places[-1]))
 
     def handed_over(self, path: CgroupPath, is_subgroup: bool) -> Iterator[str]:
         """The entries of a cgroup that are given to whoever runs in it, as far as the text has a place for them."""
@@ -320,7 +340,7 @@ def of_text(file: str, value: str) -> Optional[str]:
 
 
 def planned(snapshot: Snapshot, accounts: AccountLists, units: Sequence[UnitFile], systemd: int,
-            known: Mapping[str, str]) -> Tuple[List[str], List[str]]:
+            known: Mapping[str, str]) -> Tuple[List[Words], List[str]]:
     """The changes that starting units comes to, one after another, slices first; and what of them isn't told."""
     plan = Plan(snapshot, accounts, systemd)
     in_turn: Callable[[UnitFile], bool] = lambda unit: unit.name.kind != SLICE

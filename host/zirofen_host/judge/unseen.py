@@ -173,7 +173,9 @@ def unknown(checked: Checked) -> Iterator[Told]:
 
 def restarts(checked: Checked) -> Iterator[Told]:
     """Limits that a service's settings don't bring, and that are gone when it is started anew."""
-    units = {unit: path for path in checked.questions.subtrees if (unit := unit_of(path)) and unit.endswith(".service")}
+    # what somebody made may have the name of another unit, of which a manager tells
+    units = {unit: path for path in checked.questions.subtrees
+             if (unit := unit_of(path)) and unit.endswith(".service") and checked.holds.within(path) is None}
     for path, note in settings.restarts(checked.snapshot, units, settings.systemctl_of(checked.options), checked.settings):
         yield of_cgroup(checked, path, note)
 

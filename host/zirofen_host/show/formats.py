@@ -1,6 +1,7 @@
 """A report in each way that was asked for."""
+import functools
 import importlib
-from typing import Callable, Iterable, Iterator, Tuple
+from typing import Callable, Iterable, Iterator, Mapping, Tuple
 
 from zirofen_host import fault, output
 from zirofen_host.judge import as_json
@@ -59,10 +60,8 @@ def json_parts(run: Run) -> Iterator[str]:
     yield "\n"
 
 
-def parts_of(kind: str, run: Run, is_each: bool) -> Iterator[str]:
+def parts_of(kind: str, run: Run) -> Iterator[str]:
     """The parts of a report of one kind, each of which is imported where it is written."""
-    if kind == "text":
-        return text_parts(run, is_each)
     if kind == "json":
         return json_parts(run)
     if kind in KINDS:
@@ -72,9 +71,13 @@ def parts_of(kind: str, run: Run, is_each: bool) -> Iterator[str]:
     return parts(run)
 
 
+PARTS: Mapping[str, Callable[[Run], Iterator[str]]] = {
+    kind: functools.partial(parts_of, kind) for kind in ("json", "junit", "metrics", "sarif", *KINDS)}
+
+
 def write(way: Way, run: Run, is_each: bool = False) -> None:
     """Writes a report in one way."""
-    write_parts(way, parts_of(way.kind, run, is_each))
+    write_parts(way, text_parts(run, is_each) if way.kind == "text" else PARTS[way.kind](run))
 
 
 def write_parts(way: Way, parts: Iterable[str]) -> None:
