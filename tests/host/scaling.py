@@ -3,6 +3,7 @@
 that are read, lines, and seconds of processor. Run by hand:
 
     tests/host/scaling.py PROGRAM [N ..]
+    tests/host/scaling.py PROGRAM rows [NAME ..]    for each thing that a user may make: seconds of processor, best of 3, at N and 2 N
 """
 import contextlib
 import os
@@ -59,10 +60,90 @@ def host_with(folder, count):
     return host
 
 
-def cost(program, count):
+def with_processes(folder, count):
+    host = host_with(folder, 0)
+    for number in range(count):
+        host.process(10 + number, uid=1000, gid=1000)
+    return host
+
+
+def with_threads(folder, count):
+    host = host_with(folder, 0)
+    host.process(10, uid=1000, gid=1000, threads=(0,) * count)
+    return host
+
+
+def with_groups(folder, count):
+    """Processes of 1,000 groups each, of which each cgroup has one."""
+    host = host_with(folder, 0)
+    for number in range(count // 1000):
+        host.process(10 + number, uid=1000, gid=1000, groups=range(100000, 101000))
+    for number in range(100):
+        host.cgroup(f"/hostile/g{number}", owners={file: (1000, 100000 + number) for file in HANDED}, modes={"cgroup.procs": 0o664})
+    return host
+
+
+def with_lists(folder, count):
+    """Processes whose lists of groups differ, all of them in the group of one cgroup."""
+    host = host_with(folder, 0)
+    for number in range(count):
+        host.process(10 + number, uid=1000, gid=1000, groups=(99999, 100000 + number))
+        host.cgroup(f"/hostile/g{number}", owners={"dir": (1000, 100000 + number)})
+    return host
+
+
+def with_levels(folder, count):
+    """Chains of 60 levels."""
+    host = host_with(folder, 0)
+    for number in range(count // 60):
+        path = f"/hostile/chain{number}"
+        for _ in range(60):
+            host.cgroup(path, owners={file: (1000, 1000) for file in HANDED})
+            path += "/c"
+    return host
+
+
+def with_marks(folder, count):
+    host = host_with(folder, 0)
+    for number in range(count):
+        host.cgroup(f"/hostile/m{number}", owners={file: (1000, 1000) for file in HANDED}, marks=("user.delegate",))
+    return host
+
+
+def with_descriptors(folder, count):
+    host = host_with(folder, 0)
+    host.process(10, uid=1000, gid=1000)
+    for number in range(count):
+        host.opens(10, 3 + number, "/hostile/cgroup.procs", 1)
+    return host
+
+
+def with_delegations(folder, count):
+    """Subtrees of many users below one mode of root's that is wrong: what is left of it is the program's."""
+    host = host_with(folder, 0)
+    host.cgroup("/wrong", modes={"cgroup.procs": 0o646})
+    for number in range(count):
+        host.cgroup(f"/wrong/d{number}", owners={file: (2000 + number, 0) for file in HANDED})
+    return host
+
+
+# of lists and of delegations each is asked of each, so that twice of both is four times
+ROWS = {"cgroups": (host_with, 1000), "processes": (with_processes, 4000), "threads": (with_threads, 2000),
+        "groups": (with_groups, 200_000), "lists": (with_lists, 200), "levels": (with_levels, 1200), "marks": (with_marks, 1000), "descriptors": (with_descriptors, 2000),
+        "delegations": (with_delegations, 25)}
+
+
+def tell_rows(program, names):
+    for name in names or ROWS:
+        make, count = ROWS[name]
+        once, twice = (min(cost(program, each, make)[3] for _ in range(3)) for each in (count, 2 * count))
+        print(f"{name}: {count}: {once:.2f} s, {2 * count}: {twice:.2f} s of processor, {twice / once:.2f} times", flush=True)
+
+
+def cost(program, count, make=host_with):
     """What a check costs: runs, bytes, lines, seconds of processor of it and of the program, and its lines."""
     with tempfile.TemporaryDirectory(dir=MEMORY) as folder:
-        host = host_with(folder, count)
+        host = make(folder, count)
         options = CheckOptions(mount=host.mount, proc=host.proc, accounts=host.etc, program=program, plain_folder=True)
         before = used()
         with Counted().counting() as counted:
@@ -75,6 +156,9 @@ def used():
 
 
 def main():
+    if sys.argv[2:3] == ["rows"]:
+        tell_rows(sys.argv[1], sys.argv[3:])
+        return
     counts = list(map(int, sys.argv[2:])) or [500, 1000, 2000, 4000]
     for count in counts:
         runs, size, lines, seconds, _ = cost(sys.argv[1], count)
