@@ -129,8 +129,8 @@ def with_delegations(folder, count):
 
 # of lists and of delegations each is asked of each, so that twice of both is four times
 ROWS = {"cgroups": (host_with, 1000), "processes": (with_processes, 4000), "threads": (with_threads, 2000),
-        "groups": (with_groups, 200_000), "lists": (with_lists, 200), "levels": (with_levels, 1200), "marks": (with_marks, 1000), "descriptors": (with_descriptors, 2000),
-        "delegations": (with_delegations, 25)}
+        "groups": (with_groups, 200_000), "lists": (with_lists, 200), "levels": (with_levels, 1200), "marks": (with_marks, 1000),
+        "descriptors": (with_descriptors, 2000), "delegations": (with_delegations, 25)}
 
 
 def tell_rows(program, names):
