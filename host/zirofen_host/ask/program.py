@@ -184,9 +184,9 @@ class Program:
         try:
             for answers in at_once(lambda run: asked_in_halves(audit, run.users, run.subtrees), runs, self.memory):
                 found.update(answers)
-        except Late:
-            raise
         except Refused as refused:
+            if isinstance(refused, Late) and self.limit is not None:
+                raise
             raise refused.fault() from None
         return found
 
