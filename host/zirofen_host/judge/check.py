@@ -21,6 +21,7 @@ from zirofen_host.judge.finding_lines import SHOWN
 from zirofen_host.judge.findings import above_findings, differs_findings, entry_findings, fault_findings, opened_findings
 from zirofen_host.judge.severity import severity_of
 from zirofen_host.judge.judged import Own, judge
+from zirofen_host.judge.limits import limits_of
 from zirofen_host.judge.lists import shown_lists
 from zirofen_host.judge.marked import marked
 from zirofen_host.judge.model import ABSENT, VERSION, HeldBy, HolderAnswer, NamedScope, Report, Subtree, Told
@@ -116,7 +117,7 @@ def report_of(checked: Checked, is_whole: bool) -> Report:
         lists=looks.all("lists", lambda: shown_lists(checked, subtrees, entries)),
         root_inside=looks.all("root-inside", lambda: inside.findings(checked)) or ABSENT,
         scopes=looks.each("containers", snapshot.scopes, lambda each: named_scope(checked, each)) or ABSENT,
-        runs_elsewhere=runs or ABSENT, held_entries=entries_held or ABSENT)
+        runs_elsewhere=runs or ABSENT, held_entries=entries_held or ABSENT, limits=tuple(limits_of(checked)))
     if is_whole:
         made = replace(made, users=looks.all("users", lambda: whole.users_of(checked)),
                        groups=looks.all("groups", lambda: whole.groups_of(checked)), cgroups=whole.cgroups_of(checked, looks),

@@ -364,6 +364,13 @@ class Acceptance:
 
 
 @dataclass(frozen=True)
+class AnswerLimit:
+    """What narrows what a report answers: a word for its kind, and what was left out."""
+    kind: str
+    text: str
+
+
+@dataclass(frozen=True)
 class Report:
     version: int
     program: Optional[str]
@@ -400,6 +407,8 @@ class Report:
     accepted: Union[bool, Absent] = ABSENT
     # what somebody accepts one by one, where they do
     acceptances: Union[Tuple[Acceptance, ...], Absent] = ABSENT
+    # what narrows the question; a report of 0.2.0 doesn't tell it
+    limits: Union[Tuple[AnswerLimit, ...], Absent] = ABSENT
 
     @property
     def containers(self) -> Tuple[RootInside, ...]:

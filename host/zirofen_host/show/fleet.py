@@ -11,11 +11,11 @@ from zirofen_host.collect import bounded
 from zirofen_host.collect.looks import why_of
 from zirofen_host.collect.notes import FAILED
 from zirofen_host.fault import FAULT, Fault
-from zirofen_host.judge import saved
+from zirofen_host.judge import limits, saved
 from zirofen_host.judge.finding_lines import (differs_line, entry_line, fault_line, held_line, inside_line, opened_line, runs_line,
                                               version_1_line)
 from zirofen_host.judge.severity import severity_of
-from zirofen_host.judge.model import (DiffersFinding, EntryFinding, FaultFinding, HeldFinding, OpenedFinding, Report, RootInside,
+from zirofen_host.judge.model import (ABSENT, DiffersFinding, EntryFinding, FaultFinding, HeldFinding, OpenedFinding, Report, RootInside,
                                       RunsElsewhere)
 from zirofen_host.profile import shown
 from zirofen_host.show.view import DIFFERS, Grouped, Host, accepted_of, host_of
@@ -57,6 +57,8 @@ class Row:
     findings: int = 0
     # of hosts that are alike the same
     alike: bytes = b""
+    # whether its report tells what narrows it, which one of 0.2.0 doesn't
+    tells_limits: bool = True
 
     def place(self) -> Tuple[bool, int, int, int, str]:
         """Where it stands in a table: the worst first."""
@@ -85,6 +87,11 @@ class Fleet:
     @property
     def status(self) -> int:
         return min((each.status for each in self.rows), key=WORST.index, default=FAULT)
+
+    @property
+    def untold_limits(self) -> int:
+        """How many hosts there are of which it isn't known what narrows their reports."""
+        return sum(not row.tells_limits for row in self.rows)
 
     def groups(self, is_each: bool = False) -> List[Alike]:
         """The hosts that are alike together, the worst first."""
@@ -167,8 +174,10 @@ def row_of(name: str, host: Host, is_listed: bool) -> Row:
     """The row of a host by its report."""
     report, (delegations, contained, open_findings) = host.report, host.numbers
     kinds = [each.kind for each in host.findings if each.kind != DIFFERS]
-    kind = kinds[0] if kinds else CONTAINED if report.asked else NOT_ASKED
-    notes = [*([version_1_line(report.version_1)] if report.version_1 else []),
+    narrowed = limits.line_of(report)
+    # a host that was asked about in part isn't shown to be contained
+    kind = kinds[0] if kinds else CONTAINED if report.asked and not narrowed else NOT_ASKED
+    notes = [*([version_1_line(report.version_1)] if report.version_1 else []), *([narrowed] if narrowed else []),
              *(each.line for each in report.unseen if each.kind == FAILED)]
     status = min(report.status, severity_of(report).status, key=WORST.index)
     alike, lines = hashlib.sha256(repr((status, kind, notes)).encode()), []
@@ -179,7 +188,8 @@ def row_of(name: str, host: Host, is_listed: bool) -> Row:
             lines.append(cut(told[0], LONGEST_LINE))
     of = None if is_of(name, report.host) else cut(report.host, LONGEST_NAME)
     return Row(name, None, status, kind, delegations, contained, open_findings, cut(report.time, 20), of, is_listed,
-               tuple(cut(each, LONGEST_LINE) for each in notes[:MOST_LINES]), tuple(lines), len(host.findings), alike.digest())
+               tuple(cut(each, LONGEST_LINE) for each in notes[:MOST_LINES]), tuple(lines), len(host.findings), alike.digest(),
+               report.limits is not ABSENT)
 
 
 def is_of(name: str, host: str) -> bool:

@@ -62,6 +62,8 @@ def names(alike: Alike) -> str:
 def sum_line(fleet: Fleet) -> str:
     counts = Counter(row.kind for row in fleet.rows)
     others = f"; {words.count(fleet.others, 'other file')} passed over" if fleet.others else ""
+    if fleet.untold_limits:
+        others += f"; of {words.count(fleet.untold_limits, 'host')} it isn't known whether all of it was asked about"
     return f"{words.count(len(fleet.rows), 'host')}: " + ", ".join(f"{counts[kind]} {kind}" for kind in ORDER if counts[kind]) + others
 
 

@@ -7,6 +7,7 @@ from xml.etree import ElementTree
 
 from zirofen_host.collect.model import OWNER
 from zirofen_host.fault import plain
+from zirofen_host.judge import limits
 from zirofen_host.judge.severity import Severity, of_answer
 from zirofen_host.judge.model import Absent, Subtree
 from zirofen_host.judge.rules import (DIFFERS, HELD, NOTHING_ASKED, OPENED, OPENED_DIRECTORY, ROOT_HELD, ROOT_INSIDE, RUNS, VERSION_1,
@@ -117,6 +118,8 @@ def cases_of(run: Run) -> Iterable[Case]:
         cases.at(HOST, name)
     if not run.report.opened:
         cases.at(HOST, "nothing else stands open")
+    for each in limits.narrowing(run.report):
+        cases.at(HOST, "all of it is asked about").add(SKIPPED, f"limits/{each.kind}", [f"{limits.HEAD}: {each.text}"])
     for found in run.findings:
         if found.subtrees:
             entry_cases(cases, found, subtrees)

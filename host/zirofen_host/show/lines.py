@@ -6,7 +6,7 @@ from typing import Callable, Dict, Iterable, Iterator, List, Mapping, Optional, 
 from zirofen_host.collect.notes import LimitsOfVersion1
 from zirofen_host.fault import FAULT
 from zirofen_host.installed import MANUAL
-from zirofen_host.judge import long_lists
+from zirofen_host.judge import limits, long_lists
 from zirofen_host.judge.acceptances import accepted_subtrees
 from zirofen_host.judge.baseline import KINDS
 from zirofen_host.judge.finding_lines import (INSIDE_MEANS, NOTHING_ASKED, PREMISES_MEAN, SHOWN, above_line, acceptance_line, differs_line,
@@ -72,7 +72,7 @@ def words_of(subtree: Subtree) -> List[str]:
 def table(report: Report, is_each: bool = False) -> Iterator[str]:
     """Columns of who holds a subtree, their groups, the answer and the path, which may be long; what it shows stands below. What
     somebody made below their own delegation stands last."""
-    mark = VERSION_1 if report.version_1 else ""
+    mark = (VERSION_1 if report.version_1 else "") + (limits.MARK if limits.narrowing(report) else "")
     scopes = report.scopes_by_path
     rows = [(subtree.within, word, (who, gids, answer, path + beside(scopes, path), below)) for subtree in report.subtrees
             for word, (who, gids, answer, path, below) in zip(words_of(subtree), rows_of(subtree, mark, True))]
@@ -234,7 +234,7 @@ def sum_line(report: Report) -> str:
     """All of it in one line: how many subtrees were asked of, and how many of them stand how."""
     counts = Counter(standings(report).values())
     told = f"{sum(counts.values())} asked: {counted(counts) or 'nothing'}"
-    return "; ".join(filter(None, (said_first(report, report.status), told, inside_sum(report))))
+    return "; ".join(filter(None, (said_first(report, report.status), told, inside_sum(report), limits.line_of(report))))
 
 
 def inside_sum(report: Report) -> str:

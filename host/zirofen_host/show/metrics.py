@@ -2,6 +2,7 @@
 from collections import Counter
 from typing import Dict, Iterator, Mapping, NamedTuple, Tuple
 
+from zirofen_host.judge import limits
 from zirofen_host.judge.severity import Severity
 from zirofen_host.judge.model import ABSENT, Absent
 from zirofen_host.judge.rules import RULES, Rule
@@ -44,6 +45,9 @@ def gauges(run: Run) -> Iterator[Gauge]:
     yield Gauge("zirofen_faults", "What has no answer, by whose making.", {(("of", word),): counts[kind] for kind, word in FAULTS.items()})
     yield Gauge("zirofen_accepted_findings", "Findings that were accepted and aren't counted.",
                 {ALONE: sum(not isinstance(each.accepted, Absent) for each in found)})
+    kinds = {each.kind for each in limits.narrowing(run.report)}
+    yield Gauge("zirofen_answer_limits", "What narrows the answers, by kind.",
+                {(("kind", kind),): int(kind in kinds) for kind in limits.KINDS})
     yield Gauge("zirofen_status", "The status that the check ended with.", {ALONE: run.status})
     yield Gauge("zirofen_run_seconds", "How long the check took.", {ALONE: round(run.seconds, 3)})
     yield Gauge("zirofen_last_run_timestamp_seconds", "When the check ended.", {ALONE: round(run.ended)})

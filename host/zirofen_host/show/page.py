@@ -6,6 +6,7 @@ from string import Template
 from typing import Dict, List, NamedTuple, Sequence, Tuple
 
 from zirofen_host import output
+from zirofen_host.judge import limits
 from zirofen_host.judge.model import Absent, Difference, Report, RootInside
 from zirofen_host.judge.notes import MEANINGS as WHAT_NO_ANSWER_SEES
 from zirofen_host.show import against, chart, groups, insides, words
@@ -61,7 +62,11 @@ class HostPage:
         return ", ".join(filter(None, told))
 
     def sentence(self) -> str:
-        """How the host stands, at once."""
+        """How the host stands, at once, and what that leaves out."""
+        narrowed = limits.line_of(self.host.report)
+        return f"Of what was asked: {self.said()} {narrowed.capitalize()}." if narrowed else self.said()
+
+    def said(self) -> str:
         delegations, contained, _ = self.host.numbers
         number = sum(any(kind == self.kind for kind, _ in self.host.standing[path]) for path in self.host.delegations)
         every, they_are = words.count(delegations, "delegation"), "is" if number == 1 else "are"

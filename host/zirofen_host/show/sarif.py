@@ -11,8 +11,9 @@ from zirofen_host.collect.bounded import read_file
 from zirofen_host.collect.tree import toml_reader
 from zirofen_host.fault import FAULT, plain
 from zirofen_host.installed import MANUAL
+from zirofen_host.judge import limits
 from zirofen_host.judge.severity import Severity
-from zirofen_host.judge.model import Absent
+from zirofen_host.judge.model import Absent, Report
 from zirofen_host.judge.rules import RULES, Finding, Rule
 from zirofen_host.profile import LONGEST_TEXT
 from zirofen_host.show.run import Run
@@ -104,6 +105,13 @@ def moment(seconds: float) -> str:
     return time.strftime("%Y-%m-%dT%H:%M:%SZ", time.gmtime(seconds))
 
 
+def notifications(report: Report) -> Object:
+    """What narrows the answers, of which no result can tell."""
+    found: List[Object] = [{"level": "warning", "message": {"text": plain(f"{limits.HEAD}: {each.text}")},
+                            "descriptor": {"id": f"limits/{each.kind}"}} for each in limits.narrowing(report)]
+    return {"toolExecutionNotifications": found} if found else {}
+
+
 def run_object(run: Run) -> Object:
     report, numbers = run.report, {kind: at for at, kind in enumerate(RULES)}
     driver: Object = {"name": "zirofen-host", "rules": list(map(rule_object, RULES.values()))}
@@ -115,7 +123,8 @@ def run_object(run: Run) -> Object:
                                                 ("mount", report.mount)) if word}
     return {"tool": {"driver": driver}, "automationDetails": {"id": f"zirofen/{quote(run.subject, errors='backslashreplace')}/"},
             "invocations": [{"executionSuccessful": run.status != FAULT, "exitCode": run.status,
-                             "startTimeUtc": moment(run.ended - run.seconds), "endTimeUtc": moment(run.ended)}],
+                             "startTimeUtc": moment(run.ended - run.seconds), "endTimeUtc": moment(run.ended),
+                             **notifications(report)}],
             "results": results, "properties": about}
 
 

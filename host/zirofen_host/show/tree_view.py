@@ -10,6 +10,7 @@ from zirofen_host import ending, progress
 from zirofen_host.arguments import LEAST_WIDTH
 from zirofen_host.collect import bounded
 from zirofen_host.fault import Fault, plain
+from zirofen_host.judge import limits
 from zirofen_host.judge.finding_lines import INSIDE_MEANS, inside_text
 from zirofen_host.judge.model import DiffersFinding, HeldFinding, Report, RootInside, RunsElsewhere
 from zirofen_host.options import TreeOptions
@@ -136,9 +137,12 @@ class Drawer:
         """The numbers, and what the signs that were drawn mean."""
         delegations, contained, open_findings = self.host.numbers
         yield ""
-        of = "" if is_root(self.drawing.only) else "The whole host has "
+        narrowed = limits.line_of(self.host.report)
+        of = "Of what was asked: " if narrowed else "" if is_root(self.drawing.only) else "The whole host has "
         yield from self.wrapped("", f"{of}{words.count(delegations, 'delegation')}: {contained} shown to be contained; "
                                 f"{words.count(open_findings, 'finding')} open")
+        if narrowed:
+            yield from self.wrapped("", narrowed.capitalize())
         for path, fault in self.host.lost:
             yield from self.wrapped("", f"{SIGNS[FAULT][self.drawing.is_ascii]} {path}: {fault.fault}")
         seen = {kind for path, kinds in self.host.standing.items() for kind, _ in kinds if is_inside(path, self.drawing.only)}
