@@ -24,7 +24,8 @@ class FiguresTest(unittest.TestCase):
         self.assert_told(r"each of (\d+) mutants of the row\.", len(row_mutants.SEARCHED))
 
     def test_rows_of_help(self):
-        mistyped = [*told_below.command_lines(), *told_below.arguments(), *told_below.trees(), *told_below.operations()]
+        mistyped = [*told_below.command_lines(), *told_below.arguments(), *told_below.trees(), *told_below.slips(), *told_below.pairs(),
+                    *told_below.operations()]
         others = [*told_below.strangers(), *told_below.modes(), *told_below.terminals()]
         self.assert_told(r"what (\d+) mistyped command lines, .* beside (\d+) other answers and faults", len(mistyped), len(others))
         self.assertEqual(len(mistyped) + len(others), len([*told_below.rows(None)]))
