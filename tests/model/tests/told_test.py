@@ -29,7 +29,8 @@ class ToldTest(unittest.TestCase):
         room = tempfile.TemporaryDirectory()
         self.addCleanup(room.cleanup)
         self.asked = []
-        for it in (mock.patch.dict(os.environ, {"GATE_KEPT": f"{room.name}/kept", "GATE_ANEW": ""}), mock.patch.object(mutants, "able", lambda _: ["a", "b"]),
+        for it in (mock.patch.dict(os.environ, {"GATE_KEPT": f"{room.name}/kept", "GATE_ANEW": ""}),
+                   mock.patch.object(mutants, "able", lambda _: ["a", "b"]), mock.patch.object(RUN.judged, "ALL", {}),
                    mock.patch.object(RUN, "tell_apart", self.tell_apart), mock.patch("builtins.print")):
             it.start()
             self.addCleanup(it.stop)
