@@ -16,7 +16,7 @@ TOP = os.path.dirname(os.path.dirname(os.path.abspath(__file__)))
 sys.path[:0] = [TOP, os.path.join(TOP, "..", "model")]
 from second import commands, rules, texts
 from second.controllers import ALL_CONTROLLERS
-from trial import advice, asking, classes, comparing, machine, made, making, mutants, script, settled, tally
+from trial import advice, asking, classes, comparing, machine, made, making, mutants, packages, script, settled, tally
 from trials import format_4, trees
 
 # how many mutants have to be found
@@ -315,7 +315,7 @@ class KernelTest(unittest.TestCase):
             self.assertIn("- Unexplained: 1.", tally.lines_of(counted))
 
     def test_what_is_missing_is_said(self):
-        with unittest.mock.patch("shutil.which", return_value=None), self.assertRaises(machine.Missing):
+        with unittest.mock.patch("shutil.which", return_value=None), self.assertRaises(packages.Missing):
             machine.need_machine()
 
 

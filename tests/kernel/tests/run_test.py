@@ -12,7 +12,7 @@ import unittest.mock
 TOP = os.path.dirname(os.path.dirname(os.path.abspath(__file__)))
 sys.path[:0] = [TOP, os.path.join(TOP, "..", "model")]
 import played
-from trial import asking, machine, tally
+from trial import asking, machine, packages, tally
 
 
 def loaded():
@@ -30,7 +30,7 @@ class RunTest(unittest.TestCase):
                    unittest.mock.patch.object(asking, "asked", played.report_of),
                    unittest.mock.patch.object(machine, "run", kernel),
                    unittest.mock.patch.object(machine, "need_machine", lambda: None),
-                   unittest.mock.patch.object(machine, "kernel_of", lambda version, _kept: ("", f"linux-image-{version}")),
+                   unittest.mock.patch.object(packages, "kernel_of", lambda version, _kept: ("", f"linux-image-{version}")),
                    unittest.mock.patch.object(sys, "argv", ["run", "--program", sys.executable, "--kept", room, *words])]
         with contextlib.ExitStack() as stack, contextlib.redirect_stdout(io.StringIO()) as said:
             for patch in patches:
@@ -46,6 +46,7 @@ class RunTest(unittest.TestCase):
             with open(results) as text:
                 report = text.read()
             for part in ("## 6.1\n", "## 6.12\n", "- Refusals: 2 of 2 cases are refused, and 2 are let through where ",
+                         "- Ways of threads and descriptors, as the list says in so many of 3 turns: dead first thread 3, exec 3, ",
                          "- Operations: 7 cases", "- Contained: 2 cases", "- Settled, escapes: 2 lists",
                          "- Settled, contained: 2 pairs", "- Controllers: cpuset, cpu, io, memory, hugetlb, pids, rdma, misc.",
                          "- Of format 4: operations ", "one controller 16", "- Further limit files: the kernel has 19 of the 43",
@@ -61,6 +62,15 @@ class RunTest(unittest.TestCase):
                 played.Kernel().run(script).replace("\nt ok 2 rmdir", "\nt not ok 2 rmdir"), ""))
             self.assertEqual((status, said.splitlines()[-1]), (1, "6 passed, 2 failed"))
             self.assertIn("kernel: FAILED: 6.1: refusals: not refused: rmdir", said)
+
+    def test_ways_alone(self):
+        with tempfile.TemporaryDirectory() as room:
+            status, said = self.run_with(room, "--only", "ways")
+            self.assertEqual((status, said.splitlines()[-1]), (0, "30 passed, 0 failed"))
+            status, said = self.run_with(room, "--only", "ways", kernel=lambda _kernel, script, _seconds, _wide: (
+                played.Kernel().run(script).replace("\nw exec 0 1", "\nw exec 0 0"), ""))
+            self.assertEqual((status, said.splitlines()[-1]), (1, "24 passed, 6 failed"))
+            self.assertIn("kernel: FAILED: 6.1: ways: exec: (0, 0) in place of (0, 1)", said)
 
     def test_a_wrong_program_that_is_not_found_fails(self):
         with tempfile.TemporaryDirectory() as room, unittest.mock.patch.object(tally, "WRONG", [*tally.WRONG, "is right"]):

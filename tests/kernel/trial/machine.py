@@ -1,10 +1,10 @@
 """A kernel of Debian's, and a small machine in which it runs a file of cases under plain emulation."""
-import glob
 import os
-import re
 import shutil
 import subprocess
 import tempfile
+
+from trial.packages import Missing, ran
 
 HERE = os.path.dirname(os.path.abspath(__file__))
 SOURCES = {"init": ("init.c", "ways.c"), "refusals": ("refusals.c",)}
@@ -23,46 +23,12 @@ WIDE = ["-smp", "2", "-cpu", "qemu64,+pdpe1gb"] + [
                                        "-device", f"nvme,drive=d{at},serial=d{at}")]
 
 
-class Missing(Exception):
-    """Something that a run stands on isn't there; its text says what."""
-
-
 def need_machine():
     if os.geteuid() != 0:
         raise Missing("no root: Debian's packages are fetched and unpacked by root")
     for name, package in NEEDED.items():
         if not shutil.which(name):
             raise Missing(f"no {name}: it is of Debian's package {package}")
-
-
-def ran(*words, **how):
-    return subprocess.run(words, capture_output=True, text=True, **how)
-
-
-def package_of(version):
-    """The newest packaged kernel of a version, as 6.1."""
-    listed = ran("apt-cache", "pkgnames", f"linux-image-{version}").stdout.split()
-    named = [name for name in listed if re.fullmatch(rf"linux-image-{re.escape(version)}[.+-].*cloud-amd64", name)]
-    if not named:
-        raise Missing(f"no kernel {version}: apt knows no linux-image-{version}*-cloud-amd64")
-    return max(named, key=lambda name: [int(number) for number in re.findall(r"\d+", name)])
-
-
-def kernel_of(version, kept):
-    """The kernel's file and the name of its package, fetched where the folder doesn't keep it."""
-    package = package_of(version)
-    at = os.path.join(kept, package)
-    found = glob.glob(os.path.join(at, "boot/vmlinuz-*"))
-    if not found:
-        os.makedirs(at, exist_ok=True)
-        fetched = ran("apt-get", "download", package, cwd=at)
-        for name in glob.glob(os.path.join(at, "*.deb")):
-            ran("dpkg-deb", "-x", name, at)
-            os.remove(name)
-        found = glob.glob(os.path.join(at, "boot/vmlinuz-*"))
-        if not found:
-            raise Missing(f"no kernel {version}: {package} isn't fetched: {fetched.stderr.strip()[-200:]}")
-    return found[0], package
 
 
 def compiled(name, to):

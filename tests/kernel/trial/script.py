@@ -11,6 +11,8 @@ from trial import classes, shown
 # a file of each controller that has no limit file here, which stands at the children of a cgroup that enables it
 OTHERS = {"cpuset": "cpuset.cpus", "io": "io.max", "hugetlb": "hugetlb.2MB.max", "rdma": "rdma.max", "misc": "misc.max",
           "dmem": "dmem.max"}
+# how often each way of threads and descriptors is carried out in a boot
+WAY_TURNS = 3
 
 
 @dataclass
@@ -90,8 +92,8 @@ def script_of(cases):
 def standing_script():
     """What has a kernel tell of the further limit files that it has."""
     enabling = [f"control / +{name}" for name in ALL_CONTROLLERS]
-    lines = [head(), "case 0", "watch " + " ".join(FURTHER_FILES), *enabling, "mkdir /a", "state", "case 1", *map(way_line, classes.WAYS)]
-    return "\n".join(lines) + "\n"
+    lines = [head(), "case 0", "watch " + " ".join(FURTHER_FILES), *enabling, "mkdir /a", "state", "case 1"]
+    return "\n".join(lines + [way_line(name) for _ in range(WAY_TURNS) for name in classes.WAYS]) + "\n"
 
 
 def way_line(name):
@@ -99,9 +101,13 @@ def way_line(name):
 
 
 def ways_in(said):
-    """The numbers that each way ended with, by its name."""
-    words = [line.split(" ") for line in said.split("\n") if line.startswith("w ")]
-    return {name.replace("-", " "): tuple(map(int, numbers)) for _, name, *numbers in words}
+    """The numbers that each way ended with in each turn, by its name."""
+    found = {}
+    for line in said.split("\n"):
+        sign, name, *numbers = line.split(" ") if line.startswith("w ") else ("", "")
+        if sign:
+            found.setdefault(name.replace("-", " "), []).append(tuple(map(int, numbers)))
+    return found
 
 
 def standing_in(said):

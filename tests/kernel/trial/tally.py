@@ -19,6 +19,8 @@ class Tally:
     def __init__(self, kernel, program, folder):
         self.kernel, self.program, self.folder = kernel, program, folder
         self.counts, self.kinds, self.breaks = collections.Counter(), collections.Counter(), collections.defaultdict(collections.Counter)
+        # of each way of threads and descriptors the turns in which it was as the list says
+        self.ways = collections.Counter()
         self.failures, self.told, self.seconds, self.controllers, self.files, self.runs = 0, {}, 0, (), (), []
         # by what came of a set of a further limit file in which an escape ends the texts of each file; "as it is" marks those of a file
         # of whose value the tree's text tells nothing, and so no device
@@ -44,13 +46,17 @@ class Tally:
             print(f"kernel: FAILED: {self.kernel}: refusals: {it}")
 
     def take_ways(self, ways):
-        """What came of the ways of threads and descriptors; each that the list doesn't say is a failure, and so is one without an end."""
+        """What came of the ways of threads and descriptors in each turn; what the list doesn't say is a failure, and so is one without an
+        end."""
         for name in classes.WAYS:
-            differs = classes.way_differs(name, ways.get(name, ()))
-            self.counts["way cases"] += 1
-            self.failures += differs is not None
-            if differs:
-                print(f"kernel: FAILED: {differs}")
+            told = ways.get(name, [])
+            for numbers in told + [()] * (script.WAY_TURNS - len(told)):
+                differs = classes.way_differs(name, numbers)
+                self.counts["way cases"] += 1
+                self.ways[name] += differs is None
+                self.failures += differs is not None
+                if differs:
+                    print(f"kernel: FAILED: {self.kernel}: ways: {differs}")
 
     def fail(self, case, name, what):
         os.makedirs(self.folder, exist_ok=True)
@@ -236,6 +242,14 @@ def further_lines(tally):
     return lines
 
 
+def way_lines(tally):
+    """What came of the ways of threads and descriptors, where they were carried out."""
+    if not tally.counts["way cases"]:
+        return []
+    turns = ", ".join(f"{name} {tally.ways[name]}" for name in classes.WAYS)
+    return [f"- Ways of threads and descriptors, as the list says in so many of {script.WAY_TURNS} turns: {turns}."]
+
+
 def in_order(controllers):
     return ", ".join(name for name in ALL_CONTROLLERS if name in controllers) or "none"
 
@@ -257,7 +271,7 @@ def lines_of(tally):
         f"- Mutants of the program: {len(tally.told)} of {len(WRONG)} found" + (f"; not found: {', '.join(missed)}" if missed else "")
         + ". By the case of its kind: " + ", ".join(f"{name} {number}" for name, number in tally.told.items()) + "."]
     return [f"## {tally.kernel}", "", f"- Controllers: {in_order(tally.controllers)}.", refusals.line_of(tally.runs),
-            f"- Ways of threads and descriptors: {', '.join(classes.WAYS)}.",
+            *way_lines(tally),
             *(line for kind, line in kinds.items() if of[f"{kind} cases"]), *settled_lines(tally), *further_lines(tally),
             f"- Differences by kind: {listed(tally.kinds)}.", f"- Unexplained: {tally.failures}.",
             *(found if of["operations cases"] else []), *lines_of_files(tally), f"- Time: {tally.seconds:.0f} s.", ""]
