@@ -117,7 +117,8 @@ def report_of(checked: Checked, is_whole: bool) -> Report:
         lists=looks.all("lists", lambda: shown_lists(checked, subtrees, entries)),
         root_inside=looks.all("root-inside", lambda: inside.findings(checked)) or ABSENT,
         scopes=looks.each("containers", snapshot.scopes, lambda each: named_scope(checked, each)) or ABSENT,
-        runs_elsewhere=runs or ABSENT, held_entries=entries_held or ABSENT, limits=tuple(limits_of(checked)))
+        runs_elsewhere=runs or ABSENT, held_entries=entries_held or ABSENT, limits=tuple(limits_of(checked)),
+        wanted={text_of(path): wanted for path, wanted in checked.wanted.items()})
     if is_whole:
         made = replace(made, users=looks.all("users", lambda: whole.users_of(checked)),
                        groups=looks.all("groups", lambda: whole.groups_of(checked)), cgroups=whole.cgroups_of(checked, looks),

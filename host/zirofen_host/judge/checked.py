@@ -9,14 +9,16 @@ from zirofen_host.ask.questions import Questions
 from zirofen_host.ask.texts import Programs
 from zirofen_host.collect.holds import Holds
 from zirofen_host.collect.model import Entry, Snapshot, User
+from zirofen_host.files import Kind, kind_of
 from zirofen_host.judge.judged import Judged, LetIn, Place
-from zirofen_host.judge.model import ABSENT, Within
+from zirofen_host.judge.model import ABSENT, Wanted, Within
 from zirofen_host.judge.names import Names
 from zirofen_host.judge.opened import find_openings
-from zirofen_host.judge.settings import Settings
+from zirofen_host.judge.settings import CGROUP, Agreed, Settings, agreed_at, systemctl_of
 from zirofen_host.judge.shell import Change, change_commands
+from zirofen_host.judge.wanted import unit_at, wanted_by
 from zirofen_host.options import Options
-from zirofen_host.profile import ANYBODY, CgroupPath, path_of
+from zirofen_host.profile import ANYBODY, CgroupPath, parent_of, path_of, text_of
 
 
 @dataclass(frozen=True)
@@ -51,6 +53,33 @@ class Checked:
             for uid in self.questions.holders[path].uids - {ANYBODY}:
                 held[uid].append(path)
         return held
+
+    @cached_property
+    def agreed(self) -> Mapping[CgroupPath, Agreed]:
+        """What root's settings say of the units whose limits matter, and what these have."""
+        matter = {path: unit for path, unit in self.units.items() if self.is_limit_open(path) or path in self.questions.holders}
+        return agreed_at(self.snapshot, matter, systemctl_of(self.options), self.settings) if matter else {}
+
+    @cached_property
+    def wanted(self) -> Mapping[CgroupPath, Mapping[str, Wanted]]:
+        """What the settings of each of these units say of each limit."""
+        return {path: wanted_by(each.settings) for path, each in self.agreed.items()}
+
+    @property
+    def units(self) -> Mapping[CgroupPath, str]:
+        """The units that settings are told of, by their cgroups. What somebody made may have the name of another unit, unless the manager
+        says that the unit is there."""
+        named = {path: unit_at(path) for path in self.snapshot.cgroups} if self.settings else {}
+        return {path: unit for path, unit in named.items() if unit is not None and unit in self.settings
+                and (self.holds.within(path) is None or self.settings[unit].get(CGROUP) == text_of(path))}
+
+    def is_limit_open(self, path: CgroupPath) -> bool:
+        """Whether somebody but root reaches a limit of a cgroup, or what takes all of a controller's from it."""
+        above = parent_of(path)
+        files = self.snapshot.cgroups[path].files
+        controls = self.snapshot.cgroups[above].files.get("cgroup.subtree_control") if above else None
+        return bool(controls and controls.is_reached) or any(entry.is_reached and kind_of(name) is Kind.LIMIT
+                                                             for name, entry in files.items())
 
     def within(self, path: CgroupPath) -> Within:
         """Whose own making a cgroup is."""

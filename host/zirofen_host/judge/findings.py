@@ -1,6 +1,6 @@
 """The findings of a report, made of what the answers come to."""
 from collections import Counter, defaultdict
-from typing import DefaultDict, Dict, Iterable, List, Mapping, Optional, Set, Tuple, Union
+from typing import DefaultDict, Dict, Iterable, Iterator, List, Mapping, Optional, Set, Tuple, Union
 
 from zirofen_host.ask.in_time import NotInTime
 from zirofen_host.ask.program import ESCAPES
@@ -21,6 +21,7 @@ from zirofen_host.judge.model import (ABSENT, AboveFinding, Absent, DiffersFindi
 from zirofen_host.judge.names import Names
 from zirofen_host.judge.opened import GROUP_WRITES, OTHERS_WRITE, WHO_IS_FIRST, what_differs
 from zirofen_host.judge.shell import closing_commands
+from zirofen_host.judge.wanted import files_with, is_decided, is_same, written
 from zirofen_host.profile import CgroupPath, ancestors, is_inside, shown, text_of, topmost
 
 NO_CLOSING: Mapping[CgroupPath, Tuple[str, ...]] = {}
@@ -63,7 +64,8 @@ def entry_finding(checked: Checked, advised: Advised, found: LetsIn, closing: Tu
     changes = checked.commands(advised.changes_of(found))
     return EntryFinding(path, place.name, owner_of(found.entry) if found.entry else None, word_of(lines),
                         whom_of(checked.names, found.whom), texts_of(found.subtrees), example,
-                        (*changes, *(() if place.name == "dir" else closing)), None, checked.within(place.path),
+                        (*changes, *(() if place.name == "dir" else closing), *restoring(checked, place)), setting_at(checked, place),
+                        checked.within(place.path),
                         is_own_affair(checked, place, found.whom, found.subtrees))
 
 
@@ -102,8 +104,24 @@ def opened_findings(checked: Checked) -> Iterable[Tuple[Place, OpenedFinding]]:
             changes = closing_of(checked, place, entry, let_in)
             yield place, OpenedFinding(
                 text_of(place.path), place.name, owner_of(entry), whom_of(checked.names, let_in),
-                (*changes, *(() if is_directory else closing.get(place.path, ()))), None, WHO_IS_FIRST if is_directory else None,
-                checked.within(place.path), is_own_affair(checked, place, let_in, ()))
+                (*changes, *(() if is_directory else closing.get(place.path, ())), *restoring(checked, place)), setting_at(checked, place),
+                WHO_IS_FIRST if is_directory else None, checked.within(place.path), is_own_affair(checked, place, let_in, ()))
+
+
+def restoring(checked: Checked, place: Place) -> Iterator[str]:
+    """What writes again what root's settings say of a limit, where it has something else."""
+    found, wanted = checked.agreed.get(place.path), checked.wanted.get(place.path, {})
+    for file in files_with(place.name) if found else ():
+        if found and file in wanted and file in found.values:
+            value = found.values[file]
+            if is_decided(file, value, wanted[file]) and not is_same(file, value, wanted[file]):
+                yield written(checked.snapshot.mount, text_of(place.path), file, wanted[file])
+
+
+def setting_at(checked: Checked, place: Place) -> Optional[str]:
+    """The setting of a unit that brings a limit at its next start."""
+    wanted = checked.wanted.get(place.path, {}).get(place.name)
+    return f"{wanted.setting} of {checked.agreed[place.path].unit}" if wanted and wanted.is_set else None
 
 
 def is_shown(checked: Checked, place: Place, let_in: Iterable[LetIn]) -> bool:

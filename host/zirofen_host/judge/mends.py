@@ -1,19 +1,25 @@
-"""What mends findings so that it stays: a drop-in of a unit where a setting brings what it should have, and else where to look."""
+"""What mends findings so that it stays: the entries are given back, and limits get what root's settings say.
+
+No drop-in is written. What a file of a cgroup has says nothing of who wrote it, and an entry that was taken back by one script is root's at
+the next: a setting that would keep such a value, or hand something over for good, is told with its reason.
+"""
 import re
 import shlex
 from collections import defaultdict
 from dataclasses import dataclass
-from typing import Callable, DefaultDict, Dict, Iterable, Iterator, List, Mapping, Optional, Sequence, Tuple
+from typing import Callable, DefaultDict, Dict, Iterable, Iterator, List, Mapping, Optional, Sequence, Tuple, Union
 
 from zirofen_host.arguments import MENDS
-from zirofen_host.ask.questions import is_slice, unit_of
 from zirofen_host.collect.notes import FAILED
 from zirofen_host.collect.model import OWNER
+from zirofen_host.judge.finding_lines import whom_text
 from zirofen_host.judge.judged import OVER, UNKNOWN
-from zirofen_host.judge.model import ABSENT, Absent, Report, ReportCgroup
+from zirofen_host.judge.model import ABSENT, Absent, Report, ReportCgroup, Wanted
 from zirofen_host.judge.notes import Restart
 from zirofen_host.judge.rules import ACCEPTABLE, DIFFERS, NOTHING_ASKED, OPENED, OPENED_DIRECTORY, VERSION_1, Finding
-from zirofen_host.profile import HANDED_OVER, SETTINGS, is_root, is_usual, path_of
+from zirofen_host.judge.shell import place as place_of
+from zirofen_host.judge.wanted import files_with, is_decided, is_same, unit_at, written
+from zirofen_host.profile import (FURTHER_FILES, HANDED_OVER, LIMIT_FILES, SETTINGS, is_root, is_usual, parent_of, path_of, tree_order)
 
 # the kinds of mends that are written
 KINDS = MENDS
@@ -22,6 +28,7 @@ SHELL = KINDS[1]
 DROP_IN = "60-zirofen.conf"
 SERVICE, SLICE = "Service", "Slice"
 DELEGATE = "Delegate=yes"
+CONTROL = "cgroup.subtree_control"
 # microseconds of cpu.max where nobody set others
 PERIOD = 100000
 NOT_KNOWN = "nothing of this host's files is known to set it"
@@ -32,8 +39,6 @@ ELSE: Dict[str, str] = {
     "acceptance": "mend the finding, or look at it anew and write down what is accepted now",
     FAILED: "run it as root, on the host and outside of containers"}
 NO_ANSWER = "no file of this host mends that: the line says why there is no answer"
-# what a manager takes as a unit's name, of which no letter has a meaning for a shell but the backslash
-_UNIT = re.compile(r"[A-Za-z0-9:_.@\\-]{1,255}\Z")
 _NUMBER = re.compile(r"[0-9]+")
 _QUOTA = re.compile(r"([0-9]+) ([1-9][0-9]*)")
 _LIST = re.compile(r"[0-9][0-9,-]*")
@@ -54,6 +59,14 @@ class Unit:
 
 
 @dataclass(frozen=True)
+class Withheld:
+    """Settings of a unit that aren't written, and why."""
+    unit: Unit
+    settings: Tuple[str, ...]
+    why: str
+
+
+@dataclass(frozen=True)
 class Mend:
     """What mends what is found at one cgroup."""
     # the findings, or what else is told
@@ -62,14 +75,7 @@ class Mend:
     changes: Tuple[str, ...]
     # what stays, in words
     told: Tuple[str, ...]
-    unit: Optional[Unit] = None
-    settings: Tuple[str, ...] = ()
-
-
-def unit_at(path: str) -> Optional[Unit]:
-    """The unit whose cgroup it is; a manager writes _ before a name that might be one of the kernel's."""
-    name = unit_of(path_of(path)) or (path.rpartition("/")[2] if is_slice(path_of(path)) else None)
-    return Unit(name[1:] if name[:1] == "_" else name) if name is not None and _UNIT.match(name) else None
+    withheld: Tuple[Withheld, ...] = ()
 
 
 def bytes_or_number(setting: str, value: str) -> List[str]:
@@ -121,18 +127,29 @@ def settings_for(file: str, row: Optional[ReportCgroup]) -> List[str]:
 class Place:
     """A cgroup with what is found there."""
     path: str
-    row: Optional[ReportCgroup]
+    report: Report
+    rows: Mapping[str, ReportCgroup]
     found: Sequence[Finding]
     # the limits that its next start doesn't bring back
     restarts: Sequence[Restart]
 
     @property
+    def row(self) -> Optional[ReportCgroup]:
+        return self.rows.get(self.path)
+
+    @property
     def unit(self) -> Optional[Unit]:
-        return unit_at(self.path)
+        name = unit_at(self.path)
+        return Unit(name) if name is not None else None
+
+    @property
+    def wanted(self) -> Mapping[str, Wanted]:
+        """What root's settings say of its limits."""
+        return self.report.wanted.get(self.path, {})
 
     @property
     def files(self) -> List[str]:
-        """The limit files whose values are to stay: those of the findings, and those that the next start doesn't bring back."""
+        """The limit files that a setting might keep: those of the findings, and those that the next start doesn't bring back."""
         gone = (limit.file for told in self.restarts for limit in told.limits if self.row and limit.file in self.row.files)
         return sorted({*(each.entry for each in self.found), *gone})
 
@@ -143,18 +160,47 @@ class Place:
                 for each in found.whom if each.by == OWNER}
         return whom.pop() if self.unit and self.unit.section == SERVICE and len(whom) == 1 else None
 
-    def settings(self) -> Tuple[str, ...]:
-        """The settings that bring the values and the owners."""
-        if not self.unit or not self.unit.section:
-            return ()
-        values = (setting for file in self.files for setting in settings_for(file, self.row))
-        return tuple(dict.fromkeys([*([DELEGATE] if self.owner else []), *values]))
+    def is_brought(self, file: str) -> bool:
+        """Whether the settings say what a limit has."""
+        wanted = self.wanted.get(file)
+        return wanted is not None and is_decided(file, value_in(self.row, file), wanted)
+
+    def changes(self) -> Tuple[str, ...]:
+        """What takes the entries back, and then what writes again what root's settings say of limits that were open: somebody may write
+        one between the check and that."""
+        taken = dict.fromkeys(change for each in self.found for change in each.changes)
+        restored = [command for each in self.found for file in files_with(each.entry)
+                    for command in restoring(self.report, self.rows, self.path, file)]
+        if any(each.entry == CONTROL for each in self.found):
+            restored += restored_below(self.report, self.rows, self.path)
+        return tuple(dict.fromkeys([*(each for each in taken if each not in restored), *restored]))
+
+    def withheld(self) -> Iterator[Withheld]:
+        """The settings that would keep what stands now, and aren't written."""
+        if self.unit is None or not self.unit.section:
+            return
+        if self.owner:
+            yield Withheld(self.unit, (DELEGATE,), (
+                f"it hands the cgroup over for good, which no file of root's is known to say. Where it is meant for {self.owner}, whom "
+                f"User= has to name, {DELEGATE} hands over the directory, cgroup.procs and cgroup.subtree_control, and no limit file"))
+        for why, files in self.why_withheld():
+            settings = tuple(dict.fromkeys(setting for file in files if not self.is_brought(file)
+                                           for setting in settings_for(file, self.row)))
+            if settings:
+                yield Withheld(self.unit, settings, why)
+
+    def why_withheld(self) -> Iterator[Tuple[str, List[str]]]:
+        """The limit files whose values of now aren't written, by the reason."""
+        opened = [each for each in self.found if each.entry in self.files and (each.entry in LIMIT_FILES or each.entry in FURTHER_FILES)]
+        by_whom = dict.fromkeys(whom_text(each.whom) for each in opened)
+        for whom in by_whom:
+            yield (f"it is the value of now, which {whom} could write", [each.entry for each in opened if whom_text(each.whom) == whom])
+        known = {each.entry for each in opened}
+        yield ("it is the value of now, and a cgroup's file doesn't tell who wrote it: what was open and taken back is root's too",
+               [file for file in self.files if file not in known])
 
     def told(self) -> Iterator[str]:
         """What stays, in words."""
-        if self.owner:
-            yield (f"where it is meant for {self.owner}, whom User= has to name, {DELEGATE} hands over the directory, cgroup.procs and "
-                   "cgroup.subtree_control, and no limit file; where it isn't, leave that line out")
         entries = {each.entry for each in self.found if each.rule.id in ACCEPTABLE}
         if OVER in entries:
             yield ("no setting of a unit brings cgroup.max.descendants and cgroup.max.depth: what sets them has to at each start, before "
@@ -162,19 +208,69 @@ class Place:
         if UNKNOWN in entries:
             yield "nothing is known to make it: report it"
         if entries - {OVER, UNKNOWN} or any(each.rule.id == DIFFERS for each in self.found):
-            yield f"{'who owns and writes it: ' if self.settings() else ''}{NOT_KNOWN}. {where_to_look(self.path, self.unit)}"
-        if self.found and set(self.settings()) - {DELEGATE}:
-            yield "a value is that of now, which they may have set: look whether it is the one that is meant"
+            yield f"{NOT_KNOWN}. {where_to_look(self.path, self.unit)}"
+        yield from self.told_of_settings()
         if any(SETTINGS.get(file) and not settings_for(file, self.row) and is_set(file, self.row) for file in self.files):
             yield "a setting brings a limit of a device by its name, which a cgroup doesn't tell: set it by hand in the unit"
-        if self.restarts and not self.settings():
+        if self.restarts and not any(SETTINGS.get(file) for file in self.files):
             yield "no setting brings these limits: what sets them has to at each start, as ExecStartPost=+"
+
+    def told_of_settings(self) -> Iterator[str]:
+        """What root's settings say of the limits."""
+        limits = [file for file in self.files if SETTINGS.get(file) and is_in(file, self.row)]
+        own = dict.fromkeys(self.wanted[file].setting for file in limits if file in self.wanted and self.wanted[file].is_set)
+        if own and self.unit:
+            yield f"{' '.join(own)} of {self.unit.name} says it, and its next start brings it: no drop-in is wanted"
+        if limits and self.unit and self.unit.section and self.found and not self.wanted:
+            yield f"what the settings of {self.unit.name} say isn't told here: its next start brings that, and no value is written"
+
+
+def value_in(row: Optional[ReportCgroup], file: str) -> Union[int, str, None]:
+    """What a file has; nothing where it isn't known."""
+    found = row.files.get(file) if row else None
+    return None if found is None or isinstance(found.value, Absent) else found.value
+
+
+def is_in(file: str, row: Optional[ReportCgroup]) -> bool:
+    return row is not None and file in row.files
 
 
 def is_set(file: str, row: Optional[ReportCgroup]) -> bool:
     """Whether a file has a value that somebody set."""
-    found = row.files.get(file) if row else None
-    return found is not None and not isinstance(found.value, Absent) and not is_usual(file, found.value)
+    value = value_in(row, file)
+    return value is not None and not is_usual(file, value)
+
+
+def restoring(report: Report, rows: Mapping[str, ReportCgroup], path: str, file: str) -> Iterator[str]:
+    """What writes into a limit file what root's settings say. What nothing sets is written where somebody took more of a share."""
+    wanted, row = report.wanted.get(path, {}).get(file), rows.get(path)
+    if wanted is None or not is_in(file, row):
+        return
+    value = value_in(row, file)
+    if is_decided(file, value, wanted) and (wanted.is_set or not is_same(file, value, wanted)):
+        yield written(report.mount, path, file, wanted)
+
+
+def restored_below(report: Report, rows: Mapping[str, ReportCgroup], path: str) -> Iterator[str]:
+    """What brings back the limits of the units in a cgroup whose controllers somebody could take away: the controllers first."""
+    if path not in rows:
+        return
+    above = rows.get(parent_of(path) or "")
+    brought = set((above or rows[path]).enabled)
+    units = [each for each in sorted(report.wanted) if parent_of(each) == path and each != path and each in rows]
+    said = {each: [file for file, wanted in report.wanted[each].items() if wanted.is_set] for each in units}
+    controllers = {of for files in said.values() for file in files if (of := controller_of(file))}
+    lost = sorted(controllers.intersection(brought).difference(rows[path].enabled))
+    if lost:
+        yield f"echo {' '.join('+' + name for name in lost)} >{place_of(report.mount, path, CONTROL)}"
+    for each in units:
+        for file in said[each]:
+            if is_in(file, rows[each]) or controller_of(file) in lost:
+                yield written(report.mount, each, file, report.wanted[each][file])
+
+
+def controller_of(file: str) -> Optional[str]:
+    return LIMIT_FILES[file][0] if file in LIMIT_FILES else FURTHER_FILES.get(file)
 
 
 def where_to_look(path: str, unit: Optional[Unit]) -> str:
@@ -202,7 +298,7 @@ def mends_of(report: Report, found: Iterable[Finding]) -> Tuple[Mend, ...]:
     for each in found:
         if each.accepted is not ABSENT:
             continue
-        if not isinstance(each.within, Absent):
+        if not isinstance(each.within, Absent) and each.path not in report.wanted:
             made[each.within].append(each)
         elif each.rule.id in (*ACCEPTABLE, DIFFERS):
             by_path[each.path].append(each)
@@ -210,19 +306,19 @@ def mends_of(report: Report, found: Iterable[Finding]) -> Tuple[Mend, ...]:
             others.append(each)
     restarts: DefaultDict[str, List[Restart]] = defaultdict(list)
     for told in report.unseen:
-        if isinstance(told.note, Restart) and told.within is ABSENT:
+        if isinstance(told.note, Restart):
             restarts[told.place].append(told.note)
     rows: Mapping[str, ReportCgroup] = {} if isinstance(report.cgroups, Absent) else {each.path: each for each in report.cgroups}
-    places = [Place(path, rows.get(path), by_path.get(path, ()), restarts.get(path, ()))
-              for path in dict.fromkeys([*by_path, *restarts])]
+    # what is above first: whoever writes it takes back what was written below
+    places = [Place(path, report, rows, by_path.get(path, ()), restarts.get(path, ()))
+              for path in sorted({*by_path, *restarts}, key=lambda each: tree_order(path_of(each)))]
     return (*map(mend_at, places), *(mend_of_maker(uid, each) for uid, each in sorted(made.items())),
             *(Mend((each.line,), each.changes, (ELSE.get(each.rule.id, NO_ANSWER),)) for each in others))
 
 
 def mend_at(place: Place) -> Mend:
     lines = (*(each.line for each in place.found), *(each.line for each in place.restarts))
-    changes = tuple(dict.fromkeys(change for each in place.found for change in each.changes))
-    return Mend(lines, changes, tuple(place.told()), place.unit if place.settings() else None, place.settings())
+    return Mend(lines, place.changes(), tuple(place.told()), tuple(place.withheld()))
 
 
 def mend_of_maker(uid: int, found: Sequence[Finding]) -> Mend:

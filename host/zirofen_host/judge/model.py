@@ -325,6 +325,21 @@ class ReportProcess:
 
 
 @dataclass(frozen=True)
+class Wanted:
+    """What the settings of a unit, which are root's, say that a limit of its cgroup has."""
+    # as it is written into the file
+    value: str
+    # the setting with its value
+    setting: str
+    # the unit sets it, or its manager for it; else it is what the file has by itself
+    is_set: bool
+
+
+# by the path of a unit's cgroup and by the file
+AllWanted = Mapping[str, Mapping[str, Wanted]]
+
+
+@dataclass(frozen=True)
 class Difference:
     what: str
     line: str
@@ -409,6 +424,8 @@ class Report:
     acceptances: Union[Tuple[Acceptance, ...], Absent] = ABSENT
     # what narrows the question; a report of 0.2.0 doesn't tell it
     limits: Union[Tuple[AnswerLimit, ...], Absent] = ABSENT
+    # what settings of units say of limits, as far as systemctl tells it; of a report that was read nothing is known
+    wanted: AllWanted = field(default_factory=dict, compare=False, metadata=NO_KEY)
 
     @property
     def containers(self) -> Tuple[RootInside, ...]:

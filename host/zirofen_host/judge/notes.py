@@ -6,6 +6,7 @@ from typing import Iterable, Mapping, Optional, Tuple
 from zirofen_host.collect.notes import Note, classes
 from zirofen_host.collect.reasons import Reason
 from zirofen_host.judge.finding_lines import NSDELEGATE, some
+from zirofen_host.judge.model import Wanted
 
 
 def numbers(found: Iterable[int]) -> str:
@@ -224,6 +225,8 @@ class LostLimit:
     value: str
     # how a setting is told, and whether nothing is set
     why: str
+    # what the unit's settings say, where they say something
+    wanted: Optional[Wanted] = None
 
     def __str__(self) -> str:
         return f"{self.file} is {self.value}, and {self.why}"

@@ -5,27 +5,32 @@ Settings are asked for before and behind the walk, and what they don't agree on 
 import os
 import shutil
 import subprocess
-from typing import Dict, Iterable, Iterator, List, Mapping, Optional, Sequence, Tuple
+from typing import Dict, Iterable, Iterator, List, Mapping, NamedTuple, Optional, Sequence
 
 from zirofen_host import ending
 from zirofen_host.collect.model import Snapshot, Value
 from zirofen_host.collect.snapshot import value_of
 from zirofen_host.files import Kind, kind_of
 from zirofen_host.judge.notes import LostLimit, Restart
+from zirofen_host.judge.wanted import NUMBERS, PAGE, PROPERTIES, QUOTA, Shown, wanted_by
 from zirofen_host.options import Options
 from zirofen_host.profile import LIMIT_FILES, SETTINGS, CgroupPath, is_usual, text_of
 
 # by a unit's name, and by what a setting is called where it is asked for
-Settings = Mapping[str, Mapping[str, str]]
+Settings = Mapping[str, Shown]
 
-# the file that each setting brings, where both are one number
-NUMBERS = {setting.rstrip("="): file for file in (*LIMIT_FILES, "memory.swap.max", "memory.zswap.max") if (setting := SETTINGS[file])}
-# what cpu.max is brought by
-QUOTA = "CPUQuotaPerSecUSec"
-# what is loaded of the units that are started again; a scope never is
-SERVICES = ("*.service",)
-PAGE = 4096
+# what is loaded of the units that have a cgroup
+UNITS = ("*.service", "*.slice", "*.scope")
+# the cgroup that a unit has, which says that a path is its
+CGROUP = "ControlGroup"
 SECONDS = 30
+
+
+class Agreed(NamedTuple):
+    """What the limits of a unit have, and its settings, which were told the same before that and behind it."""
+    unit: str
+    values: Mapping[str, Optional[Value]]
+    settings: Shown
 
 
 def systemctl_of(options: Options) -> Optional[str]:
@@ -34,11 +39,11 @@ def systemctl_of(options: Options) -> Optional[str]:
     return shutil.which("systemctl") if has_manager else None
 
 
-def read(systemctl: Optional[str], units: Sequence[str] = SERVICES) -> Settings:
+def read(systemctl: Optional[str], units: Sequence[str] = UNITS) -> Settings:
     """The settings of units; none where they aren't told."""
     if not systemctl or not units:
         return {}
-    words = [systemctl, "show", f"--property=Id,{','.join((*NUMBERS, QUOTA))}", "--", *units]
+    words = [systemctl, "show", f"--property=Id,{CGROUP},{','.join(PROPERTIES)}", "--", *units]
     try:
         said = ending.run(words, SECONDS).stdout
     except (OSError, subprocess.TimeoutExpired):
@@ -67,13 +72,14 @@ def lost(values: Mapping[str, Optional[Value]], settings: Mapping[str, str]) -> 
 
 
 def different(values: Mapping[str, Optional[Value]], settings: Mapping[str, str]) -> Iterator[LostLimit]:
+    wanted = wanted_by(settings)
     for name, file in NUMBERS.items():
         value = values.get(file)
         if name in settings and value is not None and not is_same(settings[name], file, value):
-            yield LostLimit(file, str(value), f"{name}={settings[name]}")
+            yield LostLimit(file, str(value), f"{name}={settings[name]}", wanted.get(file))
     quota = str(values.get("cpu.max") or "")
     if settings.get(QUOTA) == "infinity" and not is_usual("cpu.max", quota) and quota.split(" ")[0] != "max":
-        yield LostLimit("cpu.max", quota, "CPUQuota= isn't set")
+        yield LostLimit("cpu.max", quota, "CPUQuota= isn't set", wanted.get("cpu.max"))
 
 
 def unsettable(values: Mapping[str, Optional[Value]]) -> Iterable[LostLimit]:
@@ -92,12 +98,23 @@ def is_same(setting: str, file: str, value: Value) -> bool:
     return str(value).isdigit() and int(setting) // pages == int(value) // pages
 
 
-def restarts(snapshot: Snapshot, units: Mapping[str, CgroupPath], systemctl: Optional[str],
-             before: Settings) -> Iterator[Tuple[CgroupPath, Restart]]:
-    """For each unit what goes at its next start. Values are read before the settings are asked for again."""
-    values = {unit: values_of(snapshot, path) for unit, path in sorted(units.items()) if unit in before}
-    found = agreed(before, read(systemctl, list(values)))
-    for unit, settings in found.items():
-        limits = lost(values[unit], settings) if unit in values else []
+def is_at(settings: Optional[Shown], path: CgroupPath) -> bool:
+    """Whether settings are those of the unit that has a cgroup; a manager that doesn't tell it goes by its name."""
+    return settings is not None and settings.get(CGROUP, text_of(path)) == text_of(path)
+
+
+def agreed_at(snapshot: Snapshot, units: Mapping[CgroupPath, str], systemctl: Optional[str],
+              before: Settings) -> Dict[CgroupPath, Agreed]:
+    """The limits and the settings of the units that some cgroups are of. Values are read before the settings are asked for again."""
+    known = {path: unit for path, unit in sorted(units.items()) if is_at(before.get(unit), path)}
+    values = {path: values_of(snapshot, path) for path in known}
+    found = agreed(before, read(systemctl, sorted(set(known.values()))))
+    return {path: Agreed(unit, values[path], found[unit]) for path, unit in known.items() if is_at(found.get(unit), path)}
+
+
+def restarts(found: Mapping[CgroupPath, Agreed]) -> Iterator[Restart]:
+    """For each unit what goes at its next start."""
+    for path, each in found.items():
+        limits = lost(each.values, each.settings)
         if limits:
-            yield units[unit], Restart(text_of(units[unit]), unit, tuple(limits))
+            yield Restart(text_of(path), each.unit, tuple(limits))

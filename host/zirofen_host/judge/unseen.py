@@ -3,7 +3,6 @@ from bisect import bisect_left
 from collections import Counter, defaultdict
 from typing import DefaultDict, Dict, FrozenSet, Iterator, List, Set, Tuple
 
-from zirofen_host.ask.questions import unit_of
 from zirofen_host.collect import bounded
 from zirofen_host.collect.looks import Looks
 from zirofen_host.collect.model import GROUP, OWNER, Entry, User
@@ -19,7 +18,7 @@ from zirofen_host.judge.notes import (Capable, Deputy, GroupClass, HasNsdelegate
                                       Outside, OwnersMark, Subordinate, UnaskedUsers, UnknownFiles, UnlookedDescriptors, UnlookedProcesses,
                                       UnlookedThreads, Unsearched, WithoutProcesses)
 from zirofen_host.judge.opened import unknown_files
-from zirofen_host.profile import ANYBODY, CgroupPath, ancestors, is_inside, text_of
+from zirofen_host.profile import ANYBODY, CgroupPath, ancestors, is_inside, path_of, text_of
 
 
 def of_user(checked: Checked, uid: int, note: Note) -> Told:
@@ -173,11 +172,9 @@ def unknown(checked: Checked) -> Iterator[Told]:
 
 def restarts(checked: Checked) -> Iterator[Told]:
     """Limits that a service's settings don't bring, and that are gone when it is started anew."""
-    # what somebody made may have the name of another unit, of which a manager tells
-    units = {unit: path for path in checked.questions.subtrees
-             if (unit := unit_of(path)) and unit.endswith(".service") and checked.holds.within(path) is None}
-    for path, note in settings.restarts(checked.snapshot, units, settings.systemctl_of(checked.options), checked.settings):
-        yield of_cgroup(checked, path, note)
+    asked = {path: each for path, each in checked.agreed.items() if path in checked.questions.holders and each.unit.endswith(".service")}
+    for note in settings.restarts(asked):
+        yield of_cgroup(checked, path_of(note.place), note)
 
 
 def about_the_mount(checked: Checked) -> Iterator[Told]:
