@@ -38,7 +38,8 @@ ROOT = "25 1 8:1 / / rw,relatime - ext4 /dev/sda1 rw\n"
 HOSTS = ROOT + "30 25 0:26 / /sys/fs/cgroup rw,nosuid - cgroup2 cgroup2 rw,nsdelegate\n"
 IMAGE = "400 300 0:50 / / rw,relatime - overlay overlay rw\n"
 DOCKER = "/system.slice/docker-4fb087512345.scope"
-NSDELEGATE = ("rw", "nsdelegate")
+NSDELEGATE = ("rw", "nsdelegate", "memory_recursiveprot")
+REMOUNT = "mount -o remount,nsdelegate,memory_recursiveprot /sys/fs/cgroup"
 HELD = "held by nsdelegate"
 FREE = "it writes no mount of cgroups, and has no CAP_SYS_ADMIN"
 BY_ADMIN = "it mounts cgroups and makes cgroup namespaces as it likes (CAP_SYS_ADMIN)"
@@ -202,7 +203,7 @@ class HeldTest(InsideTest):
         self.assertEqual(self.stood(), (HELD, [], None))
         self.assertEqual(self.stood(("rw",)), (
             f"not held: it writes {DOCKER} at /sys/fs/cgroup; nsdelegate is off",
-            [f"mount -o remount,nsdelegate {self.host.mount}"], None))
+            [f"mount -o remount,nsdelegate,memory_recursiveprot {self.host.mount}"], None))
         self.assertEqual((self.found()["status"], self.found(())["status"]), (0, 1))
 
     def test_a_mount_is_read_only_by_its_own_options_or_its_file_systems(self):
@@ -324,7 +325,7 @@ class HeldTest(InsideTest):
                           if is_there)
             each = Inside(path_of("/a"), 1, ("root",), (CgroupMount("/c", path_of("/a"), writable, above),), names, own, host_pids, False)
             with self.subTest(bits):
-                found = judged(each, "/sys/fs/cgroup", is_on)
+                found = judged(each, None if is_on else REMOUNT)
                 by_namespace = is_on and own and not above and not search
                 self.assertEqual(found.held, (not writable or by_namespace) and not (module or admin or host_pids))
                 self.assertEqual((bool(found.ways), bool(found.changes or found.setting)), (not found.held,) * 2)

@@ -3,6 +3,7 @@ import json
 import os
 import subprocess
 import sys
+import tempfile
 import time
 import unittest
 
@@ -184,6 +185,50 @@ class RealMountTest(OnMountTest):
         self.make(f"/{name}")
         outer = f"echo 0 > {MOUNT}{self.top}/{name}/cgroup.procs; exec unshare --mount sh -c \"$0\""
         return self.started(["sh", "-c", outer, "mount -t tmpfs none /tmp; echo ready; exec sleep 60"])
+
+    def over(self, source, path, *words):
+        """Mounts something over what stands at a path."""
+        place = f"{MOUNT}{self.top}{path}"
+        subprocess.run(["mount", *words, source, place], check=True)
+        self.addCleanup(subprocess.run, ["umount", place], check=True)
+
+    def test_what_is_mounted_over_files_and_cgroups(self):
+        """Another's file over a limit, a device over another, and a cgroup of its own over one: only the list of mounts tells the last."""
+        self.make("/alice/in")
+        with tempfile.NamedTemporaryFile() as file:
+            os.chown(file.name, 1000, 1000)
+            self.over(file.name, "/alice/cgroup.max.depth", "--bind")
+            self.over("/dev/null", "/alice/cgroup.max.descendants", "--bind")
+            self.over(f"{MOUNT}{self.top}/beside/cgroup.max.depth", "/bob/cgroup.max.depth", "--bind")
+            found, status, answers = self.report()
+            self.assertEqual([(each["path"][len(self.top):], each["entry"]) for each in found["premises"]], [
+                ("/alice", "cgroup.max.depth"), ("/alice", "cgroup.max.descendants"), ("/bob", "cgroup.max.depth")])
+            self.assertEqual((status, answers), (2, {"/alice": "contained", "/bob": "contained"}))
+            self.assertEqual((found["entries"], found["opened"]), ([], []))
+            self.assertEqual([each["marks"] for each in found["subtrees"]], [["mounted over"]] * 2)
+            self.assertEqual([each for each in found["snapshot"] if each["kind"] == "no-file"], [])
+        for words in (("tmpfs", "-t", "tmpfs"), (f"{MOUNT}{self.top}/beside", "--bind")):
+            with self.subTest(words):
+                self.over(words[0], "/alice/in", *words[1:])
+                found, status, answers = self.report()
+                self.assertEqual(([each["subtrees"] for each in found["faults"]], status), ([[f"{self.top}/alice"]], 3))
+                self.assertNotIn("/alice", answers)
+
+    def test_a_further_mount_is_named_with_who_reaches_it(self):
+        os.chmod(f"{MOUNT}{self.top}", 0o700)
+        with tempfile.TemporaryDirectory() as folder:
+            os.chown(folder, 1001, 1001)
+            place = os.path.join(folder, "in")
+            os.mkdir(place)
+            subprocess.run(["mount", "--bind", f"{MOUNT}{self.top}/bob", place], check=True)
+            try:
+                found = self.report()[0]
+            finally:
+                subprocess.run(["umount", place], check=True)
+        told = {(each["kind"], each["place"]): each["text"] for each in found["unseen"] if each["kind"] in ("mount", "search")}
+        self.assertRegex(told["mount", f"{self.top}/bob"], f"^mounted at {place} too, which is reached by (uid 1001|.*\\(1001\\))$")
+        searched = [text for (kind, who), text in told.items() if kind == "search" and "1001" in who]
+        self.assertEqual(searched, [f"they can't search {self.top}, and what is inside is mounted at {place} too: the answer stands"])
 
     def test_what_comes_and_goes_beside(self):
         self.loop("/beside")

@@ -82,6 +82,8 @@ LINKS = Budget("open files", 65536)
 DESCRIPTORS = Budget("open files with a path", 4096)
 LONG_DESCRIPTORS = Budget("open files that /proc tells much of", 16)
 RINGS, RING_BYTES = Budget("io_urings", 1024), Budget("bytes in what /proc tells of io_urings", 1 << 22)
+# further mounts of the hierarchy that are told
+FURTHER_MOUNTS = 64
 # of one unit with containers of root's: cgroups of theirs, and processes of one mount namespace whose root is looked at
 INSIDES, ROOTS = 64, 256
 # of the program
@@ -200,6 +202,11 @@ def open_folder(path: Place, folder: Optional[int] = None, flags: int = FOLDER) 
 def hold(path: Place) -> int:
     """A descriptor of what a path leads to, which is to be closed; its file system isn't asked for it."""
     return os.open(path, os.O_PATH | os.O_CLOEXEC)
+
+
+def hold_in(name: Place, folder: int) -> int:
+    """A descriptor of what stands in an opened folder, which is to be closed; neither a link is followed nor its file system asked."""
+    return os.open(name, os.O_PATH | os.O_NOFOLLOW | os.O_CLOEXEC, dir_fd=folder)
 
 
 def list_folder(folder: Union[str, int], most: int) -> Listed:

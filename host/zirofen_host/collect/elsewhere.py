@@ -12,8 +12,8 @@ from zirofen_host.collect import fitting
 from zirofen_host.collect import snapshot as snapshots
 from zirofen_host.collect.accounts import Accounts, is_id
 from zirofen_host.collect.holds import Holds
-from zirofen_host.collect.model import (About, Account, AccountLists, Carried, Cgroup, CgroupMount, Entry, Group, HeldEntry, Holding,
-                                        Inside, Process, Range, Row, Snapshot, Source, Tree, Unheld, User)
+from zirofen_host.collect.model import (About, Account, AccountLists, Carried, Cgroup, CgroupMount, Covered, Entry, FurtherMount, Group,
+                                        HeldEntry, Holding, Inside, Process, Range, Row, Scope, Snapshot, Source, Tree, Unheld, User)
 from zirofen_host.collect.mount import read_kernel_list
 from zirofen_host.collect.notes import CarriedNote, LimitsOfVersion1, Note, OtherType
 from zirofen_host.collect.reasons import CHANGED, CarriedOfSomebody, CarriedReason, Reason
@@ -53,6 +53,10 @@ class Gathered:
         self.inside: List[Inside] = []
         self.held: List[HeldEntry] = []
         self.unheld: List[Unheld] = []
+        self.mounts: List[FurtherMount] = []
+        self.covered: List[Covered] = []
+        self.in_hosts_namespace: List[CgroupPath] = []
+        self.scopes: List[Scope] = []
         # what further was looked at
         self.looked: Tuple[str, ...] = ()
         self.changing: Dict[CgroupPath, Reason] = {}
@@ -128,6 +132,22 @@ class Gathered:
         uid, path, why = parts_in(value)
         self.unheld.append(Unheld(id_of(uid), None if path is None else path_of(text_in(path)), CarriedReason(text_in(why))))
 
+    def take_mount(self, value: object) -> None:
+        place, top, folders, is_known = parts_in(value)
+        self.mounts.append(FurtherMount(text_in(place), path_of(text_in(top)), tuple(map(entry_of, texts_in(folders))), flag_in(is_known)))
+
+    def take_covered(self, value: object) -> None:
+        path, file, kind = texts_in(value)
+        self.covered.append(Covered(path_of(path), file, kind))
+
+    def take_sharing(self, value: object) -> None:
+        self.in_hosts_namespace.append(path_of(text_in(value)))
+
+    def take_scope(self, value: object) -> None:
+        path, engine, identity, name, holder = parts_in(value)
+        self.scopes.append(Scope(path_of(text_in(path)), text_in(engine), text_in(identity), None if name is None else text_in(name),
+                                 None if holder is None else number_in(holder)))
+
     def take_changing(self, value: object) -> None:
         path, why = parts_in(value)
         self.changing[path_of(text_in(path))] = reason_in(str(why))
@@ -147,8 +167,9 @@ class Gathered:
 # what takes a value by its key
 TAKERS: Mapping[str, Callable[[Gathered, object], None]] = {
     "about": Gathered.take_about, "account": Gathered.take_account, "cgroup": Gathered.take_cgroup,
-    "changing": Gathered.take_changing, "group": Gathered.take_group, "held": Gathered.take_held, "inside": Gathered.take_inside,
-    "looked": Gathered.take_looked, "note": Gathered.take_note, "process": Gathered.take_process, "runs": Gathered.take_runs,
+    "changing": Gathered.take_changing, "covered": Gathered.take_covered, "group": Gathered.take_group, "held": Gathered.take_held,
+    "inside": Gathered.take_inside, "looked": Gathered.take_looked, "mount": Gathered.take_mount, "note": Gathered.take_note,
+    "process": Gathered.take_process, "runs": Gathered.take_runs, "scope": Gathered.take_scope, "sharing": Gathered.take_sharing,
     "subgid": Gathered.take_subgid, "subuid": Gathered.take_subuid, "unheld": Gathered.take_unheld}
 
 
@@ -165,7 +186,10 @@ def read(accepted: Accepted, mount: str) -> Snapshot:
                     notes=tuple(gathered.notes), changing=gathered.changing, spoiled={}, version_1=version_1_in(gathered.notes),
                     source=Source(accepted.file, gathered.carried()),
                     inside=tuple(each for each in gathered.inside if each.path in tree.rows), held=tuple(gathered.held),
-                    unheld=tuple(gathered.unheld))
+                    unheld=tuple(gathered.unheld), mounts=tuple(gathered.mounts),
+                    covered=tuple(each for each in gathered.covered if each.path in tree.rows),
+                    scopes=tuple(each for each in gathered.scopes if each.path in tree.rows),
+                    in_hosts_namespace=tuple(each for each in gathered.in_hosts_namespace if each in tree.rows))
 
 
 def with_defaults(tree: Tree) -> Tree:
@@ -260,12 +284,25 @@ def carried(snapshot: Snapshot, accounts: Accounts) -> Iterator[Mapping[str, obj
         yield {"inside": [text_of(each.path), each.processes, list(each.by),
                           [[mount.place, text_of(mount.top), mount.is_writable, mount.is_above] for mount in each.mounts],
                           list(each.capabilities), each.has_own_namespace, each.has_host_pids, each.is_cut]}
+    yield from carried_of_hierarchy(snapshot)
     for account in accounts.lists.accounts:
         yield {"account": list(account)}
     for group in accounts.lists.groups:
         yield {"group": [group.gid, list(group.members), group.name]}
     for name, ranges in (("subuid", accounts.lists.subordinate_uids), ("subgid", accounts.lists.subordinate_gids)):
         yield from ({name: [each.owner, each.first, each.count]} for each in ranges)
+
+
+def carried_of_hierarchy(snapshot: Snapshot) -> Iterator[Mapping[str, object]]:
+    """What a text carries of the hierarchy's mounts and of containers."""
+    for mount in snapshot.mounts:
+        yield {"mount": [mount.place, text_of(mount.top), list(map(word_of, mount.folders)), mount.is_known]}
+    for covered in snapshot.covered:
+        yield {"covered": [text_of(covered.path), covered.file, covered.type]}
+    for path in snapshot.in_hosts_namespace:
+        yield {"sharing": text_of(path)}
+    for each in snapshot.scopes:
+        yield {"scope": [text_of(each.path), each.engine, each.id, each.name, each.holder]}
 
 
 def carried_of_premises(snapshot: Snapshot) -> Iterator[Mapping[str, object]]:

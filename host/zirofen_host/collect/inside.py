@@ -13,7 +13,7 @@ from zirofen_host.collect import bounded
 from zirofen_host.collect.model import Cgroup, CgroupMount, Inside, Process
 from zirofen_host.collect.mount import FIRST_NAMESPACE, FIRST_PID_NAMESPACE, unescaped
 from zirofen_host.collect.processes import FIRST_USER_NAMESPACE
-from zirofen_host.profile import ROOT, CgroupPath, is_inside, is_root, parts_of, path_of
+from zirofen_host.profile import ROOT, CgroupPath, ancestors, is_inside, is_root, parts_of, path_of
 
 BY_NAMESPACE, BY_ROOT, BY_UNREAD = "cgroup namespace", "root", "namespaces that aren't told"
 # by their numbers, the capabilities of a bounding set that decide whether cgroup files are kept from a container
@@ -159,6 +159,11 @@ class Look:
             yield from (self.inside(path, self.by_path[path]) for path in paths[:bounded.INSIDES])
             if len(paths) > bounded.INSIDES:
                 yield self.unlooked(unit, [each for path in paths[bounded.INSIDES:] for each in self.by_path[path]])
+
+    def in_hosts_namespace(self, paths: AbstractSet[CgroupPath]) -> AbstractSet[CgroupPath]:
+        """Those of some cgroups in which a process of the host's own cgroup namespace is."""
+        places = {self.at[pid] for pid, name in self.cgroups.items() if name == self.first.cgroups}
+        return {path for place in places for path in (place, *ancestors(place)) if path in paths}
 
     def unit_of(self, pid: int) -> CgroupPath:
         return unit_above(self.at[pid])

@@ -244,6 +244,22 @@ class Scope(NamedTuple):
     holder: Optional[int]
 
 
+class FurtherMount(NamedTuple):
+    """Another mount of the hierarchy: where, which cgroup is its top, and the folders on the way that don't let everybody through;
+    whether all of these were looked at."""
+    place: str
+    top: CgroupPath
+    folders: Tuple[Entry, ...]
+    is_known: bool
+
+
+class Covered(NamedTuple):
+    """A file of a cgroup over which something is mounted, and of what type the file system is, where that is told."""
+    path: CgroupPath
+    file: str
+    type: str
+
+
 @dataclass(frozen=True)
 class About:
     """What a snapshot is of, and when it was taken; of a text that doesn't say it, nothing."""
@@ -331,6 +347,11 @@ class Snapshot:
     # what processes hold open, and what of that wasn't looked at
     held: Tuple[HeldEntry, ...] = ()
     unheld: Tuple[Unheld, ...] = ()
+    # other mounts of the hierarchy, and files of cgroups over which something is mounted
+    mounts: Tuple[FurtherMount, ...] = ()
+    covered: Tuple[Covered, ...] = ()
+    # containers of root's in the host's own cgroup namespace
+    in_hosts_namespace: Tuple[CgroupPath, ...] = ()
 
     @property
     def processes_told(self) -> Collection[Process]:

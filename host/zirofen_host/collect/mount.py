@@ -1,10 +1,11 @@
 """Mounts of cgroups, and whether a snapshot can be taken here."""
 import os
-from typing import Dict, FrozenSet, List, Optional, Tuple
+from typing import Dict, FrozenSet, List, Mapping, Optional, Tuple
 
 from zirofen_host.collect import bounded
 from zirofen_host.fault import Fault
 from zirofen_host.files import OF_LIMITS
+from zirofen_host.options import PROC
 from zirofen_host.profile import CONTROL_FILES, USUAL_LIST
 
 # the number of the cgroup namespace that a kernel begins with
@@ -22,11 +23,17 @@ class Mounts:
         # of version 2 the top and the options by where it is mounted, of version 1 the options
         self.second: Dict[str, Tuple[str, List[str]]] = {}
         self.first: List[str] = []
+        # of each mount the type of its file system, by its number and by where it is
+        self.types: Dict[int, str] = {}
+        self.places: Dict[str, str] = {}
         # a path may have all that ends a line or parts words elsewhere, but for what stands for itself in octal digits
         for line in text.split("\n"):
             before, after = (part.split(" ") for part in line.partition(" - ")[::2])
             if len(before) < 6 or len(after) < 3:
                 continue
+            self.places[unescaped(before[4])] = after[0]
+            if before[0].isascii() and before[0].isdigit() and len(before[0]) < 20:
+                self.types[int(before[0])] = after[0]
             if after[0] == "cgroup2":
                 self.second[unescaped(before[4])] = (before[3], before[5].split(",") + after[2].split(","))
             elif after[0] == "cgroup":
@@ -45,6 +52,16 @@ class Mounts:
         """The controllers with limits that a hierarchy of version 1 has, as version 2 calls them."""
         names = {V1_NAMES.get(name, name) for options in self.first for name in options.split(",")}
         return tuple(sorted(names & OF_LIMITS))
+
+    def below(self, mount: str) -> Mapping[bytes, str]:
+        """What is mounted inside of a mount, by its path from there, and of what type each is."""
+        top = mount.rstrip("/") + "/"
+        return {os.fsencode(place[len(top) - 1:]): kind for place, kind in self.places.items() if place.startswith(top) and place != top}
+
+    def further(self, mount: str) -> List[Tuple[str, str]]:
+        """Where else the hierarchy of a mount is mounted, and the top of each."""
+        here = mount.rstrip("/") or "/"
+        return sorted((place, top) for place, (top, _) in self.second.items() if place != here) if here in self.second else []
 
     def options(self, mount: str) -> List[str]:
         found = self.second.get(mount.rstrip("/") or "/")
@@ -73,8 +90,16 @@ def refuse_what_is_no_host(mount: str) -> Mounts:
     return mounts
 
 
-def mounts_of_host() -> Mounts:
-    return Mounts(bounded.read_file("/proc/self/mountinfo", bounded.PROC_FILE).text("utf-8", "surrogateescape"))
+def mounts_of_host(proc: str = PROC) -> Mounts:
+    return Mounts(bounded.read_file(f"{proc}/self/mountinfo", bounded.PROC_FILE).text("utf-8", "surrogateescape"))
+
+
+def mounts_of_folder(proc: str) -> Mounts:
+    """The mounts of a made-up host, where its /proc tells them."""
+    try:
+        return Mounts("") if proc == PROC else mounts_of_host(proc)
+    except FileNotFoundError:
+        return Mounts("")
 
 
 def read_kernel_list(file: Optional[str]) -> FrozenSet[str]:

@@ -43,6 +43,17 @@ class Unreadable(Reason):
 
 
 @dataclass(frozen=True)
+class MountedOver(Reason):
+    """Something is mounted over a cgroup, or over a file of it without which nothing is known of it; of what type, where that is
+    told."""
+    type: str
+    file: str = ""
+
+    def __str__(self) -> str:
+        return f"{f'{self.file}: ' if self.file else ''}something is mounted over it{f' ({self.type})' if self.type else ''}"
+
+
+@dataclass(frozen=True)
 class OverBudget(Reason):
     """Somebody has more of something than is looked at."""
     is_by_somebody = True

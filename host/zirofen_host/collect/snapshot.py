@@ -8,9 +8,10 @@ from typing import Callable, Container, Dict, Iterable, Iterator, List, Mapping,
 from zirofen_host.collect import containers, held, inside, walk
 from zirofen_host.collect.accounts import payer_of
 from zirofen_host.collect.bounded import Payer
+from zirofen_host.collect.further_mounts import further_mounts
 from zirofen_host.collect.looks import Looks
-from zirofen_host.collect.model import About, Cgroup, Entry, Placed, Process, Row, Snapshot, Tree, Value
-from zirofen_host.collect.mount import Mounts, read_kernel_list, refuse_what_is_no_host
+from zirofen_host.collect.model import About, Cgroup, Covered, Entry, Inside, Placed, Process, Row, Scope, Snapshot, Tree, Value
+from zirofen_host.collect.mount import Mounts, mounts_of_folder, read_kernel_list, refuse_what_is_no_host
 from zirofen_host.collect.notes import (ANY_MODE, Changing, FileOfNoController, LimitsOfVersion1, NamedAsFile, NoFile, Note, NoValue,
                                         OtherControllers, OtherModes, OtherPid, OtherType, OtherValue, ProcessesBeside,
                                         UnknownProcess, UnlistedProcesses, WrongName)
@@ -19,8 +20,8 @@ from zirofen_host.collect.tree import tree_text as text_of_tree
 from zirofen_host.fault import Fault
 from zirofen_host.files import KINDS
 from zirofen_host.options import PROC, Options
-from zirofen_host.profile import (CONTROL_FILES, FURTHER_FILES, KERNEL_LIST, LIMIT_FILES, ROOT, CgroupPath, TextFormat, accepts, is_inside,
-                                  is_line, is_root, parent_of, shown, text_of, topmost)
+from zirofen_host.profile import (CONTROL_FILES, FURTHER_FILES, KERNEL_LIST, LIMIT_FILES, ROOT, CgroupPath, TextFormat, accepts, ancestors,
+                                  is_inside, is_line, is_root, parent_of, shown, text_of, topmost)
 
 LARGEST_PID = 4194303
 NOTHING_HELD: held.Found = (), ()
@@ -68,8 +69,10 @@ def version_1_notes(mounts: Mounts) -> Iterator[Note]:
 class Bending:
     """What a tree text carries of cgroups, with a note of each thing that it bends or leaves out."""
 
-    def __init__(self, cgroups: Cgroups, text_format: TextFormat) -> None:
+    def __init__(self, cgroups: Cgroups, text_format: TextFormat, covered: Container[Tuple[CgroupPath, str]] = ()) -> None:
         self.cgroups = cgroups
+        # files over which something is mounted
+        self.covered = covered
         self.text_format = text_format
         self.notes: List[Note] = []
         # the entries of the cgroup whose row is made that have more in their modes than a text has
@@ -89,7 +92,7 @@ class Bending:
         for file, (controller, default) in LIMIT_FILES.items():
             stands = controller is None or controller in available
             if file not in found.files:
-                if stands and parent:
+                if stands and parent and (path, file) not in self.covered:
                     self.notes.append(NoFile(text_of(path), file, default))
             elif stands:
                 files[file] = self.plain(file, found.files[file])
@@ -185,7 +188,7 @@ def snapshot_of(settled: walk.Settled, reader: Reader, options: Options, mounts:
     cgroups: Cgroups = walked.found
     root = cgroups[ROOT]
     text_format = options.text_format
-    bending = Bending(cgroups, text_format)
+    bending = Bending(cgroups, text_format, walked.covered)
     bending.notes += [*changing_notes(settled.changing), *name_notes(walked), *controller_notes(cgroups, text_format),
                       *process_notes(reader)]
     looks = Looks()
@@ -204,12 +207,13 @@ def snapshot_of(settled: walk.Settled, reader: Reader, options: Options, mounts:
                     spoiled=settled.spoiled,
                     version_1=mounts.limits_of_version_1(),
                     makers={path: walked.holds[path].uid for path in settled.changing if path in walked.holds},
-                    over=reader.over())
+                    over=reader.over(), covered=tuple(Covered(path, file, kind) for (path, file), kind in sorted(walked.covered.items())
+                                                      if path in rows))
 
 
 def take(options: Options, subtrees_of: SubtreesOf) -> Snapshot:
     """A snapshot of this host."""
-    mounts = Mounts("") if options.plain_folder else refuse_what_is_no_host(options.mount)
+    mounts = mounts_of_folder(options.proc) if options.plain_folder else refuse_what_is_no_host(options.mount)
     payer = payer_of(options.accounts)
     running: List[Reader] = []
 
@@ -219,16 +223,26 @@ def take(options: Options, subtrees_of: SubtreesOf) -> Snapshot:
         found = snapshot_of(walk.Settled(walked, {}, {}), running[0], options, mounts)
         return subtrees_of(found, changing)
 
-    settled = walk.settled(options.mount, options.only, subtrees_in, payer, options.text_format.further)
+    settled = walk.settled(options.mount, options.only, subtrees_in, payer, options.text_format.further, mounts.below(options.mount))
     reader = look_at_processes(options, payer, gids_in(settled.walk.found))
     found, looks = snapshot_of(settled, reader, options, mounts), Looks()
     look = looks.at("root-inside", lambda: inside.look(options.proc, found.cgroups, found.processes), None)
     insides = looks.all("root-inside", look.found) if look else ()
     entries, unheld = looks.at("descriptors", lambda: held.look(options.proc, found, payer, look), NOTHING_HELD)
+    scopes = () if options.plain_folder else looks.all("containers", lambda: containers.scopes(found.cgroups))
+    further = looks.all("mounts", lambda: further_mounts(mounts, options.mount))
     # of a part what is above it is there for the answers, and isn't told of by itself
     return replace(found, inside=tuple(each for each in insides if is_inside(each.path, options.only or ROOT)), held=entries, unheld=unheld,
-                   scopes=() if options.plain_folder else looks.all("containers", lambda: containers.scopes(found.cgroups)),
+                   scopes=scopes, mounts=further, in_hosts_namespace=tuple(sorted(in_hosts_namespace(look, insides, scopes))),
                    notes=(*found.notes, *looks.failed))
+
+
+def in_hosts_namespace(look: Optional[inside.Look], insides: Iterable[Inside], scopes: Iterable[Scope]) -> Iterable[CgroupPath]:
+    """The containers of root's that have the host's own cgroup namespace, whose processes may be anybody's."""
+    of_root = {each.path for each in scopes if each.holder is None and each.engine != containers.POD}
+    shared = set(look.in_hosts_namespace(of_root) if look else ())
+    others = {each.path for each in insides if not each.has_own_namespace}
+    return shared.union(path for path in others if shared.isdisjoint((path, *ancestors(path))))
 
 
 def gids_in(cgroups: Cgroups) -> Set[int]:

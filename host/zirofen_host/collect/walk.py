@@ -14,7 +14,7 @@ from zirofen_host import progress
 from zirofen_host.collect import bounded
 from zirofen_host.collect.bounded import Payer, Spent
 from zirofen_host.collect.model import Cgroup, Entry, FilePlace
-from zirofen_host.collect.reasons import CHANGED, Changed, NeverSettled, Reason, Unreadable
+from zirofen_host.collect.reasons import CHANGED, Changed, MountedOver, NeverSettled, Reason, Unreadable
 from zirofen_host.fault import Fault
 from zirofen_host.files import may_set
 from zirofen_host.profile import (CONTROL_FILES, CONTROLLERS, FURTHER_FILES, LIMIT_FILES, LONGEST_PATH, ROOT, CgroupPath, ancestors,
@@ -31,6 +31,9 @@ NONE: FrozenSet[str] = frozenset()
 Owned = Tuple[int, int, int]
 # why something is left out, by its path
 Whys = Mapping[CgroupPath, Reason]
+# what is mounted inside of a mount, by its path from there, and of what type each is
+Below = Mapping[bytes, str]
+NOTHING: Below = {}
 
 
 class Vanished(Exception):
@@ -97,10 +100,15 @@ class Walk:
     """One walk over a mount: the cgroups that were found by path, what was left out on the way, what went before it was read,
     and what can't be read. Where tops are named, it is these with what is inside, and their ancestors. What is read is charged to
     the owner of a cgroup, and of root's own inside of somebody's to whose that is. Of some further limit files values are read, where
-    somebody but root reaches them."""
+    somebody but root reaches them. What is mounted inside of the mount is no cgroup's, nor what is of another device."""
 
-    def __init__(self, mount: str, tops: Optional[Iterable[CgroupPath]] = None, payer: Payer = int, further: Sequence[str] = ()) -> None:
+    def __init__(self, mount: str, tops: Optional[Iterable[CgroupPath]] = None, payer: Payer = int, further: Sequence[str] = (),
+                 below: Below = NOTHING) -> None:
         self.mount = os.fsencode(mount)
+        self.below = below
+        # the mount's device, and the files over which something is mounted, with of what type that is
+        self.device: Optional[int] = None
+        self.covered: Dict[Tuple[CgroupPath, str], str] = {}
         self.payer = payer
         self.further = frozenset(further)
         self.cgroups, self.bytes, self.levels = (Spent(budget, payer) for budget in (bounded.CGROUPS, bounded.CGROUP_BYTES, bounded.LEVELS))
@@ -154,6 +162,10 @@ class Walk:
         if self.hold and not spent.take(self.hold.uid, amount):
             raise TooMuch(spent.budget.exceeded_by(self.hold.uid))
 
+    def full_name(self, path: CgroupPath, name: str) -> bytes:
+        """A file of a cgroup by its path from the mount."""
+        return (b"" if path == ROOT else path) + b"/" + os.fsencode(name)
+
     def full(self, path: CgroupPath) -> bytes:
         return self.mount if path == ROOT else self.mount + path
 
@@ -162,17 +174,20 @@ class Walk:
         folder = None
         try:
             folder = bounded.open_folder(self.full(path), None, bounded.FOLDER if path != ROOT else bounded.FOLDER & ~os.O_NOFOLLOW)
-            directory = owned_of(os.stat(folder))
+            status = os.stat(folder)
+            if self.is_covered(path, status):
+                raise Unread(MountedOver(self.below.get(path, "")))
+            directory = owned_of(status)
             self.hold_at(path, directory[0])
             self.charge(self.cgroups)
             self.charge(self.bytes, len(path))
             self.charge(self.levels, path.count(b"/"))
             found, names = self.read_files(path, folder, directory)
             return found, self.children(path, folder, names)
-        except (OSError, ValueError, Vanished) as error:
+        except (OSError, ValueError, Vanished, Unread) as error:
             if path == ROOT:
                 raise Fault(f"{shown(self.mount)} isn't a cgroup: {error}") from None
-            if isinstance(error, Vanished):
+            if isinstance(error, (Vanished, Unread)):
                 raise
             if isinstance(error, ValueError):
                 raise Unread(Unreadable(str(error))) from None
@@ -184,6 +199,12 @@ class Walk:
         finally:
             if folder is not None:
                 os.close(folder)
+
+    def is_covered(self, path: bytes, status: os.stat_result) -> bool:
+        """Whether what stands at a path is no part of the hierarchy, but mounted there."""
+        if path == ROOT:
+            self.device = status.st_dev
+        return status.st_dev != self.device or path in self.below
 
     def is_there(self, path: CgroupPath, folder: Optional[int]) -> bool:
         """Whether a folder that was opened is still what its path names."""
@@ -201,13 +222,17 @@ class Walk:
                     names.append(os.fsencode(name))
                     continue
                 status = os.lstat(name, dir_fd=folder)
-                if stat.S_ISREG(status.st_mode):
+                if status.st_dev != self.device or self.below and self.full_name(path, name) in self.below:
+                    self.covered[path, name] = self.below.get(self.full_name(path, name), "")
+                elif stat.S_ISREG(status.st_mode):
                     name, owned = sys.intern(name), owned_of(status)
                     pairs.append((name, owned))
                     if may_set(name):
                         self.places[status.st_dev, status.st_ino] = path, name
         files = self.once.files_of(tuple(pairs))
         for file in CONTROL_FILES:
+            if (path, file) in self.covered:
+                raise Unread(MountedOver(self.covered[path, file], file))
             if file not in files:
                 raise FileNotFoundError(errno.ENOENT, os.strerror(errno.ENOENT), file)
         return self.cgroup(folder, files, directory, self.further if path != ROOT else NONE), names
@@ -306,6 +331,7 @@ class Walk:
         put_in_place(self.unread, later.unread, later)
         self.gone = {path for path in self.gone if not later.covers(path)} | later.gone
         self.places.update(later.places)
+        self.covered = {**{each: kind for each, kind in self.covered.items() if not later.covers(each[0])}, **later.covered}
         self.holds.update(later.holds)
         self.without(())
 
@@ -322,10 +348,10 @@ class Settled(NamedTuple):
 
 
 def walk_over(mount: str, tops: Optional[Iterable[CgroupPath]] = None, before: Optional[Walk] = None, payer: Payer = int,
-              further: Sequence[str] = ()) -> Walk:
+              further: Sequence[str] = (), below: Below = NOTHING) -> Walk:
     """A walk; what is equal to what one before found is held once. The first reads no further limit file, since nothing that two have
     to agree on is in one."""
-    walk = Walk(mount, tops, payer, further if before else ())
+    walk = Walk(mount, tops, payer, further if before else (), below)
     if before:
         walk.once = before.once
     walk.walk()
@@ -433,13 +459,13 @@ def count_of(folder: int, name: bytes, most: int) -> int:
 
 
 def settled(mount: str, only: Optional[CgroupPath], subtrees_of: Callable[[Walk, Whys], Iterable[CgroupPath]],
-            payer: Payer = int, further: Sequence[str] = ()) -> Settled:
+            payer: Payer = int, further: Sequence[str] = (), below: Below = NOTHING) -> Settled:
     """Walks until two walks in a row agree on all that can matter for a subtree: itself, what is inside, and its ancestors.
     Only what doesn't agree is walked over again. `subtrees_of` gives the subtrees that are asked of, by a walk and by what
-    changes; the values of some further limit files are read."""
+    changes; the values of some further limit files are read. What is mounted inside of the mount is told."""
     tops = None if only is None else (only,)
-    before = walk_over(mount, tops, None, payer)
-    walk = walk_over(mount, tops, before, payer, further)
+    before = walk_over(mount, tops, None, payer, (), below)
+    walk = walk_over(mount, tops, before, payer, further, below)
     walk.holds = {**before.holds, **walk.holds}
     if only is not None and only not in walk.found and only not in walk.unread:
         raise Fault(f"there is no cgroup {shown(only)}")
@@ -449,7 +475,7 @@ def settled(mount: str, only: Optional[CgroupPath], subtrees_of: Callable[[Walk,
         again: Sequence[CgroupPath] = [ROOT] if ROOT in changing else [path for path, why in spoiled.items() if isinstance(why, Changed)]
         if not again:
             break
-        part = walk_over(mount, again, walk, payer, further)
+        part = walk_over(mount, again, walk, payer, further, below)
         changing = {**{path: why for path, why in changing.items() if not part.covers(path)}, **part.differing(walk)}
         walk.take(part)
         spoiled = spoiled_by(changing, subtrees_of(walk, changing))

@@ -13,8 +13,9 @@ from zirofen_host.collect.tree import parts_in, table_in, text_in, texts_in, tom
 from zirofen_host.fault import Fault
 from zirofen_host.judge.severity import ACCEPTED, Severity, severity_of
 from zirofen_host.judge.model import ABSENT, Absent, Acceptance, EntryFinding, OpenedFinding, Report, RootInside, Whom
-from zirofen_host.judge.rules import (ACCEPTABLE, HELD, OPENED, ROOT_INSIDE, RULES, RUNS, Finding, Rule, findings_of, of_held,
-                                      of_running)
+from zirofen_host.judge.finding_lines import CAPABILITY, MOUNT_OPTIONS
+from zirofen_host.judge.rules import (ACCEPTABLE, HELD, OPENED, PREMISES, ROOT_INSIDE, RULES, RUNS, Finding, Rule, findings_of, of_held,
+                                      of_premise, of_running)
 from zirofen_host.output import opened_back, refused
 from zirofen_host.profile import ANYBODY, is_inside, path_of, shown, tree_order
 
@@ -53,9 +54,9 @@ class Given:
         """Whether a finding is what was accepted: at the same entry, no graver, and letting in nobody else."""
         given = RULES[self.what]
         is_graver = (given.severity, found.rule.severity) == (Severity.UNSETTLED, Severity.ESCAPES)
-        # of a container each thing that lets it out is accepted by itself
-        is_inside = found.rule.word == ROOT_INSIDE
-        is_entry = set(found.entry.split()) <= set(self.entry.split()) if is_inside else found.entry == self.entry
+        # of a container each thing that lets it out is accepted by itself, and so is each option that is missing and each capability
+        is_list = found.rule.word in (ROOT_INSIDE, MOUNT_OPTIONS, CAPABILITY)
+        is_entry = set(found.entry.split()) <= set(self.entry.split()) if is_list else found.entry == self.entry
         same = (found.path, found.rule.at) == (self.path, given.at) and is_entry and kind_of(found.rule) == kind_of(given)
         return same and not is_graver and all(any(each.covers(whom) for each in self.named) for whom in found.whom)
 
@@ -159,6 +160,7 @@ def applied(report: Report, given: Iterable[Given], today: datetime.date) -> Rep
                      root_inside=tuple(accepted_inside(each, why) for each in report.containers) or ABSENT,
                      runs_elsewhere=tuple(replace(each, accepted=why_of(of_running(each), why)) for each in report.running) or ABSENT,
                      held_entries=tuple(replace(each, accepted=why_of(of_held(each), why)) for each in report.held) or ABSENT,
+                     premises=tuple(replace(each, accepted=why_of(of_premise(each), why)) for each in report.broken) or ABSENT,
                      acceptances=tuple(standing(each, found, by_path.get(each.path, ()), why, today) for each, found in met))
     return replace(report, status=severity_of(report).status)
 
@@ -185,7 +187,7 @@ def why_of(found: Finding, granted: Why) -> Union[str, Absent]:
 
 def entry_key(found: Finding) -> str:
     """What of findings at one place is told apart; programs of several users by whose they are too."""
-    return f"{found.entry} {found.whom[0].id}" if found.rule.word in (RUNS, HELD) else found.entry
+    return f"{found.entry} {found.whom[0].id}" if found.rule.word in (RUNS, HELD, *PREMISES) else found.entry
 
 
 def standing(each: Given, found: Optional[Finding], beside: Iterable[Finding], granted: Why, today: datetime.date) -> Acceptance:
@@ -200,7 +202,7 @@ def standing(each: Given, found: Optional[Finding], beside: Iterable[Finding], g
 
 def kind_of(rule: Rule) -> str:
     """What findings at one place may be beside one another: an entry's, one that is opened, a container, or a program's."""
-    return rule.word if rule.word in (OPENED, ROOT_INSIDE, RUNS, HELD) else ""
+    return rule.word if rule.word in (OPENED, ROOT_INSIDE, RUNS, HELD, *PREMISES) else ""
 
 
 def accepted_subtrees(report: Report) -> FrozenSet[str]:

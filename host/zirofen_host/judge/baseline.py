@@ -10,14 +10,14 @@ from zirofen_host.collect.bounded import REPORT_FILE, read_opened
 from zirofen_host.fault import Fault
 from zirofen_host.judge import as_json
 from zirofen_host.judge.acceptances import accepted_subtrees
-from zirofen_host.judge.finding_lines import (above_line, differs_line, entry_line, fault_line, inside_line, opened_line,
-                                              version_1_line)
+from zirofen_host.judge.finding_lines import (MOUNT_OPTIONS, above_line, differs_line, entry_line, fault_line, inside_line, opened_line,
+                                              premise_line, version_1_line)
 from zirofen_host.judge.severity import ACCEPTED as HOLDS
 from zirofen_host.judge.severity import Severity, is_empty, of_answer, of_fault, worst
 from zirofen_host.collect.notes import FAILED
 from zirofen_host.judge.model import (ABSENT, VERSION, Absent, Comparison, Difference, DiffersFinding, EntryFinding,
                                       OpenedFinding, Report, RootInside, Subtree, Whom, Within)
-from zirofen_host.judge.rules import Finding, of_held, of_running
+from zirofen_host.judge.rules import Finding, of_held, of_premise, of_running
 from zirofen_host.judge.saved import LACKING
 from zirofen_host.profile import shown
 
@@ -98,6 +98,11 @@ def found_in(report: Report) -> Dict[Key, Found]:
     for premise in (*map(of_running, report.running), *map(of_held, report.held)):
         found[premise.rule.word, premise.path, f"{premise.entry} {premise.whom[0].id}"] = Found(
             premise.rule.severity, premise.line, frozenset(), premise, premise.within, premise.accepted is not ABSENT)
+    for each in report.broken:
+        # of the host's options one that is missing more is worse
+        lacks = frozenset((word,) for word in each.entry.split()) if each.what == MOUNT_OPTIONS else frozenset()
+        key = (each.what, each.path, "" if lacks else f"{each.entry} {each.whom[0].id}")
+        found[key] = Found(Severity.UNSETTLED, premise_line(each), lacks, of_premise(each), each.within, each.accepted is not ABSENT)
     for fault in report.faults:
         for path in fault.subtrees:
             found["fault", path, fault.fault] = Found(of_fault(fault), fault_line(fault, [path]))
@@ -171,7 +176,7 @@ def changes_of_host(report: Report, before: Report) -> Iterable[Difference]:
 
 def kind_of(now: Optional[Found], then: Optional[Found]) -> Optional[str]:
     if then is None:
-        return "new"
+        return "worse" if now and isinstance(now.mended, Finding) and now.mended.rule.word == MOUNT_OPTIONS else "new"
     if now is None:
         return "gone"
     if now.severity.rank < then.severity.rank or now.lets_in - then.lets_in:

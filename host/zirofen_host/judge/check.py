@@ -14,7 +14,7 @@ from zirofen_host.collect.looks import Looks
 from zirofen_host.collect.model import GROUP, OWNER, Scope, Snapshot, User
 from zirofen_host.collect.notes import Note
 from zirofen_host.fault import Fault
-from zirofen_host.judge import held, inside, long_lists, running, unseen, whole
+from zirofen_host.judge import capable, held, hierarchy, inside, long_lists, running, unseen, whole
 from zirofen_host.judge.advised import Advised, advise
 from zirofen_host.judge.checked import Checked
 from zirofen_host.judge.finding_lines import SHOWN
@@ -107,18 +107,19 @@ def report_of(checked: Checked, is_whole: bool) -> Report:
     told = unseen.lines(checked, advised, looks)
     runs = looks.all("threads", lambda: running.findings(checked))
     entries_held = looks.all("descriptors", lambda: held.findings(checked))
+    premises = (*looks.all("hierarchy", lambda: hierarchy.findings(checked)), *looks.all("capabilities", lambda: capable.findings(checked)))
     notes = tuple(noted(checked, note) for note in snapshot.notes)
     made = Report(
         VERSION, answers.version, about.host or "", about.kernel or "",
         about.time or "", snapshot.mount, checked.is_asked, answers.has_advise,
-        subtrees=marked(subtrees, runs, entries_held),
+        subtrees=marked(subtrees, runs, entries_held, premises),
         entries=entries, opened=tuple(opened.values()), faults=faults, differs=differs, above=above,
         unseen=told, snapshot=notes, status=CONTAINED, version_1=snapshot.version_1,
         lists=looks.all("lists", lambda: shown_lists(checked, subtrees, entries)),
         root_inside=looks.all("root-inside", lambda: inside.findings(checked)) or ABSENT,
         scopes=looks.each("containers", snapshot.scopes, lambda each: named_scope(checked, each)) or ABSENT,
         runs_elsewhere=runs or ABSENT, held_entries=entries_held or ABSENT, limits=tuple(limits_of(checked)),
-        wanted={text_of(path): wanted for path, wanted in checked.wanted.items()})
+        wanted={text_of(path): wanted for path, wanted in checked.wanted.items()}, premises=premises or ABSENT)
     if is_whole:
         made = replace(made, users=looks.all("users", lambda: whole.users_of(checked)),
                        groups=looks.all("groups", lambda: whole.groups_of(checked)), cgroups=whole.cgroups_of(checked, looks),

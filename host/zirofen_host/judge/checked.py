@@ -18,7 +18,7 @@ from zirofen_host.judge.settings import CGROUP, Agreed, Settings, agreed_at, sys
 from zirofen_host.judge.shell import Change, change_commands
 from zirofen_host.judge.wanted import unit_at, wanted_by
 from zirofen_host.options import Options
-from zirofen_host.profile import ANYBODY, CgroupPath, parent_of, path_of, text_of
+from zirofen_host.profile import ANYBODY, CgroupPath, ancestors, parent_of, path_of, shown, text_of
 
 
 @dataclass(frozen=True)
@@ -85,6 +85,11 @@ class Checked:
         """Whose own making a cgroup is."""
         person = self.holds.within(path)
         return ABSENT if person is None else person
+
+    def container_text(self, path: CgroupPath) -> str:
+        """A container by its engine and its name, or by its cgroup."""
+        found = next((each for place in (path, *ancestors(path)) for each in self.snapshot.scopes if each.path == place), None)
+        return f"{found.engine}:{shown(found.name or found.id)}" if found else text_of(path)
 
     @property
     def is_asked(self) -> bool:

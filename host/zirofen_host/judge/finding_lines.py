@@ -5,7 +5,7 @@ from typing import Iterable, Optional, Sequence
 from zirofen_host.collect.model import GROUP, OTHERS, OWNER
 from zirofen_host.collect.notes import LimitsOfVersion1
 from zirofen_host.judge.model import (AboveFinding, Acceptance, DiffersFinding, EntryFinding, FaultFinding, HeldFinding, OpenedFinding,
-                                      Owner, RootInside, RunsElsewhere, Whom)
+                                      Owner, PremiseFinding, RootInside, RunsElsewhere, Whom)
 from zirofen_host.profile import shown
 
 # names in a line; where there are more, it tells how many
@@ -13,8 +13,10 @@ SHOWN = 8
 NOTHING_ASKED = ("nothing was found to ask: looked for were cgroups that somebody but root was handed, by a mark, a unit or the owners "
                  "and modes of their entries, and processes of root's in a container, by their cgroup namespace and root")
 NSDELEGATE = "nsdelegate"
+# the ids of what answers take to be otherwise
+MOUNT_OPTIONS, MOUNTED_OVER, CAPABILITY = "mount-options", "mounted-over", "capability"
 # what each report says of what an answer takes for granted
-PREMISES_MEAN = "an answer takes these not to be; seen and not proved"
+PREMISES_MEAN = "seen and not proved"
 # what each report says of root inside
 INSIDE_MEANS = "held speaks of cgroup files alone, and is seen and not proved"
 
@@ -101,6 +103,12 @@ def held_line(each: HeldFinding) -> str:
     """The line of an entry that is held, without the PIDs."""
     return (f"held-entry {each.path} {each.file} ({owner_text(each.owner)}): {' and '.join(each.how)} in {each.program} of "
             f"{whom_text(each.whom)}, who can't open it now")
+
+
+def premise_line(each: PremiseFinding) -> str:
+    """The line of what answers take to be otherwise, without the PIDs."""
+    place = " ".join(filter(None, (each.path, each.entry if each.what == MOUNTED_OVER else "")))
+    return f"{each.what} {place}: {each.told}"
 
 
 def processes_text(pids: Sequence[int]) -> str:

@@ -2,11 +2,11 @@
 
 Seen on the host, and not proved. It speaks of cgroup files alone, and of nothing else that such a process gets at.
 """
-import shlex
 from typing import Iterable, Iterator, NamedTuple, Optional, Sequence, Tuple
 
 from zirofen_host.collect.inside import ADMIN, MODULE, RAWIO, SEARCH
 from zirofen_host.collect.model import CgroupMount, Inside
+from zirofen_host.judge import hierarchy
 from zirofen_host.judge.checked import Checked
 from zirofen_host.judge.finding_lines import NSDELEGATE
 from zirofen_host.judge.model import RootInside
@@ -52,10 +52,10 @@ def by_mounts(found: Inside) -> Iterator[Way]:
         yield Way("mount", f"it writes {tops_of(writable)}", setting=f"{places_of(writable)} read-only")
 
 
-def by_namespace(found: Inside, mount: str, has_nsdelegate: bool) -> Iterator[Way]:
-    """What is missing for nsdelegate to hold it."""
-    if not has_nsdelegate:
-        yield Way(NSDELEGATE, "nsdelegate is off", change=f"mount -o remount,nsdelegate {shlex.quote(mount)}")
+def by_namespace(found: Inside, remount: Optional[str]) -> Iterator[Way]:
+    """What is missing for nsdelegate to hold it; where that is off, how it is brought back."""
+    if remount:
+        yield Way(NSDELEGATE, "nsdelegate is off", change=remount)
     if not found.has_own_namespace:
         yield Way("namespace", "its cgroup namespace is the host's", setting="a cgroup namespace of its own")
     above = [each for each in found.mounts if each.is_above]
@@ -74,10 +74,10 @@ def tops_of(mounts: Iterable[CgroupMount]) -> str:
     return ", ".join(f"{shown(text_of(each.top))} at {shown(each.place)}" for each in mounts)
 
 
-def judged(found: Inside, mount: str, has_nsdelegate: bool) -> RootInside:
+def judged(found: Inside, remount: Optional[str]) -> RootInside:
     """A container, with what holds it or else what lets it out. To set is what lets it out in any case, and the less of what either
     of the two that could hold it is missing."""
-    free, mounts, spaces = list(beside(found)), list(by_mounts(found)), list(by_namespace(found, mount, has_nsdelegate))
+    free, mounts, spaces = list(beside(found)), list(by_mounts(found)), list(by_namespace(found, remount))
     kept = [*([] if spaces else [NSDELEGATE]), *([] if mounts else [NOTHING_TO_WRITE])]
     if kept and not free:
         return RootInside(text_of(found.path), found.processes, found.by, True, tuple(kept), (), (), None)
@@ -97,5 +97,5 @@ def setting_of(wanted: Sequence[Way]) -> Optional[str]:
 
 def findings(checked: Checked) -> Tuple[RootInside, ...]:
     snapshot = checked.snapshot
-    has_nsdelegate = "nsdelegate" in snapshot.mount_options
-    return tuple(judged(each, snapshot.mount, has_nsdelegate) for each in snapshot.inside)
+    remount = None if NSDELEGATE in snapshot.mount_options else hierarchy.remount(snapshot)
+    return tuple(judged(each, remount) for each in snapshot.inside)

@@ -247,6 +247,27 @@ class HeldFinding:
 
 
 @dataclass(frozen=True)
+class PremiseFinding:
+    """Something of the host that answers take to be otherwise: by its rule's id, its place and what it is of; seen, and not proved."""
+    what: str
+    path: str
+    # the options that are missing, the file over which something is mounted, or capabilities
+    entry: str
+    whom: AllLetIn
+    told: str
+    processes: Tuple[int, ...]
+    changes: Tuple[str, ...]
+    # what the change does beside
+    effect: Optional[str]
+    within: Within = ABSENT
+    accepted: Union[str, Absent] = ABSENT
+
+    @property
+    def setting(self) -> None:
+        """No setting of a unit brings it back."""
+
+
+@dataclass(frozen=True)
 class NamedScope:
     """A container's or a pod's cgroup, by the name that a file of root's tells; of one that root didn't start, with whose it is."""
     path: str
@@ -424,6 +445,8 @@ class Report:
     acceptances: Union[Tuple[Acceptance, ...], Absent] = ABSENT
     # what narrows the question; a report of 0.2.0 doesn't tell it
     limits: Union[Tuple[AnswerLimit, ...], Absent] = ABSENT
+    # what answers take to be otherwise, where something is
+    premises: Union[Tuple[PremiseFinding, ...], Absent] = ABSENT
     # what settings of units say of limits, as far as systemctl tells it; of a report that was read nothing is known
     wanted: AllWanted = field(default_factory=dict, compare=False, metadata=NO_KEY)
 
@@ -441,6 +464,11 @@ class Report:
     def held(self) -> Tuple[HeldFinding, ...]:
         """What is held open by whoever couldn't open it now."""
         return () if isinstance(self.held_entries, Absent) else self.held_entries
+
+    @property
+    def broken(self) -> Tuple[PremiseFinding, ...]:
+        """What answers take to be otherwise."""
+        return () if isinstance(self.premises, Absent) else self.premises
 
     @property
     def scopes_by_path(self) -> Mapping[str, NamedScope]:

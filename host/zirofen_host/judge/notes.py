@@ -5,7 +5,7 @@ from typing import Iterable, Mapping, Optional, Tuple
 
 from zirofen_host.collect.notes import Note, classes
 from zirofen_host.collect.reasons import Reason
-from zirofen_host.judge.finding_lines import NSDELEGATE, some
+from zirofen_host.judge.finding_lines import some
 from zirofen_host.judge.model import Wanted
 
 
@@ -155,12 +155,16 @@ class UnlookedThreads(Note):
 class Unsearched(Note):
     """A directory that a user can't search."""
     kind = "search"
-    meaning = "A directory that isn't searched keeps out whom the answers let in."
+    meaning = "A directory that isn't searched keeps out whom the answers let in, on one mount alone."
     path: str
+    # where else what is inside is mounted
+    around: Tuple[str, ...]
 
     @property
     def text(self) -> str:
-        return f"they can't search {self.path}: safer than the answer"
+        if self.around:
+            return f"they can't search {self.path}, and what is inside is mounted at {some(self.around)} too: the answer stands"
+        return f"they can't search {self.path} on this mount: by another, as of a cgroup namespace inside, the answer stands"
 
 
 @dataclass(frozen=True)
@@ -268,14 +272,16 @@ class OfText(Note):
 
 
 @dataclass(frozen=True)
-class HasNsdelegate(Note):
-    """The mount keeps a cgroup namespace's processes in."""
-    kind = NSDELEGATE
-    meaning = "A mount option that keeps containers in."
+class MountedElsewhere(Note):
+    """Another mount of the hierarchy, and who gets to it."""
+    kind = "mount"
+    meaning = "What the hierarchy has is reached by each of its mounts."
+    mounted_at: str
+    reached_by: str
 
     @property
     def text(self) -> str:
-        return "the mount has it: what runs in a cgroup namespace is kept in there, safer than the answers"
+        return f"mounted at {self.mounted_at} too, which is reached by {self.reached_by}"
 
 
 @dataclass(frozen=True)

@@ -6,12 +6,13 @@ from zirofen_host.collect.notes import FAILED
 from zirofen_host.collect.model import OWNER
 from zirofen_host.judge import long_lists
 from zirofen_host.judge.finding_lines import NOTHING_ASKED as NOTHING_ASKED_LINE
-from zirofen_host.judge.finding_lines import (INSIDE_MEANS, acceptance_line, differs_line, entry_line, fault_line, held_line, inside_line,
-                                              opened_line, processes_text, runs_line, version_1_line)
+from zirofen_host.judge.finding_lines import (CAPABILITY, INSIDE_MEANS, MOUNT_OPTIONS, MOUNTED_OVER, acceptance_line, differs_line,
+                                              entry_line, fault_line, held_line, inside_line, opened_line, premise_line,
+                                              processes_text, runs_line, version_1_line)
 from zirofen_host.judge.severity import ACCEPTED, Severity, is_empty, of_answer, of_fault
 from zirofen_host.judge.judged import OVER, UNKNOWN
-from zirofen_host.judge.model import (ABSENT, Absent, DiffersFinding, EntryFinding, HeldFinding, OpenedFinding, Report, RootInside,
-                                      RunsElsewhere, Whom, Within)
+from zirofen_host.judge.model import (ABSENT, Absent, DiffersFinding, EntryFinding, HeldFinding, OpenedFinding, PremiseFinding, Report,
+                                      RootInside, RunsElsewhere, Whom, Within)
 from zirofen_host.profile import FURTHER_FILES, LIMIT_FILES
 
 NOTHING_ASKED, VERSION_1, DIFFERS = "nothing-asked", "version-1", "differs"
@@ -20,6 +21,7 @@ ROOT_INSIDE, ROOT_HELD = "root-inside", "root-inside/held"
 # what an answer takes not to be, and where it may be
 RUNS, RUNS_UNSETTLED = "runs-elsewhere", "runs-elsewhere/unsettled"
 HELD, HELD_PERHAPS = "held-entry", "held-entry/perhaps"
+PREMISES = (MOUNT_OPTIONS, MOUNTED_OVER, CAPABILITY)
 # whom a container lets out
 ROOT = Whom(OWNER, 0, "root(0)", ())
 # the guard that stands on an entry, by the entry's name; what is no entry has its own word
@@ -86,12 +88,16 @@ def rules_of_premises() -> Iterator[Rule]:
                "the same side of each edge, or as root's, or it isn't known where.", SEEN)
     yield Rule(HELD, "", Severity.ESCAPES, "Somebody holds an entry open for writing that they couldn't open now.", SEEN)
     yield Rule(HELD, "perhaps", Severity.UNSETTLED, "Somebody perhaps holds an entry open for writing that they couldn't open now.", SEEN)
+    yield Rule(MOUNT_OPTIONS, "", Severity.UNSETTLED, "The hierarchy hasn't the options with which the service manager mounts it.", SEEN)
+    yield Rule(MOUNTED_OVER, "", Severity.UNSETTLED, "Something is mounted over a file of a cgroup, which isn't read.", SEEN)
+    yield Rule(CAPABILITY, "", Severity.UNSETTLED, "A process of somebody's who holds a subtree, or inside of another's, passes over "
+               "owners.", SEEN)
 
 
 RULES: Dict[str, Rule] = {rule.id: rule for rule in made_rules()}
 # what somebody may accept by itself
 ACCEPTABLE = tuple(rule.id for rule in RULES.values()
-                   if rule.id == ROOT_INSIDE or rule.word in (OPENED, RUNS, HELD, *(word for word, _ in PROVED.values())))
+                   if rule.id == ROOT_INSIDE or rule.word in (OPENED, RUNS, HELD, *PREMISES, *(word for word, _ in PROVED.values())))
 
 
 @dataclass(frozen=True)
@@ -157,6 +163,13 @@ def of_held(each: HeldFinding) -> Finding:
                    within=each.within)
 
 
+def of_premise(each: PremiseFinding) -> Finding:
+    """What answers take to be otherwise."""
+    told = (processes_text(each.processes),) if each.processes else ()
+    return Finding(RULES[each.what], each.path, each.entry, premise_line(each), each.whom, example=told, changes=each.changes,
+                   accepted=each.accepted, within=each.within)
+
+
 def findings_of(report: Report) -> Iterator[Finding]:
     """Everything that a report tells of, in its order; a fault once for each subtree that it is of."""
     yield from map(of_entry, report.entries)
@@ -164,6 +177,7 @@ def findings_of(report: Report) -> Iterator[Finding]:
     yield from map(of_inside, report.containers)
     yield from map(of_running, report.running)
     yield from map(of_held, report.held)
+    yield from map(of_premise, report.broken)
     for fault in report.faults:
         rule = RULES["fault" if of_fault(fault) is Severity.FAULT else "fault/own"]
         yield from (Finding(rule, path, "", fault_line(fault, [path])) for path in fault.subtrees)

@@ -26,6 +26,7 @@ def named_in(report: Report) -> Iterator[str]:
     yield from (each.path for each in report.containers)
     yield from (each.path for each in report.running)
     yield from (each.path for each in report.held)
+    yield from (each.path for each in report.broken)
     yield from (path for entry in report.entries for path in entry.subtrees)
     yield from (path for above in report.above for path in above.subtrees)
     if not isinstance(report.processes, Absent):

@@ -72,6 +72,7 @@ def severities_in(report: Report) -> Iterator[Severity]:
     yield from (Severity.ESCAPES for each in report.containers if not each.held and each.accepted is ABSENT)
     yield from (of_premise(each.is_across) for each in report.running if each.accepted is ABSENT)
     yield from (of_premise(each.is_sure) for each in report.held if each.accepted is ABSENT)
+    yield from (Severity.UNSETTLED for each in report.broken if each.accepted is ABSENT)
     if is_empty(report):
         yield Severity.NOTHING_ASKED
     if report.version_1:

@@ -1,24 +1,24 @@
 """What no answer looks at, as far as a host tells of it: a line each, of a user, a cgroup or the host."""
 from bisect import bisect_left
 from collections import Counter, defaultdict
-from typing import DefaultDict, Dict, FrozenSet, Iterator, List, Set, Tuple
+from typing import DefaultDict, FrozenSet, Iterator, List, Set, Tuple
 
 from zirofen_host.collect import bounded
 from zirofen_host.collect.looks import Looks
-from zirofen_host.collect.model import GROUP, OWNER, Entry, User
+from zirofen_host.collect.model import OWNER
 from zirofen_host.collect.notes import Note
 from zirofen_host.collect.walk import MANAGERS_MARK, OWNERS_MARK
-from zirofen_host.judge import settings
+from zirofen_host.judge import capable, hierarchy, settings
 from zirofen_host.judge.advised import Advised
 from zirofen_host.judge.checked import Checked
-from zirofen_host.judge.finding_lines import NSDELEGATE, some
+from zirofen_host.judge.finding_lines import some
 from zirofen_host.judge.findings import texts_of
 from zirofen_host.judge.model import Told
-from zirofen_host.judge.notes import (Capable, Deputy, GroupClass, HasNsdelegate, LeftOutGroups, MakesAbove, NotAdvised, OfText,
+from zirofen_host.judge.notes import (Capable, Deputy, GroupClass, LeftOutGroups, MakesAbove, MountedElsewhere, NotAdvised, OfText,
                                       Outside, OwnersMark, Subordinate, UnaskedUsers, UnknownFiles, UnlookedDescriptors, UnlookedProcesses,
                                       UnlookedThreads, Unsearched, WithoutProcesses)
 from zirofen_host.judge.opened import unknown_files
-from zirofen_host.profile import ANYBODY, CgroupPath, ancestors, is_inside, path_of, text_of
+from zirofen_host.profile import ANYBODY, CgroupPath, ancestors, is_inside, path_of, shown, text_of
 
 
 def of_user(checked: Checked, uid: int, note: Note) -> Told:
@@ -109,18 +109,10 @@ def outside(checked: Checked) -> Iterator[Told]:
 
 
 def capabilities(checked: Checked) -> Iterator[Told]:
-    """Processes that pass over owners: those inside of what somebody else than root holds, and everybody's but root's elsewhere;
-    all of one user at one place in one line."""
-    asked = {path for path in checked.questions.subtrees if checked.questions.holders[path].by}
-    found: DefaultDict[Tuple[CgroupPath, bool, int], Dict[Tuple[str, ...], List[int]]] = defaultdict(lambda: defaultdict(list))
-    for pid, uid, at in checked.snapshot.tree.processes:
-        process = checked.snapshot.processes[pid]
-        held = [place for place in (at, *ancestors(at)) if place in asked]
-        if process.capabilities and (held or process.user.uid):
-            found[held[0] if held else at, bool(held), process.user.uid][process.capabilities].append(pid)
-    for (place, inside, uid), by_names in sorted(found.items()):
-        processes = tuple((names, tuple(pids)) for names, pids in sorted(by_names.items()))
-        yield of_cgroup(checked, place, Capable(text_of(place), checked.names.user(uid), inside, processes))
+    """Processes that pass over owners, but for those that take an answer back, which are findings."""
+    for each in capable.capable_users(checked):
+        if not capable.takes_back(checked, each):
+            yield of_cgroup(checked, each.place, Capable(text_of(each.place), checked.names.user(each.uid), each.is_inside, each.by_names))
     left: Counter[int] = Counter()
     for process in checked.snapshot.processes.values():
         left[process.uid] += process.threads_left
@@ -134,13 +126,9 @@ def search_bits(checked: Checked) -> Iterator[Told]:
     for uid, paths in sorted(checked.held.items()):
         for user in checked.questions.delegations.users("uid", uid):
             seen |= {(uid, place) for path in paths for place in ancestors(path)
-                     if not searches(user, checked.snapshot.cgroups[place].directory)}
+                     if not hierarchy.searches(user, checked.snapshot.cgroups[place].directory)}
     for uid, place in sorted(seen):
-        yield of_user(checked, uid, Unsearched(checked.names.user(uid), text_of(place)))
-
-
-def searches(user: User, directory: Entry) -> bool:
-    return bool(directory.mode >> {OWNER: 6, GROUP: 3}.get(user.class_of(directory), 0) & 0o1)
+        yield of_user(checked, uid, Unsearched(checked.names.user(uid), text_of(place), hierarchy.around(checked, text_of(place))))
 
 
 def marks(checked: Checked) -> Iterator[Told]:
@@ -182,8 +170,8 @@ def about_the_mount(checked: Checked) -> Iterator[Told]:
     if checked.snapshot.source.file is not None:
         carried = checked.snapshot.source.carried
         yield Told.of(OfText("", carried is not None, carried is not None and carried.has_holds, checked.options.accounts is not None))
-    if NSDELEGATE in checked.snapshot.mount_options:
-        yield Told.of(HasNsdelegate(""))
+    for mount in checked.snapshot.mounts:
+        yield Told.of(MountedElsewhere(text_of(mount.top), shown(mount.place), hierarchy.reached_by(checked, mount)))
 
 
 def processes(checked: Checked) -> Iterator[Told]:

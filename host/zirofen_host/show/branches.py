@@ -3,11 +3,12 @@ from dataclasses import dataclass
 from functools import cached_property
 from typing import Iterator, List, Sequence, Set, Tuple, Union
 
+from zirofen_host.judge.model import PremiseFinding
 from zirofen_host.profile import ancestors
 from zirofen_host.show import words
 from zirofen_host.show.finding import Place, id_of
 from zirofen_host.show.markup import code, css, items, text
-from zirofen_host.show.view import HELD, RUNNING, Host, entry_of, whom_of
+from zirofen_host.show.view import HELD, PREMISES, RUNNING, Host, entry_of, whom_of
 from zirofen_host.show.words import ACCEPTED, QUIET, SIGNS
 
 # so many cgroups beside one another of which nothing is to be told aren't folded: of delegations, and of others
@@ -110,8 +111,10 @@ class Branches:
         for number, finding in self.host.notes.get(path, ()):
             if finding.key == "root_inside":
                 yield f'<a class="{css(finding.kind)}" href="#{id_of(self.at, number)}">root inside</a>'
-            if finding.key in (RUNNING, HELD):
-                told = "runs elsewhere" if finding.key == RUNNING else f"{entry_of(finding.parts[0])} held open"
+            if finding.key in (RUNNING, HELD, PREMISES):
+                first = finding.parts[0]
+                told = ("runs elsewhere" if finding.key == RUNNING else f"{first.what}: {first.entry}" if isinstance(first, PremiseFinding)
+                        else f"{entry_of(first)} held open")
                 yield f'<a class="{css(finding.kind)}" href="#{id_of(self.at, number)}">{text(told)}</a>'
             if finding.key == "entries":
                 names = ", ".join(map(entry_of, finding.parts))

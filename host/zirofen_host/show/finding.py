@@ -5,8 +5,10 @@ from typing import Dict, Iterator, List, Optional
 from zirofen_host.collect.model import User
 from zirofen_host.fault import Fault
 from zirofen_host.judge import long_lists, shell
-from zirofen_host.judge.finding_lines import explaining, held_line, inside_count, owner_text, processes_text, runs_line
-from zirofen_host.judge.model import DiffersFinding, EntryFinding, FaultFinding, HeldFinding, OpenedFinding, RootInside, RunsElsewhere
+from zirofen_host.judge.finding_lines import (CAPABILITY, MOUNT_OPTIONS, explaining, held_line, inside_count, owner_text,
+                                              processes_text, runs_line)
+from zirofen_host.judge.model import (DiffersFinding, EntryFinding, FaultFinding, HeldFinding, OpenedFinding, PremiseFinding, RootInside,
+                                      RunsElsewhere)
 from zirofen_host.show import picture, words
 from zirofen_host.show.lines import together
 from zirofen_host.show.markup import capital, code, commands, filled, items, paragraph, places, sentence, text
@@ -73,6 +75,9 @@ class Article:
         if isinstance(part, HeldFinding):
             verb = words.verb(part.whom, "holds", "hold")
             return f"{text(capital(words.who(part.whom)))} {verb} {code(part.file)} of {code(part.path)} open"
+        if isinstance(part, PremiseFinding):
+            return {MOUNT_OPTIONS: "The hierarchy lacks mount options", CAPABILITY: f"Owners are passed over in {code(part.path)}"}.get(
+                part.what, f"Something is mounted over {code(part.entry)} of {code(part.path)}")
         if isinstance(part, FaultFinding):
             return f"No answer of {self.titled(part.subtrees[0])}"
         if isinstance(part, OpenedFinding) and part.why:
@@ -121,6 +126,9 @@ class Article:
         if isinstance(part, (RunsElsewhere, HeldFinding)):
             line = runs_line(part) if isinstance(part, RunsElsewhere) else held_line(part)
             return f"{text(line.partition(': ')[2].capitalize())} ({text(processes_text(part.processes))})."
+        if isinstance(part, PremiseFinding):
+            told = "; ".join(filter(None, (part.told, processes_text(part.processes) if part.processes else None)))
+            return f"{text(capital(told))}."
         entry = entry_of(part)
         if entry in words.NO_ENTRY:
             return f"{text(words.NO_ENTRY[entry])}: {code(part.path)}, {text(words.who(part.whom))}."
@@ -181,8 +189,10 @@ class Article:
             is_missing = self.finding.key == "entries" and not self.host.report.has_advice
             return "<p>What to change isn't told: the program of this report has no advise.</p>" if is_missing else ""
         heading = self.at.level(4)
+        effects = dict.fromkeys(each.effect for each in self.finding.parts if isinstance(each, PremiseFinding) and each.effect)
+        then = "".join(f"<p>What it does beside: {text(each)}.</p>" for each in effects)
         behind = f"<p>What brings it back when the unit is started again: {text(', '.join(settings))}.</p>" if settings else ""
-        return f'<div class="change"><{heading}>What to change</{heading}>{commands(changes)}{behind}</div>'
+        return f'<div class="change"><{heading}>What to change</{heading}>{commands(changes)}{then}{behind}</div>'
 
     def of_container(self, part: RootInside) -> str:
         """What holds a container: on the host, and where it is started."""

@@ -12,11 +12,11 @@ from zirofen_host.collect.looks import why_of
 from zirofen_host.collect.notes import FAILED
 from zirofen_host.fault import FAULT, Fault
 from zirofen_host.judge import limits, saved
-from zirofen_host.judge.finding_lines import (differs_line, entry_line, fault_line, held_line, inside_line, opened_line, runs_line,
-                                              version_1_line)
+from zirofen_host.judge.finding_lines import (differs_line, entry_line, fault_line, held_line, inside_line, opened_line,
+                                              premise_line, runs_line, version_1_line)
 from zirofen_host.judge.severity import severity_of
-from zirofen_host.judge.model import (ABSENT, DiffersFinding, EntryFinding, FaultFinding, HeldFinding, OpenedFinding, Report, RootInside,
-                                      RunsElsewhere)
+from zirofen_host.judge.model import (ABSENT, DiffersFinding, EntryFinding, FaultFinding, HeldFinding, OpenedFinding,
+                                      PremiseFinding, Report, RootInside, RunsElsewhere)
 from zirofen_host.profile import shown
 from zirofen_host.show.view import DIFFERS, Grouped, Host, accepted_of, host_of
 from zirofen_host.show.words import CONTAINED, NOT_ASKED, STANDINGS
@@ -125,7 +125,8 @@ def report_in(path: str) -> Report:
         value = json.loads(read.text())
     except (ValueError, RecursionError) as error:
         raise Fault(f"no JSON: {error}") from None
-    keys = ("entries", "opened", "faults", "differs", "above", "unseen", "snapshot", "root_inside", "runs_elsewhere", "held_entries")
+    keys = ("entries", "opened", "faults", "differs", "above", "unseen", "snapshot", "root_inside", "runs_elsewhere", "held_entries",
+            "premises")
     lists = [value.get(key) for key in keys] if isinstance(value, dict) else []
     if sum(len(each) for each in lists if isinstance(each, list)) > MOST_FINDINGS:
         raise Fault(f"it has over {MOST_FINDINGS} findings")
@@ -168,6 +169,8 @@ def plain_lines(found: Grouped) -> Iterator[str]:
             yield runs_line(each)
         elif isinstance(each, HeldFinding):
             yield held_line(each)
+        elif isinstance(each, PremiseFinding):
+            yield premise_line(each)
 
 
 def row_of(name: str, host: Host, is_listed: bool) -> Row:

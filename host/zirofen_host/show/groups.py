@@ -3,7 +3,7 @@ import re
 from dataclasses import dataclass
 from typing import Dict, Hashable, Iterator, List, Sequence
 
-from zirofen_host.judge.model import DiffersFinding, EntryFinding, FaultFinding, HeldFinding, RootInside, RunsElsewhere
+from zirofen_host.judge.model import DiffersFinding, EntryFinding, FaultFinding, HeldFinding, PremiseFinding, RootInside, RunsElsewhere
 from zirofen_host.show import words
 from zirofen_host.show.finding import Article, Place, articles
 from zirofen_host.show.markup import commands, filled
@@ -28,6 +28,8 @@ def part_in_common(part: Part) -> Hashable:
         return part.is_across, part.why != ()
     if isinstance(part, HeldFinding):
         return part.file, part.is_sure
+    if isinstance(part, PremiseFinding):
+        return part.what, part.entry
     by, mode = tuple(each.by for each in whom_of(part)), part.owner.mode if part.owner else None
     if isinstance(part, EntryFinding):
         return part.entry, mode, by, words.where(part.path, part.subtrees) if part.subtrees else None

@@ -10,6 +10,7 @@ from zirofen_host.fault import plain
 from zirofen_host.judge import limits
 from zirofen_host.judge.severity import Severity, of_answer
 from zirofen_host.judge.model import Absent, Subtree
+from zirofen_host.judge.finding_lines import CAPABILITY, MOUNT_OPTIONS, MOUNTED_OVER
 from zirofen_host.judge.rules import (DIFFERS, HELD, NOTHING_ASKED, OPENED, OPENED_DIRECTORY, ROOT_HELD, ROOT_INSIDE, RUNS, VERSION_1,
                                       Finding)
 from zirofen_host.profile import ancestors
@@ -98,8 +99,10 @@ def place_of(found: Finding) -> Tuple[str, str]:
         return found.path, f"opened {found.entry}"
     if found.rule.id in (ROOT_INSIDE, ROOT_HELD):
         return found.path, "root inside"
-    if found.rule.word in (RUNS, HELD):
+    if found.rule.word in (RUNS, HELD, CAPABILITY):
         return found.path, f"{found.rule.word} {found.entry} of {found.whom[0].name}"
+    if found.rule.word in (MOUNT_OPTIONS, MOUNTED_OVER):
+        return found.path, f"{found.rule.word} {found.entry}"
     if found.rule.severity is Severity.STALE:
         return found.path, f"acceptance {found.entry}".rstrip()
     return found.path or HOST, DIFFERS if found.rule.id == DIFFERS else "answered"

@@ -10,12 +10,13 @@ from zirofen_host.judge import limits, long_lists
 from zirofen_host.judge.acceptances import accepted_subtrees
 from zirofen_host.judge.baseline import KINDS
 from zirofen_host.judge.finding_lines import (INSIDE_MEANS, NOTHING_ASKED, PREMISES_MEAN, SHOWN, above_line, acceptance_line, differs_line,
-                                              entry_line, fault_line, held_line, inside_count, inside_line, opened_line, processes_text,
-                                              runs_line, version_1_line, whom_text, why_command)
+                                              entry_line, fault_line, held_line, inside_count, inside_line, opened_line, premise_line,
+                                              processes_text, runs_line, version_1_line, whom_text, why_command)
 from zirofen_host.judge.severity import is_empty
 from zirofen_host.judge.marked import is_marked, marks_text
 from zirofen_host.judge.model import (ABSENT, AboveFinding, Absent, Comparison, Difference, DiffersFinding, EntryFinding, HeldFinding,
-                                      HolderAnswer, NamedScope, OpenedFinding, Report, RootInside, RunsElsewhere, Subtree, Told)
+                                      HolderAnswer, NamedScope, OpenedFinding, PremiseFinding, Report, RootInside, RunsElsewhere,
+                                      Subtree, Told)
 from zirofen_host.judge.notes import JOINED, JoinedNote
 from zirofen_host.profile import ancestors
 from zirofen_host.show.folded import SEVERITY, Part, counted, folded
@@ -27,7 +28,7 @@ VERSION_1 = " [v1]"
 # lines of each kind of what no answer looks at, for what one person made
 TOLD = 4
 # what brings changes and a setting
-Mended = Union[EntryFinding, OpenedFinding, DiffersFinding, RootInside, RunsElsewhere, HeldFinding, Difference]
+Mended = Union[EntryFinding, OpenedFinding, DiffersFinding, RootInside, RunsElsewhere, HeldFinding, PremiseFinding, Difference]
 One = TypeVar("One")
 # the table's columns, and what stands below them
 Row = Tuple[str, str, str, str, Sequence[str]]
@@ -104,6 +105,7 @@ def together(commands: Iterable[str]) -> List[str]:
 def what_to_change(found: Sequence[Mended]) -> Iterator[str]:
     """What mends findings at one place, and what brings their values back."""
     yield from (f"    change: {command}" for command in together(command for each in found for command in each.changes))
+    yield from (f"    then: {each.effect}" for each in found if isinstance(each, PremiseFinding) and each.effect)
     settings = dict.fromkeys(filter(None, (each.setting for each in found)))
     if settings:
         yield f"    setting, at the next start: {', '.join(settings)}"
@@ -177,9 +179,11 @@ def inside_lines(report: Report) -> Iterator[str]:
 
 def premise_lines(report: Report, is_each: bool = False) -> Iterator[str]:
     """What an answer takes not to be, each with the processes that it is of; what one person's processes do, so many lines of it."""
-    found: List[Tuple[Union[RunsElsewhere, HeldFinding], str, str]] = [(each, runs_line(each), "runs-elsewhere") for each in report.running]
-    found += [(each, held_line(each), "held-entry") for each in report.held]
-    parts = [(each.within, reason, [f"{line} ({processes_text(each.processes)})", *what_to_change([each])])
+    found: List[Tuple[Union[RunsElsewhere, HeldFinding, PremiseFinding], str, str]] = [
+        *((each, runs_line(each), "runs-elsewhere") for each in report.running),
+        *((each, held_line(each), "held-entry") for each in report.held),
+        *((each, premise_line(each), each.what) for each in report.broken)]
+    parts = [(each.within, reason, [f"{line} ({processes_text(each.processes)})" if each.processes else line, *what_to_change([each])])
              for each, line, reason in found if each.accepted is ABSENT]
     yield from (line for within, _, lines in parts if within is ABSENT for line in lines)
     yield from folded((Part(within, (number,), reason, None, lines) for number, (within, reason, lines) in enumerate(parts)
@@ -282,7 +286,7 @@ def lines_of(report: Report, is_each: bool = False) -> Iterator[str]:
     premises = list(premise_lines(report, is_each))
     if premises:
         yield ""
-        yield f"What runs elsewhere or is held open; {PREMISES_MEAN}:"
+        yield f"What answers take to be otherwise; {PREMISES_MEAN}:"
         yield from premises
     if not isinstance(report.acceptances, Absent) and report.acceptances:
         yield ""

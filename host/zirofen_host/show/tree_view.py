@@ -12,7 +12,7 @@ from zirofen_host.collect import bounded
 from zirofen_host.fault import Fault, plain
 from zirofen_host.judge import limits
 from zirofen_host.judge.finding_lines import INSIDE_MEANS, inside_text
-from zirofen_host.judge.model import DiffersFinding, HeldFinding, Report, RootInside, RunsElsewhere
+from zirofen_host.judge.model import DiffersFinding, HeldFinding, PremiseFinding, Report, RootInside, RunsElsewhere
 from zirofen_host.options import TreeOptions
 from zirofen_host.profile import is_inside, is_root, text_of
 from zirofen_host.show import words
@@ -128,6 +128,8 @@ class Drawer:
                 yield f"{sign} {words.who(first.whom)} {words.verb(first.whom, 'runs', 'run')} elsewhere: {' '.join(first.elsewhere)}"
             elif isinstance(first, HeldFinding):
                 yield f"{sign} {first.file} held open by {words.who(first.whom)}"
+            elif isinstance(first, PremiseFinding):
+                yield f"{sign} {first.what}: {first.told}"
             else:
                 why = accepted_of(first)
                 yield (f"{sign} {' '.join(names)} let{'s' if len(names) == 1 else ''} in {words.who(whom_of(first))}"

@@ -9,14 +9,14 @@ from zirofen_host.collect.model import Value
 from zirofen_host.collect.walk import OWNERS_MARK
 from zirofen_host.judge.marked import is_marked
 from zirofen_host.judge.model import (Absent, DiffersFinding, EntryFinding, FaultFinding, HeldBy, HeldFinding, NamedScope, OpenedFinding,
-                                      Owner, Report, ReportCgroup, ReportFile, ReportProcess, ReportUser, RootInside, RunsElsewhere,
-                                      Subtree, Whom)
+                                      Owner, PremiseFinding, Report, ReportCgroup, ReportFile, ReportProcess, ReportUser, RootInside,
+                                      RunsElsewhere, Subtree, Whom)
 from zirofen_host.profile import CONTROL_FILES, FURTHER_FILES, HANDED_OVER, LIMIT_FILES, ancestors, is_usual, parent_of
 from zirofen_host.show import words
 from zirofen_host.show.lines import alike, entry_in_common, opened_in_common
 from zirofen_host.show.words import ABOVE, ACCEPTED, CONTAINED, ESCAPES, FAULT, NOT_ASKED, OPENED, STANDINGS, UNSETTLED, visible
 
-Part = Union[EntryFinding, OpenedFinding, FaultFinding, DiffersFinding, RootInside, RunsElsewhere, HeldFinding]
+Part = Union[EntryFinding, OpenedFinding, FaultFinding, DiffersFinding, RootInside, RunsElsewhere, HeldFinding, PremiseFinding]
 SomePart = TypeVar("SomePart", bound=Part)
 One = TypeVar("One")
 Made = TypeVar("Made")
@@ -45,7 +45,7 @@ class Escape:
     told: str = ""
 
 
-DIFFERS, RUNNING, HELD = "differs", "runs_elsewhere", "held_entries"
+DIFFERS, RUNNING, HELD, PREMISES = "differs", "runs_elsewhere", "held_entries", "premises"
 KINDS = {"opened": OPENED, "faults": FAULT, "differs": DIFFERS}
 COUNTED = (ESCAPES, OPENED, UNSETTLED, FAULT)
 
@@ -97,12 +97,14 @@ def place_of(part: Part) -> str:
 
 def entry_of(part: Part) -> str:
     """The directory or the file that a finding is of."""
-    return part.entry if isinstance(part, EntryFinding) else part.file if isinstance(part, (OpenedFinding, HeldFinding)) else ""
+    if isinstance(part, (EntryFinding, PremiseFinding)):
+        return part.entry
+    return part.file if isinstance(part, (OpenedFinding, HeldFinding)) else ""
 
 
 def whom_of(part: Part) -> Tuple[Whom, ...]:
     """Whom a finding lets in."""
-    return part.whom if isinstance(part, (EntryFinding, OpenedFinding, RunsElsewhere, HeldFinding)) else ()
+    return part.whom if isinstance(part, (EntryFinding, OpenedFinding, RunsElsewhere, HeldFinding, PremiseFinding)) else ()
 
 
 def accepted_of(part: Part) -> Optional[str]:
@@ -155,6 +157,7 @@ class Host:
                    for number, each in enumerate(report.containers) if not each.held),
                  *(premise(RUNNING, number, each, each.is_across) for number, each in enumerate(report.running)),
                  *(premise(HELD, number, each, each.is_sure) for number, each in enumerate(report.held)),
+                 *(premise(PREMISES, number, each, False) for number, each in enumerate(report.broken)),
                  *grouped("faults", report.faults, lambda each: (each.fault, each.subtrees)),
                  *grouped("differs", report.differs, lambda each: each.path)]
         return sorted(found, key=lambda each: (*STANDINGS, DIFFERS).index(each.kind))
