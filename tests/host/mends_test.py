@@ -19,8 +19,8 @@ from zirofen_host.judge.rules import findings_of
 from zirofen_host.show import formats
 from zirofen_host.show import mends as written
 
-LOOK_AT_SERVICE = ("nothing of this host's files is known to set it. Look at ExecStartPre=+, ExecStartPost=+ and their like (systemctl cat "
-                   "{0}), and at hooks and timers of root's; what was done by hand ends when {0} is started again")
+LOOK_AT_SERVICE = ("no file of the host was looked at for what gives it away. Look at ExecStartPre=+, ExecStartPost=+ and their like "
+                   "(systemctl cat {0}), and at hooks and timers of root's; what was done by hand ends when {0} is started again")
 
 
 def row(**values):
@@ -113,7 +113,7 @@ class MendsTest(HostTest):
                             ("/box", "Look for what makes /box, and for chown and chmod")):
             found = self.mend_at(path)
             self.assertEqual((found.withheld, len(found.told)), ((), 1))
-            self.assertIn("nothing of this host's files is known to set it", found.told[0])
+            self.assertIn("no file of the host was looked at for what gives it away", found.told[0])
             self.assertIn(words, found.told[0])
             self.assertTrue(found.changes)
 

@@ -43,6 +43,8 @@ HOST_MOUNTS = 1 << 26
 SENT_REPORT, SENT_PARTS, SENT_VALUES = 1 << 26, 1 << 20, 1 << 22
 # files that tell names of containers, bytes of one, and of all
 NAME_FILES, NAME_FILE, NAME_BYTES = 4096, 1 << 22, 1 << 26
+# files of root's in which it is looked for what gives a cgroup away, bytes of one, and of all
+ROOT_FILES, ROOT_FILE, ROOT_BYTES = 8192, 1 << 18, 1 << 26
 # bytes of a list of hosts
 HOSTS_FILE = 1 << 26
 
@@ -270,17 +272,17 @@ def read_regular(path: Place, most: int) -> Read:
         os.close(opened)
 
 
-def refuse_others(opened: int) -> None:
-    """Ends where somebody but root owns or writes what was opened."""
+def refuse_others(opened: int, may_be_sticky: bool = False) -> None:
+    """Ends where somebody but root owns or writes what was opened. In a sticky folder a file of root's stays what it is."""
     found = os.fstat(opened)
-    if found.st_uid or found.st_mode & 0o022:
+    is_sticky = may_be_sticky and found.st_mode & stat.S_ISVTX and stat.S_ISDIR(found.st_mode)
+    if found.st_uid or found.st_mode & 0o022 and not is_sticky:
         raise OSError(errno.EPERM, "somebody but root owns or writes it")
 
 
-def read_roots(place: str, most: int, top: str = "/") -> Read:
-    """What a regular file of root's has, where each folder on the way is root's too, and nobody else writes any of them; no link is
-    followed."""
-    *folders, name = place.strip("/").split("/")
+def open_roots(folders: Sequence[str], top: str = "/", may_be_sticky: bool = False) -> int:
+    """A folder's descriptor, which is to be closed: it and each folder on the way are root's, nobody else writes them, and none is a
+    link."""
     opened = open_folder(top)
     try:
         refuse_others(opened)
@@ -288,14 +290,31 @@ def read_roots(place: str, most: int, top: str = "/") -> Read:
             within = open_folder(each, opened)
             os.close(opened)
             opened = within
-            refuse_others(opened)
-        file = os.open(name, FILE, dir_fd=opened)
-        try:
-            refuse_others(file)
-            if not stat.S_ISREG(os.fstat(file).st_mode):
-                raise OSError(errno.EINVAL, "it is no regular file")
-            return read_opened(file, most)
-        finally:
-            os.close(file)
+            refuse_others(opened, may_be_sticky)
+    except OSError:
+        os.close(opened)
+        raise
+    return opened
+
+
+def read_roots_in(folder: int, name: str, most: int) -> Read:
+    """What a regular file of root's has in an opened folder, which nobody else writes."""
+    file = os.open(name, FILE, dir_fd=folder)
+    try:
+        refuse_others(file)
+        if not stat.S_ISREG(os.fstat(file).st_mode):
+            raise OSError(errno.EINVAL, "it is no regular file")
+        return read_opened(file, most)
+    finally:
+        os.close(file)
+
+
+def read_roots(place: str, most: int, top: str = "/") -> Read:
+    """What a regular file of root's has, where each folder on the way is root's too, and nobody else writes any of them; no link is
+    followed."""
+    *folders, name = place.strip("/").split("/")
+    opened = open_roots(folders, top)
+    try:
+        return read_roots_in(opened, name, most)
     finally:
         os.close(opened)

@@ -21,6 +21,9 @@ class Setting(NamedTuple):
     section: str
     name: str
     value: str
+    # where it stands
+    file: str = ""
+    line: int = 0
 
 
 @dataclass(frozen=True)
@@ -97,11 +100,12 @@ def read_text(file: str) -> str:
 
 def settings_in(text: str, file: str) -> Iterator[Setting]:
     """The settings of a text; a line that ends with a backslash goes on in the next, over comments."""
-    section, held = "", ""
+    section, held, first = "", "", 0
     for number, line in enumerate([*text.split("\n"), ""], 1):
         line = line.strip()
         if line[:1] in ("#", ";") or not line and not held:
             continue
+        first = first if held else number
         line = f"{held} {line}".strip() if held else line
         if line.endswith("\\"):
             held = line[:-1].rstrip()
@@ -111,7 +115,7 @@ def settings_in(text: str, file: str) -> Iterator[Setting]:
             section = line[1:-1]
         elif "=" in line and section:
             name, _, value = line.partition("=")
-            yield Setting(section, name.strip(), value.strip())
+            yield Setting(section, name.strip(), value.strip(), file, first)
         else:
             raise Fault(f"line {number} of {shown(file)} is no setting of a unit")
 

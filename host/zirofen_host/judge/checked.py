@@ -2,16 +2,17 @@
 from collections import defaultdict
 from dataclasses import dataclass
 from functools import cached_property
-from typing import DefaultDict, FrozenSet, Iterable, List, Mapping, Sequence, Tuple
+from typing import DefaultDict, FrozenSet, Iterable, List, Mapping, Optional, Sequence, Tuple, Union
 
 from zirofen_host.ask.model import Answers
 from zirofen_host.ask.questions import Questions
 from zirofen_host.ask.texts import Programs
+from zirofen_host.collect.causes import Found, look
 from zirofen_host.collect.holds import Holds
 from zirofen_host.collect.model import Entry, Snapshot, User
 from zirofen_host.files import Kind, kind_of
 from zirofen_host.judge.judged import Judged, LetIn, Place
-from zirofen_host.judge.model import ABSENT, Wanted, Within
+from zirofen_host.judge.model import ABSENT, Absent, Wanted, Within
 from zirofen_host.judge.names import Names
 from zirofen_host.judge.opened import find_openings
 from zirofen_host.judge.settings import CGROUP, Agreed, Settings, agreed_at, systemctl_of
@@ -64,6 +65,17 @@ class Checked:
     def wanted(self) -> Mapping[CgroupPath, Mapping[str, Wanted]]:
         """What the settings of each of these units say of each limit."""
         return {path: wanted_by(each.settings) for path, each in self.agreed.items()}
+
+    @cached_property
+    def found_in_files(self) -> Optional[Found]:
+        """What root's files of this host have that gives cgroups away; of a text, and of plain files, they aren't looked at."""
+        return None if self.snapshot.source.file or self.options.plain_folder else look(self.snapshot.mount)
+
+    def causes(self, path: CgroupPath) -> Union[Tuple[str, ...], Absent]:
+        """The lines that give something of a cgroup away; of what somebody made none is looked for."""
+        if self.holds.within(path) is not None or self.found_in_files is None:
+            return ABSENT
+        return tuple(map(str, self.found_in_files.of(text_of(path), unit_at(path))))
 
     @property
     def units(self) -> Mapping[CgroupPath, str]:

@@ -66,7 +66,7 @@ def entry_finding(checked: Checked, advised: Advised, found: LetsIn, closing: Tu
                         whom_of(checked.names, found.whom), texts_of(found.subtrees), example,
                         (*changes, *(() if place.name == "dir" else closing), *restoring(checked, place)), setting_at(checked, place),
                         checked.within(place.path),
-                        is_own_affair(checked, place, found.whom, found.subtrees))
+                        is_own_affair(checked, place, found.whom, found.subtrees), causes=checked.causes(place.path))
 
 
 def is_own_affair(checked: Checked, place: Place, let_in: Iterable[LetIn], subtrees: Iterable[CgroupPath]) -> Union[bool, Absent]:
@@ -105,7 +105,8 @@ def opened_findings(checked: Checked) -> Iterable[Tuple[Place, OpenedFinding]]:
             yield place, OpenedFinding(
                 text_of(place.path), place.name, owner_of(entry), whom_of(checked.names, let_in),
                 (*changes, *(() if is_directory else closing.get(place.path, ())), *restoring(checked, place)), setting_at(checked, place),
-                WHO_IS_FIRST if is_directory else None, checked.within(place.path), is_own_affair(checked, place, let_in, ()))
+                WHO_IS_FIRST if is_directory else None, checked.within(place.path), is_own_affair(checked, place, let_in, ()),
+                causes=checked.causes(place.path))
 
 
 def restoring(checked: Checked, place: Place) -> Iterator[str]:
@@ -120,8 +121,12 @@ def restoring(checked: Checked, place: Place) -> Iterator[str]:
 
 def setting_at(checked: Checked, place: Place) -> Optional[str]:
     """The setting of a unit that brings a limit at its next start."""
-    wanted = checked.wanted.get(place.path, {}).get(place.name)
-    return f"{wanted.setting} of {checked.agreed[place.path].unit}" if wanted and wanted.is_set else None
+    wanted, files = checked.wanted.get(place.path, {}).get(place.name), checked.found_in_files if place.path in checked.wanted else None
+    if not wanted or not wanted.is_set:
+        return None
+    unit = checked.agreed[place.path].unit
+    line = files.setting(unit, place.name) if files else None
+    return f"{wanted.setting} of {unit}" + (f" ({line})" if line else "")
 
 
 def is_shown(checked: Checked, place: Place, let_in: Iterable[LetIn]) -> bool:
@@ -233,7 +238,7 @@ def differs_findings(checked: Checked, opened: Iterable[Place]) -> Iterable[Diff
         differs = {name: entry for name, entry in differs.items() if Place(path, name) not in told}
         if differs:
             yield DiffersFinding(text_of(path), tuple(sorted(differs)), setting_of(path),
-                                 closing_commands(checked.snapshot.mount, text_of(path), differs))
+                                 closing_commands(checked.snapshot.mount, text_of(path), differs), checked.causes(path))
 
 
 def above_findings(checked: Checked) -> Iterable[AboveFinding]:

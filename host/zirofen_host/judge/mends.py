@@ -31,7 +31,8 @@ DELEGATE = "Delegate=yes"
 CONTROL = "cgroup.subtree_control"
 # microseconds of cpu.max where nobody set others
 PERIOD = 100000
-NOT_KNOWN = "nothing of this host's files is known to set it"
+NOT_FOUND = "nothing that was read gives it away"
+NOT_LOOKED = "no file of the host was looked at for what gives it away"
 # what is said of what has no entry
 ELSE: Dict[str, str] = {
     VERSION_1: "boot with systemd.unified_cgroup_hierarchy=1",
@@ -208,12 +209,20 @@ class Place:
         if UNKNOWN in entries:
             yield "nothing is known to make it: report it"
         if entries - {OVER, UNKNOWN} or any(each.rule.id == DIFFERS for each in self.found):
-            yield f"{NOT_KNOWN}. {where_to_look(self.path, self.unit)}"
+            yield from self.told_of_causes()
         yield from self.told_of_settings()
         if any(SETTINGS.get(file) and not settings_for(file, self.row) and is_set(file, self.row) for file in self.files):
             yield "a setting brings a limit of a device by its name, which a cgroup doesn't tell: set it by hand in the unit"
         if self.restarts and not any(SETTINGS.get(file) for file in self.files):
             yield "no setting brings these limits: what sets them has to at each start, as ExecStartPost=+"
+
+    def told_of_causes(self) -> Iterator[str]:
+        """What gives the entries away, as far as it was looked for and found."""
+        looked = [each.causes for each in self.found if not isinstance(each.causes, Absent)]
+        causes = dict.fromkeys(cause for of in looked for cause in of)
+        yield from (f"has it: {cause}" for cause in causes)
+        if not causes:
+            yield f"{NOT_FOUND if looked else NOT_LOOKED}. {where_to_look(self.path, self.unit)}"
 
     def told_of_settings(self) -> Iterator[str]:
         """What root's settings say of the limits."""

@@ -140,6 +140,8 @@ class EntryFinding:
     is_own: Union[bool, Absent] = ABSENT
     # why it isn't counted, where somebody accepted it
     accepted: Union[str, Absent] = ABSENT
+    # lines of root's files that give it away, or may; where none was looked for it isn't there
+    causes: Union[Tuple[str, ...], Absent] = ABSENT
 
 
 @dataclass(frozen=True)
@@ -156,6 +158,7 @@ class OpenedFinding:
     within: Within = ABSENT
     is_own: Union[bool, Absent] = ABSENT
     accepted: Union[str, Absent] = ABSENT
+    causes: Union[Tuple[str, ...], Absent] = ABSENT
 
 
 @dataclass(frozen=True)
@@ -177,6 +180,7 @@ class DiffersFinding:
     entries: Tuple[str, ...]
     setting: Optional[str]
     changes: Tuple[str, ...]
+    causes: Union[Tuple[str, ...], Absent] = ABSENT
 
 
 @dataclass(frozen=True)

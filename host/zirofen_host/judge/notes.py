@@ -250,6 +250,23 @@ class Restart(Note):
 
 
 @dataclass(frozen=True)
+class NoCause(Note):
+    """Cgroups at which somebody is let in, and nothing that was read says why."""
+    kind = "cause"
+    meaning = "What gives an entry away may be anywhere that root runs something."
+    paths: Tuple[str, ...]
+    # files that aren't root's alone, links, and what was over the bounds
+    unread: int
+
+    @property
+    def text(self) -> str:
+        more = f", and {self.unread} files that aren't root's alone, are links or are too large" if self.unread else ""
+        return (f"nothing that was read gives away what lets somebody in at {some(self.paths)}: units with their drop-ins, tmpfiles.d, "
+                "udev's rules, root's crontabs, rc.local and PAM, where a line names the mount, and what root carries out for that unit, "
+                f"with a script that it calls. Not read was what else root runs, and what was done by hand{more}")
+
+
+@dataclass(frozen=True)
 class OfText(Note):
     """What a text doesn't tell: one that carries something of its host or nothing, with accounts beside it or without."""
     kind = "elsewhere"

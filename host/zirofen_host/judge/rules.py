@@ -118,6 +118,8 @@ class Finding:
     accepted: Union[str, Absent] = ABSENT
     # whose own making its cgroup is
     within: Within = ABSENT
+    # lines of root's files that give it away, or may, where they were looked for
+    causes: Union[Tuple[str, ...], Absent] = ABSENT
 
     @property
     def is_counted(self) -> bool:
@@ -129,17 +131,18 @@ def of_entry(each: EntryFinding) -> Finding:
     word = PROVED.get(of_answer(each.answer), PROVED[Severity.ESCAPES])[0]
     example = tuple(long_lists.shown(each.example.lines)) if each.example else ()
     return Finding(RULES[f"{word}/{GUARDS.get(each.entry, UNKNOWN)}"], each.path, each.entry, entry_line([each]), each.whom,
-                   each.subtrees, example, each.changes, each.setting, each.accepted, each.within)
+                   each.subtrees, example, each.changes, each.setting, each.accepted, each.within, each.causes)
 
 
 def of_opened(each: OpenedFinding) -> Finding:
     rule = RULES[OPENED_DIRECTORY if each.file == "dir" else OPENED]
     return Finding(rule, each.path, each.file, opened_line(each), each.whom, changes=each.changes, setting=each.setting,
-                   accepted=each.accepted, within=each.within)
+                   accepted=each.accepted, within=each.within, causes=each.causes)
 
 
 def of_differs(each: DiffersFinding) -> Finding:
-    return Finding(RULES[DIFFERS], each.path, "", differs_line(each), changes=each.changes, setting=each.setting)
+    return Finding(RULES[DIFFERS], each.path, "", differs_line(each), changes=each.changes, setting=each.setting,
+                   causes=each.causes)
 
 
 def of_inside(each: RootInside) -> Finding:

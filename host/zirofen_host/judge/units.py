@@ -295,7 +295,7 @@ class Started:
 
     def tell_the_rest(self) -> None:
         """Each setting of what it has or who runs in it that can't be told here."""
-        for _, name, value in self.unit.settings:
+        for _, name, value, *_ in self.unit.settings:
             if not value or name in CARRIED_OUT or ACCOUNTING.match(name):
                 continue
             if name.startswith("Exec") and _AS_ROOT.match(value):

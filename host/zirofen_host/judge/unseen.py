@@ -14,7 +14,7 @@ from zirofen_host.judge.checked import Checked
 from zirofen_host.judge.finding_lines import some
 from zirofen_host.judge.findings import texts_of
 from zirofen_host.judge.model import Told
-from zirofen_host.judge.notes import (Capable, Deputy, GroupClass, LeftOutGroups, MakesAbove, MountedElsewhere, NotAdvised, OfText,
+from zirofen_host.judge.notes import (Capable, Deputy, GroupClass, LeftOutGroups, MakesAbove, MountedElsewhere, NoCause, NotAdvised, OfText,
                                       Outside, OwnersMark, Subordinate, UnaskedUsers, UnknownFiles, UnlookedDescriptors, UnlookedProcesses,
                                       UnlookedThreads, Unsearched, WithoutProcesses)
 from zirofen_host.judge.opened import unknown_files
@@ -35,7 +35,7 @@ def lines(checked: Checked, advised: Advised, looks: Looks) -> Tuple[Told, ...]:
     """Looks at a host once, each look by itself."""
     found: List[Told] = []
     for look in (descriptors, makers_above, group_class, subordinates, deputies, outside, capabilities, search_bits, marks, groups,
-                 everybody, unknown, restarts, about_the_mount, processes):
+                 everybody, unknown, restarts, causes, about_the_mount, processes):
         found += looks.all(look.__name__, lambda: look(checked))
     return (*found, *not_advised(advised))
 
@@ -163,6 +163,14 @@ def restarts(checked: Checked) -> Iterator[Told]:
     asked = {path: each for path, each in checked.agreed.items() if path in checked.questions.holders and each.unit.endswith(".service")}
     for note in settings.restarts(asked):
         yield of_cgroup(checked, path_of(note.place), note)
+
+
+def causes(checked: Checked) -> Iterator[Told]:
+    """Where somebody is let in, and nothing of root's files is known to do that."""
+    paths = {place.path for place in (*checked.judged.entries, *(place for place, _, _ in checked.openings))}
+    without = [path for path in sorted(paths) if checked.causes(path) == ()]
+    if without and checked.found_in_files:
+        yield Told.of(NoCause("", texts_of(without), checked.found_in_files.unread))
 
 
 def about_the_mount(checked: Checked) -> Iterator[Told]:

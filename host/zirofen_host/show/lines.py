@@ -103,12 +103,14 @@ def together(commands: Iterable[str]) -> List[str]:
 
 
 def what_to_change(found: Sequence[Mended]) -> Iterator[str]:
-    """What mends findings at one place, and what brings their values back."""
+    """What mends findings at one place, what brings their values back, and what of root's files gave them away."""
     yield from (f"    change: {command}" for command in together(command for each in found for command in each.changes))
     yield from (f"    then: {each.effect}" for each in found if isinstance(each, PremiseFinding) and each.effect)
     settings = dict.fromkeys(filter(None, (each.setting for each in found)))
     if settings:
         yield f"    setting, at the next start: {', '.join(settings)}"
+    causes = [each.causes for each in found if isinstance(each, (EntryFinding, OpenedFinding, DiffersFinding))]
+    yield from (f"    cause: {cause}" for cause in dict.fromkeys(cause for of in causes if not isinstance(of, Absent) for cause in of))
 
 
 def entry_lines(entries: Sequence[EntryFinding]) -> Iterator[str]:

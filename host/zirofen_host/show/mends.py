@@ -2,6 +2,7 @@
 from typing import Iterator
 
 from zirofen_host.fault import plain
+from zirofen_host.judge.notes import NoCause
 from zirofen_host.judge.mends import SHELL, Mend, mends_of
 from zirofen_host.show.lines import together
 from zirofen_host.show.run import Run
@@ -40,6 +41,8 @@ def lines_of(run: Run, kind: str) -> Iterator[str]:
         if number:
             yield ""
         yield from as_script(mend) if is_script else as_drop_ins(mend)
+    causes = [each.line for each in run.report.unseen if each.kind == NoCause.kind]
+    yield from (line for each in causes for line in ("", f"# {each}"))
     if not mends:
         yield NOTHING
 
