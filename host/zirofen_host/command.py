@@ -35,8 +35,9 @@ def main(words: List[str]) -> int:
         print(help_text(), file=sys.stderr)
         return fault.FAULT
     given = parser_of(words[0]).parse_args(words[1:])
+    run_command = importlib.import_module(f"zirofen_host.runs.{words[0]}").run
     fault.bound(vars(given).get("seconds"))
-    status: int = importlib.import_module(f"zirofen_host.runs.{words[0]}").run(given)
+    status: int = run_command(given)
     return status
 
 

@@ -28,6 +28,7 @@ class _Clock:
     end: Optional[float] = None
     # when the program has to have been asked, so that what it answered is still told
     end_of_asking: Optional[float] = None
+    seconds: Optional[int] = None
     told = ""
 
 
@@ -42,8 +43,17 @@ def bound(seconds: Optional[int]) -> None:
             raise out_of_time()
         _Clock.end, _Clock.end_of_asking = time.monotonic() + seconds, time.monotonic() + ASKING * seconds
         _Clock.told = f"it took longer than {seconds} seconds, and this is no answer"
+        _Clock.seconds = seconds
         signal.signal(signal.SIGALRM, end_run)
         signal.alarm(seconds)
+
+
+def bound_anew(seconds: int) -> Optional[int]:
+    """Gives what is left to be told so many seconds more, once a run has come to the end of its time; how many that was."""
+    if _Clock.end is None:
+        return None
+    signal.alarm(seconds)
+    return _Clock.seconds
 
 
 def seconds_left() -> Optional[float]:

@@ -18,13 +18,13 @@ from zirofen_host.ask import accepted, in_time
 from zirofen_host.ask import program as asking
 from zirofen_host.ask.model import Question
 from zirofen_host.ask.questions import Runs, bounded_further, subtrees_by
-from zirofen_host.collect import bounded, descriptors, mount_kinds, processes, snapshot, walk
+from zirofen_host.collect import bounded, descriptors, mount_kinds, processes, snapshot, turns, walk
 from zirofen_host.collect.notes import FAILED
 from zirofen_host.collect.accounts import Accounts
 from zirofen_host.collect.bounded import Budget, Spent
 from zirofen_host.collect.holds import Holds
 from zirofen_host.collect.model import AccountLists, Process, Range, User, group_list
-from zirofen_host.judge import check, findings, held, unseen, whole
+from zirofen_host.judge import check, findings, held, saved, unseen, whole
 from zirofen_host.profile import ROOT, path_of
 from zirofen_host.show import lines
 
@@ -190,6 +190,20 @@ class CgroupsTest(ThreeTest):
         with mock.patch.object(self.host, "snapshot", lambda **_: taken):
             for is_json in (False, True):
                 self.others(self.report(json=is_json))
+
+
+class UidsTest(ThreeTest):
+    def test_many_subordinate_uids_are_one_fault(self):
+        """Each has a cgroup, and they are more than are asked of: one person's, in one line."""
+        self.small("USERS", 20)
+        for number in range(30):
+            self.host.cgroup(f"/alice/c{number}", owners=owned(100000 + number))
+        found = self.report()
+        self.others(found)
+        (fault_of,) = found["faults"]
+        self.assertEqual((fault_of["fault"], fault_of["made_by"], len(fault_of["subtrees"])),
+                         ("uid 1000 has over 20 uids to ask of", "alice(1000)", 31))
+        self.assertEqual(len([line for line in self.lines(found) if line.startswith("fault: ")]), 1)
 
 
 class ProcessesTest(ThreeTest):
@@ -569,15 +583,66 @@ class LooksTest(ThreeTest):
 
 
 class SecondsTest(ThreeTest):
+    WORDS = "it isn't whole: nothing was told of any subtree within 1 seconds"
+    LATE = "zirofen-host check: it took longer than 1 seconds, and this is no answer\n"
+
+    def words(self, *more):
+        return ["check", "--plain-folder", "--mount", self.host.mount, "--proc", self.host.proc, "--accounts", self.host.etc,
+                "--seconds", "1", *more]
+
     def test_a_run_is_cut_off(self):
+        """A program that doesn't come to its end."""
         program = f"{self.host.folder}/slow"
         with open(program, "w", encoding="ascii") as out:
             out.write("#!/bin/sh\nexec sleep 20\n")
         os.chmod(program, 0o755)
-        ended = subprocess.run([sys.executable, COMMAND, "check", "--plain-folder", "--mount", self.host.mount, "--proc", self.host.proc,
-                                "--accounts", self.host.etc, "--zirofen", program, "--seconds", "1"], capture_output=True, text=True)
-        self.assertEqual((ended.stdout, ended.stderr, ended.returncode),
-                         ("", "zirofen-host check: it took longer than 1 seconds, and this is no answer\n", 3))
+        ended = subprocess.run([sys.executable, COMMAND, *self.words("--zirofen", program)], capture_output=True, text=True)
+        self.assertEqual((ended.stderr, ended.returncode), (self.LATE, 3))
+        self.assertIn(self.WORDS, ended.stdout)
+        self.assertIn("failed: run: it took longer than 1 seconds: none went to what one user holds", ended.stdout)
+
+    def cut_off(self, *more):
+        """A walk over which the time ends, of which most went to alice; the status, and what was said beside the forms."""
+        def take(*_):
+            turns._Turns.went.update({1000: 41.0, 1001: 2.4, 0: 99.0, 1002: 0.4})
+            raise fault.out_of_time()
+        clock = mock.patch.multiple(fault._Clock, end_of_asking=0.0, end=0.0, seconds=1, told="it took longer than 1 seconds")
+        warned = []
+        with clock, mock.patch.object(accepted, "take", take), mock.patch("zirofen_host.fault.bound", lambda _: None), \
+                mock.patch("signal.alarm", lambda _: None), mock.patch("zirofen_host.fault.warn", warned.append), \
+                mock.patch("zirofen_host.fault.write", lambda _: None):
+            return command.main(self.words(*more)), warned
+
+    def test_each_form_says_that_it_isnt_whole(self):
+        """And with whom the time went to; what may be compared with later is left as it was."""
+        kinds = {"json": "json", "sarif": "sarif", "junit": "junit", "metrics": "metrics", "text": "text"}
+        files = {kind: f"{self.host.folder}/late.{kind}" for kind in kinds}
+        page, base = f"{self.host.folder}/late.html", f"{self.host.folder}/base.json"
+        words = [word for kind, file in files.items() for word in ("--format", f"{kind}={file}")]
+        status, warned = self.cut_off(*words, "--html", page, "--baseline", base)
+        self.assertEqual((status, warned), (3, ["zirofen-host check: it took longer than 1 seconds"]))
+        for kind, file in {**files, "html": page}.items():
+            with self.subTest(kind), open(file, encoding="utf-8") as written:
+                text = written.read().replace("&#x27;", "'")
+                if kind == "metrics":
+                    self.assertIn('zirofen_answer_limits{kind="time"} 1', text)
+                    self.assertIn("zirofen_status 3", text)
+                else:
+                    self.assertIn(self.WORDS, text)
+                    self.assertIn("41 went to what uid 1000 holds, 2 went to what uid 1001 holds", text)
+        self.assertFalse(os.path.exists(base))
+        with open(files["json"], encoding="utf-8") as written:
+            self.assertEqual(saved.check(json.load(written), "late").status, 3)
+
+    def test_time_goes_to_whoever_is_looked_at(self):
+        times = iter((0.0, 10.0, 12.0, 17.0, 18.0))
+        spent = Spent(Budget("cgroups", 9), lambda uid: uid % 1000)
+        with mock.patch("time.monotonic", lambda: next(times)):
+            turns.begin()
+            for uid in (5, 1005, 0, 6, 6):
+                spent.take(uid)
+            self.assertEqual(turns.told(), "2 went to what uid 5 holds, 1 went to what uid 6 holds")
+        turns.begin()
 
     def test_what_was_asked_in_time_is_told(self):
         """A program that never comes to an end where one user's many subtrees are asked of: the others have their answers."""
@@ -598,6 +663,7 @@ class SecondsTest(ThreeTest):
         (fault_of,) = found["faults"]
         self.assertRegex(fault_of["fault"], "^there was no time to ask of it: of [0-9]+ seconds [0-9]+ went to what uid [0-9]+ holds$")
         self.assertEqual(fault_of["subtrees"], ["/alice", *(f"/alice{number}" for number in range(5))])
+        self.assertEqual(found["limits"], [{"kind": "time", "text": "it isn't whole: there was no time to ask of 6 subtrees"}])
 
     def test_whoever_holds_the_most_is_asked_of_last(self):
         one, two = User(1, ()), User(2, ())

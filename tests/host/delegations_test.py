@@ -1,5 +1,6 @@
 """Tests of finding delegations, and of who stands behind a uid or a gid."""
 import os
+import random
 import subprocess
 import sys
 import tempfile
@@ -7,15 +8,15 @@ import unittest
 from unittest import mock
 
 from made_up import COMMAND, DELEGATED, HERE, TOP, MadeUpTest, accounts_with, path
-from zirofen_host.collect.accounts import accounts_here
-from zirofen_host.ask import questions
+from zirofen_host.collect.accounts import Accounts, accounts_here
+from zirofen_host.ask import delegations, questions
 from zirofen_host.ask.delegations import Delegations
 from zirofen_host.ask.model import Answer, Holders, Pair
 from zirofen_host.collect import elsewhere
 from zirofen_host.fault import Fault
 from zirofen_host.profile import text_of
 from zirofen_host.collect.tree import read_tree
-from zirofen_host.collect.model import Account, Entry, Group, Range, Row, Tree, User
+from zirofen_host.collect.model import Account, AccountLists, Entry, Group, Range, Row, Tree, User
 from zirofen_host.collect.snapshot import tree_text
 
 PASSWD = """root:x:0:0::/root:/bin/sh
@@ -46,6 +47,46 @@ def tree(*rows, enabled=()):
 
 def found(of, accounts=accounts_with()):
     return [(each.user.uid, each.user.gids, text_of(each.path)) for each in Delegations(of, accounts).find()]
+
+
+class AlikeTest(unittest.TestCase):
+    """Users of one uid who differ by their groups are asked as few; what is found is what is found of each."""
+
+    def test_each_way_to_be_in_some_groups_once(self):
+        users = [User(1, (10, 50, 51)), User(1, (10, 50)), User(1, (10, 51)), User(1, (10,)), User(1, (10, 50, 52))]
+        alike = delegations.Alike(users)
+        self.assertEqual(set(alike.apart((50, 51))), set(users[:4]))
+        self.assertEqual(set(alike.apart((50,))), {users[0], users[2]})
+        self.assertEqual((alike.apart(()), alike.apart((99,)), alike.apart((10,))), ([users[0]],) * 3)
+        self.assertEqual(delegations.Alike([]).apart((50,)), [])
+
+    def made_up(self, drawn):
+        """A tree of few groups, and users of whom many differ by these alone."""
+        ids = (0, 0, 1000, 1001, 100007)
+
+        def entry(modes):
+            return Entry(drawn.choice(ids), drawn.choice((0, 50, 51, 52, 100007)), drawn.choice(modes))
+        rows = [row("/")]
+        for place in ("/a", "/a/b", "/a/b/c", "/d", "/d/e"):
+            names = ("cgroup.procs", "cgroup.subtree_control", "cgroup.max.depth", "memory.max")
+            rows.append(row(place, directory=entry((0o755, 0o775, 0o757, 0o705)), enabled=("memory",),
+                            files={name: entry((0o644, 0o664, 0o646, 0o604, 0o626)) for name in names}))
+        groups = (50, 51, 52, 53, 54)
+        running = {User(uid, (uid, *sorted(drawn.sample(groups, drawn.randrange(5))))) for uid in (1000, 1001) for _ in range(6)}
+        lists = AccountLists((Account("alice", 1000, 1000),), (Group(50, ("alice",)),), (Range("alice", 100000, 65536),),
+                             (Range("alice", 100000, 65536),))
+        return Tree(("memory",), {each.path: each for each in rows}), Accounts(lists, running)
+
+    def test_what_is_found_is_what_is_found_of_each(self):
+        drawn = random.Random(92)
+        for _ in range(300):
+            of, accounts = self.made_up(drawn)
+            few, each = Delegations(of, accounts), Delegations(of, accounts)
+            each.few_candidates = each.candidates
+            self.assertEqual(list(few.handed()), [place for place in of.rows if place in {path for path, _ in each.find()}])
+            for place in of.rows:
+                for is_meant in (False, True):
+                    self.assertEqual(questions.holders_of(few, place, is_meant), questions.holders_of(each, place, is_meant))
 
 
 class DelegationsTest(unittest.TestCase):

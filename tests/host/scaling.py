@@ -6,6 +6,7 @@ that are read, lines, and seconds of processor. Run by hand:
     tests/host/scaling.py PROGRAM rows [NAME ..]    for each thing that a user may make: seconds of processor, best of 3, at N and 2 N
 """
 import contextlib
+import datetime
 import os
 import resource
 import sys
@@ -16,7 +17,7 @@ from made_up import MEMORY, MadeUp
 from zirofen_host.ask import program as asking
 from zirofen_host.ask.questions import subtrees_by
 from zirofen_host.collect import bounded
-from zirofen_host.judge import check
+from zirofen_host.judge import acceptances, check
 from zirofen_host.options import CheckOptions
 from zirofen_host.show.lines import lines_of
 
@@ -118,6 +119,25 @@ def with_descriptors(folder, count):
     return host
 
 
+def with_mounts(folder, count):
+    """Processes in a mount namespace of their own, with so many mounts in all."""
+    host = host_with(folder, 0)
+    host.opens(10, 3, "/hostile/cgroup.procs", 1)
+    for number in range(count // 1000):
+        host.process(10 + number, uid=1000, gid=1000)
+        host.mounts(10 + number, "".join(f"{1000 * number + each} 1 0:30 / /mnt/{each} rw - tmpfs tmpfs rw\n" for each in range(1, 1001)),
+                    f"mnt:[{1000 + number}]")
+    return host
+
+
+def with_findings(folder, count):
+    """Limits that root left open at cgroups of its own, each one finding."""
+    host = host_with(folder, 0)
+    for number in range(count):
+        host.cgroup(f"/f{number}", owners={"memory.max": (1000, 1000)})
+    return host
+
+
 def with_delegations(folder, count):
     """Subtrees of many users below one mode of root's that is wrong: what is left of it is the program's."""
     host = host_with(folder, 0)
@@ -130,24 +150,39 @@ def with_delegations(folder, count):
 # of lists and of delegations each is asked of each, so that twice of both is four times
 ROWS = {"cgroups": (host_with, 1000), "processes": (with_processes, 4000), "threads": (with_threads, 2000),
         "groups": (with_groups, 200_000), "lists": (with_lists, 200), "levels": (with_levels, 1200), "marks": (with_marks, 1000),
-        "descriptors": (with_descriptors, 2000), "delegations": (with_delegations, 25)}
+        "descriptors": (with_descriptors, 2000), "mounts": (with_mounts, 20_000), "findings": (with_findings, 500),
+        "acceptances": (with_findings, 500), "delegations": (with_delegations, 25)}
+# each finding of these is accepted by itself
+ACCEPTED = ("acceptances",)
 
 
 def tell_rows(program, names):
     for name in names or ROWS:
         make, count = ROWS[name]
-        once, twice = (min(cost(program, each, make)[3] for _ in range(3)) for each in (count, 2 * count))
+        once, twice = (min(cost(program, each, make, name in ACCEPTED)[3] for _ in range(3)) for each in (count, 2 * count))
         print(f"{name}: {count}: {once:.2f} s, {2 * count}: {twice:.2f} s of processor, {twice / once:.2f} times", flush=True)
 
 
-def cost(program, count, make=host_with):
+def all_accepted(report):
+    """A report with an acceptance of each of its findings, as a file of root's has them."""
+    today = datetime.date(2026, 1, 1)
+    given = tuple(acceptances.given_in({"what": "escapes/limit-file", "path": each.path, "entry": each.entry, "reason": "known",
+                                        "whom": f"uid {each.whom[0].id}", "until": "2027-01-01"}, "a row") for each in report.entries)
+    found = acceptances.applied(report, given, today)
+    if not given or {each.state for each in found.acceptances} != {"accepted"}:
+        raise RuntimeError("they aren't met")
+    return found
+
+
+def cost(program, count, make=host_with, is_accepted=False):
     """What a check costs: runs, bytes, lines, seconds of processor of it and of the program, and its lines."""
     with tempfile.TemporaryDirectory(dir=MEMORY) as folder:
         host = make(folder, count)
         options = CheckOptions(mount=host.mount, proc=host.proc, accounts=host.etc, program=program, plain_folder=True)
         before = used()
         with Counted().counting() as counted:
-            lines = list(lines_of(check.report(host.take(subtrees_by(options), accounts=host.etc), options, False)))
+            report = check.report(host.take(subtrees_by(options), accounts=host.etc), options, False)
+            lines = list(lines_of(all_accepted(report) if is_accepted else report))
         return counted.runs, counted.bytes, len(lines), used() - before, lines
 
 

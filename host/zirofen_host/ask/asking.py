@@ -9,7 +9,7 @@ from zirofen_host.ask.program import TooLarge, abilities_of
 from zirofen_host.ask.questions import Questions, Runs, bounded_further, bounded_plan, further_of, plan_of, questions_of
 from zirofen_host.ask.spoiled import spoiled
 from zirofen_host.ask.texts import Programs, Text, texts_of, write
-from zirofen_host.collect import bounded
+from zirofen_host.collect import bounded, turns
 from zirofen_host.collect.accounts import Accounts
 from zirofen_host.collect.bounded import Spent
 from zirofen_host.collect.model import Snapshot, Tree, User
@@ -51,6 +51,7 @@ def settleable(is_whole: bool, plan: Plan, not_asked: Mapping[CgroupPath, int]) 
 def ask_all(snapshot: Snapshot, accounts: Accounts, options: Options, folder: str) -> Asked:
     """Asks the program of everybody who can matter for a subtree, in texts that stand in a folder: in small ones alone where it has too
     little memory or time for larger ones."""
+    turns.turn_to(turns.HOST)
     try:
         return ask_in_texts(snapshot, accounts, options, folder, True)
     except TooLarge:

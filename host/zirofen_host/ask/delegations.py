@@ -1,11 +1,33 @@
 """Who was handed what: the users who reach at a cgroup what they don't one level up."""
+from collections import defaultdict
 from functools import cached_property
-from typing import Collection, Dict, FrozenSet, Iterator, List, Sequence, Set, Tuple
+from typing import Collection, DefaultDict, Dict, FrozenSet, Iterable, Iterator, List, Sequence, Set, Tuple
 
 from zirofen_host.ask.model import Delegation, Guarded
 from zirofen_host.collect.accounts import Accounts
-from zirofen_host.collect.model import Entry, Row, Tree, User
+from zirofen_host.collect.model import Entry, Row, Tree, User, set_of_groups
 from zirofen_host.profile import ANYBODY, HANDED_OVER, MOST_GROUPS, CgroupPath, ancestors, is_root, parent_of, tree_order
+
+
+class Alike:
+    """The users of a uid, who differ by their groups alone and may be thousands: by some groups few of them are told apart."""
+
+    def __init__(self, users: Sequence[User]) -> None:
+        self.users = users
+        # those in a group, as bits
+        self.members: DefaultDict[int, int] = defaultdict(int)
+        for number, user in enumerate(users if len(users) > 1 else ()):
+            for gid in set_of_groups(user.gids):
+                self.members[gid] |= 1 << number
+
+    def apart(self, gids: Iterable[int]) -> List[User]:
+        """One user for each way to be in some of the groups."""
+        if len(self.users) < 2:
+            return list(self.users)
+        found = [(1 << len(self.users)) - 1]
+        for members in (self.members[gid] for gid in gids if gid in self.members):
+            found = [part for each in found for part in (each & members, each & ~members) if part]
+        return [self.users[(part & -part).bit_length() - 1] for part in found]
 
 
 class Delegations:
@@ -16,6 +38,8 @@ class Delegations:
         self.accounts = accounts
         # the users of each uid and each gid that was looked at
         self.known: Dict[Tuple[str, int], Sequence[User]] = {}
+        self.alike: Dict[int, Alike] = {}
+        self.groups: Dict[int, Tuple[FrozenSet[int], Tuple[User, ...]]] = {}
 
     def find(self) -> List[Delegation]:
         found: Set[Delegation] = set()
@@ -31,9 +55,45 @@ class Delegations:
     def entries(self, row: Row) -> List[Entry]:
         return [row.entry(name) for name in (*HANDED_OVER, *self.tree.limit_files(row.path))]
 
+    def handed(self) -> Iterator[CgroupPath]:
+        """The cgroups at which something was handed to somebody."""
+        for path, row in self.tree.rows.items():
+            if not is_root(path) and any(self.is_handed(user, path) for user in self.few_candidates(row)):
+                yield path
+
     def candidates(self, row: Row) -> Set[User]:
         """The users that a row's entries may mean."""
         return {user for entry in set(self.entries(row)) for user in self.users_at(entry)}
+
+    def few_candidates(self, row: Row) -> Set[User]:
+        """The same, but of those of a uid whom neither the row's nor its parent's entries tell apart one alone."""
+        parent = parent_of(row.path)
+        entries = set(self.entries(row))
+        gids = {entry.gid for entry in entries} | {self.entry(parent, name).gid for name in HANDED_OVER if parent is not None}
+        users: Set[User] = set()
+        for uid in {entry.uid for entry in entries} - {0}:
+            users.update(self.alike_of(uid).apart(gids))
+        for gid in {entry.gid for entry in entries if entry.mode & 0o020}:
+            uids, others = self.group_of(gid)
+            users.update(others)
+            users.update(user for uid in uids for user in self.alike_of(uid).apart(gids) if gid in user.gids)
+        if any(entry.mode & 0o002 for entry in entries):
+            users.add(User(ANYBODY, ()))
+        return users
+
+    def alike_of(self, uid: int) -> Alike:
+        if uid not in self.alike:
+            self.alike[uid] = Alike(self.users("uid", uid))
+        return self.alike[uid]
+
+    def group_of(self, gid: int) -> Tuple[FrozenSet[int], Tuple[User, ...]]:
+        """The uids of a group's users, and those users who are none of their uid's."""
+        if gid not in self.groups:
+            users = self.users("gid", gid)
+            uids = frozenset(user.uid for user in users if user.uid != ANYBODY)
+            known = {user for uid in uids for user in self.alike_of(uid).users}
+            self.groups[gid] = uids, tuple(user for user in users if user not in known)
+        return self.groups[gid]
 
     def users_at(self, entry: Entry) -> List[User]:
         """The users who reach an entry, as far as it names them."""

@@ -7,6 +7,7 @@ from typing import Callable, DefaultDict, Dict, List, Sequence, Tuple
 
 from zirofen_host.ask.model import Question
 from zirofen_host.ask.program import Answered, Late, Program
+from zirofen_host.collect import turns
 from zirofen_host.collect.reasons import Reason
 from zirofen_host.fault import seconds_to_ask
 from zirofen_host.profile import CgroupPath
@@ -31,6 +32,7 @@ def ask_in_time(program: Program, questions: Sequence[Question], has_audit_all: 
                 holder_of: HolderOf) -> Tuple[Answered, Dict[CgroupPath, Reason]]:
     """The answers that aren't contained, and the subtrees for which there was no time."""
     left = seconds_to_ask()
+    turns.turn_to(turns.HOST)
     if left is None:
         return program.ask(questions, has_audit_all), {}
     try:
@@ -60,11 +62,13 @@ def ask_in_turn(program: Program, shares: Dict[int, List[Question]], has_audit_a
     spent: Dict[int, float] = {}
     for number, (person, questions) in enumerate(shares.items()):
         began = time.monotonic()
+        turns.turn_to(person)
         limit = began + (seconds_to_ask() or 0.0) / (len(shares) - number)
         try:
             found.update(replace(program, limit=limit).ask(questions, has_audit_all))
         except Late:
             late += [path for each in questions for path in each.subtrees]
         spent[person] = time.monotonic() - began
+    turns.turn_to(turns.HOST)
     most = max(spent, key=lambda person: spent[person])
     return found, dict.fromkeys(late, NotInTime(most, round(spent[most]), round(seconds)))

@@ -223,7 +223,7 @@ def subtrees_by(options: Options) -> SubtreesOf:
 
 def subtrees_in(delegations: Delegations, meant: Iterable[CgroupPath], kept: Container[CgroupPath]) -> List[CgroupPath]:
     """What was handed over and what is meant to be. What the manager keeps is no delegation, whoever reaches it."""
-    return in_order({each.path for each in delegations.find() if each.path not in kept}.union(meant))
+    return in_order({path for path in delegations.handed() if path not in kept}.union(meant))
 
 
 def meant_in(snapshot: Snapshot) -> Dict[CgroupPath, str]:
@@ -253,7 +253,7 @@ def holders_of(delegations: Delegations, path: CgroupPath, is_meant: bool) -> Ho
 def strongest(delegations: Delegations, path: CgroupPath, reached: Callable[[User, CgroupPath], Iterable[str]]) -> Optional[Holders]:
     """Those who hold a subtree by what they reach, as far as owner goes before group and group before everybody."""
     held: DefaultDict[str, Set[Tuple[Optional[int], int]]] = defaultdict(set)
-    for user in delegations.candidates(delegations.tree.rows[path]):
+    for user in delegations.few_candidates(delegations.tree.rows[path]):
         for name in reached(user, path):
             entry = delegations.entry(path, name)
             by = user.class_of(entry)

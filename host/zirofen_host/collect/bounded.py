@@ -9,6 +9,7 @@ from collections import Counter
 from itertools import islice
 from typing import Callable, Dict, Iterator, List, Mapping, NamedTuple, Optional, Sequence, Tuple, Union
 
+from zirofen_host.collect import turns
 from zirofen_host.collect.reasons import OverBudget
 
 Place = Union[str, bytes]
@@ -112,10 +113,12 @@ class Spent:
         self.by: Dict[int, int] = Counter()
 
     def take(self, uid: int, amount: int = 1) -> bool:
-        """Charges a uid; whether what is charged stayed within the budget."""
+        """Charges a uid, to whom time goes from now on; whether what is charged stayed within the budget."""
         if not uid:
+            turns.turn_to(turns.HOST)
             return True
         person = self.payer(uid)
+        turns.turn_to(person)
         self.by[person] += amount
         return self.by[person] <= self.budget.most
 

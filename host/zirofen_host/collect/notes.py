@@ -13,6 +13,8 @@ ANY_MODE = 0o777
 SHOWN = 64
 # the kind of what failed, which counts as a fault
 FAILED = "failed"
+# the place of a run that came to the end of its time
+RUN = "run"
 
 
 @dataclass(frozen=True)

@@ -7,7 +7,7 @@ from zirofen_host.ask.program import ESCAPES
 from zirofen_host.ask.questions import unit_of
 from zirofen_host.ask.reasons import TextRefused, TooLargeForText
 from zirofen_host.collect.model import GROUP, OTHERS, OWNER, Entry, User
-from zirofen_host.collect.reasons import Reason
+from zirofen_host.collect.reasons import OverBudget, Reason
 from zirofen_host.collect.tree import in_order, row_text
 from zirofen_host.collect.walk import MANAGERS_MARK
 from zirofen_host.judge import long_lists
@@ -188,6 +188,9 @@ def makers_of(checked: Checked, below: Mapping[CgroupPath, Set[Optional[str]]], 
     all the time. What is above it, or what root alone has, is of nobody's making, and so is what can't be read or asked in time."""
     if isinstance(why, (NotInTime, TextRefused)) or not checked.snapshot.changing.keys().isdisjoint(ancestors(path)):
         return None
+    if isinstance(why, OverBudget) and path not in below:
+        # of each subordinate uid it is one person's
+        return checked.names.user(why.person)
     largest = maker_of_most(checked, path) if isinstance(why, TooLargeForText) else None
     makers = below.get(path) or {largest or holder_at(checked, path)}
     return None if None in makers else some(sorted(filter(None, makers)))

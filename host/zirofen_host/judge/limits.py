@@ -1,6 +1,7 @@
 """What narrows what a report answers: from the options of the run to one list, which each form tells."""
 from typing import Iterator, Tuple
 
+from zirofen_host.ask.in_time import NotInTime
 from zirofen_host.judge.checked import Checked
 from zirofen_host.judge.model import Absent, AnswerLimit, Report
 from zirofen_host.profile import NEWEST, is_root, shown, text_of
@@ -8,11 +9,11 @@ from zirofen_host.profile import NEWEST, is_root, shown, text_of
 # behind an answer
 MARK = " [limited]"
 HEAD = "limits of this answer"
-KINDS = ONLY, NO_PROCESSES, TREE_FORMAT = "only", "no-processes", "tree-format"
+KINDS = ONLY, NO_PROCESSES, TREE_FORMAT, TIME = "only", "no-processes", "tree-format", "time"
 
 
 def limits_of(checked: Checked) -> Iterator[AnswerLimit]:
-    """Each thing that was left out of the question by an option."""
+    """Each thing that was left out of the question, by an option or for want of time."""
     options = checked.options
     if options.only is not None and not is_root(text_of(options.only)):
         yield AnswerLimit(ONLY, f"nothing but {shown(options.only)} was asked about, what is inside and what is above")
@@ -21,6 +22,9 @@ def limits_of(checked: Checked) -> Iterator[AnswerLimit]:
     if options.tree is None and options.text_format.number != NEWEST:
         yield AnswerLimit(TREE_FORMAT, f"a text of format {options.text_format.number} tells of three controllers alone, and of no "
                           "further limit file")
+    late = sum(isinstance(why, NotInTime) for why in checked.answers.refused.values())
+    if late:
+        yield AnswerLimit(TIME, f"it isn't whole: there was no time to ask of {late} subtree{'' if late == 1 else 's'}")
 
 
 def narrowing(report: Report) -> Tuple[AnswerLimit, ...]:

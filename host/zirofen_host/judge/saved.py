@@ -38,7 +38,8 @@ def wrong_places(report: Report) -> Optional[str]:
     """What of the places in a report doesn't stand in its tree, or None."""
     paths = [] if isinstance(report.cgroups, Absent) else [each.path for each in report.cgroups]
     known = set(paths)
-    if len(known) != len(paths) or not any(map(is_root, known)):
+    # of a run that came to the end of its time there are none
+    if len(known) != len(paths) or paths and not any(map(is_root, known)):
         return "its cgroups are no tree"
     for path in paths:
         if not is_root(path) and (path[:1] != "/" or path.endswith("/") or parent_of(path) not in known):

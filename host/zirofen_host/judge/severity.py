@@ -4,7 +4,7 @@ from typing import Iterable, Iterator
 
 from zirofen_host.ask.program import CONTAINED, ESCAPES, UNSETTLED, WORDS
 from zirofen_host.fault import FAULT
-from zirofen_host.collect.notes import FAILED
+from zirofen_host.collect.notes import FAILED, RUN
 from zirofen_host.judge.model import ABSENT, NOTHING_ASKED, Absent, FaultFinding, Report
 
 # how an acceptance stands that holds
@@ -59,8 +59,9 @@ def worst(found: Iterable[Severity]) -> Severity:
 
 
 def is_empty(report: Report) -> bool:
-    """Whether neither anything to ask nor a container of root's was found."""
-    return not report.asked and not report.containers
+    """Whether neither anything to ask nor a container of root's was found, in a run that came to an end of its own."""
+    has_ended = not any((each.kind, each.place) == (FAILED, RUN) for each in report.unseen)
+    return has_ended and not report.asked and not report.containers
 
 
 def severities_in(report: Report) -> Iterator[Severity]:

@@ -4,26 +4,57 @@ import dataclasses
 import functools
 import time
 from datetime import datetime, timezone
-from typing import Callable, Iterable, List, Optional, Tuple
+from typing import Callable, Iterable, List, NamedTuple, Optional, Tuple
 
 from zirofen_host import fault
 from zirofen_host.ask import accepted
 from zirofen_host.ask.program import program_at
 from zirofen_host.ask.questions import subtrees_by
+from zirofen_host.collect import turns
 from zirofen_host.collect.looks import why_of
 from zirofen_host.installed import NAME
-from zirofen_host.judge import acceptances, baseline, check, settings
-from zirofen_host.judge.model import Report
+from zirofen_host.judge import acceptances, baseline, check, ended, settings
+from zirofen_host.judge.model import Absent, Report
 from zirofen_host.options import CheckOptions, Way
 from zirofen_host.profile import shown
 from zirofen_host.show import formats
 from zirofen_host.show.run import Run
 
 
+# seconds in which a report of a run that came to the end of its time is written
+TO_TELL = 60
+
+
+class Found(NamedTuple):
+    """The report, the copy of the text that it is of, and whether it is the first that a baseline is made of."""
+    report: Report
+    text: Optional[str] = None
+    is_first: bool = False
+
+
 def run(given: argparse.Namespace) -> int:
+    turns.begin()
     given.format, given.mends = tuple(given.format), tuple(given.mends)
     options, began = CheckOptions(**vars(given)), time.monotonic()
     ways = formats.ways_to_check(options)
+    try:
+        found = report_of(options, ways)
+    except fault.OutOfTime as late:
+        seconds = fault.bound_anew(TO_TELL)
+        if seconds is None:
+            raise
+        fault.warn(f"{NAME} check: {late}")
+        found = Found(ended.report(options, seconds))
+        # a baseline is of a whole run alone
+        options = dataclasses.replace(options, baseline=None, baseline_update=None)
+    report = found.report
+    status = report.status if isinstance(report.baseline, Absent) else report.baseline.status
+    made = Run(report, status, options.tree, found.text, time.monotonic() - began, time.time())
+    return status if write_all(options, ways, made, found.is_first) else fault.FAULT
+
+
+def report_of(options: CheckOptions, ways: Iterable[Way]) -> Found:
+    """The report, with what somebody accepts and what differs from an earlier one."""
     options = dataclasses.replace(options, program=program_at(options.program))
     before = baseline.read(options.baseline) if options.baseline else None
     granted = acceptances_of(options)
@@ -34,12 +65,9 @@ def run(given: argparse.Namespace) -> int:
     report = check.report(taken, options, is_whole, before_the_walk)
     if granted is not None:
         report = acceptances.applied(report, granted, datetime.now(timezone.utc).date())
-    comparison = baseline.compared(report, before, options.baseline) if before and options.baseline else None
-    if comparison:
-        report = dataclasses.replace(report, baseline=comparison)
-    status = comparison.status if comparison else report.status
-    run = Run(report, status, options.tree, taken.source.file, time.monotonic() - began, time.time())
-    return status if write_all(options, ways, run, is_first) else fault.FAULT
+    if before and options.baseline:
+        report = dataclasses.replace(report, baseline=baseline.compared(report, before, options.baseline))
+    return Found(report, taken.source.file, is_first)
 
 
 def acceptances_of(options: CheckOptions) -> Optional[Tuple[acceptances.Given, ...]]:
