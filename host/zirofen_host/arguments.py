@@ -140,7 +140,7 @@ def add_host(parser: argparse.ArgumentParser) -> None:
     """The options of whoever looks at a host."""
     parser.add_argument("--mount", metavar="FOLDER", default=MOUNT, help=f"the cgroup v2 mount ({MOUNT})")
     parser.add_argument("--only", metavar="PATH", type=os.fsencode,
-                        help="that cgroup, its ancestors and what is inside it, and no more")
+                        help="that cgroup, its ancestors and what is inside it, and no more; or a container by its name, as docker:web")
     parser.add_argument("--proc", metavar="FOLDER", default=PROC, help=f"where processes are told of ({PROC})")
     parser.add_argument("--seconds", metavar="N", type=number, help="ends with a fault where the run takes longer (no bound)")
     parser.add_argument("--no-processes", action="store_true",
@@ -176,7 +176,7 @@ def add_program(parser: argparse.ArgumentParser) -> None:
 
 def add_ask(parser: argparse.ArgumentParser) -> None:
     parser.add_argument("user", metavar="NAME|UID", help="the user, by the name of an account or by a number")
-    parser.add_argument("path", metavar="PATH", help="the top of the subtree, from the mount on")
+    parser.add_argument("path", metavar="PATH", help="the top of the subtree, from the mount on, or a container by its name, as docker:web")
     way = parser.add_mutually_exclusive_group()
     way.add_argument("--may", action="store_true", help="what the user may do there at all, in place of an answer: each entry that they "
                      "own or write, and what follows")

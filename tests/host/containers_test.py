@@ -184,11 +184,11 @@ class ToldTest(HostTest):
         value = self.value_of(report)
         self.assertEqual(report_schema.faults_of(value), [])
         row = next(line for line in lines_of(value) if "/s.scope/container" in line)
-        self.assertEqual(row.split("  "), ["alice(1000)", "1000", "contained", "/s.scope/container [podman web]"])
+        self.assertEqual(row.split("  "), ["alice(1000)", "1000", "contained", "/s.scope/container [podman:web]"])
         self.assertEqual(value["subtrees"][0]["answers"][0]["names"], ["alice(1000)"])
         self.assertEqual(value["subtrees"][0]["answers"][0]["who"], "1000")
-        self.assertIn("podman web", "\n".join(draw(report, Drawing(is_ascii=True))))
-        self.assertIn("/s.scope/container [podman web]", PageReader(page.page([report])).text())
+        self.assertIn("podman:web", "\n".join(draw(report, Drawing(is_ascii=True))))
+        self.assertIn("/s.scope/container [podman:web]", PageReader(page.page([report])).text())
 
     def test_somebody_without_a_name_is_a_number(self):
         self.host.cgroup("/s.scope/container", owners=owned(4000))
@@ -199,7 +199,7 @@ class ToldTest(HostTest):
     def test_rootless_ones_have_their_id_and_their_holder(self):
         for holder, told in ((1000, "alice(1000)"), (4000, "uid 4000"), (-1, "somebody")):
             report = self.whole(Scope(path_of("/s.scope"), "podman", "4fb087512345", None, holder))
-            self.assertTrue(any(line.endswith(f"[podman 4fb087512345 of {told}]") for line in lines_of(self.value_of(report))), told)
+            self.assertTrue(any(line.endswith(f"[podman:4fb087512345 of {told}]") for line in lines_of(self.value_of(report))), told)
 
     def test_names_harm_nobody(self):
         report = self.whole(Scope(path_of("/s.scope"), "docker", "4fb087512345", self.ODD, None))

@@ -1,30 +1,44 @@
 """Containers by their names: what files of root's say of the scopes of podman, Docker, containerd and CRI-O, and of pods.
 
-A file counts where it and each folder on the way to it are root's, and nobody else writes them. Of a container below a cgroup that
-isn't root's nothing is opened: its holder may have made its name.
+A file counts where it and each folder on the way to it are root's, and nobody else writes them. A container below a cgroup that isn't
+root's has the name that a file of its holder's tells, which is theirs to choose: it stands behind theirs.
 """
 import json
+import pwd
 import re
+from functools import cached_property
 from typing import Callable, Dict, Iterator, Mapping, NamedTuple, Optional, Pattern, Tuple
 
 from zirofen_host.collect import bounded
+from zirofen_host.collect.further_mounts import read_theirs
 from zirofen_host.collect.model import Cgroup, Scope
-from zirofen_host.profile import CgroupPath, ancestors, parent_of
+from zirofen_host.collect.mount import mounts_of_host
+from zirofen_host.profile import CgroupPath, ancestors, parent_of, shown
 
 PODMAN, DOCKER, CONTAINERD, CRIO, POD = "podman", "docker", "containerd", "cri-o", "pod"
+LXC, MACHINE, LIBVIRT, SLURM = OF_CGROUPS = "lxc", "machine", "libvirt", "slurm"
 # letters of a name and of an id that are kept
 LONGEST_NAME, SHORT_ID = 96, 12
-# a container's or a pod's cgroup by its own name, and by that of the cgroup above it where one is given
+# a container's or a pod's cgroup by its own name, and by that of the cgroup above it
 _ID = rb"([0-9a-f]{8,64})"
-KINDS: Tuple[Tuple[str, Pattern[bytes], bytes], ...] = (
-    (PODMAN, re.compile(rb"libpod-%b(?:\.scope)?" % _ID), b""),
-    (DOCKER, re.compile(rb"docker-%b\.scope" % _ID), b""),
-    (DOCKER, re.compile(_ID), b"docker"),
-    (CONTAINERD, re.compile(rb"(?:cri-containerd|nerdctl)-%b\.scope" % _ID), b""),
-    (CRIO, re.compile(rb"crio-%b(?:\.scope)?" % _ID), b""),
-    (CONTAINERD, re.compile(_ID), b"pod"),
-    (POD, re.compile(rb"kubepods.*-pod([0-9a-f]{8}(?:_[0-9a-f]{4}){3}_[0-9a-f]{12})\.slice"), b""),
-    (POD, re.compile(rb"pod([0-9a-f]{8}(?:-[0-9a-f]{4}){3}-[0-9a-f]{12})"), b""))
+KINDS: Tuple[Tuple[str, Pattern[bytes], Pattern[bytes]], ...] = tuple(
+    (engine, re.compile(own), re.compile(above)) for engine, own, above in (
+        (PODMAN, rb"libpod-%b(?:\.scope)?" % _ID, rb".*"),
+        (DOCKER, rb"docker-%b\.scope" % _ID, rb".*"),
+        (DOCKER, _ID, rb"docker.*"),
+        (CONTAINERD, rb"(?:cri-containerd|nerdctl)-%b\.scope" % _ID, rb".*"),
+        (CRIO, rb"crio-%b(?:\.scope)?" % _ID, rb".*"),
+        (CONTAINERD, _ID, rb"pod.*"),
+        (POD, rb"kubepods.*-pod([0-9a-f]{8}(?:_[0-9a-f]{4}){3}_[0-9a-f]{12})\.slice", rb".*"),
+        (POD, rb"pod([0-9a-f]{8}(?:-[0-9a-f]{4}){3}-[0-9a-f]{12})", rb".*"),
+        # these have their names in the cgroup's
+        (LXC, rb"lxc\.payload\.(.+)", rb".*"),
+        (LIBVIRT, rb"machine-(?:lxc|qemu|xen)\\x2d[0-9]+\\x2d(.+)\.scope", rb"machine\.slice"),
+        (MACHINE, rb"machine-(.+)\.scope", rb"machine\.slice"),
+        (MACHINE, rb"systemd-nspawn@(.+)\.service", rb"machine\.slice"),
+        (SLURM, rb"job_([0-9]+)", rb".*slurmstepd\.scope")))
+# how a manager of units writes a letter that no unit's name has
+_ESCAPED = re.compile(r"\\x([0-9a-f]{2})")
 # of a container of a pod, the keys of its annotations: where it is, the pod's name and its own
 ANNOTATIONS = (("io.kubernetes.cri.sandbox-namespace", "io.kubernetes.cri.sandbox-name", "io.kubernetes.cri.container-name"),
                ("io.kubernetes.pod.namespace", "io.kubernetes.pod.name", "io.kubernetes.container.name"))
@@ -44,6 +58,14 @@ class Known(NamedTuple):
 def name_in_list(text: str, identity: str) -> Optional[str]:
     """Of podman and CRI-O: a list of all containers."""
     return next((str(each["names"][0]) for each in json.loads(text) if each["id"].startswith(identity)), None)
+
+
+def names_in_list(text: str) -> Mapping[str, str]:
+    """All of such a list by their ids, which may be anybody's."""
+    try:
+        return {str(each["id"]): str(each["names"][0])[:LONGEST_NAME] for each in json.loads(text)}
+    except (ValueError, KeyError, IndexError, TypeError, RecursionError):
+        return {}
 
 
 def name_in_config(text: str, _: str) -> Optional[str]:
@@ -70,6 +92,7 @@ def name_in_hosts(text: str, _: str) -> Optional[str]:
     return words[-1][1]
 
 
+OWN_LIST = ".local/share/containers/storage/overlay-containers/containers.json"
 LIST = "/var/lib/containers/storage/overlay-containers/containers.json"
 # the files that tell a name, with what is read of each
 FILES: Mapping[str, Tuple[Tuple[str, NameIn], ...]] = {
@@ -87,9 +110,17 @@ def known(path: CgroupPath) -> Optional[Known]:
     above, _, name = path.rpartition(b"/")
     for engine, pattern, parent in KINDS:
         found = pattern.fullmatch(name)
-        if found and above.rpartition(b"/")[2].startswith(parent):
-            return Known(engine, found[1].decode("ascii").replace("_", "-"))
+        if found and parent.fullmatch(above.rpartition(b"/")[2]):
+            text = found[1].decode("ascii", "replace")
+            return Known(engine, _ESCAPED.sub(lambda letter: chr(int(letter[1], 16)), text) if engine in OF_CGROUPS
+                         else text.replace("_", "-"))
     return None
+
+
+def word_of(scope: Scope, holder: Optional[str]) -> str:
+    """What a container is named by in place of its path: its engine and its name, of a user's own behind theirs, or behind their uid."""
+    whose = "" if scope.holder is None else f"{holder or scope.holder}/"
+    return f"{scope.engine}:{whose}{shown(scope.name or scope.id)}"
 
 
 def holder_of(cgroups: Mapping[CgroupPath, Cgroup], path: CgroupPath) -> Optional[int]:
@@ -101,11 +132,29 @@ def holder_of(cgroups: Mapping[CgroupPath, Cgroup], path: CgroupPath) -> Optiona
     return None
 
 
+def name_of(name_in: NameIn, text: Optional[str], identity: str) -> Optional[str]:
+    """A name in what a file has, where there is one."""
+    try:
+        name = name_in(text, identity) if text is not None else None
+    except (ValueError, KeyError, IndexError, TypeError, AttributeError, RecursionError):
+        return None
+    return name[:LONGEST_NAME] if name else None
+
+
+def home_here(uid: int) -> Optional[str]:
+    try:
+        return pwd.getpwuid(uid).pw_dir
+    except (KeyError, OverflowError):
+        return None
+
+
 class Names:
     """Reads names, each file once, as far as there is room."""
 
-    def __init__(self, top: str) -> None:
-        self.top = top
+    def __init__(self, top: str, home_of: Callable[[int], Optional[str]] = home_here) -> None:
+        self.top, self.home_of = top, home_of
+        # of each user whose podman was asked, the names of its containers
+        self.own: Dict[int, Mapping[str, str]] = {}
         self.files, self.bytes = bounded.NAME_FILES, bounded.NAME_BYTES
         self.read: Dict[str, Optional[str]] = {}
 
@@ -120,23 +169,40 @@ class Names:
                 self.read[file] = None
         return self.read.get(file)
 
-    def name(self, of: Known) -> Optional[str]:
+    def name(self, of: Known, holder: Optional[int] = None) -> Optional[str]:
+        """A name as root's files tell it; of a container that somebody else started, as theirs do, or as they have named its cgroup."""
+        if of.engine in OF_CGROUPS:
+            return of.id[:LONGEST_NAME]
+        if holder is not None:
+            return self.own_names(holder).get(of.id) if of.engine == PODMAN and holder > 0 else None
         for file, name_in in FILES[of.engine]:
-            text = self.text(file.format(of.id))
-            try:
-                name = name_in(text, of.id) if text is not None else None
-            except (ValueError, KeyError, IndexError, TypeError, AttributeError, RecursionError):
-                continue
+            name = name_of(name_in, self.text(file.format(of.id)), of.id)
             if name:
-                return name[:LONGEST_NAME]
+                return name
         return None
 
+    @cached_property
+    def types(self) -> Mapping[int, str]:
+        """Of each mount that this process sees the type of its file system."""
+        return mounts_of_host().types
 
-def scopes(cgroups: Mapping[CgroupPath, Cgroup], top: str = "/") -> Iterator[Scope]:
+    def own_names(self, holder: int) -> Mapping[str, str]:
+        """The names in a user's own list of podman's containers, which is read and parsed once."""
+        if holder not in self.own:
+            home = self.home_of(holder)
+            try:
+                found = read_theirs(f"{home}/{OWN_LIST}", holder, self.types, bounded.NAME_FILE, self.top) if home else None
+                self.own[holder] = names_in_list(found.text("utf-8", "replace")) if found and not found.is_cut else {}
+            except OSError:
+                self.own[holder] = {}
+        return self.own[holder]
+
+
+def scopes(cgroups: Mapping[CgroupPath, Cgroup], top: str = "/", names: Optional[Names] = None) -> Iterator[Scope]:
     """The containers and pods among some cgroups."""
-    names = Names(top)
+    names = names or Names(top)
     for path in sorted(cgroups):
         of = known(path)
         if of and parent_of(path):
             holder = holder_of(cgroups, path)
-            yield Scope(path, of.engine, of.id[:SHORT_ID], None if holder is not None else names.name(of), holder)
+            yield Scope(path, of.engine, of.id[:SHORT_ID], names.name(of, holder), holder)

@@ -1,6 +1,8 @@
 """Other mounts of a hierarchy, and who gets to each: by which folders one has to go. A file system that somebody may answer for is
 asked nothing."""
+import errno
 import os
+import stat
 from typing import Iterator, List, Mapping
 
 from zirofen_host.collect import bounded
@@ -40,5 +42,23 @@ def look(place: str, types: Mapping[int, str], folders: List[Entry]) -> bool:
             os.close(opened)
             opened = below
         return True
+    finally:
+        os.close(opened)
+
+
+def read_theirs(file: str, uid: int, types: Mapping[int, str], most: int, top: str = "/") -> bounded.Read:
+    """What a regular file of somebody's has, which is theirs or root's as each folder on the way: no link is followed, and no file
+    system is asked that somebody may answer for. It is opened as what was looked at, whatever stands there by then."""
+    opened = bounded.hold(top)
+    try:
+        for name in file.strip("/").split("/"):
+            below = bounded.hold_in(name, opened)
+            os.close(opened)
+            opened = below
+            if types.get(mount_of(opened)) not in OF_KERNEL or os.stat(opened).st_uid not in (0, uid):
+                raise OSError(errno.EPERM, "somebody else owns it")
+        if not stat.S_ISREG(os.stat(opened).st_mode):
+            raise OSError(errno.EINVAL, "it is no regular file")
+        return bounded.read_file(f"/proc/self/fd/{opened}", most, bounded.NAMED | os.O_NONBLOCK)
     finally:
         os.close(opened)

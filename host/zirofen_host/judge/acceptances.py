@@ -57,7 +57,7 @@ class Given:
         # of a container each thing that lets it out is accepted by itself, and so is each option that is missing and each capability
         is_list = found.rule.word in (ROOT_INSIDE, MOUNT_OPTIONS, CAPABILITY)
         is_entry = set(found.entry.split()) <= set(self.entry.split()) if is_list else found.entry == self.entry
-        same = (found.path, found.rule.at) == (self.path, given.at) and is_entry and kind_of(found.rule) == kind_of(given)
+        same = self.path in (found.path, found.name) and found.rule.at == given.at and is_entry and kind_of(found.rule) == kind_of(given)
         return same and not is_graver and all(any(each.covers(whom) for each in self.named) for whom in found.whom)
 
 
@@ -151,7 +151,8 @@ def applied(report: Report, given: Iterable[Given], today: datetime.date) -> Rep
     by_path: Dict[str, List[Finding]] = {}
     for found in findings_of(report):
         if found.rule.id in ACCEPTABLE:
-            by_path.setdefault(found.path, []).append(found)
+            for place in {found.path, found.place}:
+                by_path.setdefault(place, []).append(found)
     met = [(each, next((found for found in by_path.get(each.path, ()) if each.is_met_by(found)), None)) for each in given]
     why = {(found.path, entry_key(found), kind_of(found.rule)): f"{each.reason}, until {each.until}"
            for each, found in met if found and today <= each.until}
@@ -197,7 +198,8 @@ def standing(each: Given, found: Optional[Finding], beside: Iterable[Finding], g
     others.sort(key=lambda other: other.entry != each.entry)
     state = OVER if today > each.until else ACCEPTED if found else WORSE if others else UNMET
     told = found or (others[0] if others else None)
-    return Acceptance(each.what, each.path, each.entry, each.whom, each.reason, str(each.until), state, told.line if told else None)
+    name: Union[str, Absent] = told.name if told and told.name and each.path == told.path else ABSENT
+    return Acceptance(each.what, each.path, each.entry, each.whom, each.reason, str(each.until), state, told.line if told else None, name)
 
 
 def kind_of(rule: Rule) -> str:

@@ -16,7 +16,7 @@ from zirofen_host.judge.severity import ACCEPTED as HOLDS
 from zirofen_host.judge.severity import Severity, is_empty, of_answer, of_fault, worst
 from zirofen_host.collect.notes import FAILED
 from zirofen_host.judge.model import (ABSENT, VERSION, Absent, Comparison, Difference, DiffersFinding, EntryFinding,
-                                      OpenedFinding, Report, RootInside, Subtree, Whom, Within)
+                                      OpenedFinding, PlaceNames, Report, RootInside, Subtree, Whom, Within)
 from zirofen_host.judge.rules import Finding, of_held, of_premise, of_running
 from zirofen_host.judge.saved import LACKING
 from zirofen_host.profile import shown
@@ -38,6 +38,8 @@ class Found(NamedTuple):
     within: Within = ABSENT
     # it is accepted by itself, and told so
     is_accepted: bool = False
+    # its line, with the names of containers in place of their paths
+    named: str = ""
 
 
 def read(file: str) -> Optional[Report]:
@@ -81,7 +83,21 @@ def write(file: str, report: Report, is_accepted: bool) -> None:
 
 
 def found_in(report: Report) -> Dict[Key, Found]:
-    """All that a report tells of, by what it is and where it stands."""
+    """All that a report tells of, by what it is and where it stands: in a container with a name, by that."""
+    names = report.names
+    if not names.words:
+        return found_by_path(report)
+    return {(what, names.of(path) or path, of): each._replace(named=names.line(each.line, path))
+            for (what, path, of), each in found_by_path(report).items()}
+
+
+def found_of(before: Report, names: PlaceNames) -> Dict[Key, Found]:
+    """What an earlier report tells of, by the names of then; where it has none of a place, by what that is named now."""
+    return {(what, names.of(place) or place, of): each for (what, place, of), each in found_in(before).items()}
+
+
+def found_by_path(report: Report) -> Dict[Key, Found]:
+    """All that a report tells of, by what it is and at which cgroup."""
     accepted = accepted_subtrees(report)
     found = {("subtree", each.path, ""): subtree_found(each, each.path in accepted) for each in report.subtrees}
     for entry in report.entries:
@@ -136,7 +152,7 @@ def let_in(whom: Iterable[Whom], subtrees: Iterable[str]) -> FrozenSet[Tuple[obj
 
 def compared(report: Report, before: Report, file: str) -> Comparison:
     """What differs from an earlier report, and what stands since then, with its status."""
-    now, then = found_in(report), found_in(before)
+    now, then = found_in(report), found_of(before, report.names)
     differing: Dict[str, List[Difference]] = {kind: [] for kind in KINDS}
     severities = []
     for key in sorted({*now, *then}):
@@ -181,7 +197,7 @@ def kind_of(now: Optional[Found], then: Optional[Found]) -> Optional[str]:
         return "gone"
     if now.severity.rank < then.severity.rank or now.lets_in - then.lets_in:
         return "worse"
-    return "changed" if now.line != then.line else None
+    return "changed" if (now.named or now.line) != (then.named or then.line) and now.line != then.line else None
 
 
 def difference(key: Key, now: Optional[Found], then: Optional[Found]) -> Difference:

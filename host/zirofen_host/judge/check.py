@@ -130,7 +130,9 @@ def report_of(checked: Checked, is_whole: bool) -> Report:
 
 def named_scope(checked: Checked, each: Scope) -> NamedScope:
     holder = None if each.holder is None else "somebody" if each.holder < 0 else checked.names.user(each.holder)
-    return NamedScope(text_of(each.path), each.engine, each.id, None if each.name is None else shown(each.name), holder)
+    word = checked.word_of(each)
+    return NamedScope(text_of(each.path), each.engine, each.id, None if each.name is None else shown(each.name), holder,
+                      ABSENT if each.name is None or word is None else word)
 
 
 def noted(checked: Checked, note: Note) -> Told:

@@ -8,8 +8,9 @@ from zirofen_host.ask.model import Answers
 from zirofen_host.ask.questions import Questions
 from zirofen_host.ask.texts import Programs
 from zirofen_host.collect.causes import Found, look
+from zirofen_host.collect.containers import word_of
 from zirofen_host.collect.holds import Holds
-from zirofen_host.collect.model import Entry, Snapshot, User
+from zirofen_host.collect.model import Entry, Scope, Snapshot, User
 from zirofen_host.files import Kind, kind_of
 from zirofen_host.judge.judged import Judged, LetIn, Place
 from zirofen_host.judge.model import ABSENT, Absent, Wanted, Within
@@ -19,7 +20,7 @@ from zirofen_host.judge.settings import CGROUP, Agreed, Settings, agreed_at, sys
 from zirofen_host.judge.shell import Change, change_commands
 from zirofen_host.judge.wanted import unit_at, wanted_by
 from zirofen_host.options import Options
-from zirofen_host.profile import ANYBODY, CgroupPath, ancestors, parent_of, path_of, shown, text_of
+from zirofen_host.profile import ANYBODY, CgroupPath, ancestors, parent_of, path_of, text_of
 
 
 @dataclass(frozen=True)
@@ -98,10 +99,16 @@ class Checked:
         person = self.holds.within(path)
         return ABSENT if person is None else person
 
+    def word_of(self, scope: Scope) -> Optional[str]:
+        """A container by its engine and its name, of a user's own behind theirs; None where that may be anybody."""
+        if scope.holder is not None and scope.holder < 0:
+            return None
+        return word_of(scope, None if scope.holder is None else self.names.user_name(scope.holder))
+
     def container_text(self, path: CgroupPath) -> str:
-        """A container by its engine and its name, or by its cgroup."""
+        """A container by its word, or by its cgroup."""
         found = next((each for place in (path, *ancestors(path)) for each in self.snapshot.scopes if each.path == place), None)
-        return f"{found.engine}:{shown(found.name or found.id)}" if found else text_of(path)
+        return found and self.word_of(found) or text_of(path)
 
     @property
     def is_asked(self) -> bool:

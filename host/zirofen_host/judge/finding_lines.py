@@ -1,11 +1,12 @@
 """The one line of each finding, as a report and a comparison of two have it."""
+import json
 import shlex
 from typing import Iterable, Optional, Sequence
 
 from zirofen_host.collect.model import GROUP, OTHERS, OWNER
 from zirofen_host.collect.notes import LimitsOfVersion1
-from zirofen_host.judge.model import (AboveFinding, Acceptance, DiffersFinding, EntryFinding, FaultFinding, HeldFinding, OpenedFinding,
-                                      Owner, PremiseFinding, RootInside, RunsElsewhere, Whom)
+from zirofen_host.judge.model import (AboveFinding, Absent, Acceptance, DiffersFinding, EntryFinding, FaultFinding, HeldFinding,
+                                      OpenedFinding, Owner, PremiseFinding, RootInside, RunsElsewhere, Whom)
 from zirofen_host.profile import shown
 
 # names in a line; where there are more, it tells how many
@@ -118,7 +119,8 @@ def processes_text(pids: Sequence[int]) -> str:
 def acceptance_line(each: Acceptance) -> str:
     """The line of what somebody accepts: of what is so, and of what isn't so any more and counts."""
     if each.state == "accepted":
-        return f"accepted: {each.line}: {each.reason}, until {each.until}"
+        by_name = "" if isinstance(each.name, Absent) else f"; path = {json.dumps(each.name)} holds too when it is made again"
+        return f"accepted: {each.line}: {each.reason}, until {each.until}{by_name}"
     what = " ".join(filter(None, (each.what, each.path, each.entry))) + f" by {', '.join(each.whom)}: {each.reason}, until {each.until}"
     told = {"over": "is over", "worse": "doesn't hold, it got worse", "unmet": "meets nothing"}[each.state]
     return f"an acceptance {told}: {what}" + (f"; now: {each.line}" if each.line else "")

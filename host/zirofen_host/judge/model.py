@@ -3,9 +3,10 @@ have no key; the paths in it are texts, as they are shown."""
 import re
 from dataclasses import dataclass, field
 from enum import Enum
-from typing import Annotated, FrozenSet, Mapping, Optional, Tuple, Union
+from typing import Annotated, Dict, FrozenSet, Iterable, List, Mapping, Optional, Tuple, Union
 
 from zirofen_host.collect.notes import Note, line_of
+from zirofen_host.profile import ancestors
 
 # of the keys that a report has
 VERSION = 1
@@ -279,6 +280,8 @@ class NamedScope:
     id: str
     name: Optional[str]
     of: Optional[str]
+    # by which it may be named in place of its path, where it has a name
+    word: Union[str, Absent] = ABSENT
 
 
 @dataclass(frozen=True)
@@ -401,6 +404,8 @@ class Acceptance:
     state: str
     # of the finding that stands there
     line: Optional[str]
+    # of one by the path of a container, the name to write in its place
+    name: Union[str, Absent] = ABSENT
 
 
 @dataclass(frozen=True)
@@ -408,6 +413,32 @@ class AnswerLimit:
     """What narrows what a report answers: a word for its kind, and what was left out."""
     kind: str
     text: str
+
+
+class PlaceNames:
+    """Places in containers by names that stay when a container is made again. A word that two claim names none."""
+
+    def __init__(self, scopes: Iterable[NamedScope]) -> None:
+        paths: Dict[str, List[str]] = {}
+        for each in scopes:
+            if not isinstance(each.word, Absent):
+                paths.setdefault(each.word, []).append(each.path)
+        self.words = {found[0]: word for word, found in paths.items() if len(found) == 1}
+        self.claimed = {word: found for word, found in paths.items() if len(found) > 1}
+
+    def scope(self, path: str) -> Optional[str]:
+        """The nearest named container that a place is in."""
+        return next((place for place in (path, *ancestors(path)) if place in self.words), None) if self.words and path else None
+
+    def of(self, path: str) -> Optional[str]:
+        """A place by its container's name, and behind it where it is in there."""
+        scope = self.scope(path)
+        return None if scope is None else self.words[scope] + (f":{path[len(scope):]}" if path != scope else "")
+
+    def line(self, line: str, path: str) -> str:
+        """A line of a place with its container's name where its path stands."""
+        scope = self.scope(path)
+        return line if scope is None else line.replace(scope, self.words[scope])
 
 
 @dataclass(frozen=True)
@@ -473,6 +504,11 @@ class Report:
     def broken(self) -> Tuple[PremiseFinding, ...]:
         """What answers take to be otherwise."""
         return () if isinstance(self.premises, Absent) else self.premises
+
+    @property
+    def names(self) -> "PlaceNames":
+        """Containers and pods by the words that name them."""
+        return PlaceNames(() if isinstance(self.scopes, Absent) else self.scopes)
 
     @property
     def scopes_by_path(self) -> Mapping[str, NamedScope]:

@@ -289,6 +289,34 @@ class OfText(Note):
 
 
 @dataclass(frozen=True)
+class ClaimedName(Note):
+    """A name that several containers have."""
+    kind = "claimed-name"
+    meaning = "A name that two containers have names neither."
+    paths: Tuple[str, ...]
+
+    @property
+    def text(self) -> str:
+        return f"{len(self.paths)} have that name, so that it names none of them: {some(self.paths)}"
+
+
+@dataclass(frozen=True)
+class OwnContainers(JoinedNote):
+    """Containers that a user started themselves, by the names that they gave."""
+    kind = "container"
+    meaning = "Containers inside of what their users hold are theirs, as all that is inside is."
+    names: Tuple[str, ...]
+
+    @property
+    def fact(self) -> str:
+        return "containers of theirs, by their own names, inside of what they hold"
+
+    @property
+    def rest(self) -> str:
+        return some(self.names)
+
+
+@dataclass(frozen=True)
 class MountedElsewhere(Note):
     """Another mount of the hierarchy, and who gets to it."""
     kind = "mount"

@@ -1,5 +1,5 @@
 """What a finding can be: each kind by its id, in one table, and the findings of a report one by one."""
-from dataclasses import dataclass
+from dataclasses import dataclass, replace
 from typing import Dict, Iterator, Optional, Tuple, Union
 
 from zirofen_host.collect.notes import FAILED
@@ -120,6 +120,13 @@ class Finding:
     within: Within = ABSENT
     # lines of root's files that give it away, or may, where they were looked for
     causes: Union[Tuple[str, ...], Absent] = ABSENT
+    # its place by the name of the container that it is in
+    name: Optional[str] = None
+
+    @property
+    def place(self) -> str:
+        """What stays as long as its container is made again under its name."""
+        return self.name or self.path
 
     @property
     def is_counted(self) -> bool:
@@ -174,7 +181,15 @@ def of_premise(each: PremiseFinding) -> Finding:
 
 
 def findings_of(report: Report) -> Iterator[Finding]:
-    """Everything that a report tells of, in its order; a fault once for each subtree that it is of."""
+    """Everything that a report tells of, each with the name of its place."""
+    names = report.names
+    for each in unnamed_findings(report):
+        name = names.of(each.path)
+        yield each if name is None else replace(each, name=name)
+
+
+def unnamed_findings(report: Report) -> Iterator[Finding]:
+    """Everything in its order; a fault once for each subtree that it is of."""
     yield from map(of_entry, report.entries)
     yield from map(of_opened, report.opened)
     yield from map(of_inside, report.containers)

@@ -14,9 +14,9 @@ from zirofen_host.judge.checked import Checked
 from zirofen_host.judge.finding_lines import some
 from zirofen_host.judge.findings import texts_of
 from zirofen_host.judge.model import Told
-from zirofen_host.judge.notes import (Capable, Deputy, GroupClass, LeftOutGroups, MakesAbove, MountedElsewhere, NoCause, NotAdvised, OfText,
-                                      Outside, OwnersMark, Subordinate, UnaskedUsers, UnknownFiles, UnlookedDescriptors, UnlookedProcesses,
-                                      UnlookedThreads, Unsearched, WithoutProcesses)
+from zirofen_host.judge.notes import (Capable, ClaimedName, Deputy, GroupClass, LeftOutGroups, MakesAbove, MountedElsewhere, NoCause,
+                                      NotAdvised, OfText, Outside, OwnersMark, OwnContainers, Subordinate, UnaskedUsers, UnknownFiles,
+                                      UnlookedDescriptors, UnlookedProcesses, UnlookedThreads, Unsearched, WithoutProcesses)
 from zirofen_host.judge.opened import unknown_files
 from zirofen_host.profile import ANYBODY, CgroupPath, ancestors, is_inside, path_of, shown, text_of
 
@@ -35,7 +35,7 @@ def lines(checked: Checked, advised: Advised, looks: Looks) -> Tuple[Told, ...]:
     """Looks at a host once, each look by itself."""
     found: List[Told] = []
     for look in (descriptors, makers_above, group_class, subordinates, deputies, outside, capabilities, search_bits, marks, groups,
-                 everybody, unknown, restarts, causes, about_the_mount, processes):
+                 everybody, unknown, restarts, causes, about_the_mount, processes, containers_seen):
         found += looks.all(look.__name__, lambda: look(checked))
     return (*found, *not_advised(advised))
 
@@ -191,6 +191,23 @@ def processes(checked: Checked) -> Iterator[Told]:
     for path in checked.answers.without_processes:
         count = sum(is_inside(at, path) for _, _, at in checked.snapshot.tree.processes)
         yield of_cgroup(checked, path, WithoutProcesses(text_of(path), count))
+
+
+def containers_seen(checked: Checked) -> Iterator[Told]:
+    """Containers of users, which are inside of what these hold, and names that two have."""
+    own: DefaultDict[int, List[str]] = defaultdict(list)
+    words: DefaultDict[str, List[str]] = defaultdict(list)
+    for each in checked.snapshot.scopes:
+        word = checked.word_of(each)
+        if each.holder is not None and each.holder > 0:
+            own[each.holder].append(word or text_of(each.path))
+        if word and each.name is not None:
+            words[word].append(text_of(each.path))
+    for uid, names in sorted(own.items()):
+        yield of_user(checked, uid, OwnContainers(checked.names.user(uid), tuple(names)))
+    for word, paths in sorted(words.items()):
+        if len(paths) > 1:
+            yield of_cgroup(checked, path_of(paths[0]), ClaimedName(word, tuple(paths)))
 
 
 def not_advised(advised: Advised) -> Iterator[Told]:

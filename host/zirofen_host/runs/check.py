@@ -7,7 +7,7 @@ from datetime import datetime, timezone
 from typing import Callable, Iterable, List, NamedTuple, Optional, Tuple
 
 from zirofen_host import fault
-from zirofen_host.ask import accepted
+from zirofen_host.ask import accepted, named
 from zirofen_host.ask.program import program_at
 from zirofen_host.ask.questions import subtrees_by
 from zirofen_host.collect import turns
@@ -55,7 +55,7 @@ def run(given: argparse.Namespace) -> int:
 
 def report_of(options: CheckOptions, ways: Iterable[Way]) -> Found:
     """The report, with what somebody accepts and what differs from an earlier one."""
-    options = dataclasses.replace(options, program=program_at(options.program))
+    options = named.with_only(dataclasses.replace(options, program=program_at(options.program)))
     before = baseline.read(options.baseline) if options.baseline else None
     granted = acceptances_of(options)
     is_first = bool(options.baseline) and before is None

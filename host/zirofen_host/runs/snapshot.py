@@ -3,6 +3,7 @@ import argparse
 from typing import Iterator, Mapping
 
 from zirofen_host import fault
+from zirofen_host.ask import named
 from zirofen_host.collect import elsewhere, fitting, snapshot
 from zirofen_host.collect.accounts import accounts_of, payer_of
 from zirofen_host.collect.holds import holds_of
@@ -11,7 +12,7 @@ from zirofen_host.options import SnapshotOptions
 
 
 def run(given: argparse.Namespace) -> int:
-    options = SnapshotOptions(**vars(given))
+    options = named.with_only(SnapshotOptions(**vars(given)))
     taken = snapshot.take(options, snapshot.all_that_changes)
     accounts = accounts_of(options.accounts, taken) if options.with_host else None
 

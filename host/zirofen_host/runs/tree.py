@@ -3,6 +3,7 @@ import argparse
 import dataclasses
 import sys
 
+from zirofen_host.ask import named
 from zirofen_host.ask.program import program_at
 from zirofen_host.ask.questions import subtrees_by
 from zirofen_host.collect import snapshot
@@ -13,7 +14,7 @@ from zirofen_host.show import tree_view
 
 def run(given: argparse.Namespace) -> int:
     options = TreeOptions(**vars(given))
-    options = dataclasses.replace(options, program=program_at(options.program))
+    options = named.with_only(dataclasses.replace(options, program=program_at(options.program)))
     environment, is_terminal = tree_view.environment_of_start(), sys.stdout.isatty()
     if options.report:
         report = saved.read(options.report)

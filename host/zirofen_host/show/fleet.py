@@ -18,7 +18,7 @@ from zirofen_host.judge.severity import severity_of
 from zirofen_host.judge.model import (ABSENT, DiffersFinding, EntryFinding, FaultFinding, HeldFinding, OpenedFinding,
                                       PremiseFinding, Report, RootInside, RunsElsewhere)
 from zirofen_host.profile import shown
-from zirofen_host.show.view import DIFFERS, Grouped, Host, accepted_of, host_of
+from zirofen_host.show.view import DIFFERS, Grouped, Host, accepted_of, host_of, place_of
 from zirofen_host.show.words import CONTAINED, NOT_ASKED, STANDINGS
 
 ENDING = ".json"
@@ -184,8 +184,9 @@ def row_of(name: str, host: Host, is_listed: bool) -> Row:
              *(each.line for each in report.unseen if each.kind == FAILED)]
     status = min(report.status, severity_of(report).status, key=WORST.index)
     alike, lines = hashlib.sha256(repr((status, kind, notes)).encode()), []
+    names = report.names
     for number, finding in enumerate(host.findings):
-        told = list(finding_lines(finding))
+        told = [names.line(line, place) for line in finding_lines(finding) for place in [place_of(finding.parts[0])]]
         alike.update(repr(told).encode())
         if number < MOST_LINES:
             lines.append(cut(told[0], LONGEST_LINE))

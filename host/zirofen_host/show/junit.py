@@ -10,6 +10,7 @@ from zirofen_host.fault import plain
 from zirofen_host.judge import limits
 from zirofen_host.judge.severity import Severity, of_answer
 from zirofen_host.judge.model import Absent, Subtree
+from zirofen_host.judge.notes import Outside
 from zirofen_host.judge.finding_lines import CAPABILITY, MOUNT_OPTIONS, MOUNTED_OVER
 from zirofen_host.judge.rules import (DIFFERS, HELD, NOTHING_ASKED, OPENED, OPENED_DIRECTORY, ROOT_HELD, ROOT_INSIDE, RUNS, VERSION_1,
                                       Finding)
@@ -123,6 +124,9 @@ def cases_of(run: Run) -> Iterable[Case]:
         cases.at(HOST, "nothing else stands open")
     for each in limits.narrowing(run.report):
         cases.at(HOST, "all of it is asked about").add(SKIPPED, f"limits/{each.kind}", [f"{limits.HEAD}: {each.text}"])
+    for told_of in run.report.unseen:
+        if told_of.kind == Outside.kind:
+            cases.at(HOST, "processes outside of what their users hold").add(PASSED, told_of.kind, [told_of.line])
     for found in run.findings:
         if found.subtrees:
             entry_cases(cases, found, subtrees)
@@ -131,8 +135,8 @@ def cases_of(run: Run) -> Iterable[Case]:
     return cases.found.values()
 
 
-def add_case(suite: ElementTree.Element, case: Case) -> None:
-    names = {"classname": plain(case.subject), "name": plain(case.name), "time": "0"}
+def add_case(suite: ElementTree.Element, case: Case, subject: str) -> None:
+    names = {"classname": plain(subject), "name": plain(case.name), "time": "0"}
     told = "\n".join(map(plain, dict.fromkeys(case.lines)))
     element = ElementTree.SubElement(suite, "testcase", names)
     if not told:
@@ -154,8 +158,9 @@ def parts_of(run: Run) -> Iterator[str]:
     moment, subject = time.strftime("%Y-%m-%dT%H:%M:%S", time.gmtime(run.ended)), plain(run.subject)
     suites = ElementTree.Element("testsuites", {"name": "zirofen", **counts})
     suite = ElementTree.SubElement(suites, "testsuite", {"name": subject, **counts, "timestamp": moment, "hostname": subject})
+    names = run.report.names
     for case in cases:
-        add_case(suite, case)
+        add_case(suite, case, names.of(case.subject) or case.subject)
     ElementTree.indent(suites, " ")
     yield '<?xml version="1.0" encoding="UTF-8"?>\n'
     yield ElementTree.tostring(suites, encoding="unicode")

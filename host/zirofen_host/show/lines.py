@@ -44,8 +44,9 @@ def who_text(each: HolderAnswer) -> str:
 
 
 def scope_text(each: NamedScope) -> str:
-    """A container or a pod, and whose it is where root didn't start it."""
-    return f"{each.engine} {each.name or each.id}" + (f" of {each.of}" if each.of else "")
+    """A container or a pod by the word that names it, and whose it is where root didn't start it."""
+    word = f"{each.engine}:{each.name or each.id}" if isinstance(each.word, Absent) else each.word
+    return word + (f" of {each.of}" if each.of else "")
 
 
 def beside(scopes: Mapping[str, NamedScope], path: str) -> str:

@@ -14,6 +14,7 @@ from zirofen_host.installed import MANUAL
 from zirofen_host.judge import limits
 from zirofen_host.judge.severity import Severity
 from zirofen_host.judge.model import Absent, Report
+from zirofen_host.judge.notes import Outside
 from zirofen_host.judge.rules import RULES, Finding, Rule
 from zirofen_host.profile import LONGEST_TEXT
 from zirofen_host.show.run import Run
@@ -72,7 +73,10 @@ def artifact_of(tree: str) -> Object:
 def location(run: Run, found: Finding, rows: Mapping[str, int]) -> Object:
     """Where a finding stands: in the tree text, and at the host's cgroup."""
     name = plain(f"{run.subject}:{found.path or '/'}")
-    place: Object = {"logicalLocations": [{"fullyQualifiedName": name, "kind": "resource"}]}
+    logical: Object = {"fullyQualifiedName": name, "kind": "resource"}
+    if found.name:
+        logical["name"] = plain(found.name)
+    place: Object = {"logicalLocations": [logical]}
     if run.tree and run.tree != "-":
         physical: Object = {"artifactLocation": artifact_of(run.tree)}
         if found.path in rows:
@@ -83,7 +87,7 @@ def location(run: Run, found: Finding, rows: Mapping[str, int]) -> Object:
 
 def fingerprint(run: Run, found: Finding) -> str:
     """What stays the same as long as a finding does: its kind and place, and not whom it lets in."""
-    parts = (run.report.host, found.rule.id, found.path, found.entry, "" if found.entry else found.line)
+    parts = (run.report.host, found.rule.id, found.place, found.entry, "" if found.entry else found.line)
     return hashlib.sha256("\0".join(parts).encode("utf-8", "backslashreplace")).hexdigest()
 
 
@@ -106,9 +110,11 @@ def moment(seconds: float) -> str:
 
 
 def notifications(report: Report) -> Object:
-    """What narrows the answers, of which no result can tell."""
+    """What narrows the answers and what runs outside of what its user holds, of which no result can tell."""
     found: List[Object] = [{"level": "warning", "message": {"text": plain(f"{limits.HEAD}: {each.text}")},
                             "descriptor": {"id": f"limits/{each.kind}"}} for each in limits.narrowing(report)]
+    found += [{"level": "note", "message": message([each.line]), "descriptor": {"id": each.kind}} for each in report.unseen
+              if each.kind == Outside.kind]
     return {"toolExecutionNotifications": found} if found else {}
 
 
