@@ -142,6 +142,25 @@ class ChangesTest(unittest.TestCase):
             self.assertIn("the text carries nothing of its host", self.refused(line, is_carrying=False))
         changed("chown /a cgroup.procs 5:5", is_carrying=False)
 
+    def test_every_entry_that_real_hand_overs_chown(self):
+        """The lists of systemd, of nspawn and of a kernel, and what watches pressure; of a subgroup all files are handed over."""
+        names = ("cgroup.controllers", "cgroup.events", "cgroup.procs", "cgroup.stat", "cgroup.subtree_control", "cgroup.threads",
+                 "cgroup.type", "memory.oom.group", "memory.reclaim", "memory.pressure", "cpu.pressure", "memory.events")
+        lines = [f"chown /a {name} 5:5" for name in ("dir", *names)]
+        text = TREE.replace('enabled = ["memory", "pids"]', 'enabled = ["cpu", "memory", "pids"]', 1)
+        for is_carrying in (True, False):
+            changed(*lines, text=text, is_carrying=is_carrying)
+        _, unplaced = changes.carried_out(snapshot_of(text, False), "\n".join(lines))
+        # one line for those on which no answer rests, and one for what a kernel doesn't list
+        self.assertEqual((unplaced.idle, unplaced.others), (
+            ("cgroup.controllers", "cgroup.events", "cgroup.stat", "cgroup.threads", "cpu.pressure", "memory.events", "memory.oom.group",
+             "memory.pressure", "memory.reclaim"), ((path_of("/a"), "cgroup.type"),)))
+        # below a directory of theirs it is theirs, and what is handed to somebody else is another's
+        _, unplaced = changes.carried_out(snapshot_of(TREE, False), "\n".join((
+            "chown /a dir 1000:0", "chown /a/b cgroup.type 1000:0", "chown /a/b cgroup.threads 1000:0", "chown /a memory.oom.group 7:7",
+            "chown /a/b memory.reclaim 0:0")))
+        self.assertEqual(unplaced, (("cgroup.threads", "cgroup.type", "memory.reclaim"), ((path_of("/a"), "memory.oom.group"),)))
+
 
 @unittest.skipUnless(REAL_PROGRAM, "there is no program")
 class CommandTest(HostTest):
@@ -171,6 +190,18 @@ class CommandTest(HostTest):
                          ops="chown / cgroup.procs 0:0\nchmod / cgroup.procs 644\n")
         self.assertEqual((said.returncode, said.stdout.splitlines()[-1]), (0, "2 asked: 2 contained"))
         self.assertIn("gone: / cgroup.procs (1000:0 446): escapes", said.stdout)
+
+    def test_what_no_answer_rests_on_is_said_once(self):
+        files = ("dir", "cgroup.procs", "cgroup.subtree_control", "cgroup.threads", "memory.pressure")
+        ops = "mkdir /new\n" + "".join(f"chown /new {name} 1001:1001\n" for name in files)
+        said = self.plan("--tree", DELEGATION, ops=ops)
+        self.assertEqual((said.returncode, said.stderr, said.stdout.splitlines()), (0, "", [
+            "new: /new: contained, by 1001 who holds it", "not-told: cgroup.threads memory.pressure: no answer rests on these",
+            "3 asked: 3 contained"]))
+        said = self.plan("--tree", DELEGATION, ops=f"{ops}chown /new cgroup.type 1001:1001\n")
+        self.assertEqual((said.returncode, said.stdout.splitlines()[-1]), (2, (
+            "3 asked: 3 contained; limits of this answer: what may give entries away isn't told: cgroup.type of /new: the text has no "
+            "place for it")))
 
     def test_in_place_of_answers(self):
         ops = "# a comment\nmkdir   /new\nchown /new dir 9:9\n"

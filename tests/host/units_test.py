@@ -1,4 +1,5 @@
 """Tests of units as changes to a tree."""
+import json
 import os
 import subprocess
 import sys
@@ -6,15 +7,17 @@ import tempfile
 import unittest
 from dataclasses import replace
 
+import report_schema
 from check_test import REAL_PROGRAM
 from made_up import COMMAND, TOP, path_of
 from plan_test import ROOT, snapshot_of
 from zirofen_host.collect import changes
 from zirofen_host.collect.model import Account, AccountLists, Carried, Entry, Group, Source
-from zirofen_host.collect.unit_files import FOLDERS, UnitName, read_units, specifiers
+from zirofen_host.collect.unit_files import FOLDERS, UnitFile, UnitName, read_slice, read_units, specifiers
 from zirofen_host.collect.walk import MARKS
 from zirofen_host.fault import Fault
-from zirofen_host.judge import units
+from zirofen_host.judge import plan, units
+from zirofen_host.options import PlanOptions
 
 ACCOUNTS = AccountLists((Account("root", 0, 0), Account("app", 900, 901), Account("taken", 61184, 61184)), (Group(77, (), "ops"),))
 TREE = ROOT + """[[cgroup]]
@@ -35,6 +38,9 @@ path = "/system.slice/other.service"
 """
 
 
+ROOTS_DELEGATE = ["a.service: Delegate=yes: what root's command hands over inside isn't told"]
+
+
 class UnitsTest(unittest.TestCase):
     maxDiff = None
 
@@ -50,10 +56,10 @@ class UnitsTest(unittest.TestCase):
             out.write(text)
         return file
 
-    def planned(self, *files, systemd=257, folders=(), tree=TREE):
+    def planned(self, *files, systemd=257, folders=(), tree=TREE, slices=lambda _: None, is_script=lambda _: False):
         snapshot = replace(snapshot_of(tree), source=Source("a.toml", Carried(ACCOUNTS, {})))
-        lines, named = units.planned(snapshot, ACCOUNTS, read_units(files, folders), systemd, {"H": "web1.example", "l": "web1"})
-        lines = [" ".join(words) for words in lines]
+        plan = units.planned(snapshot, ACCOUNTS, read_units(files, folders), systemd, {"H": "web1.example", "l": "web1"}, slices, is_script)
+        lines, named, self.may_give = [" ".join(words) for words in plan.lines], plan.named, plan.may_give
         # whatever is planned can be carried out
         self.behind = changes.changed(snapshot, "\n".join(lines))
         return lines, named
@@ -120,7 +126,7 @@ Slice=b.slice\nDelegate=cpu\nUser=app\n{text}"""))
     def test_a_text_that_carries_nothing_has_no_place_for_them(self):
         snapshot = replace(snapshot_of(TREE), source=Source("a.toml", None))
         unit = self.write("a.service", "[Service]\nUser=app\nDelegate=yes\nExecStart=/x\n")
-        lines, _ = units.planned(snapshot, ACCOUNTS, read_units((unit,), ()), 257, {})
+        lines = units.planned(snapshot, ACCOUNTS, read_units((unit,), ()), 257, {}).lines
         changes.changed(snapshot, "\n".join(map(" ".join, lines)))
         self.assertEqual([words[2] for words in lines if words[0] == "chown"], ["dir", "cgroup.procs", "cgroup.subtree_control"])
 
@@ -130,7 +136,7 @@ Slice=b.slice\nDelegate=cpu\nUser=app\n{text}"""))
                                  ("Group=ops\n", "0:77", 0), ("User=root\nGroup=ops\n", "0:77", 0), ("User=root\n", "0:0", 0),
                                  ("DynamicUser=yes\n", "61185:61185", 61185)):
             lines, named = self.service(f"Delegate=yes\n{text}")
-            self.assertEqual(named, [])
+            self.assertEqual(named, ROOTS_DELEGATE if uid == 0 else [])
             self.assertIn(f"chown /system.slice/a.service cgroup.procs {owner}", lines, text)
             self.assertEqual(lines[-1].split()[2], str(uid))
         # an older manager gives nothing to a group alone
@@ -187,6 +193,33 @@ Slice=b.slice\nTasksAccounting=no\nMemoryAccounting=no\n{text}"""))
         self.assertEqual(told, ["CPUWeight=idle", "MemoryMax=20%", "DynamicUser=maybe", "User=%Z", "CPUQuota=20%", "IOWeight=5",
                                 "StartupCPUWeight=9", "AllowedCPUs=0", "PAMName=login", "SupplementaryGroups=ops",
                                 "ExecStartPre=+/bin/chown -R app /x", "ExecStartPost=-!/bin/y", "MemoryMaximum=1"])
+
+    def test_what_may_give_entries_away(self):
+        user = "User=app\nTasksMax=1\n"
+        for text, may_give in (
+                (f"{user}ExecStartPost=+/bin/chown -R 1000 /x", True), (f"{user}ExecStartPost=!/bin/x", True),
+                (f"{user}ExecStart=/bin/sh x", False), (f"{user}PAMName=login", True),
+                (f"{user}PermissionsStartOnly=yes", True), (f"{user}PrivateUsers=yes", False),
+                (f"{user}CPUQuota=5%", False), ("TasksMax=1\nExecStartPre=/bin/sh -c 'chown -R 1000 /x'", True),
+                ("TasksMax=1\nExecStart=/usr/sbin/daemon", False), ("TasksMax=1\nExecStart=/usr/local/sbin/hook.sh", True),
+                ("TasksMax=1\nExecStart=/usr/sbin/script-by-its-head", True),
+                ("TasksMax=1\nExecStop=/bin/chown 1000 /mnt/system.slice", True),
+                ("User=root\nTasksMax=1\nExecStart=-/usr/bin/python3 /x", True), ("User=%Z\nTasksMax=1\n", True)):
+            _, named = self.planned(self.write("d.service", f"[Service]\n{text}\n"), is_script=lambda file: file.endswith("by-its-head"))
+            self.assertEqual(bool(self.may_give), may_give, text)
+            self.assertLessEqual(set(self.may_give), set(named))
+
+    def test_what_roots_command_hands_over(self):
+        unit = ("[Service]\nExecStart=systemd-nspawn --quiet --keep-unit --boot --link-journal=try-guest --network-veth -U "
+                "--settings=override --machine=%i\nSlice=machine.slice\nDelegate=yes\nTasksMax=16384\n")
+        self.write("systemd-nspawn@.service", unit)
+        _, named = self.planned(os.path.join(self.room, "systemd-nspawn@box.service"), slices=lambda name: UnitFile(UnitName(name), ()))
+        self.assertEqual(named, self.may_give)
+        self.assertEqual([each.rpartition(": ")[2] for each in named], ["what runs inside is handed to another uid",
+                                                                        "what root's command hands over inside isn't told"])
+        for option, is_told in (("--private-users=no", False), ("--private-users=pick", True), ("", False)):
+            _, named = self.service(f"ExecStart=\nExecStart=/usr/bin/systemd-nspawn {option} -D /x\n")
+            self.assertEqual(any("another uid" in each for each in named), is_told)
 
     def test_who_carries_out_its_commands(self):
         for command, uid in (("/bin/x", "900"), ("+/bin/x", "0"), ("-@!/bin/x", "0"), ("!!/bin/x", "900"), ("-/bin/x", "900")):
@@ -245,6 +278,37 @@ class SliceTest(UnitsTest):
         self.assertEqual(named, ["a.service: Slice=none.service: no name of a slice"])
 
 
+class BroughtSliceTest(UnitsTest):
+    """The slices that a unit brings, with their drop-ins."""
+
+    def test_a_users_manager(self):
+        self.write("user@.service", "[Service]\nUser=%i\nSlice=user-%i.slice\nExecStart=/x\nTasksMax=infinity\nDelegate=pids memory\n")
+        self.write("usr/user-.slice.d/10-defaults.conf", "[Unit]\nAfter=x\n\n[Slice]\nTasksMax=33%\nMemoryMax=8K\n")
+        self.write("etc/user-1002.slice.d/50.conf", "[Slice]\nMemoryHigh=4K\n")
+        self.write("usr/user.slice", "[Slice]\nMemoryMax=1M\n")
+        folders = [os.path.join(self.room, each) for each in ("etc", "usr")]
+        lines, named = self.planned(os.path.join(self.room, "user@1002.service"), slices=lambda name: read_slice(name, folders))
+        self.assertEqual([line for line in lines if line.startswith(("mkdir", "set"))], [
+            "mkdir /user.slice", "set /user.slice memory.max 1048576", "mkdir /user.slice/user-1002.slice",
+            "set /user.slice/user-1002.slice memory.high 4096", "set /user.slice/user-1002.slice memory.max 8192",
+            "mkdir /user.slice/user-1002.slice/user@1002.service", "set /user.slice/user-1002.slice/user@1002.service pids.max max"])
+        self.assertEqual(named, ["user-1002.slice: TasksMax=33%: no number that can be known here"])
+        self.assertEqual(self.may_give, [])
+
+    def test_one_that_is_there_or_given(self):
+        slices = []
+        lines, _ = self.planned(self.write("a.service", "[Service]\nUser=app\nSlice=b-c.slice\nTasksMax=1\n"),
+                                self.write("b-c.slice", "[Slice]\nMemoryMax=4K\n"), slices=lambda name: slices.append(name))
+        self.assertEqual((slices, lines[0]), (["b.slice"], "mkdir /b.slice"))
+        slices.clear()
+        self.service("", slices=lambda name: slices.append(name))
+        self.assertEqual(slices, [])
+
+    def test_where_none_is_read(self):
+        _, named = self.planned(self.write("a.service", "[Service]\nUser=app\nSlice=b-c.slice\nTasksMax=1\n"))
+        self.assertEqual(named, ["a.service: of b.slice b-c.slice no file is read with --tree: name it with --unit"])
+
+
 class FilesTest(UnitsTest):
     def test_drop_ins_in_their_order(self):
         file = self.write("a-b@1.service", "[Service]\nExecStart=/x\nTasksMax=1\nMemoryMax=4K\nUser=root\n")
@@ -301,14 +365,39 @@ class CommandTest(UnitsTest):
     def test_a_unit_is_asked_about(self):
         file = self.write("a.service", "[Service]\nUser=900\nDelegate=yes\nExecStart=/x\nTasksMax=5\nPAMName=login\n")
         said = self.plan("--unit", file)
-        self.assertEqual((said.returncode, said.stderr),
-                         (0, "zirofen-host plan: not told: a.service: PAMName=login: what it makes of who runs there isn't told\n"))
-        self.assertEqual(said.stdout.splitlines(), ["new: /system.slice/a.service: contained, by 900 who holds it", "3 asked: 3 contained"])
+        untold = "a.service: PAMName=login: what it makes of who runs there isn't told"
+        slices = "a.service: of system.slice no file is read with --tree: name it with --unit"
+        self.assertEqual((said.returncode, said.stderr), (2, ""))
+        self.assertEqual(said.stdout.splitlines(), [
+            "new: /system.slice/a.service: contained, by 900 who holds it [limited]", f"not-told: {slices}",
+            f"3 asked: 3 contained; limits of this answer: what may give entries away isn't told: {untold}"])
         lines = self.plan("--unit", file, "--print", "lines")
-        self.assertEqual((lines.stdout.splitlines()[0], lines.stderr), (said.stderr.strip().replace("zirofen-host plan:", "#"), ""))
+        self.assertEqual((lines.stdout.splitlines()[:2], lines.stderr), ([f"# not told: {slices}", f"# not told: {untold}"], ""))
         # what was printed is what can be read again
         ops = self.write("ops", lines.stdout)
-        self.assertEqual(self.plan("--ops", ops).stdout, said.stdout)
+        self.assertEqual(self.plan("--ops", ops).stdout.splitlines(), ["new: /system.slice/a.service: contained, by 900 who holds it",
+                                                                       "3 asked: 3 contained"])
+
+    def test_what_root_carries_out_makes_it_no_yes(self):
+        """In each form, with the status of what escapes or of a fault before it."""
+        unit = "[Service]\nUser=900\nDelegate=yes\nExecStart=/x\nTasksMax=5\n"
+        file = self.write("a.service", f"{unit}ExecStartPost=+/bin/chown -R 1000 /sys/fs/cgroup/system.slice/a.service\n")
+        said = self.plan("--unit", file)
+        self.assertEqual((said.returncode, said.stderr), (2, ""))
+        self.assertTrue(said.stdout.splitlines()[-1].startswith(
+            "3 asked: 3 contained; limits of this answer: what may give entries away isn't told: a.service: ExecStartPost=+/bin/chown -R"))
+        value = json.loads(self.plan("--unit", file, "--json").stdout)
+        self.assertEqual((report_schema.faults_of(value), value["status"], value["baseline"]["status"]), ([], 2, 2))
+        self.assertEqual([each["kind"] for each in value["limits"]], ["plan"])
+        self.assertEqual(self.plan("--unit", self.write("b.service", unit)).returncode, 0)
+        # what escapes behind it is an escape
+        options = PlanOptions(tree=f"{TOP}/examples/delegation.toml", program=REAL_PROGRAM)
+        found = plan.before(options)
+        for ops, status in (("chown / cgroup.procs 1000:0\n", 1), ("", 2)):
+            text, planned = plan.text_behind(found, plan.Planned(ops, ("x",), ("x",)), options)
+            report = plan.compared(found, text, options, planned)
+            self.assertEqual((report.status, report.baseline.status, plan.status_of(report.baseline, report)), (status, status, status))
+        self.assertEqual([plan.at_least_untold(status) for status in (0, 1, 2, 3, 4)], [2, 1, 2, 3, 2])
 
     def test_either_is_wanted(self):
         for words in ((), ("--ops", "/dev/null", "--unit", "/x/a.service")):

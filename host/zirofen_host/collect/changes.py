@@ -1,18 +1,20 @@
 """Changes of root's to a tree, a line each: carried out one after another, as far as a kernel lets root. The first that it doesn't let,
 or that isn't known, is a fault."""
 from dataclasses import replace
-from typing import Callable, Dict, Iterable, Iterator, List, Mapping, NoReturn, Sequence, Tuple
+from typing import Callable, Dict, Iterable, Iterator, List, Mapping, NamedTuple, NoReturn, Sequence, Tuple
 
 from zirofen_host.collect.accounts import is_id
 from zirofen_host.collect.model import DEFAULT_FILE, Cgroup, Entry, Placed, Row, Snapshot, Value
 from zirofen_host.collect.snapshot import LARGEST_PID
 from zirofen_host.collect.walk import MARKS
 from zirofen_host.fault import Fault
-from zirofen_host.files import is_known
+from zirofen_host.files import Kind, is_known, kind_of
 from zirofen_host.profile import (CONTROL_FILES, DIRECTORY_MODE, FURTHER_FILES, LIMIT_FILES, LONGEST_PATH, CgroupPath, accepts, ancestors,
                                   is_inside, is_line, is_name, is_number, is_root, parent_of, path_of, shown, text_of)
 
 DIRECTORY = Entry(0, 0, DIRECTORY_MODE)
+# what managers hand over with a subgroup, and a kernel doesn't list
+HANDED_OVER_TOO = ("cgroup.type",)
 # what stands for a change, before its words
 Words = Sequence[str]
 
@@ -29,11 +31,19 @@ def lines_in(text: str) -> Iterator[Tuple[int, Words]]:
             yield number, words
 
 
+class Unplaced(NamedTuple):
+    """Files that were given to somebody: the names of those on which no answer rests, and others, with their cgroups, that a text which
+    carries nothing of its host has no place for."""
+    idle: Tuple[str, ...] = ()
+    others: Tuple[Tuple[CgroupPath, str], ...] = ()
+
+
 class Changes:
     """A snapshot on its way to another one."""
 
     def __init__(self, snapshot: Snapshot) -> None:
         self.snapshot = snapshot
+        self.unplaced: Dict[Tuple[CgroupPath, str], Entry] = {}
         self.rows: Dict[CgroupPath, Row] = dict(snapshot.tree.rows)
         self.cgroups: Dict[CgroupPath, Cgroup] = dict(snapshot.cgroups)
         self.placed: Dict[int, Placed] = {each.pid: each for each in snapshot.tree.processes}
@@ -129,7 +139,11 @@ class Changes:
         if name in CONTROL_FILES or name in LIMIT_FILES or self.is_further(path, name):
             self.rows[path] = replace(row, files={**row.files, name: entry})
         elif self.snapshot.source.file is not None and self.snapshot.source.carried is None:
-            refuse(f"the text carries nothing of its host, and has no place for {name}")
+            if name not in HANDED_OVER_TOO and kind_of(name) not in (Kind.TELLS, Kind.HANDED_OVER):
+                refuse(f"the text carries nothing of its host, and has no place for {name}")
+            self.unplaced[path, name] = entry
+        elif kind_of(name) is Kind.TELLS:
+            self.unplaced[path, name] = entry
         self.cgroups[path] = replace(found, files={**found.files, name: entry})
 
     def own(self, words: Words) -> None:
@@ -219,6 +233,17 @@ class Changes:
         found = self.cgroups[path]
         self.cgroups[path] = replace(found, marks={**found.marks, **{name: b"1" for name in MARKS}})
 
+    def of_no_place(self) -> Unplaced:
+        """What has no place in the text. No answer rests on a file that only tells, nor on one that goes with a directory of the same
+        owner's."""
+        others = tuple(key for key, entry in self.unplaced.items() if not self.is_idle(*key, entry))
+        return Unplaced(tuple(sorted({name for _, name in self.unplaced} - {name for _, name in others})), others)
+
+    def is_idle(self, path: CgroupPath, name: str, entry: Entry) -> bool:
+        parent = parent_of(path)
+        owners = {self.rows[path].directory.uid, *([self.rows[parent].directory.uid] if parent and name in HANDED_OVER_TOO else [])}
+        return kind_of(name) is Kind.TELLS or not entry.is_reached or owners == {entry.uid}
+
 
 def without(files: Mapping[str, Entry], file: str) -> Mapping[str, Entry]:
     return {name: entry for name, entry in files.items() if name != file}
@@ -234,6 +259,11 @@ USAGES: Dict[str, str] = {
 
 def changed(snapshot: Snapshot, text: str) -> Snapshot:
     """A snapshot behind the changes in a text."""
+    return carried_out(snapshot, text)[0]
+
+
+def carried_out(snapshot: Snapshot, text: str) -> Tuple[Snapshot, Unplaced]:
+    """A snapshot behind the changes in a text, and what of them it has no place for."""
     changes = Changes(snapshot)
     changes.carry_out(lines_in(text))
-    return changes.changed()
+    return changes.changed(), changes.of_no_place()

@@ -173,6 +173,14 @@ def read_units(files: Sequence[str], folders: Sequence[str]) -> List[UnitFile]:
     return units
 
 
+def read_slice(name: str, folders: Sequence[str]) -> UnitFile:
+    """A slice that a unit brings: its file, where one of these folders has one, and its drop-ins."""
+    of = UnitName(name)
+    files = [*(file for file in (os.path.join(folder, name) for folder in folders) if os.path.lexists(file))][:1]
+    settings = (each for file in (*files, *drop_ins(of, folders)) for each in settings_in(read_text(file), file))
+    return UnitFile(of, tuple(each for each in settings if each.section == of.kind.capitalize()))
+
+
 def systemd_unescaped(text: str) -> str:
     """A name without what systemd-escape made of it."""
     return re.sub(r"\\x([0-9a-fA-F]{2})", lambda found: chr(int(found[1], 16)), text.replace("-", "/"))

@@ -10,6 +10,8 @@ from zirofen_host.profile import NEWEST, is_root, shown, text_of
 MARK = " [limited]"
 HEAD = "limits of this answer"
 KINDS = ONLY, NO_PROCESSES, TREE_FORMAT, TIME = "only", "no-processes", "tree-format", "time"
+# of a plan: what it can't tell and what may give entries away
+PLAN = "plan"
 
 
 def limits_of(checked: Checked) -> Iterator[AnswerLimit]:

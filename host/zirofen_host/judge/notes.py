@@ -267,6 +267,18 @@ class NoCause(Note):
 
 
 @dataclass(frozen=True)
+class NotPlanned(Note):
+    """What of a plan isn't told, and no answer rests on as far as is known."""
+    kind = "not-told"
+    meaning = "A plan tells what follows from a unit's settings, and not what is carried out."
+    said: str
+
+    @property
+    def text(self) -> str:
+        return self.said
+
+
+@dataclass(frozen=True)
 class OfText(Note):
     """What a text doesn't tell: one that carries something of its host or nothing, with accounts beside it or without."""
     kind = "elsewhere"

@@ -4,23 +4,28 @@ import dataclasses
 import os
 import re
 import subprocess
-from typing import Iterator, List, Mapping, Optional, Tuple
+from typing import Iterator, Mapping, NamedTuple, Optional, Sequence, Tuple
 
 from zirofen_host import ending, output
 from zirofen_host.arguments import NEW_SYSTEMD
 from zirofen_host.ask import accepted
+from zirofen_host.ask.program import ESCAPES, UNSETTLED
 from zirofen_host.ask.questions import subtrees_by
 from zirofen_host.collect import bounded, changes, elsewhere, fitting, snapshot, unit_files
 from zirofen_host.collect.accounts import accounts_of
 from zirofen_host.collect.elsewhere import Accepted
 from zirofen_host.collect.holds import holds_of
 from zirofen_host.collect.model import Snapshot
-from zirofen_host.fault import Fault
-from zirofen_host.judge import baseline, check, settings, units
-from zirofen_host.judge.model import NOTHING_ASKED, Comparison, Report
+from zirofen_host.fault import FAULT, Fault
+from zirofen_host.judge import baseline, check, limits, settings, units
+from zirofen_host.judge.model import NOTHING_ASKED, AnswerLimit, Comparison, Report, Told
+from zirofen_host.judge.notes import NotPlanned
 from zirofen_host.options import PlanOptions
+from zirofen_host.profile import text_of
 
 AS_IT_IS = "the tree as it is"
+# as a script begins
+SCRIPT = b"#!"
 
 
 def operations(file: str) -> str:
@@ -65,16 +70,40 @@ def version_of(options: PlanOptions) -> int:
     return NEW_SYSTEMD if options.systemd is None else options.systemd
 
 
-def lines_of(found: Accepted, options: PlanOptions) -> Tuple[str, List[str]]:
-    """The changes that are asked about, and what of units they lack."""
+class Planned(NamedTuple):
+    """The changes that are asked about, what of them isn't told, and what of that may give entries away."""
+    lines: str
+    named: Sequence[str] = ()
+    may_give: Sequence[str] = ()
+
+
+def is_script(file: str) -> bool:
+    """Whether a file of this host's begins as a script does."""
+    try:
+        return bounded.read_regular(file, len(SCRIPT)).data == SCRIPT
+    except (OSError, ValueError):
+        return False
+
+
+def no_slice(_: str) -> Optional[unit_files.UnitFile]:
+    return None
+
+
+def slice_here(name: str) -> unit_files.UnitFile:
+    return unit_files.read_slice(name, unit_files.FOLDERS)
+
+
+def planned_lines(found: Accepted, options: PlanOptions) -> Planned:
+    """The changes of a file, or those that starting units comes to."""
     if options.ops:
-        return operations(options.ops), []
+        return Planned(operations(options.ops))
     taken = elsewhere.read(found, options.mount)
     files = unit_files.read_units(options.unit, () if options.tree else unit_files.FOLDERS)
     host = taken.about.host
     known = {"H": host, "l": host.partition(".")[0]} if host else {}
-    lines, named = units.planned(taken, accounts_of(options.accounts, taken).lists, files, version_of(options), known)
-    return "".join(f"{' '.join(words)}\n" for words in lines), named
+    of_host = (no_slice, lambda _: False) if options.tree else (slice_here, is_script)
+    plan = units.planned(taken, accounts_of(options.accounts, taken).lists, files, version_of(options), known, *of_host)
+    return Planned("".join(f"{' '.join(words)}\n" for words in plan.lines), plan.named, plan.may_give)
 
 
 def accept(text: str, options: PlanOptions) -> Accepted:
@@ -95,8 +124,19 @@ def before(options: PlanOptions) -> Accepted:
 
 def planned_text(found: Accepted, lines: str, options: PlanOptions) -> str:
     """The text of the tree behind the changes."""
-    changed = changes.changed(elsewhere.read(found, options.mount), lines)
-    return elsewhere.text_with(changed, carried(changed, options.accounts), True)
+    return text_behind(found, Planned(lines), options)[0]
+
+
+def text_behind(found: Accepted, planned: Planned, options: PlanOptions) -> Tuple[str, Planned]:
+    """The text of the tree behind the changes, and what of them it has no place for, told with what else isn't."""
+    changed, unplaced = changes.carried_out(elsewhere.read(found, options.mount), planned.lines)
+    named, may_give = list(planned.named), list(planned.may_give)
+    if unplaced.idle:
+        named.append(f"{' '.join(unplaced.idle)}: no answer rests on these")
+    for path, name in unplaced.others:
+        may_give.append(f"{name} of {text_of(path)}: the text has no place for it")
+        named.append(may_give[-1])
+    return elsewhere.text_with(changed, carried(changed, options.accounts), True), planned._replace(named=named, may_give=may_give)
 
 
 def report(found: Accepted, options: PlanOptions) -> Report:
@@ -104,12 +144,28 @@ def report(found: Accepted, options: PlanOptions) -> Report:
     return check.report(accepted.take(options, subtrees_by(options)), options, True)
 
 
-def compared(found: Accepted, text: str, options: PlanOptions) -> Report:
+def compared(found: Accepted, text: str, options: PlanOptions, planned: Planned = Planned("")) -> Report:
     """What is answered behind the changes, with what is new or worse than before; what was there before counts as accepted, but for
-    faults."""
+    faults. What isn't told and may give entries away narrows it."""
     was, now = report(found, options), report(accept(text, options), options)
-    comparison = baseline.compared(now, dataclasses.replace(was, accepted=True), AS_IT_IS)
-    return dataclasses.replace(now, baseline=dataclasses.replace(comparison, time=""))
+    comparison = dataclasses.replace(baseline.compared(now, dataclasses.replace(was, accepted=True), AS_IT_IS), time="")
+    told = tuple(Told.of(NotPlanned("", each)) for each in planned.named if each not in planned.may_give)
+    now = dataclasses.replace(now, unseen=(*told, *now.unseen), baseline=comparison)
+    return narrowed(now, comparison, planned.may_give) if planned.may_give else now
+
+
+def narrowed(now: Report, comparison: Comparison, may_give: Sequence[str]) -> Report:
+    """A report of a plan of which not all is told that may give entries away: what escapes and faults stay what they are."""
+    text = f"what may give entries away isn't told: {'; '.join(may_give)}"
+    differing = {kind: tuple(dataclasses.replace(each, line=each.line + limits.MARK) if each.what == "subtree" else each
+                             for each in vars(comparison)[kind]) for kind in ("new", "worse", "changed")}
+    comparison = dataclasses.replace(comparison, **differing, status=at_least_untold(comparison.status))
+    return dataclasses.replace(now, limits=(*limits.narrowing(now), AnswerLimit(limits.PLAN, text)), baseline=comparison,
+                               status=at_least_untold(now.status))
+
+
+def at_least_untold(status: int) -> int:
+    return status if status in (ESCAPES, FAULT) else UNSETTLED
 
 
 def status_of(comparison: Comparison, now: Report) -> int:

@@ -41,6 +41,13 @@ CARRIED_OUT = {"User", "Group", "DynamicUser", "Delegate", "DelegateSubgroup", "
 _SIZE = re.compile(r"([0-9]+)\s*([BKMGTPE]?)\Z")
 _SLICE = re.compile(r"[A-Za-z0-9:_.\\-]+\.slice\Z")
 _WORD = re.compile(r"[!-~]+\Z")
+# what the answers lack where it isn't told: who else runs there, and with what
+UNANSWERED = ("PAMName", "SupplementaryGroups", "AmbientCapabilities", "PermissionsStartOnly", "User", "Group", "Delegate", "Slice")
+# programs that carry out a script
+INTERPRETERS = re.compile(r"(ba|da|k|z|fi)?sh|env|python[0-9.]*|perl|ruby|lua|awk|busybox")
+SCRIPT = re.compile(r".*\.(sh|py|pl|rb|lua)\Z")
+NSPAWN = "systemd-nspawn"
+_PREFIX = re.compile(r"[-@:|!+]*")
 # a command that root carries out; !! does so on kernels alone that nobody has any more
 _AS_ROOT = re.compile(r"[-@:|]*(\+|!(?!!))")
 
@@ -55,8 +62,16 @@ class Plan:
     snapshot: Snapshot
     accounts: AccountLists
     systemd: int
+    # what further specifiers stand for
+    known: Mapping[str, str] = field(default_factory=dict)
+    # reads a slice that a unit brings
+    slices: Callable[[str], Optional[UnitFile]] = lambda _: None
+    # begins with what makes a file a script
+    is_script: Callable[[str], bool] = lambda _: False
     lines: List[Words] = field(default_factory=list)
     named: List[str] = field(default_factory=list)
+    # what of that may give entries away
+    may_give: List[str] = field(default_factory=list)
     # the controllers that each cgroup enables
     enabled: Dict[CgroupPath, Set[str]] = field(default_factory=dict)
     taken: Set[int] = field(default_factory=set)
@@ -128,15 +143,17 @@ class Started:
     unit: UnitFile
     known: Mapping[str, str]
 
-    def name_it(self, setting: str, value: str, why: str) -> None:
+    def name_it(self, setting: str, value: str, why: str, may_give: bool = False) -> None:
         self.plan.named.append(f"{self.unit.name.text}: {setting}={value}: {why}")
+        if may_give:
+            self.plan.may_give.append(self.plan.named[-1])
 
     def value(self, setting: str) -> Optional[str]:
         """The last value of a setting, with its specifiers replaced."""
         last = self.unit.last(setting)
         found = None if last is None else filled(last, self.known)
         if last is not None and found is None:
-            self.name_it(setting, last, "a specifier that isn't known here")
+            self.name_it(setting, last, "a specifier that isn't known here", setting in UNANSWERED)
         return found
 
     def flag(self, setting: str) -> bool:
@@ -234,8 +251,23 @@ class Started:
             return setting == "TasksMax" and self.unit.name.kind == SERVICE
         return of_text(file, value) != str(LIMIT_FILES[file][1])
 
+    def start_slices(self, path: CgroupPath) -> None:
+        """The slices that it brings, which aren't there yet, with what their files say."""
+        missing = [place for place in reversed(list(ancestors(path))) if not is_root(place) and place not in self.plan.enabled]
+        unread = []
+        for place in missing:
+            name = text_of(place).rpartition("/")[2]
+            unit = self.plan.slices(name)
+            if unit is None:
+                unread.append(name)
+            else:
+                Started(self.plan, unit, specifiers(unit.name, self.plan.known)).start()
+        if unread:
+            self.plan.named.append(f"{self.unit.name.text}: of {' '.join(unread)} no file is read with --tree: name it with --unit")
+
     def start(self) -> None:
         path, delegated = self.path(), self.delegated()
+        self.start_slices(path)
         was_there = path in self.plan.enabled
         if was_there and self.unit.name.kind == SERVICE:
             self.plan.named.append(f"{self.unit.name.text}: {text_of(path)} is there already: its files are planned as those of a new "
@@ -298,12 +330,32 @@ class Started:
         for _, name, value, *_ in self.unit.settings:
             if not value or name in CARRIED_OUT or ACCOUNTING.match(name):
                 continue
-            if name.startswith("Exec") and _AS_ROOT.match(value):
-                self.name_it(name, value, "root carries it out, and what it does isn't known")
+            if name.startswith("Exec"):
+                self.tell_of_command(name, value)
             elif CONTROLLED.match(name):
                 self.name_it(name, value, "no limit that a tree text carries")
             elif name in RUNNING:
-                self.name_it(name, value, "what it makes of who runs there isn't told")
+                self.name_it(name, value, "what it makes of who runs there isn't told", name in UNANSWERED)
+        if self.is_roots and self.delegated() is not None:
+            self.name_it("Delegate", str(self.unit.last("Delegate") or ""), "what root's command hands over inside isn't told", True)
+
+    @property
+    def is_roots(self) -> bool:
+        """Whether its commands are root's: it names nobody else."""
+        named = [self.unit.last(name) for name in ("User", "DynamicUser")]
+        return self.unit.name.kind == SERVICE and named[0] in (None, "root", "0") and str(named[1] or "no").lower() in NO
+
+    def tell_of_command(self, name: str, value: str) -> None:
+        """A command that root carries out, and of which it isn't known whether it gives entries away."""
+        words = _PREFIX.sub("", value, count=1).split()
+        program = words[0].rpartition("/")[2] if words else ""
+        if program == NSPAWN and any(word == "-U" or word.startswith("--private-users") and not word.endswith("=no") for word in words):
+            self.name_it(name, value, "what runs inside is handed to another uid", True)
+        elif _AS_ROOT.match(value):
+            self.name_it(name, value, "root carries it out, and what it does isn't known", True)
+        elif self.is_roots and (self.plan.snapshot.mount in value or INTERPRETERS.fullmatch(program) or SCRIPT.match(program)
+                                or words and self.plan.is_script(words[0])):
+            self.name_it(name, value, "a script or a command that root carries out, and what it does isn't known", True)
 
 
 def escaped(prefix: str) -> str:
@@ -339,11 +391,11 @@ def of_text(file: str, value: str) -> Optional[str]:
     return str(number // PAGE * PAGE if file.startswith("memory.") else number)
 
 
-def planned(snapshot: Snapshot, accounts: AccountLists, units: Sequence[UnitFile], systemd: int,
-            known: Mapping[str, str]) -> Tuple[List[Words], List[str]]:
+def planned(snapshot: Snapshot, accounts: AccountLists, units: Sequence[UnitFile], systemd: int, known: Mapping[str, str],
+            slices: Callable[[str], Optional[UnitFile]] = lambda _: None, is_script: Callable[[str], bool] = lambda _: False) -> Plan:
     """The changes that starting units comes to, one after another, slices first; and what of them isn't told."""
-    plan = Plan(snapshot, accounts, systemd)
+    plan = Plan(snapshot, accounts, systemd, known, slices, is_script)
     in_turn: Callable[[UnitFile], bool] = lambda unit: unit.name.kind != SLICE
     for unit in sorted(units, key=in_turn):
         Started(plan, unit, specifiers(unit.name, known)).start()
-    return plan.lines, plan.named
+    return plan

@@ -22,15 +22,15 @@ def run(given: argparse.Namespace) -> int:
         fault.write_lines(plan.as_read(plan.operations(options.ops)))
         return 0
     found = plan.before(options)
-    lines, named = plan.lines_of(found, options)
+    planned = plan.planned_lines(found, options)
     if options.print == "lines":
-        fault.write_lines([*(f"# not told: {each}" for each in named), *plan.as_read(lines)])
+        fault.write_lines([*(f"# not told: {each}" for each in planned.named), *plan.as_read(planned.lines)])
         return 0
-    for each in named:
-        fault.warn(f"{NAME} plan: not told: {each}")
-    text = plan.planned_text(found, lines, options)
+    text, planned = plan.text_behind(found, planned, options)
     if options.print == "text":
+        for each in planned.named:
+            fault.warn(f"{NAME} plan: not told: {each}")
         fault.write(text)
         return 0
-    report = plan.compared(found, text, options)
+    report = plan.compared(found, text, options, planned)
     return plan_lines.write(report, options.json)
