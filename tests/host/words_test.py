@@ -30,13 +30,13 @@ class WordsTest(unittest.TestCase):
     def test_a_unit(self):
         """What a unit says is a name, or isn't planned; each line is of a known change with as many words as it has."""
         tree = Tree(("memory", "pids"), {ROOT: Row(ROOT, enabled=("memory", "pids"))})
-        taken = mock.Mock(tree=tree)
+        taken = mock.Mock(tree=tree, mount=MOUNT)
         for word in self.words:
             for setting in ("DelegateSubgroup", "Slice", "MemoryMax", "User", "TasksMax"):
                 pairs = ("ExecStart", "/bin/true"), ("Delegate", "yes"), (setting, word.replace("%", ""))
                 given = [Setting("Service", *each) for each in pairs]
                 try:
-                    lines, _ = units.planned(taken, AccountLists(), [UnitFile(UnitName("web.service"), given)], 257, {})
+                    lines = units.planned(taken, AccountLists(), [UnitFile(UnitName("web.service"), given)], 257, {}).lines
                 except Fault:
                     continue
                 for line in lines:
@@ -84,9 +84,10 @@ class WordsTest(unittest.TestCase):
             for path in (f"/system.slice/{word}.service", f"/{word}.slice", f"/a.slice/{word}.slice/b.service"):
                 unit = mends.unit_at(path) if "\0" not in path else None
                 if unit:
-                    self.assertRegex(unit.name, r"\A[A-Za-z0-9:_.@\\-]+\Z")
-                    script = [line for line in written.as_script(mends.Mend((), (), (), unit, ("MemoryMax=1",)))]
-                    self.assertEqual(shlex.split(script[0]), ["mkdir", "-p", f"/etc/systemd/system/{unit.name}.d"])
+                    self.assertRegex(unit, r"\A[A-Za-z0-9:_.@\\-]+\Z")
+                    withheld = mends.Withheld(mends.Unit(unit), ("MemoryMax=1",), "it is none of root's")
+                    for line in written.as_script(mends.Mend((), (), (), (withheld,))):
+                        self.assertTrue(line.startswith("#") and line.isprintable())
 
     def test_a_value_is_echoed_as_it_is(self):
         """Of those that a limit takes a shell writes what they are."""
