@@ -193,8 +193,8 @@ def add_check(parser: argparse.ArgumentParser) -> None:
                         "a file; once or more. Where none goes to standard output, the text does")
     parser.add_argument("--json", action="store_true", help="what --format json is: all of it, with the host's cgroups and processes")
     parser.add_argument("--mends", metavar="KIND", type=way_to_mend, action="append", default=[], help="in place of the text, what mends "
-                        "the findings by what root's settings say: as a script for root (shell), or where to look alone (systemd); or KIND=FILE into a "
-                        "file")
+                        "the findings by what root's settings say: as a script for root (shell), or where to look alone (systemd); or "
+                        "KIND=FILE into a file")
     parser.add_argument("--html", metavar="FILE", help="one page of it to look at, into a file; what is printed stays as it is")
     parser.add_argument("--accept", metavar="FILE", help="findings that are accepted, each by itself, for a reason and until a day: told, "
                         "and not counted")
