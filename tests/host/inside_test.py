@@ -24,7 +24,7 @@ from zirofen_host.collect.inside import shows_above, unit_above
 from zirofen_host.collect.model import CgroupMount, Inside
 from zirofen_host.judge import acceptances, baseline, check
 from zirofen_host.judge.finding_lines import NOTHING_ASKED, inside_line
-from zirofen_host.judge.inside import judged
+from zirofen_host.judge.inside import ALL_CAPABILITIES, judged
 from zirofen_host.profile import path_of
 from zirofen_host.show import fleet, junit, metrics, page, sarif
 from zirofen_host.show.tree_view import Drawing, draw
@@ -154,6 +154,15 @@ class WhoTest(InsideTest):
             out.write(changed)
         self.assertEqual(self.by(), {DOCKER: (1, ["cgroup namespace", "root"])})
 
+    def test_who_has_the_hosts_cgroup_namespace(self):
+        """Whoever its processes are of, as docker run --cgroupns=host makes one."""
+        other = "/system.slice/docker-2.scope"
+        self.container(cgroups=OWN, uid=1000)
+        self.container(other, 101)
+        taken = self.host.snapshot()
+        look = inside.look(self.host.proc, taken.cgroups, taken.processes)
+        self.assertEqual(look.in_hosts_namespace({path_of(DOCKER), path_of(other)}), {path_of(DOCKER)})
+
     def test_one_that_ends_meanwhile_is_none(self):
         self.container()
         os.remove(f"{self.host.proc}/100/ns/cgroup")
@@ -275,9 +284,8 @@ class HeldTest(InsideTest):
     def test_a_privileged_one(self):
         self.container(bounding=EVERY)
         self.assertEqual(self.stood(), (
-            "not held: it loads code into the kernel (CAP_SYS_MODULE); it writes the machine's memory (CAP_SYS_RAWIO); "
-            f"{BY_ADMIN}; it writes {DOCKER} at /sys/fs/cgroup; {BY_HANDLE}",
-            [], "without CAP_SYS_MODULE, CAP_SYS_RAWIO, CAP_SYS_ADMIN, CAP_DAC_READ_SEARCH"))
+            f"not held: {ALL_CAPABILITIES}; it writes {DOCKER} at /sys/fs/cgroup",
+            [], "without --privileged, which gives it CAP_SYS_MODULE, CAP_SYS_RAWIO, CAP_SYS_ADMIN, CAP_DAC_READ_SEARCH"))
 
     def test_module_and_rawio_each_alone(self):
         for bits, name in ((MODULE, "CAP_SYS_MODULE"), (RAWIO, "CAP_SYS_RAWIO")):

@@ -198,6 +198,16 @@ class Names:
         return self.own[holder]
 
 
+class NoFiles(Names):
+    """Names as cgroups have them alone."""
+
+    def __init__(self) -> None:
+        super().__init__("/")
+
+    def name(self, of: Known, holder: Optional[int] = None) -> Optional[str]:
+        return of.id[:LONGEST_NAME] if of.engine in OF_CGROUPS else None
+
+
 def scopes(cgroups: Mapping[CgroupPath, Cgroup], top: str = "/", names: Optional[Names] = None) -> Iterator[Scope]:
     """The containers and pods among some cgroups."""
     names = names or Names(top)

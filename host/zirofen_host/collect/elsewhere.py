@@ -8,7 +8,7 @@ import re
 from dataclasses import dataclass, replace
 from typing import Callable, Dict, Iterable, Iterator, List, Mapping, Optional, Tuple
 
-from zirofen_host.collect import fitting
+from zirofen_host.collect import containers, fitting
 from zirofen_host.collect import snapshot as snapshots
 from zirofen_host.collect.accounts import Accounts, is_id
 from zirofen_host.collect.holds import Holds
@@ -180,16 +180,21 @@ def read(accepted: Accepted, mount: str) -> Snapshot:
     processes = gathered.processes
     for pid, uid, _ in tree.processes:
         processes.setdefault(pid, Process(pid, uid, User(uid, ()), False))
-    return Snapshot(about=gathered.about, mount=gathered.mount or mount, mount_options=gathered.options,
-                    cgroups={path: cgroup_of(tree, row, gathered) for path, row in tree.rows.items()}, tree=tree, processes=processes,
-                    kernel_threads=0, places={}, kernel_list=frozenset(gathered.kernel_list) or read_kernel_list(None),
+    cgroups = {path: cgroup_of(tree, row, gathered) for path, row in tree.rows.items()}
+    return Snapshot(about=gathered.about, mount=gathered.mount or mount, mount_options=gathered.options, cgroups=cgroups, tree=tree,
+                    processes=processes, kernel_threads=0, places={}, kernel_list=frozenset(gathered.kernel_list) or read_kernel_list(None),
                     notes=tuple(gathered.notes), changing=gathered.changing, spoiled={}, version_1=version_1_in(gathered.notes),
                     source=Source(accepted.file, gathered.carried()),
                     inside=tuple(each for each in gathered.inside if each.path in tree.rows), held=tuple(gathered.held),
                     unheld=tuple(gathered.unheld), mounts=tuple(gathered.mounts),
                     covered=tuple(each for each in gathered.covered if each.path in tree.rows),
-                    scopes=tuple(each for each in gathered.scopes if each.path in tree.rows),
+                    scopes=tuple(each for each in gathered.scopes if each.path in tree.rows) or by_cgroups(cgroups, gathered),
                     in_hosts_namespace=tuple(each for each in gathered.in_hosts_namespace if each in tree.rows))
+
+
+def by_cgroups(cgroups: Mapping[CgroupPath, Cgroup], gathered: Gathered) -> Tuple[Scope, ...]:
+    """Containers as far as their cgroups tell, where a text of a host of 0.2.0 carries none: no file of this host names them."""
+    return tuple(containers.scopes(cgroups, names=containers.NoFiles())) if gathered.mount is not None else ()
 
 
 def with_defaults(tree: Tree) -> Tree:

@@ -87,10 +87,16 @@ def answer_of(checked: Checked, subtree: CgroupPath, lines: Tuple[str, ...], is_
     # whoever has nothing but everybody's bits has no number of their own
     names = ["anybody" if uid == ANYBODY and holders.by != OWNER else str(uid) for uid in uids]
     who = ",".join(names) if len(uids) <= 3 else f"{len(uids)} users"
-    is_named = len(uids) <= 3 and any(uid in checked.names.users for uid in uids) and "anybody" not in names
+    is_named = len(uids) <= 3 and any(uid in checked.names.users or checked.names.range_of(uid) for uid in uids) and "anybody" not in names
     kept = long_lists.kept(lines, uids[0], text_of(subtree), checked.options.tree)
-    made, users = HolderAnswer(who, uids[:SHOWN], len(uids), gids, kept, is_above), checked.names.users
-    return replace(made, names=tuple(checked.names.user(uid) if uid in users else str(uid) for uid in uids)) if is_named else made
+    made = HolderAnswer(who, uids[:SHOWN], len(uids), gids, kept, is_above)
+    return replace(made, names=tuple(name_of(checked, uid) for uid in uids)) if is_named else made
+
+
+def name_of(checked: Checked, uid: int) -> str:
+    """A uid by its account, or with the range that it is of."""
+    told = checked.names.range_of(uid)
+    return checked.names.user(uid) if uid in checked.names.users else f"{uid} ({told})" if told else str(uid)
 
 
 def report_of(checked: Checked, is_whole: bool) -> Report:

@@ -12,6 +12,7 @@ from zirofen_host.judge.finding_lines import NSDELEGATE
 from zirofen_host.judge.model import RootInside
 from zirofen_host.profile import shown, text_of
 
+ALL_CAPABILITIES = "it has all capabilities that let one out (as --privileged gives)"
 NOTHING_TO_WRITE = "it writes no mount of cgroups, and has no CAP_SYS_ADMIN"
 
 
@@ -83,14 +84,27 @@ def judged(found: Inside, remount: Optional[str]) -> RootInside:
         return RootInside(text_of(found.path), found.processes, found.by, True, tuple(kept), (), (), None)
     ways = [*free, *([] if kept else [*mounts, *spaces])]
     wanted = [*free, *([] if kept else min(spaces, mounts, key=len))]
-    return RootInside(text_of(found.path), found.processes, found.by, False, tuple(way.told for way in ways),
+    return RootInside(text_of(found.path), found.processes, found.by, False, tuple(told_of(ways)),
                       tuple(way.word for way in ways), tuple(way.change for way in wanted if way.change), setting_of(wanted))
+
+
+def has_all(ways: Iterable[Way]) -> bool:
+    """Whether each capability that lets a container out is among what does."""
+    return {f"CAP_{name}" for name in (MODULE, RAWIO, ADMIN, SEARCH)} <= {way.capability for way in ways}
+
+
+def told_of(ways: Sequence[Way]) -> Iterator[str]:
+    """What lets a container out; all capabilities that do are one thing."""
+    if has_all(ways):
+        yield ALL_CAPABILITIES
+    yield from (way.told for way in ways if not way.capability or not has_all(ways))
 
 
 def setting_of(wanted: Sequence[Way]) -> Optional[str]:
     """What a container's manager sets."""
     capabilities = [way.capability for way in wanted if way.capability]
-    found = [*([f"without {', '.join(capabilities)}"] if capabilities else []),
+    without = f"without {'--privileged, which gives it ' if has_all(wanted) else ''}{', '.join(capabilities)}"
+    found = [*([without] if capabilities else []),
              *dict.fromkeys(way.setting for way in wanted if way.setting)]
     return "; ".join(found) or None
 

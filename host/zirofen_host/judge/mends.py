@@ -16,7 +16,7 @@ from zirofen_host.judge.finding_lines import whom_text
 from zirofen_host.judge.judged import OVER, UNKNOWN
 from zirofen_host.judge.model import ABSENT, Absent, Report, ReportCgroup, Wanted
 from zirofen_host.judge.notes import Restart
-from zirofen_host.judge.rules import ACCEPTABLE, DIFFERS, NOTHING_ASKED, OPENED, OPENED_DIRECTORY, VERSION_1, Finding
+from zirofen_host.judge.rules import ACCEPTABLE, DIFFERS, NOTHING_ASKED, OPENED, OPENED_DIRECTORY, ROOT_HELD, VERSION_1, Finding
 from zirofen_host.judge.shell import place as place_of
 from zirofen_host.judge.wanted import files_with, is_decided, is_same, unit_at, written
 from zirofen_host.profile import (FURTHER_FILES, HANDED_OVER, LIMIT_FILES, SETTINGS, is_root, is_usual, parent_of, path_of, tree_order)
@@ -305,7 +305,8 @@ def mends_of(report: Report, found: Iterable[Finding]) -> Tuple[Mend, ...]:
     made: DefaultDict[int, List[Finding]] = defaultdict(list)
     others: List[Finding] = []
     for each in found:
-        if each.accepted is not ABSENT:
+        # a container that is held needs no mend
+        if each.accepted is not ABSENT or each.rule.id == ROOT_HELD:
             continue
         if not isinstance(each.within, Absent) and each.path not in report.wanted:
             made[each.within].append(each)

@@ -1,10 +1,14 @@
 """Users and groups by name, as a line can show them."""
 from dataclasses import dataclass
-from typing import Mapping, Optional
+from typing import Callable, Mapping, Optional, Sequence
 
 from zirofen_host.collect.accounts import Accounts
-from zirofen_host.collect.model import GROUP, User
+from zirofen_host.collect.model import GROUP, Range, User
 from zirofen_host.profile import ANYBODY, shown
+
+
+# from where systemd takes uids of a service with DynamicUser=, and of a container with a user namespace (systemd's UIDS-GIDS)
+RANGES = (("a dynamic user's", 61184, 65519), ("nspawn's range", 524288, 1879048191))
 
 
 @dataclass(frozen=True)
@@ -12,6 +16,22 @@ class Names:
     """The names of a host's accounts, by uid and by gid."""
     users: Mapping[int, str]
     groups: Mapping[int, str]
+    # whose a subordinate uid is, or else that uid
+    payer: Callable[[int], int] = int
+    # ranges of owners who have no account, as those that engines take uids from
+    ranges: Sequence[Range] = ()
+
+    def range_of(self, uid: int) -> Optional[str]:
+        """What range a uid is of that has no account."""
+        owner = self.payer(uid)
+        if uid in self.users:
+            return None
+        if owner != uid:
+            return f"a subordinate id of {self.user_name(owner) or owner}'s"
+        found = next((each.owner for each in self.ranges if each.first <= uid < each.first + each.count), None)
+        if found is not None:
+            return f"a subordinate id of {shown(found)}'s"
+        return next((told for told, first, last in RANGES if first <= uid <= last), None)
 
     def user(self, uid: int) -> str:
         return f"{shown(self.users[uid])}({uid})" if uid in self.users else f"uid {uid}"
@@ -38,4 +58,5 @@ class Names:
 
 
 def names_of(accounts: Accounts) -> Names:
-    return Names(accounts.names, {group.gid: group.name for group in accounts.lists.groups if group.name})
+    ranges = [each for each in accounts.lists.subordinate_uids if each.owner not in set(accounts.names.values())]
+    return Names(accounts.names, {group.gid: group.name for group in accounts.lists.groups if group.name}, accounts.payer, ranges)

@@ -10,7 +10,7 @@ from zirofen_host.judge import limits, long_lists
 from zirofen_host.judge.acceptances import accepted_subtrees
 from zirofen_host.judge.baseline import KINDS
 from zirofen_host.judge.finding_lines import (INSIDE_MEANS, NOTHING_ASKED, PREMISES_MEAN, SHOWN, above_line, acceptance_line, differs_line,
-                                              entry_line, fault_line, held_line, inside_count, inside_line, opened_line, premise_line,
+                                              entry_line, fault_line, held_line, opened_line, premise_line,
                                               processes_text, runs_line, version_1_line, whom_text, why_command)
 from zirofen_host.judge.severity import is_empty
 from zirofen_host.judge.marked import is_marked, marks_text
@@ -19,12 +19,15 @@ from zirofen_host.judge.model import (ABSENT, AboveFinding, Absent, Comparison, 
                                       Subtree, Told)
 from zirofen_host.judge.notes import JOINED, JoinedNote
 from zirofen_host.profile import ancestors
+from zirofen_host.show import container_lines
 from zirofen_host.show.folded import SEVERITY, Part, counted, folded
 
 # how far the table's columns are filled up; a longer word stands out
 WIDEST = (20, 24, 48)
 # behind an answer where limits are those of version 1
 VERSION_1 = " [v1]"
+# who holds what root alone does, and its answer
+NOBODY, ROOT_ALONE = "-", "held by root alone"
 # lines of each kind of what no answer looks at, for what one person made
 TOLD = 4
 # what brings changes and a setting
@@ -63,7 +66,7 @@ def rows_of(subtree: Subtree, mark: str = "", is_named: bool = False) -> Iterato
         marks = marks_text(subtree.marks, each.marks) + mark
         yield who_text(each) if is_named else each.who, gids_text(each.gids), answer + marks, subtree.path, below
     if not subtree.answers:
-        yield "-", "-", "held by root alone" + marks_text(subtree.marks) + mark, subtree.path, ()
+        yield NOBODY, NOBODY, ROOT_ALONE + marks_text(subtree.marks) + mark, subtree.path, ()
 
 
 def words_of(subtree: Subtree) -> List[str]:
@@ -78,6 +81,11 @@ def table(report: Report, is_each: bool = False) -> Iterator[str]:
     scopes = report.scopes_by_path
     rows = [(subtree.within, word, (who, gids, answer, path + beside(scopes, path), below)) for subtree in report.subtrees
             for word, (who, gids, answer, path, below) in zip(words_of(subtree), rows_of(subtree, mark, True))]
+    roots = [row for within, word, row in rows if within is ABSENT and row[0] == NOBODY and row[2] == ROOT_ALONE + mark]
+    if not is_each and len(roots) > 1:
+        paths = [each.path for each in report.subtrees if each.within is ABSENT and not each.answers and each.marks is ABSENT]
+        rows = [each for each in rows if each[2] not in roots]
+        rows.append((ABSENT, "held", (NOBODY, NOBODY, ROOT_ALONE + mark, container_lines.roots_alone(report, paths), ())))
     head: Row = ("UID", "GIDS", "ANSWER", "PATH", ())
     shown = [head, *(row for _, _, row in rows)]
     widths = [min(most, max(len(row[at]) for row in shown)) for at, most in enumerate(WIDEST)]
@@ -171,13 +179,12 @@ def others_in(found: Sequence[Union[EntryFinding, OpenedFinding]]) -> Optional[s
     return None if all(each.is_own is True for each in found) else whom_text(found[0].whom)
 
 
-def inside_lines(report: Report) -> Iterator[str]:
-    """The containers of root's, each with what to set where it isn't held."""
+def inside_lines(report: Report, is_each: bool = False) -> Iterator[str]:
+    """The containers of root's, those that are alike together, with what to set where they aren't held."""
     scopes = report.scopes_by_path
-    for each in report.containers:
-        if each.accepted is ABSENT:
-            yield f"{inside_line(each)} ({inside_count(each)}){beside(scopes, each.path)}"
-            yield from what_to_change([each])
+    for of in container_lines.alike_containers(report, is_each):
+        yield container_lines.line_of(report, of, beside(scopes, of[0].path))
+        yield from what_to_change(of)
 
 
 def premise_lines(report: Report, is_each: bool = False) -> Iterator[str]:
@@ -281,7 +288,7 @@ def lines_of(report: Report, is_each: bool = False) -> Iterator[str]:
         yield ""
         yield "What lets somebody in, each once; opened and differs were seen by this helper and aren't proved:"
         yield from found
-    insides = list(inside_lines(report))
+    insides = list(inside_lines(report, is_each))
     if insides:
         yield ""
         yield f"Containers whose processes are root's; {INSIDE_MEANS}:"

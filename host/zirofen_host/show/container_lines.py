@@ -1,0 +1,57 @@
+"""Containers in the lines of a report: those of root's that are alike are told once, and what root alone holds in one row."""
+from typing import Dict, Hashable, List, Sequence, Set
+
+from zirofen_host.judge.finding_lines import inside_count, inside_line, inside_text, some
+from zirofen_host.judge.model import ABSENT, Report, RootInside
+from zirofen_host.profile import ancestors
+
+OWN = "its own cgroup"
+# containers that are alike and named in one line; --each has all
+NAMED = 64
+
+
+def label(report: Report, path: str) -> str:
+    """A place by its container's name, or by its engine and its id, or by its path."""
+    scopes = report.scopes_by_path
+    place = next((place for place in (path, *ancestors(path)) if place in scopes), None)
+    if place is None or report.names.scope(path) is not None:
+        return report.names.of(path) or path
+    return f"{scopes[place].engine}:{scopes[place].id}" + (f":{path[len(place):]}" if path != place else "")
+
+
+def own_of(each: RootInside, text: str) -> str:
+    """A text of a container, without the name of its cgroup."""
+    return text.replace(each.path, OWN)
+
+
+def in_common(each: RootInside) -> Hashable:
+    return own_of(each, inside_text(each)), each.by, each.changes, each.setting and own_of(each, each.setting)
+
+
+def alike_containers(report: Report, is_each: bool) -> List[List[RootInside]]:
+    """Containers of root's that weren't accepted, in lists of those that are alike."""
+    found: Dict[Hashable, List[RootInside]] = {}
+    for each in report.containers:
+        if each.accepted is ABSENT:
+            found.setdefault(each.path if is_each else in_common(each), []).append(each)
+    return list(found.values())
+
+
+def line_of(report: Report, of: Sequence[RootInside], beside: str) -> str:
+    """The line of some that are alike."""
+    if len(of) == 1:
+        return f"{inside_line(of[0])} ({inside_count(of[0])}){beside}"
+    processes = sum(each.processes for each in of)
+    more = f" and {len(of) - NAMED} more" if len(of) > NAMED else ""
+    names = " ".join(label(report, each.path) for each in of[:NAMED]) + more
+    return (f"root-inside {names}: {own_of(of[0], inside_text(of[0]))} ({len(of)} alike, {processes} processes, by "
+            f"{' and '.join(of[0].by)})")
+
+
+def roots_alone(report: Report, paths: Sequence[str]) -> str:
+    """What root alone holds, in few words: what has a container of root's has a line of its own."""
+    above: Set[str] = {place for each in report.containers if each.accepted is ABSENT for place in (each.path, *ancestors(each.path))}
+    others = [label(report, path) for path in paths if path not in above]
+    count = len(paths) - len(others)
+    told = [*([some(others)] if others else []), *([f"{count} with a container of root's, told below"] if count else [])]
+    return f"{len(paths)} cgroups: {', and '.join(told)}"
