@@ -81,6 +81,16 @@ class LookTest(PlantedTest):
         self.assertEqual(self.found(), [f"{unit}:3: ExecStartPost=-+/usr/local/sbin/give away"])
         self.plant("/usr/local/sbin/give", f"#!/bin/sh\nset -e\n{CHOWN}\n", 0o755)
         self.assertEqual(self.found(), [f"{unit}:3: ExecStartPost=-+/usr/local/sbin/give away", f"/usr/local/sbin/give:3: {CHOWN}"])
+        # where root runs the unit itself, too; what /bin leads to is read in /usr
+        os.makedirs(f"{self.top}/usr/bin", exist_ok=True)
+        os.symlink("usr/bin", f"{self.top}/bin")
+        self.plant("/usr/bin/hook", f"#!/bin/sh\n{CHOWN}\n", 0o755)
+        self.plant(unit, "[Service]\nExecStart=/bin/hook x\n")
+        self.assertEqual(self.found(), [f"/usr/bin/hook:2: {CHOWN}"])
+        # no program that isn't a script has lines, and no other setting gives anything away
+        self.plant("/usr/bin/hook", f"\x7fELF\n{CHOWN}\n", 0o755)
+        self.plant("/etc/systemd/system/other.service", f"[Service]\nReadWritePaths={MOUNT}{APP}\n")
+        self.assertEqual(self.found(), [])
         # a user's commands, and those of another unit, are none
         self.plant(unit, "[Service]\nUser=bob\nExecStart=/usr/local/sbin/give\nExecStop=@/bin/x x\n")
         self.plant("/etc/systemd/system/other.service", "[Service]\nExecStartPost=+/bin/x\n")

@@ -1,6 +1,7 @@
 """A property of mends: whatever users wrote before a check, its script leaves each limit at what root's settings say, and each entry with
 whom they say."""
 import os
+import subprocess
 import tempfile
 import unittest
 from unittest import mock
@@ -22,23 +23,49 @@ class Counts:
 
 
 class MendsPropertyTest(HostTest):
-    def check(self, host):
+    def check(self, host, folder):
         """A check of a host as it is now, with its script."""
-        with tempfile.TemporaryDirectory(dir=MEMORY) as folder:
-            self.host = MadeUp(folder)
-            self.host.accounts(passwd=PASSWD, group=GROUP)
-            host.write(self.host)
-            told = host.settings()
-            with mock.patch.object(settings, "read", lambda *_: told):
-                report = check.report(self.host.snapshot(), self.options(), True, told)
-            run = Run(report, report.status)
-            self.assertIn(report.status, (0, 1, 2))
-            return report, "".join(written.parts_of(run, "shell")), self.host.mount
+        self.host = MadeUp(folder)
+        self.host.accounts(passwd=PASSWD, group=GROUP)
+        host.write(self.host)
+        told = host.settings()
+        with mock.patch.object(settings, "read", lambda *_: told):
+            report = check.report(self.host.snapshot(), self.options(), True, told)
+        self.assertIn(report.status, (0, 1, 2))
+        return report, "".join(written.parts_of(Run(report, report.status), "shell"))
 
     def carry_out(self, host):
-        report, script, mount = self.check(host)
-        Script(host, mount).run(script)
+        with tempfile.TemporaryDirectory(dir=MEMORY) as folder:
+            report, script = self.check(host, folder)
+            Script(host, self.host.mount).run(script)
         return report, script
+
+    def there(self, host):
+        """What a shell left: of each entry the owner, the mode and, of a limit, the value."""
+        for place in host.places.values():
+            for entry in place.owners:
+                file = f"{self.host.mount}{place.path.rstrip('/')}" + ("" if entry == "dir" else f"/{entry}")
+                found = os.stat(file)
+                yield place.path, entry, found.st_uid, found.st_mode & 0o777, self.text(file) if entry in place.values else None
+
+    def text(self, file):
+        with open(file, encoding="ascii") as text:
+            return text.read().strip()
+
+    @unittest.skipIf(os.geteuid(), "a script of mends is root's")
+    def test_a_shell_does_what_is_played_here(self):
+        for seed in range(12):
+            host = Host(seed)
+            with tempfile.TemporaryDirectory(dir=MEMORY) as folder:
+                _, script = self.check(host, folder)
+                if "echo +" in script:
+                    # plain files don't come with a controller
+                    continue
+                subprocess.run(["sh", "-eu"], input=script, text=True, check=True)
+                Script(host, self.host.mount).run(script)
+                played = [(place.path, entry, place.owners[entry][0], place.modes[entry], place.values.get(entry))
+                          for place in host.places.values() for entry in place.owners]
+                self.assertEqual(list(self.there(host)), played, script)
 
     def is_decided(self, place, file):
         """Whether root's settings say what a limit has: a setting does, or it is a share of which somebody took more."""

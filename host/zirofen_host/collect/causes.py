@@ -28,6 +28,12 @@ OTHERS: Tuple[Tuple[str, str], ...] = (
     *((f"/etc/cron.{each}", "") for each in ("d", "hourly", "daily", "weekly", "monthly", "yearly")), ("/etc/pam.d", ""),
     ("/usr/lib/pam.d", ""))
 FILES = ("/etc/crontab", "/etc/anacrontab", "/etc/rc.local", "/var/spool/cron/crontabs/root", "/var/spool/cron/root")
+# where a group may write, and only its owner takes a file away
+SPOOL = "/var/spool"
+# folders that are links to those in /usr
+LINKED = ("/bin/", "/sbin/")
+# of User= and DynamicUser=, what leaves a unit root's
+NOBODY_ELSE = ("", "root", "0", "no", "false", "off")
 # what hands cgroups over without naming the mount
 HANDS_OVER = ("pam_cgfs.so",)
 _UNIT_FILE = re.compile(r"[A-Za-z0-9:_.@\\-]{1,255}\.(service|slice|socket|mount|timer|scope)\Z")
@@ -63,7 +69,7 @@ class Reader:
     def texts_in(self, folder: str, ending: str) -> Iterator[Tuple[str, str]]:
         """The files of a folder, in the order of their names, each with its text."""
         try:
-            opened = bounded.open_roots(folder.strip("/").split("/"), self.top, folder.startswith("/var/spool"))
+            opened = bounded.open_roots(folder.strip("/").split("/"), self.top, folder.startswith(SPOOL))
         except (FileNotFoundError, NotADirectoryError) as error:
             self.unread += os.path.islink(f"{self.top.rstrip(chr(47))}{folder}") and isinstance(error, NotADirectoryError)
             return
@@ -100,7 +106,24 @@ class Reader:
     def text(self, file: str) -> Optional[str]:
         """What a file has that is named by itself, or nothing where there is none of root's."""
         folder, _, name = file.rpartition("/")
-        return next((text for place, text in self.texts_in(folder, name) if place == file), None) if self.is_there(file) else None
+        if not self.is_there(file):
+            return None
+        try:
+            opened = bounded.open_roots(folder.strip("/").split("/"), self.top, folder.startswith(SPOOL))
+        except OSError:
+            self.unread += 1
+            return None
+        try:
+            return self.text_in(opened, name)
+        finally:
+            os.close(opened)
+
+    def script(self, program: str) -> Tuple[str, str]:
+        """A script of root's that is called by its path, with what it has; of any other program nothing. What stands in /bin is in /usr/bin
+        by now, which a link says."""
+        file = f"/usr{program}" if program.startswith(LINKED) and self.is_there(f"/usr{program}") else program
+        text = self.text(file) or "" if program.startswith("/") else ""
+        return file, text if text.startswith("#!") else ""
 
     def is_there(self, file: str) -> bool:
         return os.path.lexists(f"{self.top.rstrip(chr(47))}{file}")
@@ -157,7 +180,7 @@ class Found:
         except Fault:
             self.reader.unread += 1
         self.units[key][name] = settings
-        self.named += [line_of(each) for each in settings if self.is_naming(each.value)]
+        self.named += [line_of(each) for each in settings if each.name.startswith("Exec") and self.is_naming(each.value)]
 
     def is_naming(self, text: str) -> bool:
         return self.mount in text or any(word in text for word in HANDS_OVER)
@@ -185,12 +208,14 @@ class Found:
 
     def of_unit(self, unit: str) -> Iterator[Line]:
         """What root carries out for a unit, with what a script of root's has that it calls."""
-        for each in self.settings(unit):
-            if each.name.startswith("Exec") and _AS_ROOT.match(each.value):
-                yield line_of(each)
+        settings = self.settings(unit)
+        is_roots = not any(each.name in ("User", "DynamicUser") and each.value not in NOBODY_ELSE for each in settings)
+        for each in settings:
+            is_as_root = _AS_ROOT.match(each.value) is not None
+            if each.name.startswith("Exec") and (is_as_root or is_roots):
+                yield from (line_of(each),) if is_as_root else ()
                 words = _PREFIX.sub("", each.value, count=1).split()
-                script = words[0] if words and words[0].startswith("/") and not self.is_naming(each.value) else ""
-                yield from self.naming(script, self.reader.text(script) or "") if script else ()
+                yield from self.naming(*self.reader.script(words[0])) if words and not self.is_naming(each.value) else ()
 
     def is_about(self, text: str, path: str) -> bool:
         """Whether a line may be about a cgroup: by a path of the mount in it, as far as that can be read."""
