@@ -124,7 +124,7 @@ class FirstVersionTest(HostTest):
 
     def hybrid(self, *options):
         mounts = Mounts("".join(V1.format(number, option) for number, option in enumerate(options)) + V2)
-        with mock.patch.object(snapshot, "Mounts", lambda _: mounts):
+        with mock.patch.object(snapshot, "mounts_of_folder", lambda _: mounts):
             return self.report()
 
     def test_which_controllers_have_limits(self):
