@@ -63,7 +63,8 @@ def name_in_list(text: str, identity: str) -> Optional[str]:
 def names_in_list(text: str) -> Mapping[str, str]:
     """All of such a list by their ids, which may be anybody's."""
     try:
-        return {str(each["id"]): str(each["names"][0])[:LONGEST_NAME] for each in json.loads(text)}
+        # no number is made of what may be millions of digits
+        return {str(each["id"]): str(each["names"][0])[:LONGEST_NAME] for each in json.loads(text, parse_int=str)}
     except (ValueError, KeyError, IndexError, TypeError, RecursionError):
         return {}
 

@@ -5,8 +5,8 @@ from typing import DefaultDict, Dict, Iterator, List, NamedTuple, Tuple
 from zirofen_host.collect.model import OWNER
 from zirofen_host.judge.checked import Checked
 from zirofen_host.judge.finding_lines import CAPABILITY
-from zirofen_host.judge.model import PremiseFinding, Subtree, Whom
-from zirofen_host.profile import CgroupPath, ancestors, is_inside, text_of
+from zirofen_host.judge.model import PremiseFinding, Whom
+from zirofen_host.profile import CgroupPath, ancestors, text_of
 
 
 class CapableUser(NamedTuple):
@@ -46,8 +46,3 @@ def findings(checked: Checked) -> Iterator[PremiseFinding]:
                 CAPABILITY, text_of(each.place), " ".join(names), (Whom(OWNER, each.uid, who, ()),),
                 f"{who} has {' '.join(names)} there, and passes over owners and over these answers", pids,
                 tuple(f"kill {pid}" for pid in pids), None, checked.holds.payer(each.uid))
-
-
-def is_taken_back(subtree: Subtree, found: Tuple[PremiseFinding, ...]) -> bool:
-    """Whether a process inside of a subtree passes over owners."""
-    return any(each.what == CAPABILITY and is_inside(each.path, subtree.path) for each in found)

@@ -107,8 +107,12 @@ class Checked:
 
     def container_text(self, path: CgroupPath) -> str:
         """A container by its word, or by its cgroup."""
-        found = next((each for place in (path, *ancestors(path)) for each in self.snapshot.scopes if each.path == place), None)
+        found = next((self.scopes[place] for place in (path, *ancestors(path)) if place in self.scopes), None)
         return found and self.word_of(found) or text_of(path)
+
+    @cached_property
+    def scopes(self) -> Mapping[CgroupPath, Scope]:
+        return {each.path: each for each in self.snapshot.scopes}
 
     @property
     def is_asked(self) -> bool:

@@ -10,13 +10,17 @@ OWN = "its own cgroup"
 NAMED = 64
 
 
-def label(report: Report, path: str) -> str:
-    """A place by its container's name, or by its engine and its id, or by its path."""
-    scopes = report.scopes_by_path
-    place = next((place for place in (path, *ancestors(path)) if place in scopes), None)
-    if place is None or report.names.scope(path) is not None:
-        return report.names.of(path) or path
-    return f"{scopes[place].engine}:{scopes[place].id}" + (f":{path[len(place):]}" if path != place else "")
+class Labels:
+    """Places by their containers' names, or by their engines and ids, or by their paths."""
+
+    def __init__(self, report: Report) -> None:
+        self.names, self.scopes = report.names, report.scopes_by_path
+
+    def of(self, path: str) -> str:
+        place = next((place for place in (path, *ancestors(path)) if place in self.scopes), None)
+        if place is None or self.names.scope(path) is not None:
+            return self.names.of(path) or path
+        return f"{self.scopes[place].engine}:{self.scopes[place].id}" + (f":{path[len(place):]}" if path != place else "")
 
 
 def own_of(each: RootInside, text: str) -> str:
@@ -37,13 +41,13 @@ def alike_containers(report: Report, is_each: bool) -> List[List[RootInside]]:
     return list(found.values())
 
 
-def line_of(report: Report, of: Sequence[RootInside], beside: str) -> str:
+def line_of(labels: Labels, of: Sequence[RootInside], beside: str) -> str:
     """The line of some that are alike."""
     if len(of) == 1:
         return f"{inside_line(of[0])} ({inside_count(of[0])}){beside}"
     processes = sum(each.processes for each in of)
     more = f" and {len(of) - NAMED} more" if len(of) > NAMED else ""
-    names = " ".join(label(report, each.path) for each in of[:NAMED]) + more
+    names = " ".join(labels.of(each.path) for each in of[:NAMED]) + more
     return (f"root-inside {names}: {own_of(of[0], inside_text(of[0]))} ({len(of)} alike, {processes} processes, by "
             f"{' and '.join(of[0].by)})")
 
@@ -51,7 +55,8 @@ def line_of(report: Report, of: Sequence[RootInside], beside: str) -> str:
 def roots_alone(report: Report, paths: Sequence[str]) -> str:
     """What root alone holds, in few words: what has a container of root's has a line of its own."""
     above: Set[str] = {place for each in report.containers if each.accepted is ABSENT for place in (each.path, *ancestors(each.path))}
-    others = [label(report, path) for path in paths if path not in above]
+    labels = Labels(report)
+    others = [labels.of(path) for path in paths if path not in above]
     count = len(paths) - len(others)
     told = [*([some(others)] if others else []), *([f"{count} with a container of root's, told below"] if count else [])]
     return f"{len(paths)} cgroups: {', and '.join(told)}"

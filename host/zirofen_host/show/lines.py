@@ -181,9 +181,9 @@ def others_in(found: Sequence[Union[EntryFinding, OpenedFinding]]) -> Optional[s
 
 def inside_lines(report: Report, is_each: bool = False) -> Iterator[str]:
     """The containers of root's, those that are alike together, with what to set where they aren't held."""
-    scopes = report.scopes_by_path
+    labels = container_lines.Labels(report)
     for of in container_lines.alike_containers(report, is_each):
-        yield container_lines.line_of(report, of, beside(scopes, of[0].path))
+        yield container_lines.line_of(labels, of, beside(labels.scopes, of[0].path))
         yield from what_to_change(of)
 
 
