@@ -3,6 +3,7 @@
 tells of it. Run by hand, as root, in a machine with systemd that may be thrown away:
 
     tests/host/elsewhere_trial.py HOST_FOLDER [--program PROGRAM] [--runs 5] [--only NAME;NAME] [--containers [ENGINE,ENGINE]]
+    tests/host/elsewhere_trial.py HOST_FOLDER --mount FOLDER ..    on a mount without a manager: the three are handed over by hand there
 
 HOST_FOLDER has zirofen-host. Each user has a service with Delegate=yes: the first is hostile, the second is handed no more, and the
 third, in every other run, a limit too. In each run of a way its finding and the status are held against what they are to be, and what
@@ -32,6 +33,9 @@ MOUNT, ROOM = "/sys/fs/cgroup", "/run/zirofen-elsewhere"
 HOSTILE, QUIET, OPEN = "zirofen-hostile", "zirofen-quiet", "zirofen-open"
 USERS = HOSTILE, QUIET, OPEN
 JAIL = "/zirofen-jail"
+# on a mount without a manager, where no account is made
+BY_HAND = {HOSTILE: 61001, QUIET: 61002, OPEN: 61003}
+FIRST, RANGE = 2_000_000, 65_536
 # entries of root's that are held, of each kind that can be written
 ENTRIES = "cgroup.procs", "cgroup.subtree_control", "cgroup.threads", "cgroup.max.depth", "memory.max"
 # the first release that lists the paths of files that are registered with an io_uring
@@ -71,7 +75,7 @@ class Machine:
     def open(self, is_open):
         """Hands the third user's limit over, or takes it back."""
         self.is_open = is_open
-        os.chown(f"{self.place(self.subtrees[OPEN])}/memory.max", uid_of(OPEN) if is_open else 0, 0)
+        os.chown(f"{self.place(self.subtrees[OPEN])}/cgroup.max.depth", uid_of(OPEN) if is_open else 0, 0)
 
     def place(self, path):
         return f"{MOUNT}{path}"
@@ -107,7 +111,7 @@ class Holder:
 
 
 def uid_of(name):
-    return pwd.getpwnam(name).pw_uid
+    return BY_HAND[name] if MOUNT != "/sys/fs/cgroup" else pwd.getpwnam(name).pw_uid
 
 
 def put(path, pid):
@@ -142,7 +146,12 @@ def removed(place):
 
 
 def of_jail(machine, *files):
-    return [machine.place(f"{JAIL}/{file}") for file in files or ENTRIES]
+    return [machine.place(f"{JAIL}/{file}") for file in files or entries()]
+
+
+def entries():
+    """Those that this machine has."""
+    return tuple(file for file in ENTRIES if os.path.exists(f"{MOUNT}{JAIL}/{file}"))
 
 
 def headless(machine, undo, destination, at="/in"):
@@ -205,26 +214,26 @@ def stale(machine, undo):
 
 def inherited(machine, undo):
     holder = Holder(undo, "inherited", machine.place(machine.own), *of_jail(machine))
-    return Told(held=ENTRIES), lambda: f"held by PID {holder.pid}"
+    return Told(held=entries()), lambda: f"held by PID {holder.pid}"
 
 
 def in_own_table(machine, undo):
     holder = Holder(undo, "table", machine.place(machine.own), *of_jail(machine))
-    return Told(held=ENTRIES), lambda: f"held by PID {holder.pid}"
+    return Told(held=entries()), lambda: f"held by PID {holder.pid}"
 
 
 def in_ring(machine, undo):
     holder = Holder(undo, "ring", machine.place(machine.own), *of_jail(machine))
     numbers = tuple(map(int, re.findall(r"\d+", os.uname().release)[:2]))
     if numbers >= WITH_PATHS:
-        return Told(held=ENTRIES, how=IN_RING), lambda: f"held by PID {holder.pid}"
+        return Told(held=entries(), how=IN_RING), lambda: f"held by PID {holder.pid}"
     # an older kernel lists no path, so the ring alone is named
     return Told(status=machine.status, line=f"io_uring of PID {holder.pid}"), lambda: "the ring is named, and no entry"
 
 
 def by_headless(machine, undo):
     holder = Holder(undo, "headless", machine.place(machine.own), *of_jail(machine))
-    return Told(held=ENTRIES), lambda: f"held by PID {holder.pid}"
+    return Told(held=entries()), lambda: f"held by PID {holder.pid}"
 
 
 def sent(machine, undo):
@@ -238,14 +247,14 @@ def sent(machine, undo):
     for file in files:
         os.close(file)
     told = holder.running.stdout.readline().decode().strip()
-    return Told(held=ENTRIES), lambda: told
+    return Told(held=entries()), lambda: told
 
 
 def bound_elsewhere(machine, undo):
     """The file is opened by a place that it is bound to, which no mount of cgroups is."""
     places = []
     os.makedirs(ROOM, exist_ok=True)
-    for file in ENTRIES:
+    for file in entries():
         place = f"{ROOM}/{file}"
         with open(place, "w", encoding="ascii"):
             pass
@@ -253,7 +262,7 @@ def bound_elsewhere(machine, undo):
         undo.callback(LIBC.umount2, place.encode(), DETACH)
         places.append(place)
     holder = Holder(undo, "inherited", machine.place(machine.own), *places)
-    return Told(held=ENTRIES), lambda: f"held by PID {holder.pid}"
+    return Told(held=entries()), lambda: f"held by PID {holder.pid}"
 
 
 def unmounted_since(machine, undo):
@@ -261,23 +270,22 @@ def unmounted_since(machine, undo):
     place = f"{ROOM}/mount"
     os.makedirs(place, exist_ok=True)
     subprocess.run(["mount", "-t", "cgroup2", "cgroup2", place], check=True)
-    holder = Holder(undo, "inherited", machine.place(machine.own), *(f"{place}{JAIL}/{file}" for file in ENTRIES))
+    holder = Holder(undo, "inherited", machine.place(machine.own), *(f"{place}{JAIL}/{file}" for file in entries()))
     LIBC.umount2(place.encode(), DETACH)
-    return Told(held=ENTRIES, status=2, how="maybe"), lambda: f"held by PID {holder.pid}"
+    return Told(held=entries(), status=2, how="maybe"), lambda: f"held by PID {holder.pid}"
 
 
 def among_many(machine, undo):
     """Behind 1,000 other descriptors, in a table of a thread's own."""
     holder = Holder(undo, "table", machine.place(machine.own), *["/dev/null"] * 1000, *of_jail(machine))
-    return Told(held=ENTRIES), lambda: f"held by PID {holder.pid}"
+    return Told(held=entries()), lambda: f"held by PID {holder.pid}"
 
 
 def subordinate(machine, undo):
     """By a process of a subordinate uid of theirs."""
-    with open("/etc/subuid", encoding="ascii") as text:
-        first = next(int(line.split(":")[1]) for line in text if line.startswith(f"{HOSTILE}:"))
+    first = FIRST + USERS.index(HOSTILE) * RANGE
     holder = Holder(undo, "inherited", machine.place(machine.own), *of_jail(machine), uid=first + 7)
-    return Told(held=ENTRIES), lambda: f"held by PID {holder.pid} of uid {first + 7}"
+    return Told(held=entries()), lambda: f"held by PID {holder.pid} of uid {first + 7}"
 
 
 WAYS = {
@@ -299,7 +307,9 @@ def mount(source, place, flags):
 
 
 def checked(options):
-    words = [f"{options.folder}/zirofen-host", "check", "--json", *(["--zirofen", options.program] if options.program else [])]
+    words = [f"{options.folder}/zirofen-host", "check", "--mount", MOUNT, "--json"]
+    words += ["--zirofen", options.program] if options.program else []
+    words += ["--accounts", ROOM] if MOUNT != "/sys/fs/cgroup" else []
     start = time.monotonic()
     ended = subprocess.run(words, stdin=subprocess.DEVNULL, capture_output=True, text=True)
     if not ended.stdout:
@@ -323,8 +333,10 @@ def wrongs(report, status, told, machine):
     """What of a report isn't as it is to be."""
     held = {(each["path"], each["file"]): each for each in report.get("held_entries", ())}
     runs = report.get("runs_elsewhere", [])
-    if status != (1 if machine.is_open else told.status):
-        yield f"status {status}"
+    # the gravest of what is told of all three, and of what was so before
+    wanted = min((each for each in (told.status, machine.status) if each), default=0)
+    if status != wanted:
+        yield f"status {status} and not {wanted}"
     if {*held} != {(JAIL, file) for file in told.held}:
         yield f"held: {sorted(held)}"
     for each in held.values():
@@ -361,11 +373,30 @@ def tried(options, machine, name):
 # the machine
 
 
+def make_by_hand():
+    """The three on a mount without a manager, and accounts by which the first has subordinate ids."""
+    os.makedirs(ROOM, exist_ok=True)
+    texts = {"passwd": "".join(f"{name}:x:{uid}:{uid}::/:/bin/sh\n" for name, uid in BY_HAND.items()),
+             "group": "".join(f"{name}:x:{uid}:\n" for name, uid in BY_HAND.items()),
+             "subuid": "".join(f"{name}:{FIRST + number * RANGE}:{RANGE}\n" for number, name in enumerate(USERS))}
+    for name, text in texts.items():
+        with open(f"{ROOM}/{name}", "w", encoding="ascii") as out:
+            out.write(text)
+    for path in (JAIL, *(f"/{name}" for name in USERS), *(f"/{name}/main" for name in USERS)):
+        os.makedirs(f"{MOUNT}{path}", exist_ok=True)
+    for name in USERS:
+        for file in ("", "/cgroup.procs", "/cgroup.subtree_control", "/cgroup.threads"):
+            os.chown(f"{MOUNT}/{name}{file}", uid_of(name), uid_of(name))
+    return Machine({name: f"/{name}" for name in USERS})
+
+
 def make_machine():
+    if MOUNT != "/sys/fs/cgroup":
+        return make_by_hand()
     for number, name in enumerate(USERS):
         subprocess.run(["useradd", "--system", "--user-group", "--no-create-home", name], capture_output=True)
         with open("/etc/subuid", "a", encoding="ascii") as out:
-            out.write(f"{name}:{1000000 + number * 65536}:65536\n")
+            out.write(f"{name}:{FIRST + number * RANGE}:{RANGE}\n")
         said("systemd-run", "--quiet", f"--unit={name}", f"--property=User={name}", "--property=Delegate=yes", "sleep", "infinity")
     time.sleep(2)
     os.makedirs(f"{MOUNT}{JAIL}", exist_ok=True)
@@ -380,8 +411,10 @@ def make_machine():
 
 
 def remove_machine():
-    subprocess.run(["systemctl", "stop", *(f"{name}.service" for name in USERS)], capture_output=True)
-    removed(f"{MOUNT}{JAIL}")
+    if MOUNT == "/sys/fs/cgroup":
+        subprocess.run(["systemctl", "stop", *(f"{name}.service" for name in USERS)], capture_output=True)
+    for path in (JAIL, *(f"/{name}/main" for name in USERS), *(f"/{name}" for name in USERS)) if MOUNT != "/sys/fs/cgroup" else (JAIL,):
+        removed(f"{MOUNT}{path}")
 
 
 def all_ways(options):
@@ -539,15 +572,19 @@ def line_of(options, name, held):
 
 
 def main():
+    global MOUNT
     parser = argparse.ArgumentParser(description=__doc__, formatter_class=argparse.RawDescriptionHelpFormatter)
     parser.add_argument("folder", metavar="HOST_FOLDER")
     parser.add_argument("--program", default="")
+    parser.add_argument("--mount", default=MOUNT)
     parser.add_argument("--runs", type=int, default=5)
     parser.add_argument("--only", default="", help="ways by name, parted by semicolons")
     parser.add_argument("--containers", nargs="?", const="all", default="", help="engines, parted by commas; all that are installed")
     options = parser.parse_args()
     signal.signal(signal.SIGPIPE, signal.SIG_IGN)
-    print(f"Linux {os.uname().release}, {said('systemctl', '--version').split(chr(10))[0]}\n", flush=True)
+    MOUNT = options.mount
+    manager = said("systemctl", "--version").split("\n")[0] if MOUNT == "/sys/fs/cgroup" else "no manager"
+    print(f"Linux {os.uname().release}, {manager}\n", flush=True)
     failed = containers(options) if options.containers else all_ways(options)
     print(f"\n{failed} otherwise", flush=True)
     return 1 if failed else 0
