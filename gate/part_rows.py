@@ -117,7 +117,7 @@ PARTS = [
     of_program("tests/model/walks --trees 500", "tests/model/second", "tests/model/trials", is_fresh=True),
     of_folder("tests/gate", "tests/gate", "gate", "verify", "tools", "zirofen", "crates.txt", "crates/machine",
               "tests/program/trial_rows.py"),
-    of_folder("tests/tools", "tests/tools", "tests/model/trials", "tests/model/second", "tests/program/*.py", "tools", "gate", "crates.txt", "crates", "docs",
+    of_folder("tests/tools", "tests/tools", "tests/model/trials", "tests/model/second", "tests/program/*.py", "tools", "gate", "crates.txt", "crates", "docs", "CHANGELOG.md",
               "examples", "zirofen", PROGRAM),
     *host_tests(),
     Part("unit_tests", "host/lint", ("host", "tests/host"), ("mypy", "flake8")),

@@ -4,6 +4,7 @@ import os
 from typing import Callable, Dict, Sequence, Type
 
 from zirofen_host.fault import Parser
+from zirofen_host.parsing import StableParser
 from zirofen_host.installed import MANUAL, NAME, TOLD_PROGRAM, default_program
 from zirofen_host.options import MOUNT, PROC, Way
 from zirofen_host.profile import NEWEST, TEXT_FORMATS, is_number
@@ -67,9 +68,10 @@ among them more groups than the program takes, where those that were left out co
 A helper: no part of the proved program, and only tested. FOLDER has a file NAME.json for each host, which may have come from
 that host: each is read with a bound, and believed to be of the host NAME. It prints a table with the worst on top, and hosts
 that have the same findings together. A report that is empty, broken or too large doesn't count, and neither does one that is
-missing or older, where that is asked for; its row says why. The status is the worst of the hosts: 3 where a report doesn't
-count or a host has a fault; else 1 where somebody escapes or a limit stands open; else 2 where an answer is unsettled; else 4
-where nothing was found to ask of one; else 0.
+missing or older, where that is asked for; its row says why. The status is that of the gravest host: 3 where a report doesn't
+count or a host has a fault; else 1 where somebody escapes or a limit stands open; else 2 where an answer is unsettled; else 3
+where holders make a fault of their own; else 4 where nothing was found to ask of one; else 2 where limits are v1's or an
+acceptance doesn't hold; else 0.
 """,
     "page": f"""Writes reports of hosts as one page to look at. Usage: {NAME} page REPORT.json .. > page.html.
 
@@ -277,7 +279,7 @@ ARGUMENTS: Dict[str, Callable[[argparse.ArgumentParser], None]] = {
     "page": add_page, "plan": add_plan,
     "snapshot": add_snapshot, "tree": add_tree}
 # these tell their usage where their options are wrong, and the others a line
-PARSERS: Dict[str, Type[argparse.ArgumentParser]] = {"page": argparse.ArgumentParser, "tree": argparse.ArgumentParser}
+PARSERS: Dict[str, Type[StableParser]] = {"page": StableParser, "tree": StableParser}
 
 
 def parser_of(name: str) -> argparse.ArgumentParser:

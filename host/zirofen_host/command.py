@@ -11,16 +11,17 @@ def help_text() -> str:
     from zirofen_host.arguments import ABOUT, ARGUMENTS, DESCRIPTIONS
     told = [f"  {name:<12} {DESCRIPTIONS[name].partition(chr(10))[0]}" for name in ARGUMENTS]
     return "\n".join([ABOUT, "", "Commands:", *told, "", "Options:", "      --help     this text",
-                      "      --version  the version of the program"])
+                      "      --version  the versions of the helpers and of the program"])
 
 
 def tell_version() -> int:
-    """The version is the program's."""
+    """The helpers' own line, and the program's."""
+    from zirofen_host import version
     program = installed.default_program()
     said = ending.run([program, "--version"])
     if said.returncode:
         raise fault.Fault(f"{program} doesn't run here, and ended with status {said.returncode}")
-    fault.write(said.stdout.replace("zirofen ", f"{NAME} "))
+    fault.write(f"{version.told()}\n{said.stdout}")
     return 0
 
 

@@ -1,5 +1,4 @@
 """Why a helper can't give what was asked of it, and lines that harm no terminal."""
-import argparse
 import os
 import signal
 import sys
@@ -7,6 +6,7 @@ import time
 from typing import Callable, Iterable, NoReturn, Optional
 
 from zirofen_host import ending, progress
+from zirofen_host.parsing import StableParser
 
 FAULT = 3
 
@@ -78,7 +78,7 @@ def plain(text: str) -> str:
     return "".join(each if each.isascii() and each.isprintable() else ascii(each)[1:-1] for each in text)
 
 
-class Parser(argparse.ArgumentParser):
+class Parser(StableParser):
     """Options of a helper; wrong ones are a fault like others."""
 
     def error(self, message: str) -> NoReturn:

@@ -1,4 +1,5 @@
 """What each subcommand was asked for, made of its command line once."""
+import os
 from dataclasses import dataclass
 from typing import NamedTuple, Optional, Tuple
 
@@ -33,6 +34,18 @@ class Options:
     def text_format(self) -> TextFormat:
         """The format of tree texts that are made of this host."""
         return TEXT_FORMATS[NEWEST if self.tree_format is None else self.tree_format]
+
+    @property
+    def carried(self) -> Tuple[str, ...]:
+        """The words of what decides which tree is asked, and how: a command that a run prints has them."""
+        of_host = () if self.tree else (("--mount", self.mount if self.mount != MOUNT else None),
+                                        ("--proc", self.proc if self.proc != PROC else None),
+                                        ("--only", None if self.only is None else os.fsdecode(self.only)),
+                                        ("--tree-format", None if self.tree_format is None else str(self.tree_format)))
+        named = (("--tree", self.tree), *of_host, ("--accounts", self.accounts))
+        flags = (("--no-processes", self.no_processes), ("--plain-folder", self.plain_folder and not self.tree))
+        words = [word for name, value in named if value is not None for word in (name, value)]
+        return (*words, *(name for name, is_set in flags if is_set))
 
 
 class Way(NamedTuple):

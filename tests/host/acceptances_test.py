@@ -14,7 +14,7 @@ from formats_test import run_of, schema
 from made_up import COMMAND, TOP
 from shown import comparison_lines, lines_of, made
 from zirofen_host.fault import Fault
-from zirofen_host.judge import acceptances, baseline
+from zirofen_host.judge import acceptances, baseline, standing
 from zirofen_host.judge.rules import RULES
 from zirofen_host.profile import ancestors
 from zirofen_host.show import junit, metrics, sarif
@@ -71,7 +71,7 @@ class AcceptancesTest(HostTest):
             "accepted: /up cgroup.procs (0:50 664): unsettled, by group team(50): carol(1002), of /up/b: a test host, until 2026-12-31",
             "accepted: opened /web cpu.max by everybody: a test host, until 2026-12-31"])
         self.assertNotIn("What lets somebody in", "\n".join(lines))
-        self.assertEqual(lines[-1], "3 asked: 2 accepted, 1 contained")
+        self.assertEqual(lines[-1], "0; 3 asked: 2 accepted, 1 contained")
 
     def test_each_alone_leaves_the_others_counted(self):
         for at, status in ((0, 1), (1, 1), (2, 1)):
@@ -225,7 +225,7 @@ class AcceptancesTest(HostTest):
         for _ in range(300):
             some, accepted, others = (set(rng.sample(["/", *paths], rng.randrange(most))) for most in (40, 4, 4))
             by_ancestors = {path for path in some for above in [{path, *ancestors(path)}] if above & accepted and not above & others}
-            self.assertEqual(set(acceptances.walked_down(some, accepted, others)), by_ancestors)
+            self.assertEqual(set(standing.walked_down(some, accepted, others)), by_ancestors)
 
     def test_from_outside(self):
         def script(*words):

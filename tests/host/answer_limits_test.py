@@ -1,14 +1,24 @@
 """Tests of what narrows an answer: each form tells it, on hosts in which what was left out is broken."""
 import json
 import os
+import re
 import tempfile
 import unittest
 from dataclasses import replace
+from unittest import mock
 
-from check_test import HostTest, owned
+from check_test import HostTest, of_options, owned
 from shown import made
+from zirofen_host.ask import accepted
+from zirofen_host.ask.questions import subtrees_by
+from zirofen_host.collect import elsewhere
+from zirofen_host.collect.accounts import accounts_of
+from zirofen_host.collect.model import Unheld
+from zirofen_host.collect.notes import Changing, Lacking
+from zirofen_host.collect.reasons import NeverSettled, Unreadable
+from zirofen_host.collect.snapshot import tree_text
 from zirofen_host.judge import check, limits
-from zirofen_host.judge.model import ABSENT
+from zirofen_host.judge.model import ABSENT, AnswerLimit
 from zirofen_host.judge.rules import findings_of
 from zirofen_host.show import fleet, fleet_lines, junit, metrics, page, sarif, tree_view
 from zirofen_host.show.lines import lines_of
@@ -61,16 +71,70 @@ class AnswerLimitsTest(HostTest):
         self.assertIn("The whole host has 2", self.part(report, "/a"))
         self.assertIn('zirofen_answer_limits{kind="only"} 0', "".join(metrics.parts_of(self.run_of(report))))
 
+    def of_text(self, **more):
+        """The report of a text that carries nothing of its host: in it a group lets somebody in, and a process runs elsewhere."""
+        self.host.cgroup("/b", owners={**owned(1001), "memory.max": (0, 50)}, modes={"memory.max": 0o664})
+        file = f"{self.host.folder}/host.toml"
+        with open(file, "w", encoding="ascii") as out:
+            out.write(tree_text(self.host.snapshot(), True))
+        options = self.options(**{"tree": file, "accounts": None, **more})
+        return check.report(accepted.take(options, subtrees_by(options)), options, True)
+
+    def of_later(self):
+        """The report of a text with a record that this version doesn't know."""
+        file, taken = f"{self.host.folder}/later.toml", self.host.snapshot()
+        with open(file, "w", encoding="ascii") as out:
+            out.write(elsewhere.text_with(taken, [*elsewhere.carried(taken, accounts_of(self.host.etc, taken))], True))
+            out.write('#= {"novelty":{"path":"/b"}}\n')
+        options = self.options(tree=file)
+        return check.report(accepted.take(options, subtrees_by(options)), options, True)
+
+    def beside(self, **more):
+        """The report of a host of which more was found, or not."""
+        return check.report(replace(self.host.snapshot(), **more), self.options(), True)
+
+    def each_narrowed(self):
+        """For each thing that narrows an answer the report of a host in which what was left out is broken."""
+        yield (limits.ONLY,), self.narrowed(only=b"/a")
+        yield (limits.NO_PROCESSES,), self.narrowed(no_processes=True)
+        yield (limits.TREE_FORMAT,), self.narrowed(tree_format=2)
+        with mock.patch.object(limits, "of_options", of_options):
+            yield (limits.PLAIN_FOLDER,), self.narrowed()
+        yield (limits.ACCOUNTS, limits.PREMISES), self.of_text()
+        yield (limits.PREMISES,), self.of_text(accounts=self.host.etc)
+        yield (limits.WALK,), self.beside(notes=(Changing("/c", NeverSettled(5)),))
+        yield (limits.BUDGETS,), self.beside(unheld=(Unheld(1000, None, Unreadable("over a budget")),))
+        yield (limits.LACKING,), self.beside(notes=(Lacking("/", "SYS_PTRACE", "what others hold open"),))
+        yield (limits.VERSION_1,), self.beside(version_1=("memory",))
+        yield (limits.LATER,), self.of_later()
+        # what there was no time to ask is a fault of its own (budgets_test)
+        yield (limits.TIME,), replace(self.narrowed(), limits=(AnswerLimit(limits.TIME, "there was no time to ask of a subtree"),))
+
     def test_each_is_told_in_each_form(self):
-        for kind, more in (("only", {"only": b"/a"}), ("no-processes", {"no_processes": True}), ("tree-format", {"tree_format": 2})):
-            report = self.narrowed(**more)
-            with self.subTest(kind):
-                self.assertEqual([each.kind for each in report.limits], [kind])
-                for name, said in self.forms_of(report).items():
-                    self.assertIn(report.limits[0].text.replace("'", "&#x27;") if name == "page" else report.limits[0].text, said, name)
-                    self.assertNotIn("The whole host", said, name)
+        kinds = set()
+        for told, report in self.each_narrowed():
+            kinds.update(told)
+            with self.subTest(told):
+                self.assertEqual(tuple(each.kind for each in report.limits), told)
+                self.each_form_tells(report)
                 said = "".join(metrics.parts_of(self.run_of(report)))
-                self.assertIn(f'zirofen_answer_limits{{kind="{kind}"}} 1', said)
+                for kind in limits.KINDS:
+                    self.assertIn(f'zirofen_answer_limits{{kind="{kind}"}} {int(kind in told)}', said)
+        self.assertEqual(kinds, set(limits.KINDS))
+
+    def each_form_tells(self, report):
+        """Each limit is told, and no form has a yes to more than was asked."""
+        for name, said in self.forms_of(report).items():
+            for each in report.limits:
+                self.assertIn(each.text.replace("'", "&#x27;") if name == "page" else each.text, said, name)
+            self.assertNotIn("The whole host", said, name)
+            self.assertNotIn("findings open", said, name)
+            if name != "json":
+                # an answer, and not the word of a heading
+                plain = re.search(r"[0-9✓+] contained(?! \[)|^contained|\S  contained(?! \[)", said, re.MULTILINE)
+                self.assertFalse(plain, (name, plain))
+        self.assertNotIn('zirofen_subtrees{answer="contained"} 1', "".join(metrics.parts_of(self.run_of(report))))
+        self.assertNotEqual([row.kind for row in self.fleet_of(report).rows], ["contained"])
 
     def test_what_is_contained_is_marked(self):
         report = self.narrowed(only=b"/a")
@@ -82,8 +146,8 @@ class AnswerLimitsTest(HostTest):
 
     def test_no_such_host_counts_as_contained(self):
         found = self.fleet_of(self.narrowed(only=b"/a"))
-        self.assertEqual([(row.kind, row.status) for row in found.rows], [("not asked", 0)])
-        self.assertTrue(fleet_lines.sum_line(found).startswith("1 host: 1 not asked"))
+        self.assertEqual([(row.kind, row.status) for row in found.rows], [("limited", 0)])
+        self.assertTrue(fleet_lines.sum_line(found).startswith("1 host: 1 limited"))
 
     def test_reports_that_dont_tell_it(self):
         earlier = replace(self.narrowed(only=b"/a"), limits=ABSENT)

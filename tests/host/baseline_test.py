@@ -30,7 +30,8 @@ class BaselineTest(HostTest):
         compared = baseline.compared(found, baseline.read(self.file), self.file)
         found = replace(found, baseline=compared)
         self.assertEqual(made(self.value_of(found)).baseline, compared)
-        lines = list(comparison_lines(found))
+        *lines, last = comparison_lines(found)
+        self.assertRegex(last, f"^{compared.status}($| by |;)")
         told = [line for line in lines if not re.match("    |[0-9]+ findings? stands? since|only |limits of ", line)]
         self.assertEqual(all(line.split(":")[0] in baseline.KINDS for line in told), any(
             getattr(compared, kind) for kind in baseline.KINDS))

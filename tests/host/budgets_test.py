@@ -458,7 +458,7 @@ class LinesTest(ThreeTest):
 
     def test_the_sum(self):
         self.host.cgroup("/odd", owners=owned(1003))
-        self.assertEqual(self.lines(self.report())[-1], "4 asked: 1 fault, 1 escapes, 2 contained")
+        self.assertEqual(self.lines(self.report())[-1], "3 by a fault; 4 asked: 1 fault, 1 escapes, 2 contained")
 
 
 class EntriesTest(ThreeTest):

@@ -9,7 +9,7 @@ from datetime import datetime, timezone
 import example
 from page_reader import PageReader
 from shown import made, value_of
-from zirofen_host.judge.severity import severity_of
+from zirofen_host.judge.standing import severity_of
 from zirofen_host.judge.model import Acceptance
 from zirofen_host.show import chart, fleet, page, tree_view
 from zirofen_host.show.finding import Place

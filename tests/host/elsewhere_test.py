@@ -11,7 +11,7 @@ from check_test import BY_GROUP, MARK, HostTest, owned
 from made_up import COMMAND
 from page_reader import PageReader
 from zirofen_host import output
-from zirofen_host.collect import elsewhere
+from zirofen_host.collect import carried, elsewhere
 from zirofen_host.ask import accepted
 from zirofen_host.ask.questions import subtrees_by
 from zirofen_host.collect.accounts import accounts_of
@@ -57,7 +57,7 @@ class ElsewhereTest(HostTest):
 
     def without(self, found):
         unseen = [each for each in found["unseen"] if each["kind"] != "elsewhere"]
-        return {**found, "time": "", "unseen": unseen}
+        return {**found, "time": "", "unseen": unseen, "options": []}
 
     def test_what_is_carried_gives_the_same_report(self):
         line = f"31 22 0:29 / {self.host.mount} rw - cgroup2 cgroup2 rw,nsdelegate"
@@ -140,16 +140,18 @@ class ElsewhereTest(HostTest):
         found = self.elsewhere(accounts=self.host.etc)
         self.assertEqual((found["host"], found["kernel"], found["time"]), ("", "", ""))
         reader = PageReader(page.page([made(found)]))
-        self.assertIn("Made of a report of a tree text, at a time that isn't told, with made-up 1.0.", reader.text())
+        self.assertIn("Made of a report of a tree text, at a time that isn't told, with made-up 1.0 and zirofen-host ", reader.text())
         self.assertIn("a tree text\n", reader.text())
         self.assertIn("<title>Zirofen: a tree text</title>", page.page([made(found)]))
         drawn = tree_view.draw(made(found), tree_view.Drawing())
-        self.assertEqual(drawn[0], "a tree text, made-up 1.0")
+        self.assertTrue(drawn[0].startswith("a tree text, made-up 1.0, zirofen-host "), drawn[0])
         compared = baseline.compared(made(found), replace(made(found), accepted=True), "/before.json")
         self.assertEqual(list(comparison_lines(replace(made(found), baseline=compared))),
-                         ["nothing is new, worse, changed or gone since /before.json"])
+                         ["nothing is new, worse, changed or gone since /before.json",
+                          "0; limits of this answer: the text doesn't tell where threads run and what processes hold open"])
         self.write()
-        self.assertRegex(page.page([made(self.elsewhere())]), r'at <time datetime="20[^"]*Z">20[^<]*Z</time>, with made-up 1.0\.')
+        self.assertRegex(page.page([made(self.elsewhere())]),
+                         r'at <time datetime="20[^"]*Z">20[^<]*Z</time>, with made-up 1.0 and zirofen-host ')
 
     def test_a_text_that_the_program_refuses(self):
         for text in ("no text", "format = 2\n", "\xff"):
@@ -167,16 +169,53 @@ class ElsewhereTest(HostTest):
         self.write()
         with open(self.file, encoding="ascii") as text:
             lines = text.read().split("\n")
-        number = next(number for number, line in enumerate(lines) if line.startswith(elsewhere.MARK))
-        for value in ("", "{", "[]", "{}", '{"account": ["a", -1, 2]}', '{"account": ["a", 1]}', '{"account": [1e999, true, 2]}',
+        number = next(number for number, line in enumerate(lines) if line.startswith(carried.MARK))
+        for value in ('{"account": {"name": "a", "uid": 1}}', '{"account": ["a", -1, 2]}', '{"account": ["a", 1]}',
+                      '{"account": [1e999, true, 2]}',
                       '{"cgroup": {"path": "/none"}}', '{"cgroup": {"path": "/up", "files": {"x": "1:2:9"}, "values": {}, "marks": {}}}',
-                      '{"process": [1, "x", 3, [], "", []]}', '{"init__": 1}', '{"carried": 1}', '{"about": {"host": 1}}',
-                      '{"subuid": ["a", 1, 99999999999]}', '{"note": ["type", "/\\ud800", "x"]}', "[" * 100000):
+                      '{"process": [1, "x", 3, [], "", []]}', '{"about": {"host": 1}}', '{"inside": {"mounts": 7}}',
+                      '{"subuid": ["a", 1, 99999999999]}', '{"note": ["type", "/\\ud800", "x"]}'):
             with self.subTest(value[:40]):
                 with open(self.file, "w", encoding="ascii") as out:
-                    out.write("\n".join([*lines[:number], elsewhere.MARK + value, *lines[number:]]))
+                    out.write("\n".join([*lines[:number], carried.MARK + value, *lines[number:]]))
                 with self.assertRaisesRegex(Fault, f"line {number + 1} of the text: what it carries isn't known"):
                     self.elsewhere()
+
+    def with_lines(self, *values):
+        """The report of the text with further comments in it."""
+        self.write()
+        with open(self.file, "a", encoding="ascii") as out:
+            out.writelines(f"{carried.MARK}{value}\n" for value in values)
+        return self.elsewhere()
+
+    def test_what_isnt_the_helpers_is_a_comment(self):
+        before = self.without(self.with_lines())
+        for value in ("note", "", "{", "[]", "{}", "7", '{"a": 1, "b": 2}', "[" * 100000):
+            with self.subTest(value[:40]):
+                self.assertEqual(self.without(self.with_lines(value)), before)
+
+    def test_a_text_of_a_later_version(self):
+        """What it has more of a record is passed over; of which records aren't known the answer says how many."""
+        found = self.with_lines('{"zirofen-host":3}', '{"account":{"name":"new","uid":7,"gid":7,"shell":"/x"}}', '{"novelty":{"a":1}}')
+        self.assertIn({"kind": "later", "text": "the text is of a later version of this helper, and 1 of its records aren't known"},
+                      found["limits"])
+
+    def test_a_text_of_0_2_0(self):
+        """Its records are lists in the order of the table, and it names no version."""
+        self.write()
+        before = self.without(self.elsewhere())
+        with open(self.file, encoding="ascii") as text:
+            lines = text.read().split("\n")
+        told = []
+        for line in lines:
+            if line.startswith(carried.MARK):
+                ((key, value),) = json.loads(line[len(carried.MARK):]).items()
+                line = "" if key == carried.FORM else f"{carried.MARK}{json.dumps({key: carried.in_order(key, value)})}"
+            told.append(line)
+        self.assertIn(f'{carried.MARK}{{"{carried.FORM}":{carried.VERSION}}}', lines)
+        with open(self.file, "w", encoding="ascii") as out:
+            out.write("\n".join(told))
+        self.assertEqual(self.without(self.elsewhere()), before)
 
     @unittest.skipUnless(os.geteuid() == 0, "only root gives files away")
     def test_from_outside(self):
@@ -184,7 +223,7 @@ class ElsewhereTest(HostTest):
             return subprocess.run([sys.executable, COMMAND, name, *words], input=given, capture_output=True, text=True)
         text = script("snapshot", "--plain-folder", "--mount", self.host.mount, "--proc", self.host.proc, "--accounts",
                       self.host.etc, "--with-host").stdout
-        self.assertIn(elsewhere.MARK, text)
+        self.assertIn(carried.MARK, text)
         for words in (("--tree", "-"), ("--tree", "-", "--accounts", self.host.etc)):
             ended = script("check", "--zirofen", self.program, "--json", *words, given=text)
             self.assertEqual((ended.returncode, ended.stderr), (1, ""))

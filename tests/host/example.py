@@ -8,9 +8,10 @@ import json
 import os
 import sys
 import tempfile
+from unittest import mock
 
 from made_up import HERE, MadeUp
-from zirofen_host.judge import as_json, check
+from zirofen_host.judge import as_json, check, limits
 from zirofen_host.collect.tree import read_tree
 from zirofen_host.options import Options
 
@@ -90,9 +91,12 @@ class Example:
 def report_of(host, program, name, kernel):
     """What a program answers of a made-up host, as of one with a name and of a day."""
     options = Options(mount=host.mount, proc=host.proc, accounts=host.etc, program=program, plain_folder=True)
-    text = "".join(as_json.parts_of(check.report(host.snapshot(), options, True)))
+    # as if the folder were a host
+    with mock.patch.object(limits, "of_options", lambda _: ()):
+        text = "".join(as_json.parts_of(check.report(host.snapshot(), options, True)))
     found = json.loads(text.replace(host.mount, "/sys/fs/cgroup"))
-    return {**found, "host": name, "kernel": kernel, "time": "2026-11-25T08:00:00Z"}
+    del found["helper"]
+    return {**found, "host": name, "kernel": kernel, "time": "2026-11-25T08:00:00Z", "options": []}
 
 
 def kept():

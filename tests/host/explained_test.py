@@ -74,7 +74,7 @@ class ExplainedTest(HostTest):
         self.assertEqual(told, [f"    why: {each}" for each in commands])
         shown = page.page([report])
         self.assertEqual([shown.count(f"<code>{each}</code>") for each in commands], [1, 1, 1])
-        self.assertEqual(explaining(5, "/a;b"), "zirofen-host ask 5 --explain '/a;b'")
+        self.assertEqual(explaining(5, "/a;b", ("--mount", "/a b")), "zirofen-host ask 5 --explain '/a;b' --mount '/a b'")
 
     def test_each_kind_of_line(self):
         for line, told in (

@@ -141,7 +141,8 @@ class FirstVersionTest(HostTest):
         self.assertEqual((found["status"], found["version_1"]), (2, ["cpu", "memory", "pids"]))
         lines = self.lines(found)
         self.assertRegex(lines[1], "contained .v1.")
-        self.assertTrue(lines[-1].startswith("limits of cpu, memory, pids are v1's and weren't looked at; 1 asked: "), lines[-1])
+        self.assertEqual(lines[-1], "2 by limits that are v1's; 1 asked: 1 contained [v1]; limits of this answer: limits of cpu, "
+                         "memory, pids are v1's and weren't looked at")
         self.assertEqual(sum("v1's" in line for line in lines), 1)
 
     def test_what_is_found_counts_before_it(self):

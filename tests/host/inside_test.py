@@ -420,7 +420,8 @@ class ToldTest(InsideTest):
             f"root-inside {DOCKER}: held by nsdelegate (1 process, by cgroup namespace and root)",
             "root-inside /system.slice/docker-5.scope: not held: it loads code into the kernel (CAP_SYS_MODULE) (1 process, by cgroup "
             "namespace and root)", "    setting, at the next start: without CAP_SYS_MODULE"])
-        self.assertEqual((lines[-1], self.found()["status"]), ("1 asked: 1 contained; 2 with root inside: 1 not held, 1 held", 1))
+        self.assertEqual((lines[-1], self.found()["status"]), (
+            "1 by a container of root's that isn't held; 1 asked: 1 contained; 2 with root inside: 1 not held, 1 held", 1))
 
     def test_statuses(self):
         """One that isn't held is 1; held ones alone are no finding, and something was found."""
@@ -430,7 +431,7 @@ class ToldTest(InsideTest):
         self.host.cgroup("/a")
         found = self.found()
         self.assertEqual((found["status"], found["asked"]), (0, False))
-        self.assertEqual(self.lines(found)[-1], "0 asked: nothing; 1 with root inside: 1 held")
+        self.assertEqual(self.lines(found)[-1], "0; 0 asked: nothing; 1 with root inside: 1 held")
         self.assertNotIn(NOTHING_ASKED, self.lines(found))
 
     def test_the_schema_takes_no_other_key(self):
@@ -558,7 +559,7 @@ class ToldTest(InsideTest):
         lines = list(lines_of(self.value_of(found)))
         self.assertIn("accepted: root-inside /system.slice/docker-5.scope: not held: it loads code into the kernel (CAP_SYS_MODULE): "
                       "it loads drivers, until 2027-01-31", lines)
-        self.assertEqual(lines[-1], "1 asked: 1 contained; 2 with root inside: 1 accepted, 1 held")
+        self.assertEqual(lines[-1], "0; 1 asked: 1 contained; 2 with root inside: 1 accepted, 1 held")
         log = "".join(sarif.parts_of(run_of(self.value_of(found))))
         self.assertIn('"justification": "it loads drivers, until 2027-01-31"', log)
 

@@ -454,7 +454,7 @@ class BusyTest(HostTest):
         found = self.busy(lambda turn: self.come_and_go("/alice/new", turn), b"/alice")
         self.assertEqual(found["status"], 3)
         lines = self.lines(found)
-        self.assertTrue(lines[-1].startswith("only faults of their holders' own making; "), lines[-1])
+        self.assertTrue(lines[-1].startswith("3 by a fault of its holder's own making alone; "), lines[-1])
         self.assertIn(f"fault: everybody of /alice: {ALL_THE_TIME}, of alice(1000)'s own making", lines)
 
     def test_a_file_that_goes_each_time_it_is_read(self):

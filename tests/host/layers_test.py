@@ -10,12 +10,12 @@ PACKAGE = "zirofen_host"
 # in the order of the way that data goes
 FOLDERS = ("collect", "ask", "judge", "show", "runs")
 # what every folder may import, each from those before it
-SHARED = ("progress", "ending", "fault", "files", "profile", "output", "installed", "options", "arguments")
+SHARED = ("progress", "ending", "parsing", "fault", "files", "profile", "output", "installed", "version", "options", "arguments")
 # what makes one command of all of it
 LAST = "command"
 # what imports where it is run, so that no command waits for what it doesn't use
-WHERE_USED = {("command", "help_text"), ("command", "main"), ("runs.check", "write_page"), ("show.formats", "text_parts"),
-              ("show.formats", "parts_of")}
+WHERE_USED = {("command", "help_text"), ("command", "main"), ("command", "tell_version"), ("runs.check", "write_page"),
+              ("show.formats", "text_parts"), ("show.formats", "parts_of")}
 # what imports without a statement
 IMPORTERS = {"__import__", "import_module", "importlib"}
 

@@ -23,7 +23,7 @@ from zirofen_host.fault import Fault
 PARTS = ("subtrees", "entries", "opened", "faults", "differs", "above", "unseen", "snapshot")
 # keys of a report that nothing is drawn from, or that are asked for elsewhere
 NOT_NEEDED = ("enabled", "capabilities", "value", "version", "users", "names", "marks", "files", "above[0].uid",
-              "version_1", "lists", "made_by", "why", "within", "stand", "limits", "premises", "causes")
+              "version_1", "lists", "made_by", "why", "within", "stand", "limits", "options", "helper", "premises", "causes")
 REAL = sorted(name for name in os.listdir(f"{HERE}/data") if name.endswith(".json.gz"))
 HOSTILE = ("<script>alert(1)</script>", '"onload="alert(2)" x="', "'><img src=//x.y onerror=alert(3)>",
            "</title></svg></style></script>", "${title}$id&lt;&#60;", "javascript:alert(4)", "\u202egnp.exe\u2066", "x" * 250,
@@ -355,6 +355,12 @@ class MadeUpTest(HostTest, PageTest):
 
 
 class SavedTest(unittest.TestCase):
+    def test_a_tree_text_is_told_what_to_do_with(self):
+        with self.assertRaisesRegex(Fault, "no JSON") as raised:
+            saved.read(f"{HERE}/../../examples/delegation.toml")
+        self.assertEqual(raised.exception.help_lines, (
+            "  this is a tree text: zirofen-host check --tree FILE --json writes a report of it",))
+
     def fault_of(self, text):
         with tempfile.NamedTemporaryFile("w", suffix=".json", encoding="utf-8") as file:
             file.write(text)

@@ -45,6 +45,9 @@ pid = 7
 uid = 1000
 at = "/a/b"
 """
+# what is told of a text that carries nothing of its host
+LIMITS = ("limits of this answer: it was asked by number: who is in which group, and whose ids are subordinate, isn't known; the text "
+          "doesn't tell where threads run and what processes hold open")
 
 
 def snapshot_of(text=TREE, is_carrying=True):
@@ -177,18 +180,18 @@ class CommandTest(HostTest):
             "new: /new: contained, by 1001 who holds it",
             "worse: /c0: escapes, by 1000 who holds it", "    before: /c0: contained, by 1000 who holds it",
             "worse: /c1: escapes, by 1000 who holds it", "    before: /c1: contained, by 1000 who holds it",
-            "3 asked: 3 escapes"])
+            f"3 asked: 3 escapes; {LIMITS}"])
 
     def test_nothing_changes(self):
         said = self.plan("--tree", DELEGATION, ops="# nothing\n")
-        self.assertEqual((said.stdout.splitlines(), said.returncode),
-                         (["nothing is new, worse, changed or gone beside the tree as it is", "2 asked: 2 contained"], 0))
+        self.assertEqual((said.stdout.splitlines(), said.returncode), (
+            ["nothing is new, worse, changed or gone beside the tree as it is", f"2 asked: 2 contained [limited]; {LIMITS}"], 0))
         # what stands before counts as before
         said = self.plan("--tree", f"{TOP}/examples/delegation-ancestor-owned.toml", ops="set /c0 memory.max 9\n")
-        self.assertEqual((said.returncode, said.stdout.splitlines()[-1]), (0, "2 asked: 2 escapes"))
+        self.assertEqual((said.returncode, said.stdout.splitlines()[-1]), (0, f"2 asked: 2 escapes; {LIMITS}"))
         said = self.plan("--tree", f"{TOP}/examples/delegation-ancestor-owned.toml",
                          ops="chown / cgroup.procs 0:0\nchmod / cgroup.procs 644\n")
-        self.assertEqual((said.returncode, said.stdout.splitlines()[-1]), (0, "2 asked: 2 contained"))
+        self.assertEqual((said.returncode, said.stdout.splitlines()[-1]), (0, f"2 asked: 2 contained [limited]; {LIMITS}"))
         self.assertIn("gone: / cgroup.procs (1000:0 446): escapes", said.stdout)
 
     def test_what_no_answer_rests_on_is_said_once(self):

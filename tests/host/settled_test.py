@@ -7,6 +7,7 @@ from unittest import mock
 from check_test import MARK, HostTest, owned
 from zirofen_host.collect.notes import CarriedNote, WrongName
 from zirofen_host.judge import check, long_lists
+from zirofen_host.judge.finding_lines import asking
 from zirofen_host.judge.one import ask
 from zirofen_host.options import AskOptions
 from zirofen_host.show.page import page
@@ -120,13 +121,14 @@ class LongListTest(HostTest):
         self.setUp()
         kept = self.example(self.given(200))
         self.assertEqual((len(kept), kept[64]), (66, "exit 64"))
-        self.assertEqual(kept[65], "# 136 more: zirofen-host ask 1002 /srv/bob")
+        self.assertEqual(kept[65], f"# 136 more: {asking(1002, '/srv/bob', self.options().carried)}")
 
     def test_a_command_names_the_tree_that_was_asked_of(self):
         lines = ["escapes"] + ["exit 1"] * 65
-        self.assertEqual(long_lists.kept(lines, 5, "/a;b", "t t.toml")[-1], "# 1 more: zirofen-host ask --tree 't t.toml' 5 '/a;b'")
-        self.assertEqual(list(long_lists.shown(long_lists.kept(lines, 5, "/a", None))), ["exit 1"] * 12 + [".. and 53 more operations"])
-        self.assertTrue(long_lists.is_whole(lines) and not long_lists.is_whole(long_lists.kept(lines, 5, "/a", None)))
+        self.assertEqual(long_lists.kept(lines, 5, "/a;b", ("--tree", "t t.toml"))[-1],
+                         "# 1 more: zirofen-host ask 5 '/a;b' --tree 't t.toml'")
+        self.assertEqual(list(long_lists.shown(long_lists.kept(lines, 5, "/a", ()))), ["exit 1"] * 12 + [".. and 53 more operations"])
+        self.assertTrue(long_lists.is_whole(lines) and not long_lists.is_whole(long_lists.kept(lines, 5, "/a", ())))
 
     def test_a_page_shows_twelve(self):
         self.given(200)

@@ -370,7 +370,9 @@ class CommandTest(UnitsTest):
         self.assertEqual((said.returncode, said.stderr), (2, ""))
         self.assertEqual(said.stdout.splitlines(), [
             "new: /system.slice/a.service: contained, by 900 who holds it [limited]", f"not-told: {slices}",
-            f"3 asked: 3 contained; limits of this answer: what may give entries away isn't told: {untold}"])
+            "3 asked: 3 contained [limited]; limits of this answer: it was asked by number: who is in which group, and whose ids are "
+            "subordinate, isn't known; the text doesn't tell where threads run and what processes hold open; what may give entries away "
+            f"isn't told: {untold}"])
         lines = self.plan("--unit", file, "--print", "lines")
         self.assertEqual((lines.stdout.splitlines()[:2], lines.stderr), ([f"# not told: {slices}", f"# not told: {untold}"], ""))
         # what was printed is what can be read again

@@ -27,6 +27,9 @@ def script(name):
 
 
 package = script("package")
+from zirofen_host import version  # noqa: E402
+
+PACKAGE = f"{TOP}/host/zirofen_host"
 
 
 def run(*words, **more):
@@ -206,9 +209,11 @@ class PackageTest(unittest.TestCase):
         """The installed helpers ask the installed program, and draw what it answered."""
         environment = {**os.environ, "ZIROFEN": f"{folder}/zirofen"}
         said = run(f"{folder}/zirofen-host", "--version", env=environment)
-        self.assertEqual((said.stdout, said.stderr), (f"zirofen-host {self.program.version}\n", ""))
+        helper = f"zirofen-host {version.VERSION} ({version.sum_of(PACKAGE)})"
+        self.assertEqual((said.stdout, said.stderr), (f"{helper}\nzirofen {self.program.version}\n", ""))
         checked = run(f"{folder}/zirofen-host", "check", "--json", "--tree", tree, env=environment)
-        self.assertEqual((json.loads(checked.stdout)["program"], checked.stderr), (f"zirofen {self.program.version}", ""))
+        found = json.loads(checked.stdout)
+        self.assertEqual((found["program"], found["helper"], checked.stderr), (f"zirofen {self.program.version}", helper, ""))
         with open(f"{self.folder.name}/report.json", "w", encoding="ascii") as out:
             out.write(checked.stdout)
         self.assertIn("<!DOCTYPE html>", run(f"{folder}/zirofen-host", "page", out.name).stdout)
@@ -339,10 +344,10 @@ class PackageTest(unittest.TestCase):
             self.assertIn(path.strip("/"), there)
         self.assertIn("report.schema.json", page)
 
-    def test_the_helpers_tell_the_programs_version(self):
+    def test_the_helpers_tell_their_version_and_the_programs(self):
         environment = {**os.environ, "ZIROFEN": self.program.path}
         said = run(sys.executable, f"{TOP}/host/zirofen-host", "--version", env=environment).stdout
-        self.assertEqual(said, f"zirofen-host {self.program.version}\n")
+        self.assertEqual(said, f"zirofen-host {version.VERSION} ({version.sum_of(PACKAGE)})\nzirofen {self.program.version}\n")
 
 
 if __name__ == "__main__":

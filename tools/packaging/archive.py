@@ -1,13 +1,20 @@
 """Archives whose bytes depend on what is in them alone: no clock, no owner, no order of a folder."""
-import gzip
 import hashlib
 import io
 import lzma
+import struct
 import tarfile
+import zlib
 from collections import namedtuple
 
 # seconds since 1970 that each file is said to be of: a date would change with each release, and says nothing
 MOMENT = 1577836800
+
+# deflated, of no time, by the slowest way, on Unix
+GZIP_HEADER = b"\x1f\x8b\x08\0\0\0\0\0\x02\x03"
+# what preset 9 stands for, each by itself, so that no version of the library reads the preset its own way
+XZ_FILTER = {"id": lzma.FILTER_LZMA2, "dict_size": 1 << 26, "lc": 3, "lp": 0, "pb": 2, "mode": lzma.MODE_NORMAL, "nice_len": 64,
+             "mf": lzma.MF_BT4, "depth": 0}
 
 # one file of a package: where it is installed, without the first slash
 File = namedtuple("File", "path mode data")
@@ -42,11 +49,14 @@ def tar(files, prefix="./"):
 
 
 def gz(data):
-    return gzip.compress(data, compresslevel=9, mtime=0)
+    """A gzip member. Its header is written here, since Python's own names another system from version to version."""
+    packer = zlib.compressobj(9, zlib.DEFLATED, -zlib.MAX_WBITS, 8, zlib.Z_DEFAULT_STRATEGY)
+    body = packer.compress(data) + packer.flush()
+    return GZIP_HEADER + body + struct.pack("<II", zlib.crc32(data), len(data) & 0xffffffff)
 
 
 def xz(data):
-    return lzma.compress(data, format=lzma.FORMAT_XZ, check=lzma.CHECK_CRC64, preset=9)
+    return lzma.compress(data, format=lzma.FORMAT_XZ, check=lzma.CHECK_CRC64, filters=[XZ_FILTER])
 
 
 def ar(members):

@@ -13,11 +13,9 @@ from zirofen_host.collect import bounded, turns
 from zirofen_host.collect.accounts import Accounts
 from zirofen_host.collect.bounded import Spent
 from zirofen_host.collect.model import Snapshot, Tree, User
+from zirofen_host.collect.notes import LEFT_OUT
 from zirofen_host.options import Options
 from zirofen_host.profile import CgroupPath
-
-# notes of cgroups that stand in no text
-LEFT_OUT = ("changing", "large", "name")
 
 
 @dataclass(frozen=True)

@@ -1,13 +1,13 @@
 """A text that was taken on another host, with what zirofen-host snapshot --with-host carries in its comments.
 
-A comment of a text that begins with `#= ` is a value in JSON, with one key: what the tree has no place for. All of it is
-what a check on the host itself would have looked at, but for open descriptors and the settings of units.
+Comments of a text carry what the tree has no place for (`carried`): all of what a check on the host itself would have looked at, but for
+the settings of units.
 """
-import json
 import re
 from dataclasses import dataclass, replace
 from typing import Callable, Dict, Iterable, Iterator, List, Mapping, Optional, Tuple
 
+from zirofen_host.collect import carried as carrying
 from zirofen_host.collect import containers, fitting
 from zirofen_host.collect import snapshot as snapshots
 from zirofen_host.collect.accounts import Accounts, is_id
@@ -22,10 +22,8 @@ from zirofen_host.fault import Fault
 from zirofen_host.files import OF_LIMITS, is_known
 from zirofen_host.profile import CONTROL_FILES, LIMIT_FILES, CgroupPath, is_other_limit, is_root, path_of, text_of
 
-MARK = "#= "
 # of a text that tells where threads run and what processes hold
 HOLDS = "threads and descriptors"
-ABOUT = {"host", "kernel", "time", "mount", "options", "delegate"}
 _ENTRY = re.compile(r"([0-9]{1,10}):([0-9]{1,10}):([0-7]{3,4})\Z")
 
 
@@ -57,6 +55,8 @@ class Gathered:
         self.covered: List[Covered] = []
         self.in_hosts_namespace: List[CgroupPath] = []
         self.scopes: List[Scope] = []
+        # records of a later version, which aren't known here
+        self.unknown = 0
         # what further was looked at
         self.looked: Tuple[str, ...] = ()
         self.changing: Dict[CgroupPath, Reason] = {}
@@ -68,8 +68,6 @@ class Gathered:
     def take_about(self, value: object) -> None:
         """The host itself. All else that is carried stands behind it."""
         about = table_in(value)
-        if {*about} != ABOUT:
-            raise ValueError
         host, kernel, time = (None if about[key] is None else text_in(about[key]) for key in ("host", "kernel", "time"))
         self.about = About(host, kernel, time)
         self.mount, self.options = text_in(about["mount"]), texts_in(about["options"])
@@ -112,6 +110,10 @@ class Gathered:
         has_own_namespace, has_host_pids, is_cut = map(flag_in, flags)
         self.inside.append(Inside(path_of(text_in(path)), number_in(processes), texts_in(by), tuple(map(mount_in, parts_in(mounts))),
                                   texts_in(capabilities), has_own_namespace, has_host_pids, is_cut))
+
+    def take_form(self, value: object) -> None:
+        """The version of the form: what a later one has beside this one is passed over, and told."""
+        number_in(value)
 
     def take_looked(self, value: object) -> None:
         self.looked = texts_in(value)
@@ -161,11 +163,12 @@ class Gathered:
         if self.mount is None:
             return None
         lists = AccountLists(tuple(self.accounts), tuple(self.groups), tuple(self.subordinate_uids), tuple(self.subordinate_gids))
-        return Carried(lists, self.values, HOLDS in self.looked)
+        return Carried(lists, self.values, HOLDS in self.looked, self.unknown)
 
 
 # what takes a value by its key
 TAKERS: Mapping[str, Callable[[Gathered, object], None]] = {
+    carrying.FORM: Gathered.take_form,
     "about": Gathered.take_about, "account": Gathered.take_account, "cgroup": Gathered.take_cgroup,
     "changing": Gathered.take_changing, "covered": Gathered.take_covered, "group": Gathered.take_group, "held": Gathered.take_held,
     "inside": Gathered.take_inside, "looked": Gathered.take_looked, "mount": Gathered.take_mount, "note": Gathered.take_note,
@@ -208,14 +211,17 @@ def with_defaults(tree: Tree) -> Tree:
 
 def gather(text: str, tree: Tree) -> Gathered:
     """What the comments of a text carry."""
-    gathered = Gathered(tree.rows)
-    for number, line in enumerate(text.split("\n"), 1):
-        if line.startswith(MARK):
-            try:
-                ((key, value),) = table_in(json.loads(line[len(MARK):])).items()
+    gathered, number = Gathered(tree.rows), 0
+    try:
+        for number, key, value in carrying.records_in(text):
+            if key:
                 TAKERS[key](gathered, value)
-            except (KeyError, IndexError, TypeError, ValueError, RecursionError):
-                raise Fault(f"line {number} of the text: what it carries isn't known") from None
+            else:
+                gathered.unknown += 1
+    except carrying.Unread as unread:
+        raise Fault(f"line {unread} of the text: what it carries isn't known") from None
+    except (KeyError, IndexError, TypeError, ValueError, RecursionError):
+        raise Fault(f"line {number} of the text: what it carries isn't known") from None
     return gathered
 
 
@@ -345,7 +351,7 @@ def word_of(entry: Entry) -> str:
 
 def text_with(snapshot: Snapshot, values: Iterable[Mapping[str, object]], with_processes: bool) -> str:
     """The tree text of a snapshot with what it carries."""
-    lines = "".join(f"{MARK}{json.dumps(value, separators=(',', ':'))}\n" for value in values)
+    lines = "".join(carrying.lines_of(values))
     text = snapshots.tree_text(snapshot, with_processes) + ("\n" + lines if lines else "")
     return text
 

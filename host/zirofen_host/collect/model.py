@@ -304,6 +304,8 @@ class Carried:
     values: Mapping[Tuple[CgroupPath, str], str]
     # where threads run, and what processes hold open, was looked at
     has_holds: bool = False
+    # records of a later version, which aren't known here
+    unknown: int = 0
 
 
 @dataclass(frozen=True)

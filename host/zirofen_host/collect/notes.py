@@ -15,6 +15,10 @@ SHOWN = 64
 FAILED = "failed"
 # the place of a run that came to the end of its time
 RUN = "run"
+# what a note may be of by which an answer is limited: not all cgroups were walked, a budget was reached, or a capability lacks
+WALK, BUDGETS, LACKING = "walk", "budgets", "lacking"
+# notes of cgroups that stand in no text
+LEFT_OUT = ("changing", "large", "name")
 
 
 @dataclass(frozen=True)
@@ -24,6 +28,8 @@ class Note(ABC):
     place: str
     # what is said once of all notes of its kind
     meaning = ""
+    # by what an answer is limited where there is such a note, if it is
+    narrows = ""
 
     @property
     @abstractmethod
@@ -51,6 +57,10 @@ class CarriedNote(Note):
     sentence: str
 
     @property
+    def narrows(self) -> str:  # type: ignore[override]
+        return WALK if self.word in LEFT_OUT else ""
+
+    @property
     def kind(self) -> str:
         return self.word
 
@@ -75,6 +85,7 @@ class Failed(Note):
 class Changing(Note):
     """A cgroup that changed all the time, or can't be read."""
     kind = "changing"
+    narrows = WALK
     reason: Reason
 
     @property
@@ -86,6 +97,7 @@ class Changing(Note):
 class WrongName(Note):
     """A cgroup whose path no text takes, with so many inside."""
     kind = "name"
+    narrows = WALK
     inside: int
 
     @property
@@ -247,6 +259,7 @@ class ProcessesBeside(Note):
 class ProcessesOverText(Note):
     """Somebody's processes, of which there are more than a text takes."""
     kind = "processes"
+    narrows = BUDGETS
     person: int
     count: int
     most: int
@@ -260,6 +273,7 @@ class ProcessesOverText(Note):
 class TooLarge(Note):
     """Somebody's cgroups, of which there are more than a text takes."""
     kind = "large"
+    narrows = WALK
     reason: LeftOutToFit
 
     @property
@@ -271,6 +285,7 @@ class TooLarge(Note):
 class Lacking(Note):
     """A capability that the helper hasn't, and what isn't seen without it."""
     kind = "lacking"
+    narrows = LACKING
     meaning = "The helper ran without a capability by which it would have seen more."
     capability: str
     unseen: str

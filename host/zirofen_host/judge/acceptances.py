@@ -5,19 +5,20 @@ import os
 import re
 import stat
 from dataclasses import dataclass, replace
-from typing import AbstractSet, Dict, FrozenSet, Iterable, Iterator, List, Mapping, NamedTuple, NoReturn, Optional, Tuple, Union
+from typing import Dict, FrozenSet, Iterable, List, Mapping, NamedTuple, NoReturn, Optional, Tuple, Union
 
 from zirofen_host.collect import bounded
 from zirofen_host.collect.model import GROUP, OTHERS, OWNER
 from zirofen_host.collect.tree import parts_in, table_in, text_in, texts_in, toml_reader
 from zirofen_host.fault import Fault
-from zirofen_host.judge.severity import ACCEPTED, Severity, severity_of
+from zirofen_host.judge.severity import ACCEPTED
 from zirofen_host.judge.model import ABSENT, Absent, Acceptance, EntryFinding, OpenedFinding, Report, RootInside, Whom
 from zirofen_host.judge.finding_lines import CAPABILITY, MOUNT_OPTIONS
 from zirofen_host.judge.rules import (ACCEPTABLE, HELD, OPENED, PREMISES, ROOT_INSIDE, RULES, RUNS, Finding, Rule, findings_of, of_held,
                                       of_premise, of_running)
+from zirofen_host.judge.standing import severity_of
 from zirofen_host.output import opened_back, refused
-from zirofen_host.profile import ANYBODY, is_inside, path_of, shown, tree_order
+from zirofen_host.profile import ANYBODY, shown
 
 KEYS = ("what", "path", "entry", "whom", "reason", "until")
 OVER, UNMET, WORSE = "over", "unmet", "worse"
@@ -53,7 +54,7 @@ class Given:
     def is_met_by(self, found: Finding) -> bool:
         """Whether a finding is what was accepted: at the same entry, no graver, and letting in nobody else."""
         given = RULES[self.what]
-        is_graver = (given.severity, found.rule.severity) == (Severity.UNSETTLED, Severity.ESCAPES)
+        is_graver = found.rule.severity.rank < given.severity.rank
         # of a container each thing that lets it out is accepted by itself, and so is each option that is missing and each capability
         is_list = found.rule.word in (ROOT_INSIDE, MOUNT_OPTIONS, CAPABILITY)
         is_entry = set(found.entry.split()) <= set(self.entry.split()) if is_list else found.entry == self.entry
@@ -205,25 +206,3 @@ def standing(each: Given, found: Optional[Finding], beside: Iterable[Finding], g
 def kind_of(rule: Rule) -> str:
     """What findings at one place may be beside one another: an entry's, one that is opened, a container, or a program's."""
     return rule.word if rule.word in (OPENED, ROOT_INSIDE, RUNS, HELD, *PREMISES) else ""
-
-
-def accepted_subtrees(report: Report) -> FrozenSet[str]:
-    """The subtrees of which nothing but what was accepted lets somebody in."""
-    accepted = {path for each in report.entries if each.accepted is not ABSENT for path in each.subtrees}
-    if not accepted:
-        return frozenset()
-    others = {path for each in report.entries if each.accepted is ABSENT for path in each.subtrees}
-    return frozenset(walked_down((each.path for each in report.subtrees), accepted, others))
-
-
-def walked_down(paths: Iterable[str], accepted: AbstractSet[str], others: AbstractSet[str]) -> Iterator[str]:
-    """Those of some paths that are inside of what is accepted and of nothing else: from the top down, so that each is looked at once."""
-    wanted = set(paths)
-    above = [("/", "/" in accepted, "/" in others)]
-    for path in sorted(wanted.union(accepted, others), key=lambda path: tree_order(path_of(path))):
-        while not is_inside(path, above[-1][0]):
-            above.pop()
-        _, is_accepted, is_other = above[-1]
-        above.append((path, is_accepted or path in accepted, is_other or path in others))
-        if path in wanted and above[-1][1:] == (True, False):
-            yield path

@@ -9,11 +9,11 @@ from zirofen_host.ask.program import CONTAINED
 from zirofen_host.collect.bounded import REPORT_FILE, read_opened
 from zirofen_host.fault import Fault
 from zirofen_host.judge import as_json
-from zirofen_host.judge.acceptances import accepted_subtrees
 from zirofen_host.judge.finding_lines import (MOUNT_OPTIONS, above_line, differs_line, entry_line, fault_line, inside_line, opened_line,
                                               premise_line, version_1_line)
 from zirofen_host.judge.severity import ACCEPTED as HOLDS
-from zirofen_host.judge.severity import Severity, is_empty, of_answer, of_fault, worst
+from zirofen_host.judge.severity import Severity, of_answer, of_fault, worst
+from zirofen_host.judge.standing import accepted_subtrees, is_empty
 from zirofen_host.collect.notes import FAILED
 from zirofen_host.judge.model import (ABSENT, VERSION, Absent, Comparison, Difference, DiffersFinding, EntryFinding,
                                       OpenedFinding, PlaceNames, Report, RootInside, Subtree, Whom, Within)
@@ -105,11 +105,11 @@ def found_by_path(report: Report) -> Dict[Key, Found]:
             of_answer(entry.answer), entry_line([entry]), let_in(entry.whom, entry.subtrees), entry, entry.within,
             entry.accepted is not ABSENT)
     for opened in report.opened:
-        found["opened", opened.path, opened.file] = Found(Severity.ESCAPES, opened_line(opened), let_in(opened.whom, ()), opened,
+        found["opened", opened.path, opened.file] = Found(Severity.OPENED, opened_line(opened), let_in(opened.whom, ()), opened,
                                                           opened.within, opened.accepted is not ABSENT)
     for inside in report.containers:
         found["root-inside", inside.path, ""] = Found(
-            Severity.CONTAINED if inside.held else Severity.ESCAPES, inside_line(inside), frozenset((way,) for way in inside.ways),
+            Severity.CONTAINED if inside.held else Severity.OPENED, inside_line(inside), frozenset((way,) for way in inside.ways),
             inside, is_accepted=inside.accepted is not ABSENT)
     for premise in (*map(of_running, report.running), *map(of_held, report.held)):
         found[premise.rule.word, premise.path, f"{premise.entry} {premise.whom[0].id}"] = Found(
@@ -185,8 +185,9 @@ def is_standing(key: Key, now: Found, is_accepted: bool) -> bool:
 
 def changes_of_host(report: Report, before: Report) -> Iterable[Difference]:
     for what, now, then in (("host", report.host, before.host), ("program", report.program, before.program),
-                            ("kernel", report.kernel, before.kernel), ("mount", report.mount, before.mount)):
-        if now != then:
+                            ("helper", report.helper, before.helper), ("kernel", report.kernel, before.kernel),
+                            ("mount", report.mount, before.mount)):
+        if now != then and then is not ABSENT:
             yield Difference(what, f"{what}: {now}", f"{what}: {then}", CONTAINED, (), None)
 
 

@@ -3,7 +3,7 @@ from collections import defaultdict
 from dataclasses import replace
 from typing import Dict, FrozenSet, List, Optional, Tuple
 
-from zirofen_host import output
+from zirofen_host import output, version
 from zirofen_host.ask.asking import ask_all
 from zirofen_host.ask.model import Answer
 from zirofen_host.ask.program import CONTAINED
@@ -19,7 +19,7 @@ from zirofen_host.judge.advised import Advised, advise
 from zirofen_host.judge.checked import Checked
 from zirofen_host.judge.finding_lines import SHOWN
 from zirofen_host.judge.findings import above_findings, differs_findings, entry_findings, fault_findings, opened_findings
-from zirofen_host.judge.severity import severity_of
+from zirofen_host.judge.standing import severity_of
 from zirofen_host.judge.judged import Own, judge
 from zirofen_host.judge.limits import limits_of
 from zirofen_host.judge.lists import shown_lists
@@ -88,7 +88,7 @@ def answer_of(checked: Checked, subtree: CgroupPath, lines: Tuple[str, ...], is_
     names = ["anybody" if uid == ANYBODY and holders.by != OWNER else str(uid) for uid in uids]
     who = ",".join(names) if len(uids) <= 3 else f"{len(uids)} users"
     is_named = len(uids) <= 3 and any(uid in checked.names.users or checked.names.range_of(uid) for uid in uids) and "anybody" not in names
-    kept = long_lists.kept(lines, uids[0], text_of(subtree), checked.options.tree)
+    kept = long_lists.kept(lines, uids[0], text_of(subtree), checked.options.carried)
     made = HolderAnswer(who, uids[:SHOWN], len(uids), gids, kept, is_above)
     return replace(made, names=tuple(name_of(checked, uid) for uid in uids)) if is_named else made
 
@@ -124,8 +124,9 @@ def report_of(checked: Checked, is_whole: bool) -> Report:
         lists=looks.all("lists", lambda: shown_lists(checked, subtrees, entries)),
         root_inside=looks.all("root-inside", lambda: inside.findings(checked)) or ABSENT,
         scopes=looks.each("containers", snapshot.scopes, lambda each: named_scope(checked, each)) or ABSENT,
-        runs_elsewhere=runs or ABSENT, held_entries=entries_held or ABSENT, limits=tuple(limits_of(checked)),
-        wanted={text_of(path): wanted for path, wanted in checked.wanted.items()}, premises=premises or ABSENT)
+        runs_elsewhere=runs or ABSENT, held_entries=entries_held or ABSENT, premises=premises or ABSENT,
+        limits=tuple(limits_of(checked, [*snapshot.notes, *(each.note for each in told if each.note)])),
+        options=checked.options.carried, helper=version.told(), wanted={text_of(path): wanted for path, wanted in checked.wanted.items()})
     if is_whole:
         made = replace(made, users=looks.all("users", lambda: whole.users_of(checked)),
                        groups=looks.all("groups", lambda: whole.groups_of(checked)), cgroups=whole.cgroups_of(checked, looks),

@@ -44,18 +44,23 @@ def entry_line(entries: Sequence[EntryFinding]) -> str:
     return f"{entry.path} {what}: {entry.answer}, by {whom_text(entry.whom)}, of {some(entry.subtrees)}"
 
 
-def explaining(user: int, subtree: str) -> str:
-    """The command that says of a user and a subtree what each guard asks; with the tree's text, where it was asked of one."""
-    return f"zirofen-host ask {user} --explain {shlex.quote(subtree)}"
+def explaining(user: int, subtree: str, given: Sequence[str]) -> str:
+    """The command that says of a user and a subtree what each guard asks, with the options of the run."""
+    return shlex.join(("zirofen-host", "ask", str(user), "--explain", subtree, *given))
 
 
-def why_command(each: EntryFinding) -> Optional[str]:
+def asking(user: int, subtree: str, given: Sequence[str]) -> str:
+    """The command that asks of a user and a subtree."""
+    return shlex.join(("zirofen-host", "ask", str(user), subtree, *given))
+
+
+def why_command(each: EntryFinding, given: Sequence[str]) -> Optional[str]:
     """The command that says why, of the user and the subtree that it is shown of, or else of the first whom the entry lets in as its
     owner."""
     if each.example:
-        return explaining(each.example.uid, each.example.subtree)
+        return explaining(each.example.uid, each.example.subtree, given)
     owner = next((whom.id for whom in each.whom if whom.by == OWNER and whom.id is not None), None)
-    return None if owner is None else explaining(owner, each.subtrees[0])
+    return None if owner is None else explaining(owner, each.subtrees[0], given)
 
 
 def opened_line(each: OpenedFinding) -> str:

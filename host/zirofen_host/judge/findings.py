@@ -59,7 +59,7 @@ def entry_finding(checked: Checked, advised: Advised, found: LetsIn, closing: Tu
     (user, subtree), place, lines = found.worst, found.place, found.answer.lines
     # an entry of others is everybody's; who of them was asked is among the users
     is_own, path = checked.questions.holds(user, subtree), text_of(place.path)
-    kept = long_lists.kept(lines, user.uid, text_of(subtree), checked.options.tree)
+    kept = long_lists.kept(lines, user.uid, text_of(subtree), checked.options.carried)
     example = None if is_own else Example(checked.names.who(user), user.uid, user.gids, text_of(subtree), kept)
     changes = checked.commands(advised.changes_of(found))
     return EntryFinding(path, place.name, owner_of(found.entry) if found.entry else None, word_of(lines),

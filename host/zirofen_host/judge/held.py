@@ -9,6 +9,9 @@ from zirofen_host.judge.model import ABSENT, HeldFinding, Owner, Subtree, Whom, 
 from zirofen_host.profile import CgroupPath, parent_of, shown, text_of
 
 
+CONTROL = "cgroup.subtree_control"
+
+
 class Holder(NamedTuple):
     """An entry and what holds it: a program of a user's."""
     path: CgroupPath
@@ -48,4 +51,4 @@ def is_changed_by(subtree: Subtree, uids: Iterable[int], found: Iterable[HeldFin
     anywhere, the parent's cgroup.subtree_control takes limit files away, and a file of the subtree's own top sets its limit."""
     holders, above = set(uids), parent_of(subtree.path)
     return any(each.whom[0].id in holders and (each.file == PROCS or each.path == subtree.path
-                                               or (each.path, each.file) == (above, "cgroup.subtree_control")) for each in found)
+                                               or (each.path, each.file) == (above, CONTROL)) for each in found)

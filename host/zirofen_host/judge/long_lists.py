@@ -1,21 +1,21 @@
 """Lists of operations that may be long: what a report keeps of them, and what is shown."""
 import re
-import shlex
-from typing import Iterator, Optional, Sequence, Tuple
+from typing import Iterator, Sequence, Tuple
+
+from zirofen_host.judge.finding_lines import asking
 
 # operations of a list
 KEPT, SHOWN = 64, 12
 _MORE = re.compile(r"# ([0-9]+) more: ")
 
 
-def kept(lines: Sequence[str], user: int, subtree: str, tree: Optional[str]) -> Tuple[str, ...]:
+def kept(lines: Sequence[str], user: int, subtree: str, given: Sequence[str]) -> Tuple[str, ...]:
     """An answer's lines as a report keeps them: behind so many operations stands how many more there are, and the command that prints
     them."""
     more = len(lines) - 1 - KEPT
     if more <= 0:
         return tuple(lines)
-    of_tree = f" --tree {shlex.quote(tree)}" if tree else ""
-    return (*lines[:1 + KEPT], f"# {more} more: zirofen-host ask{of_tree} {user} {shlex.quote(subtree)}")
+    return (*lines[:1 + KEPT], f"# {more} more: {asking(user, subtree, given)}")
 
 
 def shown(lines: Sequence[str]) -> Iterator[str]:

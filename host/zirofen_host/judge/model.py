@@ -482,6 +482,10 @@ class Report:
     limits: Union[Tuple[AnswerLimit, ...], Absent] = ABSENT
     # what answers take to be otherwise, where something is
     premises: Union[Tuple[PremiseFinding, ...], Absent] = ABSENT
+    # the options of the run, as words that a command which it prints carries; a report of 0.2.0 doesn't tell them
+    options: Union[Tuple[str, ...], Absent] = ABSENT
+    # the helper that made it, as its --version says; a report of 0.2.0 doesn't tell it
+    helper: Union[str, Absent] = ABSENT
     # what settings of units say of limits, as far as systemctl tells it; of a report that was read nothing is known
     wanted: AllWanted = field(default_factory=dict, compare=False, metadata=NO_KEY)
 
@@ -509,6 +513,11 @@ class Report:
     def names(self) -> "PlaceNames":
         """Containers and pods by the words that name them."""
         return PlaceNames(() if isinstance(self.scopes, Absent) else self.scopes)
+
+    @property
+    def given(self) -> Tuple[str, ...]:
+        """The options of the run, as far as they are told."""
+        return () if isinstance(self.options, Absent) else self.options
 
     @property
     def scopes_by_path(self) -> Mapping[str, NamedScope]:

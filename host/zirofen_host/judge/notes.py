@@ -3,7 +3,7 @@ from abc import abstractmethod
 from dataclasses import dataclass
 from typing import Iterable, Mapping, Optional, Tuple
 
-from zirofen_host.collect.notes import Note, classes
+from zirofen_host.collect.notes import BUDGETS, Note, classes
 from zirofen_host.collect.reasons import Reason
 from zirofen_host.judge.finding_lines import some
 from zirofen_host.judge.model import Wanted
@@ -36,6 +36,7 @@ class JoinedNote(Note):
 class UnlookedDescriptors(Note):
     """What processes of a user, or of root's in a container, hold and wasn't looked at."""
     kind = "descriptor"
+    narrows = BUDGETS
     meaning = "What was opened before is still written through, and this wasn't looked at."
     why: Reason
 
@@ -141,6 +142,7 @@ class Capable(Note):
 class UnlookedThreads(Note):
     """Threads of a user that weren't looked at."""
     kind = "capability"
+    narrows = BUDGETS
     count: int
     most: int
     # of whoever has more of something else than is looked at
@@ -200,6 +202,7 @@ class LeftOutGroups(Note):
 class UnaskedUsers(Note):
     """Users who weren't asked of what everybody is let in to: the counts of some subtrees."""
     kind = "everybody"
+    narrows = BUDGETS
     meaning = "Where everybody is let in, some users stand for all."
     counts: Tuple[int, ...]
 
@@ -345,6 +348,7 @@ class MountedElsewhere(Note):
 class UnlookedProcesses(Note):
     """Processes of a user that weren't looked at."""
     kind = "processes"
+    narrows = BUDGETS
     reason: Reason
 
     @property
@@ -356,6 +360,7 @@ class UnlookedProcesses(Note):
 class WithoutProcesses(Note):
     """Processes in a subtree that was asked of without them."""
     kind = "processes"
+    narrows = BUDGETS
     count: int
 
     @property

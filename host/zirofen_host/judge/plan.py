@@ -18,7 +18,7 @@ from zirofen_host.collect.holds import holds_of
 from zirofen_host.collect.model import Snapshot
 from zirofen_host.fault import FAULT, Fault
 from zirofen_host.judge import baseline, check, limits, settings, units
-from zirofen_host.judge.model import NOTHING_ASKED, AnswerLimit, Comparison, Report, Told
+from zirofen_host.judge.model import ABSENT, NOTHING_ASKED, AnswerLimit, Comparison, Report, Told
 from zirofen_host.judge.notes import NotPlanned
 from zirofen_host.options import PlanOptions
 from zirofen_host.profile import text_of
@@ -150,7 +150,8 @@ def compared(found: Accepted, text: str, options: PlanOptions, planned: Planned 
     was, now = report(found, options), report(accept(text, options), options)
     comparison = dataclasses.replace(baseline.compared(now, dataclasses.replace(was, accepted=True), AS_IT_IS), time="")
     told = tuple(Told.of(NotPlanned("", each)) for each in planned.named if each not in planned.may_give)
-    now = dataclasses.replace(now, unseen=(*told, *now.unseen), baseline=comparison)
+    # the text that was asked is gone, and no command can name it
+    now = dataclasses.replace(now, unseen=(*told, *now.unseen), options=ABSENT, baseline=comparison)
     return narrowed(now, comparison, planned.may_give) if planned.may_give else now
 
 

@@ -9,8 +9,9 @@ from zirofen_host.judge.finding_lines import NOTHING_ASKED as NOTHING_ASKED_LINE
 from zirofen_host.judge.finding_lines import (CAPABILITY, INSIDE_MEANS, MOUNT_OPTIONS, MOUNTED_OVER, acceptance_line, differs_line,
                                               entry_line, fault_line, held_line, inside_line, opened_line, premise_line,
                                               processes_text, runs_line, version_1_line)
-from zirofen_host.judge.severity import ACCEPTED, Severity, is_empty, of_answer, of_fault
+from zirofen_host.judge.severity import ACCEPTED, Severity, of_answer, of_fault
 from zirofen_host.judge.judged import OVER, UNKNOWN
+from zirofen_host.judge.standing import is_empty
 from zirofen_host.judge.model import (ABSENT, Absent, DiffersFinding, EntryFinding, HeldFinding, OpenedFinding, PremiseFinding, Report,
                                       RootInside, RunsElsewhere, Whom, Within)
 from zirofen_host.profile import FURTHER_FILES, LIMIT_FILES
@@ -63,11 +64,11 @@ def made_rules() -> Iterator[Rule]:
     for severity, (word, proof) in PROVED.items():
         for guard, lets in LETS.items():
             yield Rule(word, guard, severity, f"{lets[0].upper()}{lets[1:]}.", f"{proof}.")
-    yield Rule(OPENED, "", Severity.ESCAPES, "Somebody writes a limit that they shouldn't, or an entry that the service manager keeps for "
+    yield Rule(OPENED, "", Severity.OPENED, "Somebody writes a limit that they shouldn't, or an entry that the service manager keeps for "
                "itself.", SEEN)
-    yield Rule(OPENED, "dir", Severity.ESCAPES,
+    yield Rule(OPENED, "dir", Severity.OPENED,
                "Somebody writes a directory in which a service manager will make what others run in.", SEEN)
-    yield Rule(ROOT_INSIDE, "", Severity.ESCAPES, "Processes of root's in a container get at cgroup files outside of it.", SEEN)
+    yield Rule(ROOT_INSIDE, "", Severity.OPENED, "Processes of root's in a container get at cgroup files outside of it.", SEEN)
     yield Rule(ROOT_INSIDE, "held", Severity.CONTAINED, "Processes of root's in a container don't get at cgroup files outside of it.",
                "It speaks of cgroup files alone, and is seen by the helper, and not proved.")
     yield from rules_of_premises()
@@ -82,11 +83,11 @@ def made_rules() -> Iterator[Rule]:
 
 def rules_of_premises() -> Iterator[Rule]:
     """What an answer takes not to be."""
-    yield Rule(RUNS, "", Severity.ESCAPES, "Threads of a user's process run in another cgroup than the one by which it is listed, over an "
+    yield Rule(RUNS, "", Severity.OPENED, "Threads of a user's process run in another cgroup than the one by which it is listed, over an "
                "edge or where root keeps them.", SEEN)
     yield Rule(RUNS, "unsettled", Severity.UNSETTLED, "Threads of a process run in another cgroup than the one by which it is listed, on "
                "the same side of each edge, or as root's, or it isn't known where.", SEEN)
-    yield Rule(HELD, "", Severity.ESCAPES, "Somebody holds an entry open for writing that they couldn't open now.", SEEN)
+    yield Rule(HELD, "", Severity.OPENED, "Somebody holds an entry open for writing that they couldn't open now.", SEEN)
     yield Rule(HELD, "perhaps", Severity.UNSETTLED, "Somebody perhaps holds an entry open for writing that they couldn't open now.", SEEN)
     yield Rule(MOUNT_OPTIONS, "", Severity.UNSETTLED, "The hierarchy hasn't the options with which the service manager mounts it.", SEEN)
     yield Rule(MOUNTED_OVER, "", Severity.UNSETTLED, "Something is mounted over a file of a cgroup, which isn't read.", SEEN)

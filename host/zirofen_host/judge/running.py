@@ -1,6 +1,6 @@
 """Processes that run elsewhere than their first thread, by which they are listed: seen by the helper, and not proved."""
 from collections import defaultdict
-from typing import DefaultDict, Iterable, Iterator, List, Mapping, NamedTuple, Optional, Sequence
+from typing import DefaultDict, Iterable, Iterator, List, Mapping, NamedTuple, Optional, Sequence, Tuple
 
 from zirofen_host.collect.model import OWNER, Cgroup, Process
 from zirofen_host.collect.threads import DELETED
@@ -106,7 +106,12 @@ def whys(checked: Checked, program: Program, found: Iterable[Process], others: I
 
 def is_place_of(subtree: Subtree, found: Iterable[RunsElsewhere]) -> bool:
     """Whether a process that runs elsewhere is listed in a subtree, or runs there."""
-    return any(is_inside(place, subtree.path) for each in found for place in (each.path, *map(place_of, each.elsewhere)))
+    return any(is_inside(place, subtree.path) for each in found for place in places_of(each))
+
+
+def places_of(each: RunsElsewhere) -> Tuple[str, ...]:
+    """Where it is listed, and where it runs."""
+    return (each.path, *map(place_of, each.elsewhere))
 
 
 def place_of(text: str) -> str:

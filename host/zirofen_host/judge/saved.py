@@ -1,6 +1,6 @@
 """A report as zirofen-host check --json saves it, read back: what isn't one is a fault, and nothing else of it is believed."""
 import json
-from typing import Iterator, Optional
+from typing import Iterator, Optional, Sequence
 
 from zirofen_host.collect.bounded import REPORT_FILE, read_named
 from zirofen_host.fault import Fault
@@ -9,6 +9,8 @@ from zirofen_host.judge.model import (ABSENT, VERSION, AboveFinding, Absent, Com
                                       OpenedFinding, Report, ReportCgroup, ReportProcess)
 from zirofen_host.profile import is_root, parent_of
 
+# letters of a text that is no report, in which it is looked at whether it is a tree's
+READ_FOR_CURE = 1 << 16
 # what an earlier report may lack, and what stands in its place
 LACKING: as_json.Lacking = {
     (HolderAnswer, "users"): 0, (FaultFinding, "uid"): None, (FaultFinding, "gids"): (), (FaultFinding, "made_by"): None,
@@ -65,12 +67,21 @@ def check(value: as_json.Json, name: str) -> Report:
     return report
 
 
+def cure_of(text: str) -> Sequence[str]:
+    """What to do with a tree text that stands where a report should."""
+    is_tree = any(line.startswith(("format =", "controllers =", "[[cgroup]]")) for line in text[:READ_FOR_CURE].splitlines())
+    return ["  this is a tree text: zirofen-host check --tree FILE --json writes a report of it"] if is_tree else ()
+
+
 def read(file: str) -> Report:
     """The report in a file; - is standard input."""
     try:
-        value = json.loads(read_named(file, REPORT_FILE).text())
+        text = read_named(file, REPORT_FILE).text()
+        value = json.loads(text)
     except OSError as error:
         raise Fault(f"can't read the report: {error}") from None
-    except (ValueError, RecursionError) as error:
+    except UnicodeDecodeError as error:
         raise Fault(f"{file}: no JSON: {error}") from None
+    except (ValueError, RecursionError) as error:
+        raise Fault(f"{file}: no JSON: {error}", cure_of(text)) from None
     return check(value, file)

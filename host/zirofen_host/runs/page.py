@@ -21,7 +21,8 @@ def run(given: argparse.Namespace) -> int:
             reports.append(saved.read(file))
         except fault.Fault as why:
             unread.append(page.Unread(file, str(why)))
-            fault.warn(f"{NAME} page: {why}")
+            for line in (f"{NAME} page: {why}", *why.help_lines):
+                fault.warn(line)
     if not reports:
         return fault.FAULT
     page.write(options.out, reports, unread)

@@ -3,22 +3,20 @@ from collections import Counter
 from typing import Iterator, Sequence
 
 from zirofen_host.collect.notes import FAILED
-from zirofen_host.judge.finding_lines import acceptance_line, version_1_line
+from zirofen_host.judge.finding_lines import acceptance_line
 from zirofen_host.judge.severity import ACCEPTED as STANDS
 from zirofen_host.judge.model import Told
 from zirofen_host.show import insides, words
 from zirofen_host.show.finding import Place, id_of
 from zirofen_host.show.markup import code, items, text
 from zirofen_host.show.view import Host, present
-from zirofen_host.show.words import ACCEPTED, FAULT
+from zirofen_host.show.words import ACCEPTED
 
 
 def against(host: Host, at: Place) -> Iterator[str]:
     """The lines, as markup."""
     report = host.report
-    if report.version_1:
-        yield f"{text(version_1_line(report.version_1).capitalize())}."
-    faulty = [number for number, each in enumerate(host.findings) if each.kind == FAULT]
+    faulty = [number for number, each in enumerate(host.findings) if each.key == "faults"]
     if faulty:
         without = {path for each in report.faults for path in each.subtrees}
         yield f'<a href="#{id_of(at, faulty[0])}">{words.count(len(without), "delegation")} without an answer</a> for somebody.'

@@ -89,7 +89,8 @@ class Branches:
         within = [each for path in paths for each in self.host.below(path)]
         held = sum(each in self.host.delegations for each in within)
         kinds = {kind for path in within for kind, _ in self.host.standing.get(path, ())}
-        with_ = f" with {words.count(held, 'delegation')}: {words.listed(kind for kind in QUIET if kind in kinds)}" if held else ""
+        quiet = [words.standing_text(kind, self.host.report) for kind in QUIET if kind in kinds]
+        with_ = f" with {words.count(held, 'delegation')}: {words.listed(quiet)}" if held else ""
         opening = f'<li class="folded"><details><summary><span class="at">{words.count(len(within), "cgroup")}{with_}</span></summary><ul>'
         return opening, [Below(each, True) for each in paths], "</ul></details></li>"
 
@@ -97,7 +98,7 @@ class Branches:
         """How a cgroup stands, with a link to the finding that says so."""
         marks = []
         for kind, number in self.host.standing.get(path, ()):
-            sign = f'<span class="sign" aria-hidden="true">{SIGNS[kind][0]}</span> {kind}'
+            sign = f'<span class="sign" aria-hidden="true">{SIGNS[kind][0]}</span> {words.standing_text(kind, self.host.report)}'
             marks.append(f'<span class="{css(kind)} standing">{sign}</span>' if number is None else
                          f'<a class="{css(kind)}" href="#{id_of(self.at, number)}">{sign}</a>')
         return "".join(f" {mark}" for mark in marks)

@@ -8,6 +8,7 @@ from functools import cached_property
 from html import escape
 from typing import Dict, Iterator, List, NamedTuple, Sequence, Set, Tuple
 
+from zirofen_host.judge import limits
 from zirofen_host.profile import ancestors
 from zirofen_host.show import words
 from zirofen_host.show.finding import Article, Place, articles
@@ -188,7 +189,8 @@ class Drawn:
         for number in (2, 1, 0):
             self.rectangle(Rectangle(room.left + number * step, room.top + number * step, room.width - 2 * step,
                                      room.height - 2 * step), name)
-        told = f"{len(within)} {words.listed(each for each in STANDINGS if each in kinds)}" if within else f"{box.weight} others"
+        stand = words.listed(words.standing_text(each, host.report) for each in STANDINGS if each in kinds)
+        told = f"{len(within)} {stand}" if within else f"{box.weight} others"
         self.text(room, f"{SIGNS[kind][0]} " if kind else "", told, css(kind))
 
     def rectangle(self, room: Rectangle, name: str) -> None:
@@ -237,9 +239,9 @@ class Drawn:
 def told(chart: Chart) -> str:
     """What the picture shows, for who doesn't see it."""
     delegations, contained, _ = chart.host.numbers
-    arrows = words.count(len(chart.arrows), "arrow")
+    arrows, mark = words.count(len(chart.arrows), "arrow"), limits.mark_of(chart.host.report)
     return (f"The host's {words.count(len(chart.host.rows), 'cgroup')} as boxes in one another: {words.count(delegations, 'delegation')}, "
-            f"{contained} shown to be contained; {arrows} of escapes. The table has all of it.")
+            f"{contained} shown to be contained{mark}; {arrows} of escapes. The table has all of it.")
 
 
 def html(host: Host, at: Place) -> str:
@@ -249,7 +251,8 @@ def html(host: Host, at: Place) -> str:
     chart = Chart(host, at)
     drawn = "\n".join(Drawn(chart, width, height).svg(f"{at.id}-chart-{size}", size) for size, width, height in SIZES)
     seen = {kind for kinds in host.standing.values() for kind, _ in kinds[:1]}
-    signs = " ".join(f'<span class="{css(kind)} standing">{SIGNS[kind][0]} {kind}</span>' for kind in STANDINGS if kind in seen)
+    signs = " ".join(f'<span class="{css(kind)} standing">{SIGNS[kind][0]} {words.standing_text(kind, host.report)}</span>'
+                     for kind in STANDINGS if kind in seen)
     some = f", of {len(chart.escapes)} the first {len(chart.arrows)}" if len(chart.escapes) > len(chart.arrows) else ""
     arrows = f" An arrow: an escape{some}." if chart.arrows else ""
     return (f'<section id="{at.id}-chart"><{at.level(2)}>The host in one picture</{at.level(2)}>\n<figure>\n{drawn}\n<figcaption>{signs} '

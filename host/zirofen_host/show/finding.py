@@ -150,7 +150,8 @@ class Article:
         escape = self.broken.escape if self.broken else None
         if not escape or escape.uid is None:
             return ""
-        return f"<p>What each guard asks, and by what it holds or fails: {code(explaining(escape.uid, escape.subtree))}.</p>"
+        command = explaining(escape.uid, escape.subtree, self.host.report.given)
+        return f"<p>What each guard asks, and by what it holds or fails: {code(command)}.</p>"
 
     def picture(self) -> str:
         """The escape as it was told already, or its picture."""

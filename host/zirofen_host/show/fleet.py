@@ -13,17 +13,15 @@ from zirofen_host.collect.notes import FAILED
 from zirofen_host.fault import FAULT, Fault
 from zirofen_host.judge import limits, saved
 from zirofen_host.judge.finding_lines import (differs_line, entry_line, fault_line, held_line, inside_line, opened_line,
-                                              premise_line, runs_line, version_1_line)
-from zirofen_host.judge.severity import severity_of
-from zirofen_host.judge.model import (ABSENT, DiffersFinding, EntryFinding, FaultFinding, HeldFinding, OpenedFinding,
+                                              premise_line, runs_line)
+from zirofen_host.judge.severity import OF_STATUS, worst
+from zirofen_host.judge.model import (Absent, DiffersFinding, EntryFinding, FaultFinding, HeldFinding, OpenedFinding,
                                       PremiseFinding, Report, RootInside, RunsElsewhere)
 from zirofen_host.profile import shown
-from zirofen_host.show.view import DIFFERS, Grouped, Host, accepted_of, host_of, place_of
-from zirofen_host.show.words import CONTAINED, NOT_ASKED, STANDINGS
+from zirofen_host.show.view import Grouped, Host, accepted_of, host_of, place_of
+from zirofen_host.show.words import STANDINGS
 
 ENDING = ".json"
-# statuses, the worst first
-WORST = (FAULT, 1, 2, 4, 0)
 # lines of findings that a row keeps, and letters of one, of a name and of why a report doesn't count
 MOST_LINES, LONGEST_LINE, LONGEST_NAME, LONGEST_WHY = 3, 160, 80, 200
 # findings and lines of what no answer looks at in one report
@@ -40,7 +38,7 @@ class Row:
     name: str
     why: Optional[str]
     status: int
-    # the gravest that is found
+    # the word of the gravest that is found
     kind: str
     delegations: int = 0
     contained: int = 0
@@ -57,12 +55,14 @@ class Row:
     findings: int = 0
     # of hosts that are alike the same
     alike: bytes = b""
-    # whether its report tells what narrows it, which one of 0.2.0 doesn't
-    tells_limits: bool = True
+    # what narrows its report, by its kinds; one of 0.2.0 doesn't tell it
+    limits: Optional[Tuple[str, ...]] = ()
+    # what stands behind an answer of it
+    mark: str = ""
 
-    def place(self) -> Tuple[bool, int, int, int, str]:
-        """Where it stands in a table: the worst first."""
-        return self.why is None, WORST.index(self.status), ORDER.index(self.kind), -self.open, self.name
+    def place(self) -> Tuple[int, int, str]:
+        """Where it stands in a table: the gravest first."""
+        return ORDER.index(self.kind), -self.open, self.name
 
 
 ORDER = (NO_REPORT, *STANDINGS)
@@ -86,12 +86,13 @@ class Fleet:
 
     @property
     def status(self) -> int:
-        return min((each.status for each in self.rows), key=WORST.index, default=FAULT)
+        """That of the gravest."""
+        return min(self.rows, key=Row.place).status if self.rows else FAULT
 
     @property
     def untold_limits(self) -> int:
         """How many hosts there are of which it isn't known what narrows their reports."""
-        return sum(not row.tells_limits for row in self.rows)
+        return sum(row.limits is None for row in self.rows)
 
     def groups(self, is_each: bool = False) -> List[Alike]:
         """The hosts that are alike together, the worst first."""
@@ -131,7 +132,7 @@ def report_in(path: str) -> Report:
     if sum(len(each) for each in lists if isinstance(each, list)) > MOST_FINDINGS:
         raise Fault(f"it has over {MOST_FINDINGS} findings")
     report = saved.check(value, "")
-    if report.status not in WORST:
+    if report.status not in OF_STATUS:
         raise Fault("report.status isn't what a report has there")
     return report
 
@@ -176,24 +177,22 @@ def plain_lines(found: Grouped) -> Iterator[str]:
 def row_of(name: str, host: Host, is_listed: bool) -> Row:
     """The row of a host by its report."""
     report, (delegations, contained, open_findings) = host.report, host.numbers
-    kinds = [each.kind for each in host.findings if each.kind != DIFFERS]
-    narrowed = limits.line_of(report)
-    # a host that was asked about in part isn't shown to be contained
-    kind = kinds[0] if kinds else CONTAINED if report.asked and not narrowed else NOT_ASKED
-    notes = [*([version_1_line(report.version_1)] if report.version_1 else []), *([narrowed] if narrowed else []),
-             *(each.line for each in report.unseen if each.kind == FAILED)]
-    status = min(report.status, severity_of(report).status, key=WORST.index)
-    alike, lines = hashlib.sha256(repr((status, kind, notes)).encode()), []
+    # what another version of this helper has found may be graver than what this one finds in its report
+    severity = host.severity if host.severity.status == report.status else worst((host.severity, OF_STATUS[report.status]))
+    narrowed = [f"{limits.HEAD}: {each.text}" for each in limits.narrowing(report)[:len(limits.KINDS)]]
+    notes = [*narrowed, *(each.line for each in report.unseen if each.kind == FAILED)][:len(narrowed) + MOST_LINES]
+    alike, lines = hashlib.sha256(repr((severity.value, notes)).encode()), []
     names = report.names
     for number, finding in enumerate(host.findings):
-        told = [names.line(line, place) for line in finding_lines(finding) for place in [place_of(finding.parts[0])]]
-        alike.update(repr(told).encode())
+        found = [names.line(line, place) for line in finding_lines(finding) for place in [place_of(finding.parts[0])]]
+        alike.update(repr(found).encode())
         if number < MOST_LINES:
-            lines.append(cut(told[0], LONGEST_LINE))
+            lines.append(cut(found[0], LONGEST_LINE))
     of = None if is_of(name, report.host) else cut(report.host, LONGEST_NAME)
-    return Row(name, None, status, kind, delegations, contained, open_findings, cut(report.time, 20), of, is_listed,
-               tuple(cut(each, LONGEST_LINE) for each in notes[:MOST_LINES]), tuple(lines), len(host.findings), alike.digest(),
-               report.limits is not ABSENT)
+    told = None if isinstance(report.limits, Absent) else tuple(each.kind for each in report.limits)
+    return Row(name, None, severity.status, severity.value, delegations, contained, open_findings, cut(report.time, 20), of, is_listed,
+               tuple(cut(each, LONGEST_LINE) for each in notes), tuple(lines), len(host.findings), alike.digest(),
+               told, limits.mark_of(report))
 
 
 def is_of(name: str, host: str) -> bool:
@@ -274,7 +273,8 @@ def value_of(fleet: Fleet) -> Mapping[str, object]:
     hosts: List[Mapping[str, object]] = [
         {"host": row.name, "counts": row.why is None, "why": row.why, "status": row.status, "answer": row.kind,
          "delegations": row.delegations, "contained": row.contained, "open": row.open, "time": row.time or None,
-         "of": row.of, "listed": row.is_listed, "notes": list(row.notes), "findings": row.findings, "first": list(row.lines)}
+         "of": row.of, "listed": row.is_listed, "limits": row.limits, "notes": list(row.notes),
+         "findings": row.findings, "first": list(row.lines)}
         for row in fleet.rows]
     alike = [{"hosts": [row.name for row in group.rows], "answer": group.first.kind, "why": group.first.why,
               "findings": group.first.findings} for group in fleet.groups() if len(group.rows) > 1]

@@ -3,7 +3,7 @@ from collections import Counter
 from typing import Iterator, List, Sequence, Tuple
 
 from zirofen_host.show import words
-from zirofen_host.show.fleet import LONGEST_NAME, NO_REPORT, ORDER, Alike, Fleet, cut
+from zirofen_host.show.fleet import LONGEST_NAME, NO_REPORT, ORDER, Alike, Fleet, Row, cut
 
 HEAD = ("HOST", "ANSWER", "DELEGATIONS", "CONTAINED", "OPEN", "TAKEN")
 # how far the first column is filled up
@@ -29,8 +29,12 @@ def columns(alike: Alike) -> Tuple[str, ...]:
     name = cut(first.name, LONGEST_NAME) if len(rows) == 1 else words.count(len(rows), "host")
     if first.why is not None:
         return name, NO_REPORT, "-", "-", "-", "-"
-    return (name, first.kind, some([row.delegations for row in rows]), some([row.contained for row in rows]),
-            some([row.open for row in rows]), times(alike))
+    return (name, first.kind, some([row.delegations for row in rows]), contained(rows), some([row.open for row in rows]), times(alike))
+
+
+def contained(rows: Sequence[Row]) -> str:
+    """How many delegations are shown to be contained, with a mark where an answer is limited."""
+    return some([row.contained for row in rows]) + rows[0].mark
 
 
 def told(alike: Alike) -> Iterator[str]:

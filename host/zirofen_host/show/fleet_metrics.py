@@ -3,7 +3,8 @@ from collections import Counter
 from datetime import datetime, timezone
 from typing import Iterator
 
-from zirofen_host.show.fleet import ORDER, TIME, WORST, Fleet, Row
+from zirofen_host.judge.severity import OF_STATUS
+from zirofen_host.show.fleet import ORDER, TIME, Fleet, Row
 from zirofen_host.show.metrics import ALONE, Gauge, Values, lines_of
 
 
@@ -31,10 +32,10 @@ def gauges(fleet: Fleet, seconds: float, ended: float) -> Iterator[Gauge]:
     yield Gauge("zirofen_fleet_hosts", "Hosts by the gravest that is found of each; no_report: its report is missing or doesn't count.",
                 {(("answer", kind.replace(" ", "_")),): kinds[kind] for kind in ORDER})
     yield Gauge("zirofen_fleet_hosts_with_status", "Hosts by the status of each.",
-                {(("status", str(status)),): statuses[status] for status in sorted(WORST)})
+                {(("status", str(status)),): statuses[status] for status in sorted(OF_STATUS)})
     yield Gauge("zirofen_fleet_delegations", "Delegations of all hosts.", total(fleet, "delegations"))
     yield Gauge("zirofen_fleet_contained_delegations", "Delegations of all hosts that are shown to be contained.",
-                total(fleet, "contained"))
+                {ALONE: sum(row.contained for row in fleet.rows if not row.mark)})
     yield Gauge("zirofen_fleet_open_findings", "Findings of all hosts that are open.", total(fleet, "open"))
     yield Gauge("zirofen_fleet_unexpected_reports", "Reports of other hosts than their names say, or of hosts that shouldn't be there.",
                 {ALONE: sum(map(is_another, fleet.rows))})

@@ -8,7 +8,7 @@ from zirofen_host import output
 from zirofen_host.judge.model import Report
 from zirofen_host.show import page, words
 from zirofen_host.show.fleet import LONGEST_NAME, NO_REPORT, ORDER, Alike, Fleet, Row, cut
-from zirofen_host.show.fleet_lines import some, sum_line, times, told
+from zirofen_host.show.fleet_lines import contained, some, sum_line, times, told
 from zirofen_host.show.markup import code, css, filled, text
 from zirofen_host.show.words import FAULT, SIGNS
 
@@ -56,7 +56,7 @@ class Index:
         if len(rows) > FEW:
             who = f"<details><summary>{words.count(len(rows), 'host')}</summary>{who}</details>"
         numbers = ["", "", "", ""] if first.why is not None else [
-            *(some(each) for each in ([row.delegations for row in rows], [row.contained for row in rows], [row.open for row in rows])),
+            some([row.delegations for row in rows]), contained(rows), some([row.open for row in rows]),
             _SECOND.sub(r" \1", times(alike))]
         cells = "".join(f"<td>{each}</td>" for each in (sign, who, *map(text, numbers), self.told(alike)))
         return f'<tr class="{css(kind)}">{cells}</tr>' if first.why is None else f'<tr class="lost">{cells}</tr>'

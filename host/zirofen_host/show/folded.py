@@ -4,9 +4,7 @@ from dataclasses import dataclass
 from typing import Dict, Hashable, Iterable, Iterator, List, Optional, Sequence, Tuple
 
 from zirofen_host.collect.bounded import LINES
-
-# the gravest first
-SEVERITY = ("fault", "escapes", "opened", "unsettled", "accepted", "contained", "above")
+from zirofen_host.judge import severity
 
 
 @dataclass(frozen=True)
@@ -30,7 +28,7 @@ class Run:
 
     def severity(self) -> Tuple[bool, int]:
         """What lets in another goes first, and then by its word."""
-        return self.first.others is None, SEVERITY.index(self.first.word) if self.first.word in SEVERITY else len(SEVERITY)
+        return self.first.others is None, severity.place(self.first.word)[0]
 
     def lines(self) -> Iterator[str]:
         yield from self.first.lines
@@ -75,5 +73,4 @@ def left_out(runs: Iterable[Run]) -> Iterator[str]:
 
 def counted(counts: Dict[str, int]) -> str:
     """Counts by word, the gravest first."""
-    words = sorted(counts, key=lambda word: (SEVERITY.index(word) if word in SEVERITY else len(SEVERITY), word))
-    return ", ".join(f"{counts[word]} {word}" for word in words)
+    return ", ".join(f"{counts[word]} {word}" for word in sorted(counts, key=severity.place))

@@ -6,7 +6,7 @@ from typing import Dict, Hashable, Iterator, List, Sequence
 from zirofen_host.judge.model import DiffersFinding, EntryFinding, FaultFinding, HeldFinding, PremiseFinding, RootInside, RunsElsewhere
 from zirofen_host.show import words
 from zirofen_host.show.finding import Article, Place, articles
-from zirofen_host.show.markup import commands, filled
+from zirofen_host.show.markup import commands, css, filled
 from zirofen_host.show.view import Host, Part, accepted_of, subtrees_of, whom_of
 from zirofen_host.show.words import SIGNS
 
@@ -56,7 +56,7 @@ class Group:
     def html(self, is_open: bool) -> str:
         first = self.members[0]
         kind, others = first.finding.kind, len(self.members) - 1
-        return filled("group.html", kind=kind, id=f' id="{first.id}"' if not others else "", open=" open" if is_open else "",
+        return filled("group.html", kind=css(kind), id=f' id="{first.id}"' if not others else "", open=" open" if is_open else "",
                       heading=first.at.level(3), sign=SIGNS[kind][0] if kind in SIGNS else "~", word=kind,
                       title=first.title() + (f", and {others} more {'is' if others == 1 else 'are'} alike" if others else ""),
                       told=self.told() if others else first.html())

@@ -9,17 +9,18 @@ from zirofen_host.collect.model import OWNER
 from zirofen_host.fault import plain
 from zirofen_host.judge import limits
 from zirofen_host.judge.severity import Severity, of_answer
-from zirofen_host.judge.model import Absent, Subtree
+from zirofen_host.judge.model import Absent, HolderAnswer, Subtree
 from zirofen_host.judge.notes import Outside
 from zirofen_host.judge.finding_lines import CAPABILITY, MOUNT_OPTIONS, MOUNTED_OVER
 from zirofen_host.judge.rules import (DIFFERS, HELD, NOTHING_ASKED, OPENED, OPENED_DIRECTORY, ROOT_HELD, ROOT_INSIDE, RUNS, VERSION_1,
                                       Finding)
 from zirofen_host.profile import ancestors
+from zirofen_host.show import words
 from zirofen_host.show.run import Run
 
 PASSED, SKIPPED, FAILURE, ERROR = "passed", "skipped", "failure", "error"
 OF_SEVERITY: Dict[Severity, str] = {
-    Severity.ESCAPES: FAILURE, Severity.UNSETTLED: FAILURE, Severity.NOT_LOOKED_AT: FAILURE, Severity.STALE: FAILURE,
+    **dict.fromkeys((Severity.ESCAPES, Severity.OPENED, Severity.UNSETTLED, Severity.NOT_LOOKED_AT, Severity.STALE), FAILURE),
     Severity.CONTAINED: PASSED}
 HOST = "the host"
 # what is told of the host as a whole has a case in each report
@@ -64,12 +65,17 @@ def told(found: Finding) -> List[str]:
     return [found.line, *found.example, *(f"change: {each}" for each in found.changes), *setting, *accepted]
 
 
+def severity_of(each: HolderAnswer) -> Severity:
+    """How grave an answer of who holds a subtree is; what lies in their own is open to them."""
+    return Severity.CONTAINED if each.is_above else of_answer(each.word)
+
+
 def holder_case(cases: Cases, subtree: Subtree, by_subtree: Mapping[str, List[Finding]]) -> None:
     """A case for each answer of whoever holds a subtree; the entries that it rests on say more."""
     behind = [found for place in (subtree.path, *ancestors(subtree.path)) for found in by_subtree.get(place, ())]
     for each in subtree.answers:
         case = cases.at(subtree.path, f"held by {each.who}")
-        severity = Severity.CONTAINED if each.is_above else of_answer(each.word)
+        severity = severity_of(each)
         if severity is Severity.CONTAINED:
             continue
         is_accepted = bool(behind) and not any(isinstance(found.accepted, Absent) for found in behind)
@@ -81,7 +87,8 @@ def holder_case(cases: Cases, subtree: Subtree, by_subtree: Mapping[str, List[Fi
 
 def is_holders(subtree: Optional[Subtree], by: str, number: Optional[int]) -> bool:
     """Whether the answers of who holds a subtree say it already."""
-    return subtree is not None and by == OWNER and any(number in each.uids for each in subtree.answers)
+    return subtree is not None and by == OWNER and any(
+        number in each.uids and severity_of(each) is not Severity.CONTAINED for each in subtree.answers)
 
 
 def entry_cases(cases: Cases, found: Finding, subtrees: Dict[str, Subtree]) -> None:
@@ -158,6 +165,9 @@ def parts_of(run: Run) -> Iterator[str]:
     moment, subject = time.strftime("%Y-%m-%dT%H:%M:%S", time.gmtime(run.ended)), plain(run.subject)
     suites = ElementTree.Element("testsuites", {"name": "zirofen", **counts})
     suite = ElementTree.SubElement(suites, "testsuite", {"name": subject, **counts, "timestamp": moment, "hostname": subject})
+    properties = ElementTree.SubElement(suite, "properties")
+    for name, value in zip(("program", "helper"), words.made_by(run.report)):
+        ElementTree.SubElement(properties, "property", {"name": name, "value": plain(value)})
     names = run.report.names
     for case in cases:
         add_case(suite, case, names.of(case.subject) or case.subject)

@@ -4,32 +4,32 @@ from collections import Counter
 from typing import Callable, Dict, Iterable, Iterator, List, Mapping, Optional, Sequence, Tuple, TypeVar, Union
 
 from zirofen_host.collect.notes import LimitsOfVersion1
-from zirofen_host.fault import FAULT
 from zirofen_host.installed import MANUAL
 from zirofen_host.judge import limits, long_lists
-from zirofen_host.judge.acceptances import accepted_subtrees
 from zirofen_host.judge.baseline import KINDS
 from zirofen_host.judge.finding_lines import (INSIDE_MEANS, NOTHING_ASKED, PREMISES_MEAN, SHOWN, above_line, acceptance_line, differs_line,
                                               entry_line, fault_line, held_line, opened_line, premise_line,
-                                              processes_text, runs_line, version_1_line, whom_text, why_command)
-from zirofen_host.judge.severity import is_empty
-from zirofen_host.judge.marked import is_marked, marks_text
+                                              processes_text, runs_line, whom_text, why_command)
+from zirofen_host.judge.marked import marks_text
 from zirofen_host.judge.model import (ABSENT, AboveFinding, Absent, Comparison, Difference, DiffersFinding, EntryFinding, HeldFinding,
                                       HolderAnswer, NamedScope, OpenedFinding, PremiseFinding, Report, RootInside, RunsElsewhere,
                                       Subtree, Told)
 from zirofen_host.judge.notes import JOINED, JoinedNote
+from zirofen_host.judge.severity import Severity
+from zirofen_host.judge.standing import cause_of, is_empty, standings, status_text
 from zirofen_host.profile import ancestors
 from zirofen_host.show import container_lines
-from zirofen_host.show.folded import SEVERITY, Part, counted, folded
+from zirofen_host.show.folded import Part, folded
+from zirofen_host.show.words import STANDINGS, listed, standing_text
 
 # how far the table's columns are filled up; a longer word stands out
 WIDEST = (20, 24, 48)
-# behind an answer where limits are those of version 1
-VERSION_1 = " [v1]"
 # who holds what root alone does, and its answer
 NOBODY, ROOT_ALONE = "-", "held by root alone"
 # lines of each kind of what no answer looks at, for what one person made
 TOLD = 4
+# what a comparison's status may be by
+COUNTED = {"new": "new", "worse": "worse", "stand": "that stand since then"}
 # what brings changes and a setting
 Mended = Union[EntryFinding, OpenedFinding, DiffersFinding, RootInside, RunsElsewhere, HeldFinding, PremiseFinding, Difference]
 One = TypeVar("One")
@@ -77,7 +77,7 @@ def words_of(subtree: Subtree) -> List[str]:
 def table(report: Report, is_each: bool = False) -> Iterator[str]:
     """Columns of who holds a subtree, their groups, the answer and the path, which may be long; what it shows stands below. What
     somebody made below their own delegation stands last."""
-    mark = (VERSION_1 if report.version_1 else "") + (limits.MARK if limits.narrowing(report) else "")
+    mark = limits.mark_of(report)
     scopes = report.scopes_by_path
     rows = [(subtree.within, word, (who, gids, answer, path + beside(scopes, path), below)) for subtree in report.subtrees
             for word, (who, gids, answer, path, below) in zip(words_of(subtree), rows_of(subtree, mark, True))]
@@ -122,14 +122,14 @@ def what_to_change(found: Sequence[Mended]) -> Iterator[str]:
     yield from (f"    cause: {cause}" for cause in dict.fromkeys(cause for of in causes if not isinstance(of, Absent) for cause in of))
 
 
-def entry_lines(entries: Sequence[EntryFinding]) -> Iterator[str]:
+def entry_lines(entries: Sequence[EntryFinding], given: Sequence[str]) -> Iterator[str]:
     """The line of entries at one place, with an example and what to change."""
     yield entry_line(entries)
     example = entries[0].example
     if example:
         yield f"    by {example.who} of {example.subtree}: {example.lines[0]}"
         yield from (f"    {line}" for line in long_lists.shown(example.lines))
-    why = why_command(entries[0])
+    why = why_command(entries[0], given)
     if why:
         yield f"    why: {why}"
     yield from what_to_change(entries)
@@ -157,7 +157,7 @@ def finding_lines(report: Report, is_each: bool = False) -> Iterator[str]:
     """Everything that counts, and then what doesn't; at last what somebody made below their own delegation."""
     entries = [(found[0].within, found) for found in alike((each for each in report.entries if each.accepted is ABSENT), entry_in_common)]
     opened = [(each[0].within, each) for each in alike((each for each in report.opened if each.accepted is ABSENT), opened_in_common)]
-    yield from (line for within, found in entries if within is ABSENT for line in entry_lines(found))
+    yield from (line for within, found in entries if within is ABSENT for line in entry_lines(found, report.given))
     yield from (line for within, each in opened if within is ABSENT for line in opened_lines(each))
     for fault in report.faults:
         yield fault_line(fault, fault.subtrees)
@@ -166,7 +166,8 @@ def finding_lines(report: Report, is_each: bool = False) -> Iterator[str]:
     for differs in report.differs:
         yield differs_line(differs)
         yield from what_to_change([differs])
-    made = [Part(within, (found[0].answer, owners, found[0].whom), found[0].answer, others_in(found), list(entry_lines(found)))
+    made = [Part(within, (found[0].answer, owners, found[0].whom), found[0].answer, others_in(found),
+                 list(entry_lines(found, report.given)))
             for within, found in entries if not isinstance(within, Absent)
             for owners in [tuple((each.entry, each.owner) for each in found)]]
     made += [Part(within, ("opened", owners, each[0].whom), "opened", others_in(each), list(opened_lines(each)))
@@ -236,19 +237,16 @@ def above_lines(found: Iterable[AboveFinding], is_each: bool) -> Iterator[str]:
                        if not isinstance(each.within, Absent)), is_each)
 
 
-def said_first(report: Report, status: int) -> str:
-    """What a sum says before its numbers: that nothing but faults of somebody's own making is behind the status, and what of the
-    limits isn't looked at at all."""
-    own = {each.made_by for each in report.faults}
-    told = ["only faults of their holders' own making"] if status == FAULT and own and None not in own else []
-    return "; ".join(told + ([version_1_line(report.version_1)] if report.version_1 else []))
-
-
 def sum_line(report: Report) -> str:
-    """All of it in one line: how many subtrees were asked of, and how many of them stand how."""
-    counts = Counter(standings(report).values())
-    told = f"{sum(counts.values())} asked: {counted(counts) or 'nothing'}"
-    return "; ".join(filter(None, (said_first(report, report.status), told, inside_sum(report), limits.line_of(report))))
+    """All of it in one line: the status, and what it is by, and how all that was asked stands."""
+    return f"{status_text(report)}; {asked_line(report)}"
+
+
+def asked_line(report: Report) -> str:
+    """How many subtrees were asked of, and how many of them stand how; what a limited answer holds to be contained has its mark."""
+    counts = Counter(each.value for each in standings(report).values())
+    told = ", ".join(f"{counts[word]} {standing_text(word, report)}" for word in STANDINGS if counts[word])
+    return "; ".join(filter(None, (f"{sum(counts.values())} asked: {told or 'nothing'}", inside_sum(report), limits.line_of(report))))
 
 
 def inside_sum(report: Report) -> str:
@@ -256,25 +254,6 @@ def inside_sum(report: Report) -> str:
     counts = Counter("accepted" if each.accepted is not ABSENT else "held" if each.held else "not held" for each in report.containers)
     told = ", ".join(f"{counts[word]} {word}" for word in ("not held", "accepted", "held") if counts[word])
     return f"{sum(counts.values())} with root inside: {told}" if counts else ""
-
-
-def standings(report: Report) -> Dict[str, str]:
-    """How each subtree stands, by the gravest that is told of it."""
-    accepted = accepted_subtrees(report)
-    told = {(each.path, "accepted" if each.path in accepted else standing(each)) for each in report.subtrees}
-    told |= {(path, "accepted" if entry.accepted is not ABSENT else entry.answer) for entry in report.entries for path in entry.subtrees}
-    told |= {(path, "fault") for fault in report.faults for path in fault.subtrees}
-    paths = {path for path, _ in told}
-    told |= {(each.path, "opened") for each in report.opened if each.path in paths and each.accepted is ABSENT}
-    told |= {(each.path, "opened") for each in report.subtrees if is_marked(each)}
-    return {path: word for path, word in sorted(told, key=lambda each: (each[0], -SEVERITY.index(each[1])))}
-
-
-def standing(subtree: Subtree) -> str:
-    """How a subtree stands by the answers of who holds it."""
-    words = set(words_of(subtree)) if subtree.answers else set()
-    words = {word if word in SEVERITY else "fault" for word in words} - ({"above"} if len(words) > 1 else set())
-    return min(words, key=SEVERITY.index, default="contained")
 
 
 def lines_of(report: Report, is_each: bool = False) -> Iterator[str]:
@@ -349,9 +328,16 @@ def comparison_lines(report: Report, compared: Comparison, is_each: bool = False
         yield INSIDE_MEANS
     if not any(found for _, found in by_kind(compared)):
         yield f"nothing is new, worse, changed or gone since {compared.time or compared.file}"
-    first = said_first(report, compared.status)
-    if first:
-        yield first
+    yield compared_line(report, compared)
+
+
+def compared_line(report: Report, compared: Comparison) -> str:
+    """The status of a comparison, and what it is by: what is new or worse, and what stands since then and nobody accepted."""
+    counts = {word: sum(each.status == compared.status for each in found) for word, found in by_kind(compared)}
+    told = [f"{counts[kind]} {word}" for kind, word in COUNTED.items() if counts[kind]] if compared.status else []
+    other = Severity.NOTHING_ASKED if compared.status == Severity.NOTHING_ASKED.status else Severity.STALE
+    by = listed(told) or (cause_of(report, other) if compared.status else "")
+    return "; ".join(filter(None, (f"{compared.status} by {by}" if by else str(compared.status), limits.line_of(report))))
 
 
 def difference_lines(kind: str, each: Difference) -> Iterator[str]:

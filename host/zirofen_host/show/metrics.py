@@ -6,15 +6,16 @@ from zirofen_host.judge import limits
 from zirofen_host.judge.severity import Severity
 from zirofen_host.judge.model import ABSENT, Absent
 from zirofen_host.judge.rules import RULES, Rule
-from zirofen_host.show.folded import SEVERITY
-from zirofen_host.show.lines import standings
+from zirofen_host.judge.standing import standings
 from zirofen_host.show.run import Run
 
 # what isn't a finding of an entry is a fault, or told by the status
 FAULTS: Dict[str, str] = {"fault": "anybody", "fault/own": "holders", "failed": "look"}
 NAMES: Dict[Severity, str] = {
-    Severity.ESCAPES: "escapes", Severity.UNSETTLED: "unsettled", Severity.CONTAINED: "contained",
+    Severity.ESCAPES: "escapes", Severity.OPENED: "escapes", Severity.UNSETTLED: "unsettled", Severity.CONTAINED: "contained",
     Severity.NOT_LOOKED_AT: "not_looked_at", Severity.NOTHING_ASKED: "nothing_asked", Severity.STALE: "stale"}
+# how a host stands, and no subtree
+OF_HOST = (Severity.NOTHING_ASKED, Severity.NOT_LOOKED_AT, Severity.STALE, Severity.NOT_ASKED)
 Values = Mapping[Tuple[Tuple[str, str], ...], float]
 ALONE: Tuple[Tuple[str, str], ...] = ()
 
@@ -24,6 +25,10 @@ class Gauge(NamedTuple):
     name: str
     told: str
     values: Values
+
+
+def label(severity: Severity) -> str:
+    return severity.value.replace(" ", "_")
 
 
 def kind_labels(rule: Rule) -> Tuple[Tuple[str, str], ...]:
@@ -39,7 +44,7 @@ def gauges(run: Run) -> Iterator[Gauge]:
     answers = Counter(standing.values())
     yield Gauge("zirofen_subtrees_asked", "Subtrees that were asked of.", {ALONE: len(standing)})
     yield Gauge("zirofen_subtrees", "Subtrees by the gravest that is told of each.",
-                {(("answer", word),): answers[word] for word in SEVERITY})
+                {(("answer", label(each)),): answers[each] for each in Severity if each not in OF_HOST})
     yield Gauge("zirofen_findings", "Findings by kind and gravity, without those that were accepted.",
                 {kind_labels(rule): counts[rule.id] for rule in RULES.values() if rule.id not in FAULTS})
     yield Gauge("zirofen_faults", "What has no answer, by whose making.", {(("of", word),): counts[kind] for kind, word in FAULTS.items()})

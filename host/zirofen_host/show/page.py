@@ -15,9 +15,9 @@ from zirofen_host.show.finding import Place
 from zirofen_host.show.lines import by_kind
 from zirofen_host.show.markup import code, css, filled, paragraph, places, read, text
 from zirofen_host.show.table import Table
-from zirofen_host.show.view import COUNTED, Host, host_of
-from zirofen_host.show.words import (ACCEPTED, CONTAINED, ESCAPES, FAULT, MEANINGS, NOT_ASKED, OPENED, SIGNS, STANDINGS, UNSETTLED,
-                                     visible)
+from zirofen_host.show.view import Host, host_of
+from zirofen_host.show.words import (ACCEPTED, COUNTED, ESCAPES, FAULT, MEANINGS, NOT_ASKED, NOT_LOOKED_AT, NOTHING_ASKED, OPENED,
+                                     OWN_FAULT, SIGNS, STALE, STANDINGS, UNSETTLED, standing_text, visible)
 
 
 # reports on one page
@@ -28,6 +28,11 @@ class Unread(NamedTuple):
     """A report that can't be read, and why."""
     file: str
     why: str
+
+
+def capital(told: str) -> str:
+    """A sentence of these words; names in it stay as they are."""
+    return told[:1].upper() + told[1:]
 
 
 def difference(each: Difference) -> str:
@@ -44,10 +49,8 @@ class HostPage:
 
     @property
     def kind(self) -> str:
-        """The gravest that is found."""
-        if self.host.findings and self.host.findings[0].kind in STANDINGS:
-            return self.host.findings[0].kind
-        return CONTAINED if self.host.report.asked else NOT_ASKED
+        """The gravest that is told of it."""
+        return self.host.severity.value
 
     @property
     def name(self) -> str:
@@ -58,40 +61,50 @@ class HostPage:
         report = self.host.report
         time = f'at <time datetime="{text(report.time)}">{text(report.time)}</time>' if report.time else "at a time that isn't told"
         told = (f'<span class="name">{text(self.name)}</span>', text(report.kernel), time,
-                f"with {text(report.program)}" if report.program else "")
+                f"with {text(words.listed(words.made_by(report)))}" if report.program else "")
         return ", ".join(filter(None, told))
 
     def sentence(self) -> str:
         """How the host stands, at once, and what that leaves out."""
         narrowed = limits.line_of(self.host.report)
-        return f"Of what was asked: {self.said()} {narrowed.capitalize()}." if narrowed else self.said()
+        return f"Of what was asked: {self.said()} {capital(narrowed)}." if narrowed else self.said()
 
     def said(self) -> str:
-        delegations, contained, _ = self.host.numbers
+        """The sentence of how it stands."""
         number = sum(any(kind == self.kind for kind, _ in self.host.standing[path]) for path in self.host.delegations)
-        every, they_are = words.count(delegations, "delegation"), "is" if number == 1 else "are"
-        if self.kind == ESCAPES:
-            return f"{number} of {every} can be broken by somebody whom {'it' if number == 1 else 'they'} should hold."
-        if self.kind == OPENED:
-            return f"{self.opened()}, and {contained} of {every} {'is' if contained == 1 else 'are'} shown to be contained."
-        if self.kind == UNSETTLED:
-            return (f"{number} of {every} {they_are} not settled: an entry stands open, and nothing was found that breaks the "
-                    "subtree.")
-        if self.kind == ACCEPTED:
-            return (f"{number} of {every} {'stands' if number == 1 else 'stand'} open by what somebody accepted, and {contained} "
-                    f"{'is' if contained == 1 else 'are'} shown to be contained.")
-        if self.kind == FAULT:
-            return f"{number} of {every} {'has' if number == 1 else 'have'} no answer for somebody."
-        if self.kind == NOT_ASKED and self.host.root_inside:
-            return f"No delegation was found, and {words.count(len(self.host.root_inside), 'container')} of root's."
-        if self.kind == NOT_ASKED:
-            return "Nothing was found to ask: no subtree and user of which containment could be asked."
+        every, one = words.count(len(self.host.delegations), "delegation"), number == 1
+        is_, has, stands, it = ("is", "has", "stands", "it") if one else ("are", "have", "stand", "they")
+        told = {
+            ESCAPES: f"{number} of {every} can be broken by somebody whom {it} should hold.",
+            OPENED: f"{self.opened()}, and {self.contained()}.",
+            UNSETTLED: f"{number} of {every} {is_} not settled: an entry stands open, and nothing was found that breaks the subtree.",
+            FAULT: f"{number} of {every} {has} no answer for somebody." if number else f"A look failed, and {self.contained()}.",
+            OWN_FAULT: f"{number} of {every} {has} no answer for somebody, which is the making of who holds {it if one else 'them'}.",
+            NOT_LOOKED_AT: f"Limits aren't looked at, and {self.contained()}.",
+            STALE: f"An acceptance doesn't hold, and {self.contained()}.",
+            ACCEPTED: f"{number} of {every} {stands} open by what somebody accepted, and {self.contained(False)}.",
+            NOT_ASKED: f"No delegation was found, and {words.count(len(self.host.root_inside), 'container')} of root's.",
+            NOTHING_ASKED: "Nothing was found to ask: no subtree and user of which containment could be asked."}
+        return told.get(self.kind) or self.all_contained()
+
+    def contained(self, is_of: bool = True) -> str:
+        """How many are shown to be contained, as far as was asked."""
+        delegations, contained, _ = self.host.numbers
+        of = f" of {words.count(delegations, 'delegation')}" if is_of else ""
+        return f"{contained}{of} {'is' if contained == 1 else 'are'} shown to be contained{limits.mark_of(self.host.report)}"
+
+    def all_contained(self) -> str:
+        """The sentence of a host of which nothing counts."""
+        delegations, contained, _ = self.host.numbers
+        every, mark = words.count(delegations, "delegation"), limits.mark_of(self.host.report)
+        if not delegations:
+            return f"Nothing of {words.count(len(self.host.root_inside), 'container')} of root's counts."
         if contained < delegations:
-            return (f"{contained} of {every} are shown to be contained, and the others lie in what was handed to the same "
+            return (f"{contained} of {every} are shown to be contained{mark}, and the others lie in what was handed to the same "
                     "person.")
         if delegations == 1:
-            return "The one delegation is shown to be contained: nobody who was asked can break it, whatever they do."
-        return f"All {every} are shown to be contained: nobody who was asked can break one, whatever they do."
+            return f"The one delegation is shown to be contained{mark}: nobody who was asked can break it, whatever they do."
+        return f"All {every} are shown to be contained{mark}: nobody who was asked can break one, whatever they do."
 
     def opened(self) -> str:
         """What stands open beside the answers."""
@@ -100,8 +113,7 @@ class HostPage:
         limits = len(parts) - insides
         found = [f"{words.count(limits, 'limit stands', 'limits stand')} open to somebody"] if limits else []
         found += [f"root in {words.count(insides, 'container')} isn't held"] if insides else []
-        told = ", ".join(found)
-        return told[:1].upper() + told[1:]
+        return capital(", ".join(found))
 
     def open_kinds(self) -> str:
         kinds = [(kind, sum(each.kind == kind for each in self.host.findings)) for kind in COUNTED]
@@ -110,10 +122,12 @@ class HostPage:
 
     def html(self) -> str:
         delegations, contained, open_findings = self.host.numbers
+        mark, of_what = limits.mark_of(self.host.report), " of what was asked" if limits.narrowing(self.host.report) else " open"
         findings, picture = groups.html(self.host, self.at), chart.html(self.host, self.at)
         return filled("host.html", id=self.at.id, heading=self.at.level(1), second=self.at.level(2), kind=css(self.kind),
                       sign=SIGNS[self.kind][0],
                       sentence=text(self.sentence()), delegations=delegations, contained=contained, open=open_findings,
+                      mark=mark, of_what=of_what,
                       delegations_word=words.noun(delegations, "delegation"), open_word=words.noun(open_findings, "finding"),
                       open_kinds=text(self.open_kinds()), findings=findings or paragraph("There are none."),
                       baseline=self.baseline(), tree="\n".join(Branches(self.host, self.at).parts()), signs=self.signs(),
@@ -137,8 +151,9 @@ class HostPage:
 
     def signs(self) -> str:
         seen = {kind for kinds in self.host.standing.values() for kind, _ in kinds}
-        return "\n".join(f'<dt class="{css(kind)} standing">{SIGNS[kind][0]} {kind}</dt><dd>{MEANINGS[kind]}</dd>'
-                         for kind in STANDINGS if kind in seen)
+        report = self.host.report
+        told = ((css(kind), f"{SIGNS[kind][0]} {standing_text(kind, report)}", MEANINGS[kind]) for kind in STANDINGS if kind in seen)
+        return "\n".join(f'<dt class="{kind} standing">{sign}</dt><dd>{meaning}</dd>' for kind, sign, meaning in told)
 
     def expected(self) -> str:
         """What lies below what was handed to somebody."""
@@ -168,10 +183,12 @@ class HostPage:
     def overview(self) -> str:
         """The host in the list of several."""
         delegations, contained, open_findings = self.host.numbers
+        mark = limits.mark_of(self.host.report)
+        of_what = "of what was asked" if limits.narrowing(self.host.report) else "open"
         link = f'<a href="#{self.at.id}">{text(self.name)}</a>'
         return (f'<li class="{css(self.kind)}">{link} <span class="standing">{SIGNS[self.kind][0]} {self.kind}</span>'
-                f"<br>{text(self.sentence())} <br>{words.count(delegations, 'delegation')}, {contained} shown to be contained, "
-                f"{open_findings} open</li>")
+                f"<br>{text(self.sentence())} <br>{words.count(delegations, 'delegation')}, {contained} shown to be contained{mark}, "
+                f"{open_findings} {of_what}</li>")
 
 
 def sum_of(inline: str) -> str:

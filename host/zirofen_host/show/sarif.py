@@ -10,7 +10,6 @@ from urllib.parse import quote
 from zirofen_host.collect.bounded import read_file
 from zirofen_host.collect.tree import toml_reader
 from zirofen_host.fault import FAULT, plain
-from zirofen_host.installed import MANUAL
 from zirofen_host.judge import limits
 from zirofen_host.judge.severity import Severity
 from zirofen_host.judge.model import Absent, Report
@@ -21,7 +20,9 @@ from zirofen_host.show.run import Run
 
 SCHEMA = "https://docs.oasis-open.org/sarif/sarif/v2.1.0/os/schemas/sarif-schema-2.1.0.json"
 # what counts as an error; what else counts is a warning, and what doesn't a note
-ERRORS = (Severity.FAULT, Severity.ESCAPES)
+ERRORS = (Severity.FAULT, Severity.ESCAPES, Severity.OPENED)
+# where each kind is explained, by a name that is the same wherever a check ran
+PAGE = "zirofen-host(8)"
 FINGERPRINT = "zirofen/v1"
 _LINK = re.compile(r"\[(?=[^\]]*\]\()")
 _PATH_ROW = re.compile(r"""\s*(?:path|"path"|'path')\s*=""")
@@ -39,8 +40,9 @@ def level_of(severity: Severity) -> str:
 
 
 def rule_object(rule: Rule) -> Object:
-    return {"id": rule.id, "shortDescription": {"text": rule.what},
-            "fullDescription": {"text": rule.told}, "help": {"text": f"{MANUAL}, section {rule.id}"},
+    told = {"text": f"{rule.told} What to do: {PAGE}, section {rule.id}.",
+            "markdown": f"{rule.told}\n\nWhat to do: *{PAGE}*, section `{rule.id}`."}
+    return {"id": rule.id, "shortDescription": {"text": rule.what}, "fullDescription": {"text": rule.told}, "help": told,
             "defaultConfiguration": {"level": level_of(rule.severity)}}
 
 
@@ -121,12 +123,13 @@ def notifications(report: Report) -> Object:
 def run_object(run: Run) -> Object:
     report, numbers = run.report, {kind: at for at, kind in enumerate(RULES)}
     driver: Object = {"name": "zirofen-host", "rules": list(map(rule_object, RULES.values()))}
-    if report.program:
-        driver["version"] = plain(report.program.rpartition(" ")[2])
+    if not isinstance(report.helper, Absent):
+        driver["version"] = plain(report.helper.partition(" ")[2])
     rows = rows_in(run.text)
     results: List[Object] = [result(run, found, numbers[found.rule.id], rows) for found in run.findings]
-    about = {key: plain(word) for key, word in (("host", report.host), ("kernel", report.kernel), ("time", report.time),
-                                                ("mount", report.mount)) if word}
+    named = (("program", report.program), ("host", report.host), ("kernel", report.kernel), ("time", report.time),
+             ("mount", report.mount))
+    about = {key: plain(word) for key, word in named if word}
     return {"tool": {"driver": driver}, "automationDetails": {"id": f"zirofen/{quote(run.subject, errors='backslashreplace')}/"},
             "invocations": [{"executionSuccessful": run.status != FAULT, "exitCode": run.status,
                              "startTimeUtc": moment(run.ended - run.seconds), "endTimeUtc": moment(run.ended),

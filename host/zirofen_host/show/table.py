@@ -52,7 +52,7 @@ class Table:
     def folded(self, rows: Sequence[str]) -> str:
         """The rest of the table behind a fold, which says what is in it."""
         answers = Counter(map(self.answer, self.paths[self.shown:]))
-        told = ", ".join(f"{answers[kind]} {kind}" for kind in STANDINGS if answers[kind])
+        told = ", ".join(f"{answers[kind]} {words.standing_text(kind, self.host.report)}" for kind in STANDINGS if answers[kind])
         return f'<details class="rest"><summary>{len(rows)} more: {told}</summary>\n{table(rows)}\n</details>'
 
     def usual(self) -> str:
@@ -72,7 +72,7 @@ class Table:
     def answers(self, path: str) -> Iterator[str]:
         """Each kind of answer with its sign, and a link to the finding that says so."""
         for kind, number in self.host.standing[path]:
-            sign = f'<span aria-hidden="true">{SIGNS[kind][0]}</span> {kind}'
+            sign = f'<span aria-hidden="true">{SIGNS[kind][0]}</span> {words.standing_text(kind, self.host.report)}'
             yield (f'<span class="{css(kind)} standing">{sign}</span>' if number is None else
                    f'<a class="{css(kind)} standing" href="#{id_of(self.at, number)}">{sign}</a>')
 

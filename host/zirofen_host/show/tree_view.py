@@ -1,5 +1,6 @@
 """The hierarchy of a report as a tree of lines, for a terminal."""
 import os
+import shlex
 import shutil
 import subprocess
 import sys
@@ -12,13 +13,15 @@ from zirofen_host.collect import bounded
 from zirofen_host.fault import Fault, plain
 from zirofen_host.judge import limits
 from zirofen_host.judge.finding_lines import INSIDE_MEANS, inside_text
+from zirofen_host.judge.severity import of_fault
+from zirofen_host.judge.standing import status_text
 from zirofen_host.judge.model import DiffersFinding, HeldFinding, PremiseFinding, Report, RootInside, RunsElsewhere
 from zirofen_host.options import TreeOptions
 from zirofen_host.profile import is_inside, is_root, text_of
 from zirofen_host.show import words
 from zirofen_host.show.lines import scope_text
-from zirofen_host.show.view import COUNTED, Host, accepted_of, entry_of, host_of, whom_of
-from zirofen_host.show.words import ABOVE, ACCEPTED, CONTAINED, ESCAPES, FAULT, NOT_ASKED, OPENED, SIGNS, STANDINGS, UNSETTLED
+from zirofen_host.show.view import Host, accepted_of, entry_of, host_of, whom_of
+from zirofen_host.show.words import COUNTED, SIGNS, STANDINGS
 
 # a cgroup, or those that are folded, with what stands before its line and before the lines below it
 Left = Tuple[Union[str, Sequence[str]], str, str]
@@ -44,7 +47,8 @@ class Glyphs(NamedTuple):
 
 UTF8 = Glyphs("│ ", "├─", "└─", "  ", "…")
 ASCII = Glyphs("| ", "|-", "`-", "  ", "..")
-COLOURS = {ESCAPES: "1;31", OPENED: "1;35", UNSETTLED: "1;33", FAULT: "1;31", ACCEPTED: "36", NOT_ASKED: "2", ABOVE: "2", CONTAINED: "32"}
+RED, MAGENTA, YELLOW, CYAN, FAINT, GREEN = "1;31", "1;35", "1;33", "36", "2", "32"
+COLOURS = dict(zip(STANDINGS, (RED, RED, MAGENTA, YELLOW, RED, FAINT, YELLOW, YELLOW, CYAN, CYAN, FAINT, FAINT, GREEN)))
 DIM = "2"
 # columns that a name keeps beside its answer
 LEAST_NAME = 14
@@ -62,7 +66,7 @@ class Drawer:
         if only not in self.host.rows:
             raise Fault(f"there is no cgroup {only!a} in the report")
         report = self.host.report
-        told = words.name_of(report), report.kernel, report.time, report.program
+        told = words.name_of(report), report.kernel, report.time, *words.made_by(report)
         yield self.cut_end(", ".join(filter(None, told)), self.drawing.width)
         left: List[Left] = [(only, "", "")]
         while left:
@@ -92,7 +96,8 @@ class Drawer:
         first, rest = self.short(first), self.short(rest)
         name = path if is_root(path) or path == self.drawing.only else path.rpartition("/")[2]
         kinds = [kind for kind, _ in self.host.standing.get(path, ())]
-        standing = ", ".join(f"{SIGNS[kind][self.drawing.is_ascii]} {kind}" for kind in kinds)
+        report = self.host.report
+        standing = ", ".join(f"{SIGNS[kind][self.drawing.is_ascii]} {words.standing_text(kind, report)}" for kind in kinds)
         room = self.left_of(first)
         is_beside = not kinds or room is None or room - len(standing) - 2 >= min(len(name), LEAST_NAME)
         name = self.cut_front(name, room if room is None or not kinds or not is_beside else room - len(standing) - 2)
@@ -141,21 +146,24 @@ class Drawer:
         yield ""
         narrowed = limits.line_of(self.host.report)
         of = "Of what was asked: " if narrowed else "" if is_root(self.drawing.only) else "The whole host has "
-        yield from self.wrapped("", f"{of}{words.count(delegations, 'delegation')}: {contained} shown to be contained; "
-                                f"{words.count(open_findings, 'finding')} open")
+        many = words.count(open_findings, "finding")
+        yield from self.wrapped("", f"{of}{words.count(delegations, 'delegation')}: {contained} shown to be contained"
+                                f"{limits.mark_of(self.host.report)}; {many if narrowed else many + ' open'}")
+        yield from self.wrapped("", f"Status {status_text(self.host.report)}")
         if narrowed:
-            yield from self.wrapped("", narrowed.capitalize())
+            yield from self.wrapped("", narrowed[0].upper() + narrowed[1:])
         for path, fault in self.host.lost:
-            yield from self.wrapped("", f"{SIGNS[FAULT][self.drawing.is_ascii]} {path}: {fault.fault}")
+            yield from self.wrapped("", f"{SIGNS[of_fault(fault).value][self.drawing.is_ascii]} {path}: {fault.fault}")
         seen = {kind for path, kinds in self.host.standing.items() for kind, _ in kinds if is_inside(path, self.drawing.only)}
         for kind in STANDINGS:
             if kind in seen:
                 sign = SIGNS[kind][self.drawing.is_ascii]
-                yield from self.wrapped("", f"{sign} {kind}: {words.MEANINGS[kind]}")
+                yield from self.wrapped("", f"{sign} {words.standing_text(kind, self.host.report)}: {words.MEANINGS[kind]}")
         if any(is_inside(path, self.drawing.only) for path in self.host.root_inside):
             yield from self.wrapped("", f"root inside: {INSIDE_MEANS}")
         if any(finding.kind in COUNTED for finding in self.host.findings):
-            yield from self.wrapped("", "What to change: zirofen-host check, or zirofen-host page of its --json.")
+            command = shlex.join(("zirofen-host", "check", *self.host.report.given))
+            yield from self.wrapped("", f"What to change: {command}, or zirofen-host page of its --json.")
 
     def coloured(self, text: str, colour: str) -> str:
         return f"\x1b[{colour}m{text}\x1b[0m" if self.drawing.is_coloured and text else text

@@ -7,14 +7,15 @@ from typing import Callable, Dict, Iterable, Iterator, List, Mapping, Optional, 
 
 from zirofen_host.collect.model import Value
 from zirofen_host.collect.walk import OWNERS_MARK
-from zirofen_host.judge.marked import is_marked
 from zirofen_host.judge.model import (Absent, DiffersFinding, EntryFinding, FaultFinding, HeldBy, HeldFinding, NamedScope, OpenedFinding,
                                       Owner, PremiseFinding, Report, ReportCgroup, ReportFile, ReportProcess, ReportUser, RootInside,
                                       RunsElsewhere, Subtree, Whom)
+from zirofen_host.judge.severity import Severity, of_answer, of_fault, of_premise
+from zirofen_host.judge.standing import delegations, severity_of, standings
 from zirofen_host.profile import CONTROL_FILES, FURTHER_FILES, HANDED_OVER, LIMIT_FILES, ancestors, is_usual, parent_of
 from zirofen_host.show import words
 from zirofen_host.show.lines import alike, entry_in_common, opened_in_common
-from zirofen_host.show.words import ABOVE, ACCEPTED, CONTAINED, ESCAPES, FAULT, NOT_ASKED, OPENED, STANDINGS, UNSETTLED, visible
+from zirofen_host.show.words import ACCEPTED, CONTAINED, COUNTED, LIMITED, NOT_ASKED, STANDINGS, visible
 
 Part = Union[EntryFinding, OpenedFinding, FaultFinding, DiffersFinding, RootInside, RunsElsewhere, HeldFinding, PremiseFinding]
 SomePart = TypeVar("SomePart", bound=Part)
@@ -24,13 +25,22 @@ Made = TypeVar("Made")
 
 @dataclass(frozen=True)
 class Grouped:
-    """Findings of a report that stand together: a kind, their key in the report, and the numbers that they have there."""
-    kind: str
-    # what was answered, whether somebody accepted it or not
-    answer: str
+    """Findings of a report that stand together: their key in the report, and the numbers that they have there."""
+    # whether somebody accepted it or not; what doesn't count has none
+    severity: Optional[Severity]
     key: str
     numbers: Sequence[int]
     parts: Sequence[Part]
+
+    @property
+    def answer(self) -> str:
+        """The word of what was found."""
+        return self.severity.value if self.severity else DIFFERS
+
+    @property
+    def kind(self) -> str:
+        """The word of how it stands, where somebody may have accepted it."""
+        return ACCEPTED if accepted_of(self.parts[0]) is not None else self.answer
 
 
 @dataclass(frozen=True)
@@ -46,8 +56,6 @@ class Escape:
 
 
 DIFFERS, RUNNING, HELD, PREMISES = "differs", "runs_elsewhere", "held_entries", "premises"
-KINDS = {"opened": OPENED, "faults": FAULT, "differs": DIFFERS}
-COUNTED = (ESCAPES, OPENED, UNSETTLED, FAULT)
 
 
 def seen(value: object, shown: Callable[[str], str]) -> object:
@@ -107,26 +115,43 @@ def whom_of(part: Part) -> Tuple[Whom, ...]:
     return part.whom if isinstance(part, (EntryFinding, OpenedFinding, RunsElsewhere, HeldFinding, PremiseFinding)) else ()
 
 
+def is_held(part: Part) -> bool:
+    """Whether it is a container of root's that is held."""
+    return isinstance(part, RootInside) and part.held
+
+
 def accepted_of(part: Part) -> Optional[str]:
     """Why a finding isn't counted, where somebody accepted it."""
     why = None if isinstance(part, (FaultFinding, DiffersFinding)) else part.accepted
     return None if isinstance(why, Absent) else why
 
 
+def severity_of_part(part: Part) -> Optional[Severity]:
+    """How grave a finding is, whether somebody accepted it or not."""
+    if isinstance(part, EntryFinding):
+        return of_answer(part.answer)
+    if isinstance(part, FaultFinding):
+        return of_fault(part)
+    if isinstance(part, RunsElsewhere):
+        return of_premise(part.is_across)
+    if isinstance(part, HeldFinding):
+        return of_premise(part.is_sure)
+    if isinstance(part, PremiseFinding):
+        return Severity.UNSETTLED
+    return None if isinstance(part, DiffersFinding) else Severity.OPENED
+
+
 def grouped(key: str, found: Sequence[SomePart], in_common: Callable[[SomePart], object]) -> Iterator[Grouped]:
     """Findings that stand together below one key of the report."""
     at = 0
     for parts in alike(found, lambda each: (in_common(each), accepted_of(each))):
-        first = parts[0]
-        answer = KINDS.get(key, ESCAPES if isinstance(first, EntryFinding) and first.answer == ESCAPES else UNSETTLED)
-        yield Grouped(answer if accepted_of(first) is None else ACCEPTED, answer, key, range(at, at + len(parts)), parts)
+        yield Grouped(severity_of_part(parts[0]), key, range(at, at + len(parts)), parts)
         at += len(parts)
 
 
-def premise(key: str, number: int, part: Part, is_broken: bool) -> Grouped:
-    """What an answer takes not to be: it is so, or it may be."""
-    answer = OPENED if is_broken else UNSETTLED
-    return Grouped(answer if accepted_of(part) is None else ACCEPTED, answer, key, (number,), (part,))
+def alone(key: str, found: Sequence[Part]) -> Iterator[Grouped]:
+    """Findings of which each stands by itself."""
+    return (Grouped(severity_of_part(part), key, (number,), (part,)) for number, part in enumerate(found))
 
 
 @dataclass(frozen=True, eq=False)
@@ -153,12 +178,9 @@ class Host:
         """What to mend: entries at one place that let in the same to the same are one; the gravest first."""
         report = self.report
         found = [*grouped("entries", report.entries, entry_in_common), *grouped("opened", report.opened, opened_in_common),
-                 *(Grouped(OPENED if accepted_of(each) is None else ACCEPTED, OPENED, "root_inside", (number,), (each,))
-                   for number, each in enumerate(report.containers) if not each.held),
-                 *(premise(RUNNING, number, each, each.is_across) for number, each in enumerate(report.running)),
-                 *(premise(HELD, number, each, each.is_sure) for number, each in enumerate(report.held)),
-                 *(premise(PREMISES, number, each, False) for number, each in enumerate(report.broken)),
-                 *grouped("faults", report.faults, lambda each: (each.fault, each.subtrees)),
+                 *(each for each in alone("root_inside", report.containers) if not is_held(each.parts[0])),
+                 *alone(RUNNING, report.running), *alone(HELD, report.held), *alone(PREMISES, report.broken),
+                 *grouped("faults", report.faults, lambda each: (each.fault, each.subtrees, each.made_by is None)),
                  *grouped("differs", report.differs, lambda each: each.path)]
         return sorted(found, key=lambda each: (*STANDINGS, DIFFERS).index(each.kind))
 
@@ -170,31 +192,30 @@ class Host:
             if finding.kind in STANDINGS:
                 for path in (path for part in finding.parts for path in subtrees_of(part) or [place_of(part)]):
                     found.setdefault(path, {}).setdefault(finding.kind, number)
-        for path, subtree in self.subtrees.items():
-            if not found[path]:
-                found[path] = {self.without_finding(subtree): None}
+        for path, severity in standings(self.report).items():
+            if not found.setdefault(path, {}) or severity.rank < min(STANDINGS.index(kind) for kind in found[path]):
+                found[path][severity.value] = None
         for path, row in self.rows.items():
             if OWNERS_MARK in row.marks and path not in found:
                 found[path] = {NOT_ASKED: None}
         return {path: sorted(kinds.items(), key=lambda each: STANDINGS.index(each[0])) for path, kinds in found.items()}
 
-    def without_finding(self, subtree: Subtree) -> str:
-        if not self.report.asked:
-            return NOT_ASKED
-        if is_marked(subtree):
-            return OPENED
-        return ABOVE if subtree.answers and all(each.is_above for each in subtree.answers) else CONTAINED
+    @cached_property
+    def severity(self) -> Severity:
+        """The gravest that is told of it."""
+        return severity_of(self.report)
 
     @cached_property
     def numbers(self) -> Tuple[int, int, int]:
-        """How many delegations there are, how many of them are shown to be contained, and how many findings are open."""
-        contained = sum(self.standing[path][0][0] == CONTAINED for path in self.delegations)
+        """How many delegations there are, how many of them are shown to be contained as far as was asked, and how many findings are
+        open."""
+        contained = sum(self.standing[path][0][0] in (CONTAINED, LIMITED) for path in self.delegations)
         return len(self.delegations), contained, sum(each.kind in COUNTED for each in self.findings)
 
     @cached_property
     def delegations(self) -> Set[str]:
         """The subtrees, also those of which nobody could be asked."""
-        return {*self.subtrees, *(path for each in self.report.faults for path in each.subtrees)}
+        return delegations(self.report)
 
     @cached_property
     def lost(self) -> List[Tuple[str, FaultFinding]]:
@@ -207,7 +228,7 @@ class Host:
         """The findings at each cgroup where an entry stands that lets somebody in."""
         found: Dict[str, List[Tuple[int, Grouped]]] = defaultdict(list)
         for number, finding in enumerate(self.findings):
-            if finding.kind != FAULT:
+            if not isinstance(finding.parts[0], FaultFinding):
                 found[place_of(finding.parts[0])].append((number, finding))
         return found
 

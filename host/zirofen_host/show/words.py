@@ -2,19 +2,25 @@
 from typing import Iterable, List, Optional, Sequence
 
 from zirofen_host.collect.model import Value
-from zirofen_host.judge.model import Report, Whom
+from zirofen_host.judge import limits
+from zirofen_host.judge.model import Absent, Report, Whom
+from zirofen_host.judge.severity import Severity
 from zirofen_host.profile import parent_of
 
-ESCAPES, OPENED, UNSETTLED, FAULT, ACCEPTED, NOT_ASKED, ABOVE, CONTAINED = (
-    "escapes", "opened", "unsettled", "fault", "accepted", "not asked", "above", "contained")
 # the gravest first
-STANDINGS = (ESCAPES, OPENED, UNSETTLED, FAULT, ACCEPTED, NOT_ASKED, ABOVE, CONTAINED)
+STANDINGS = (FAULT, ESCAPES, OPENED, UNSETTLED, OWN_FAULT, NOTHING_ASKED, NOT_LOOKED_AT, STALE, LIMITED, ACCEPTED, NOT_ASKED, ABOVE,
+             CONTAINED) = tuple(each.value for each in Severity)
+# what counts
+COUNTED = tuple(each.value for each in Severity if each.status)
 # of which nothing is to be told but where they stand
-QUIET = (NOT_ASKED, ABOVE, CONTAINED)
+QUIET = (LIMITED, NOT_ASKED, ABOVE, CONTAINED)
 # each with a sign of UTF-8 and one of ASCII
-SIGNS = {ESCAPES: ("✗", "X"), OPENED: ("!", "!"), UNSETTLED: ("?", "?"), FAULT: ("∅", "0"), ACCEPTED: ("=", "="),
+SIGNS = {FAULT: ("∅", "0"), ESCAPES: ("✗", "X"), OPENED: ("!", "!"), UNSETTLED: ("?", "?"), OWN_FAULT: ("∅", "0"),
+         NOTHING_ASKED: ("·", "-"), NOT_LOOKED_AT: ("?", "?"), STALE: ("!", "!"), LIMITED: ("~", "~"), ACCEPTED: ("=", "="),
          NOT_ASKED: ("·", "-"), ABOVE: ("↑", "^"), CONTAINED: ("✓", "+")}
 MEANINGS = {
+    OWN_FAULT: "there is no answer, which is the making of those alone who hold it",
+    LIMITED: "nothing was found that breaks it, in an answer that doesn't look at all: its limits are told here",
     ESCAPES: "operations were found by which somebody breaks it",
     OPENED: "a limit, or where a manager makes what it starts, stands open to somebody; seen, and not proved",
     UNSETTLED: "an entry above or at it is open to somebody, and nothing was found that breaks it",
@@ -28,9 +34,19 @@ SHOWN_USERS = 8
 SIZES = (("T", 2**40), ("G", 2**30), ("M", 2**20), ("K", 2**10))
 
 
+def standing_text(kind: str, report: Report) -> str:
+    """How something stands, as it is told: what a limited answer holds to be contained, with its mark."""
+    return CONTAINED + limits.mark_of(report) if kind == LIMITED else kind
+
+
 def name_of(report: Report) -> str:
     """What a report is of: a host, or a text that doesn't name its own."""
     return report.host or "a tree text"
+
+
+def made_by(report: Report) -> Iterable[str]:
+    """What made a report: the program, and the helper, where it is told."""
+    return filter(None, (report.program, None if isinstance(report.helper, Absent) else report.helper))
 
 
 def visible(text: str) -> str:

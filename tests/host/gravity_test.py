@@ -1,0 +1,182 @@
+"""Tests of the one order of gravity: whatever tells of a host, by whichever form, tells of the same status and the same numbers."""
+import json
+import os
+import random
+import re
+import tempfile
+import unittest
+from dataclasses import replace
+from xml.etree import ElementTree
+
+from page_reader import PageReader
+from shown import made, value_of
+from zirofen_host.judge.model import (ABSENT, Acceptance, AnswerLimit, EntryFinding, FaultFinding, HeldBy, HeldFinding, HolderAnswer,
+                                      OpenedFinding, Owner, Report, ReportCgroup, RootInside, RunsElsewhere, Subtree, Told, Whom)
+from zirofen_host.judge.rules import GUARDS
+from zirofen_host.judge.severity import STATUSES, Severity
+from zirofen_host.judge.standing import severity_of, standings
+from zirofen_host.show import fleet, fleet_lines, junit, metrics, page, sarif, tree_view
+from zirofen_host.show.lines import lines_of
+from zirofen_host.show.run import Run
+from zirofen_host.show.tree_view import Drawing
+
+HOSTS = 200
+OWNED, WHY = Owner(1000, 0, "644"), "a reason, until 2099-01-01"
+ANSWERS = ("contained", "escapes", "unsettled parent-dir /", "fault: odd")
+LAST = re.compile(r"([0-9])(?: by .+?)?; ([0-9]+) asked: ")
+
+
+class Drawn:
+    """A made-up host's report, in which things are drawn by chance."""
+
+    def __init__(self, seed):
+        self.chance = random.Random(seed)
+        # quiet hosts and loud ones
+        self.odds = self.chance.choice((0.0, 0.03, 0.15, 0.5))
+        # of a quiet host nothing counts but one thing, or nothing
+        self.one = None if self.odds else self.chance.choice((None, "own", "v1", "stale", "inside"))
+
+    def some(self, most=2):
+        return range(sum(self.chance.random() < self.odds for _ in range(most)))
+
+    def accepted(self):
+        return WHY if self.chance.random() < 0.3 else ABSENT
+
+    def whom(self):
+        uid = self.chance.choice((1000, 1001, 1002))
+        return (Whom("owner", uid, f"uid {uid}", ()),)
+
+    def report(self):
+        chance = self.chance
+        paths = [f"/s{number}" for number in range(0 if self.one == "inside" else chance.choice((0, 1, 1, 3, 6)))]
+        subtrees = tuple(map(self.subtree, paths))
+        found = Report(1, "zirofen 0.0.0", "drawn", "6.1", "2026-11-29T00:00:00Z", "/sys/fs/cgroup", bool(paths), True, subtrees,
+                       self.entries(paths), self.opened(paths), self.faults(paths), (), (), tuple(self.failed()), (), 0,
+                       ("memory",) if self.one == "v1" or chance.random() < self.odds / 2 else (), (), limits=self.limits())
+        running = self.running(paths)
+        marked = {path for each in running for path in (each.path, *each.elsewhere)}
+        found = replace(found, subtrees=tuple(
+            replace(each, marks=("runs elsewhere",)) if each.path in marked else each for each in subtrees))
+        found = replace(found, runs_elsewhere=running or ABSENT, held_entries=self.held(paths) or ABSENT,
+                        root_inside=self.inside(paths) or ABSENT, users=(), groups=(), processes=(),
+                        acceptances=tuple(self.stale()) or ABSENT,
+                        cgroups=tuple(ReportCgroup(path, Owner(0, 0, "755"), (), None, {}, {}) for path in ("/", *paths, "/x")))
+        if found.version_1:
+            found = replace(found, limits=(*found.limits, AnswerLimit("v1", "limits of memory are v1's and weren't looked at")))
+        return replace(found, status=severity_of(found).status)
+
+    def subtree(self, path):
+        uid = self.chance.choice((1000, 1001, 1002))
+        answer = self.chance.choice(ANSWERS) if self.chance.random() < self.odds else "contained"
+        lines = (answer, f"set {path} memory.max max") if answer == "escapes" else (answer,)
+        given = HolderAnswer(str(uid), (uid,), 1, (), lines, self.chance.random() < self.odds / 3)
+        return Subtree(path, None, None, HeldBy("owner", (uid,)), (given,))
+
+    def entries(self, paths):
+        names = [name for name in GUARDS if name not in ("unknown", "already-over")]
+        return tuple(EntryFinding(path, self.chance.choice(names), OWNED, self.chance.choice(ANSWERS[1:2] + ("unsettled",)), self.whom(),
+                                  (path,), None, (), None, accepted=self.accepted()) for path in paths for _ in self.some())
+
+    def opened(self, paths):
+        return tuple(OpenedFinding(path, "cpu.max", OWNED, self.whom(), (), None, None, accepted=self.accepted())
+                     for path in (*paths, "/x") for _ in self.some(1))
+
+    def faults(self, paths):
+        return tuple(FaultFinding("uid 1000", 1000, (), "odd", (path,), self.chance.choice((None, "uid 1000")))
+                     for path in paths for _ in self.some(1)) or tuple(
+            FaultFinding("uid 1000", 1000, (), "odd", (path,), "uid 1000") for path in paths if self.one == "own")
+
+    def failed(self):
+        return (Told("failed", "accounts", "a look that failed") for _ in self.some(1))
+
+    def limits(self):
+        kinds = [AnswerLimit("only", "nothing but /s0 was asked about")] if self.chance.random() < 0.2 else []
+        return tuple(kinds)
+
+    def running(self, paths):
+        return tuple(RunsElsewhere(path, ("/x",), self.whom(), "sh", (7,), self.chance.random() < 0.5, (), (), None,
+                                   accepted=self.accepted()) for path in (*paths, "/") for _ in self.some(1))
+
+    def held(self, paths):
+        return tuple(HeldFinding(path, "cgroup.procs", OWNED, self.whom(), "sh", (7,), ("open",), self.chance.random() < 0.5, (), None,
+                                 accepted=self.accepted()) for path in (*paths, "/") for _ in self.some(1))
+
+    def inside(self, paths):
+        return tuple(RootInside(path, 1, ("root",), is_held, ("nsdelegate" if is_held else "it loads code",),
+                                () if is_held else ("module",), (), None, ABSENT if is_held else self.accepted())
+                     for path in (*paths, "/x") for _ in (self.some(1) or range(self.one == "inside"))
+                     for is_held in [self.one == "inside" or self.chance.random() < 0.5])
+
+    def stale(self):
+        return (Acceptance("opened", "/x", "cpu.max", ("everybody",), "a reason", "2026-01-01", "over", None)
+                for _ in (self.some(1) or range(self.one == "stale")))
+
+
+class GravityTest(unittest.TestCase):
+    def forms_agree(self, report):
+        """Status, last line, table, the page's head, the tree, JUnit's, SARIF's and metrics' counts, and the fleet's row."""
+        severity, standing = severity_of(report), standings(report)
+        run = Run(report, report.status, ended=1795736189.0)
+        *_, last = lines_of(report)
+        status, asked = map(int, LAST.match(last).groups())
+        self.assertEqual((status, asked), (report.status, len(standing)), last)
+        self.assertEqual(" by " in last.partition(";")[0], report.status != 0, last)
+        contained = sum(each in (Severity.CONTAINED, Severity.LIMITED) for each in standing.values())
+        for each in Severity:
+            count = sum(found is each for found in standing.values())
+            word = "contained [" if each is Severity.LIMITED else each.value
+            self.assertEqual(f"{count} {word}" in last.partition("asked: ")[2], count > 0, (last, each))
+        self.the_page(report, severity, contained)
+        self.the_fleet(report, severity, contained)
+        self.the_others(run, severity, standing)
+
+    def the_page(self, report, severity, contained):
+        drawn = page.page([report])
+        head = re.search(r'<p class="sentence ([a-z-]+)">', drawn)[1]
+        numbers = tuple(map(int, re.findall(r"<strong>([0-9]+)</strong>", drawn)[:3]))
+        self.assertEqual((head, numbers[:2]), (severity.value.replace(" ", "-"), (len(standings(report)), contained)))
+        self.assertEqual(PageReader(drawn).faults, [])
+        tree = "\n".join(tree_view.draw(report, Drawing(None, True)))
+        self.assertIn(f"Status {report.status}", tree)
+        self.assertIn(f": {contained} shown to be contained", tree)
+
+    def the_fleet(self, report, severity, contained):
+        with tempfile.TemporaryDirectory() as folder:
+            with open(os.path.join(folder, "drawn.json"), "w", encoding="utf-8") as out:
+                json.dump(value_of(report), out)
+            found = fleet.read_fleet(folder, fleet.Rules(None), lambda name, each: None)
+        (row,) = found.rows
+        self.assertEqual((row.kind, row.status, found.status, row.delegations, row.contained),
+                         (severity.value, report.status, report.status, len(standings(report)), contained))
+        self.assertTrue(fleet_lines.sum_line(found).startswith(f"1 host: 1 {severity.value}"))
+
+    def the_others(self, run, severity, standing):
+        (log,) = json.loads("".join(sarif.parts_of(run)))["runs"]
+        self.assertEqual(log["invocations"][0]["exitCode"], run.status)
+        levels = {each["level"] for each in log["results"] if "suppressions" not in each}
+        graver = {level for level in levels if level != "note"}
+        if not any(kind is severity for kind in standing.values()) or severity not in STATUSES:
+            self.assertEqual(bool(graver), run.status != 0, (severity, log["results"]))
+        suite = ElementTree.fromstring("".join(junit.parts_of(run)))
+        failing = int(suite.get("failures")) + int(suite.get("errors"))
+        self.assertEqual(failing > 0, run.status != 0, severity)
+        told = dict(re.findall(r'zirofen_subtrees\{answer="([a-z_]+)"\} ([0-9]+)', "".join(metrics.parts_of(run))))
+        counts = {each.value.replace(" ", "_"): sum(found is each for found in standing.values()) for each in Severity}
+        self.assertEqual({word: int(count) for word, count in told.items()}, {word: counts[word] for word in told})
+        self.assertEqual(sum(map(int, told.values())), len(standing))
+
+    def test_all_forms_agree(self):
+        severities = set()
+        for seed in range(HOSTS):
+            report = made(value_of(Drawn(seed).report()))
+            severities.add(severity_of(report))
+            with self.subTest(seed):
+                self.forms_agree(report)
+        self.assertEqual(severities, set(Severity) - {Severity.ABOVE}, "what no host of them is")
+
+    def test_a_fault_is_gravest_but_where_a_holder_makes_it(self):
+        self.assertEqual([each.status for each in Severity], [3, 1, 1, 2, 3, 4, 2, 2, 0, 0, 0, 0, 0])
+
+
+if __name__ == "__main__":
+    unittest.main()
