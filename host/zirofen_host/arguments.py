@@ -41,9 +41,10 @@ A helper: no part of the proved program, and only tested; each answer is the pro
 {NAME} snapshot writes. The report is a table of each subtree with the answer of who holds it, then each entry that lets
 somebody in, with whom and what to change, then the limits that stand open beside the proved ones, then containers whose
 processes are root's, and at last what none of the answers looks at. Of a container held speaks of cgroup files alone, and
-is seen and not proved. {MANUAL} says what each line means. The status is 3 where any fault was met; else 1 where somebody
-escapes, a limit stands open or a container of root's is not held; else 2 where an answer is unsettled; else 4 where
-neither anything to ask nor such a container was found; else 0.
+is seen and not proved. {MANUAL} says what each line means. The status is 3 where there is a fault; else 1 where somebody
+escapes, a limit stands open or a container of root's is not held; else 2 where an answer is unsettled; else 3 where holders
+make a fault of their own; else 4 where neither anything to ask nor such a container was found; else 2 where limits are v1's
+or an acceptance doesn't hold; else 0.
 """,
     "commands": f"""Writes operations as shell commands for this host's mount: {NAME} commands [--uid N --gid N ..] < escape.ops
 

@@ -1,4 +1,5 @@
 """Tests of the one order of gravity: whatever tells of a host, by whichever form, tells of the same status and the same numbers."""
+import itertools
 import json
 import os
 import random
@@ -8,8 +9,10 @@ import unittest
 from dataclasses import replace
 from xml.etree import ElementTree
 
+from made_up import TOP
 from page_reader import PageReader
 from shown import made, value_of
+from zirofen_host.arguments import DESCRIPTIONS
 from zirofen_host.judge.model import (ABSENT, Acceptance, AnswerLimit, EntryFinding, FaultFinding, HeldBy, HeldFinding, HolderAnswer,
                                       OpenedFinding, Owner, Report, ReportCgroup, RootInside, RunsElsewhere, Subtree, Told, Whom)
 from zirofen_host.judge.rules import GUARDS
@@ -173,6 +176,17 @@ class GravityTest(unittest.TestCase):
             with self.subTest(seed):
                 self.forms_agree(report)
         self.assertEqual(severities, set(Severity) - {Severity.ABOVE}, "what no host of them is")
+
+    def test_help_and_docs_have_the_statuses_of_the_table(self):
+        statuses = [str(status) for status, _ in itertools.groupby(each.status for each in Severity)]
+        for name in ("check", "fleet"):
+            told = DESCRIPTIONS[name].partition("The status is ")[2]
+            found = re.findall(r"\b([0-4])\s+where|else\s+(0)\.", told)
+            self.assertEqual(found, [(each, "") for each in statuses[:-1]] + [("", "0")], name)
+        with open(f"{TOP}/docs/HOSTS.md", encoding="utf-8") as page_of_hosts:
+            section = page_of_hosts.read().partition("### How a host stands\n")[2].partition("\n### ")[0]
+        self.assertEqual(re.findall(r"^\| `([a-z ]+)` \|.*\| ([0-4]) \|$", section, re.M),
+                         [(each.value, str(each.status)) for each in Severity])
 
     def test_a_fault_is_gravest_but_where_a_holder_makes_it(self):
         self.assertEqual([each.status for each in Severity], [3, 1, 1, 2, 3, 4, 2, 2, 0, 0, 0, 0, 0])
