@@ -198,13 +198,14 @@ class CommandTest(HostTest):
         files = ("dir", "cgroup.procs", "cgroup.subtree_control", "cgroup.threads", "memory.pressure")
         ops = "mkdir /new\n" + "".join(f"chown /new {name} 1001:1001\n" for name in files)
         said = self.plan("--tree", DELEGATION, ops=ops)
-        self.assertEqual((said.returncode, said.stderr, said.stdout.splitlines()), (0, "", [
-            "new: /new: contained, by 1001 who holds it", "not-told: cgroup.threads memory.pressure: no answer rests on these",
-            "3 asked: 3 contained"]))
+        *lines, last = said.stdout.splitlines()
+        self.assertEqual((said.returncode, said.stderr, lines), (0, "", [
+            "new: /new: contained, by 1001 who holds it", "not-told: cgroup.threads memory.pressure: no answer rests on these"]))
+        self.assertNotIn("isn't told: ", last)
         said = self.plan("--tree", DELEGATION, ops=f"{ops}chown /new cgroup.type 1001:1001\n")
-        self.assertEqual((said.returncode, said.stdout.splitlines()[-1]), (2, (
-            "3 asked: 3 contained; limits of this answer: what may give entries away isn't told: cgroup.type of /new: the text has no "
-            "place for it")))
+        self.assertEqual(said.returncode, 2)
+        self.assertTrue(said.stdout.splitlines()[-1].endswith(
+            "; what may give entries away isn't told: cgroup.type of /new: the text has no place for it"))
 
     def test_in_place_of_answers(self):
         ops = "# a comment\nmkdir   /new\nchown /new dir 9:9\n"

@@ -377,8 +377,10 @@ class CommandTest(UnitsTest):
         self.assertEqual((lines.stdout.splitlines()[:2], lines.stderr), ([f"# not told: {slices}", f"# not told: {untold}"], ""))
         # what was printed is what can be read again
         ops = self.write("ops", lines.stdout)
-        self.assertEqual(self.plan("--ops", ops).stdout.splitlines(), ["new: /system.slice/a.service: contained, by 900 who holds it",
-                                                                       "3 asked: 3 contained"])
+        new, last = self.plan("--ops", ops).stdout.splitlines()
+        self.assertEqual((new, last.partition(";")[0]), ("new: /system.slice/a.service: contained, by 900 who holds it",
+                                                         "3 asked: 3 contained [limited]"))
+        self.assertNotIn("isn't told: ", last)
 
     def test_what_root_carries_out_makes_it_no_yes(self):
         """In each form, with the status of what escapes or of a fault before it."""
@@ -386,11 +388,12 @@ class CommandTest(UnitsTest):
         file = self.write("a.service", f"{unit}ExecStartPost=+/bin/chown -R 1000 /sys/fs/cgroup/system.slice/a.service\n")
         said = self.plan("--unit", file)
         self.assertEqual((said.returncode, said.stderr), (2, ""))
-        self.assertTrue(said.stdout.splitlines()[-1].startswith(
-            "3 asked: 3 contained; limits of this answer: what may give entries away isn't told: a.service: ExecStartPost=+/bin/chown -R"))
+        last = said.stdout.splitlines()[-1]
+        self.assertTrue(last.startswith("3 asked: 3 contained [limited]; limits of this answer: "))
+        self.assertIn("; what may give entries away isn't told: a.service: ExecStartPost=+/bin/chown -R 1000 ", last)
         value = json.loads(self.plan("--unit", file, "--json").stdout)
         self.assertEqual((report_schema.faults_of(value), value["status"], value["baseline"]["status"]), ([], 2, 2))
-        self.assertEqual([each["kind"] for each in value["limits"]], ["plan"])
+        self.assertEqual([each["kind"] for each in value["limits"]][-1], "plan")
         self.assertEqual(self.plan("--unit", self.write("b.service", unit)).returncode, 0)
         # what escapes behind it is an escape
         options = PlanOptions(tree=f"{TOP}/examples/delegation.toml", program=REAL_PROGRAM)
