@@ -228,7 +228,7 @@ def in_ring(machine, undo):
     if numbers >= WITH_PATHS:
         return Told(held=entries(), how=IN_RING), lambda: f"held by PID {holder.pid}"
     # an older kernel lists no path, so the ring alone is named
-    return Told(status=machine.status, line=f"io_uring of PID {holder.pid}"), lambda: "the ring is named, and no entry"
+    return Told(status=machine.status, line=f"io_uring of process {holder.pid}"), lambda: "the ring is named, and no entry"
 
 
 def by_headless(machine, undo):
