@@ -21,7 +21,7 @@ zirofen: middle clap
 PROGRAM = """#!/bin/sh
 # NAME
 case "$1" in
-    --version) echo 'zirofen 0.3.1'; exit;;
+    --version) echo 'zirofen 0.3.1 (DIGITS)'; exit;;
     --help) exit;;
 esac
 echo "NAME ran $*"
@@ -38,7 +38,7 @@ echo 'rt: waiting for another rt to finish in /somewhere' >&2
 echo 'so far: 3 of 9 functions checked; the verdict comes last' >&2
 mktemp >"$PLAYED/temporary"
 mkdir -p out
-cp "$PLAYED/program" out/zirofen
+sed "s/(DIGITS)/($(sed -n 's/.*(\\([0-9a-f]*\\)).*/\\1/p' src/version.rt))/" "$PLAYED/program" >out/zirofen
 chmod +x out/zirofen
 if [ -e "$PLAYED/slow" ]; then sleep 600 & echo $! >"$PLAYED/child"; wait; fi
 if [ -e "$PLAYED/fails" ]; then echo 'error: no proof of it' >&2; exit 1; fi
@@ -75,6 +75,7 @@ class Checkout:
             write(f"{self.top}/crates/{crate}/src/lib.rt", crate)
             write(f"{self.top}/crates/{crate}/specs/Lib.antt", crate)
         write(f"{self.top}/crates.txt", CRATES)
+        write(f"{self.top}/crates/zirofen/src/version.rt", f'"0.3.1 ({"0" * 12})"')
         for file in FILES:
             os.makedirs(os.path.dirname(f"{self.top}/{file}"), exist_ok=True)
             shutil.copy(f"{TOP}/{file}", f"{self.top}/{file}")
@@ -87,8 +88,11 @@ class Checkout:
 
     def release(self, program):
         """Writes release/ with the sums of what is there."""
+        sources = self.sum_of_sources()
+        program = program.replace("DIGITS", sources[:12])
+        write(f"{self.top}/crates/zirofen/src/version.rt", f'"0.3.1 ({sources[:12]})"')
         write(f"{self.top}/release/zirofen", program, executable=True)
-        lines = {"version": "0.3.1", "kit": KIT, "sources": self.sum_of_sources(),
+        lines = {"version": "0.3.1", "kit": KIT, "sources": sources,
                  "program": hashlib.sha256(program.encode()).hexdigest()}
         write(f"{self.top}/release/MANIFEST", "".join(f"{key} {value}\n" for key, value in lines.items()))
 

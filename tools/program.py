@@ -16,6 +16,9 @@ TRIED = [it.split(" ")[0] for it in kit.TRIED]
 ENDING = [signal.SIGINT, signal.SIGTERM, signal.SIGHUP, signal.SIGQUIT, signal.SIGPIPE]
 # what a toolchain says of how far it is, and of what it waits for
 SHOWN = re.compile(r"so far:|rt: (waiting|chose --jobs)")
+# which version the program says that it is, and of which sources: the first digits of their sum, which leaves this file out
+VERSIONED = f"{TOP}/crates/zirofen/src/version.rt"
+SAYS = re.compile(r'"(\d+\.\d+\.\d+) \(([0-9a-f]{12})\)"')
 # a function of the wrapper
 IN_WRAPPER = ["bash", "-p", "-c", '. "$1"; "${@:2}"', "zirofen", f"{TOP}/zirofen"]
 HEARD = {"stdin": subprocess.DEVNULL, "stdout": subprocess.PIPE, "errors": "replace"}
@@ -31,16 +34,33 @@ def sum_of(path):
         return hashlib.sha256(it.read()).hexdigest()
 
 
+def version():
+    """Returns the version that the program's sources name, and the digits of the sum that they say."""
+    with open(VERSIONED, encoding="utf-8") as it:
+        return SAYS.search(it.read()).groups()
+
+
+def write_digits(sources):
+    """Has the program say of which sources it is."""
+    with open(VERSIONED, encoding="utf-8") as it:
+        before = it.read()
+    after = SAYS.sub(f'"{version()[0]} ({sources[:12]})"', before)
+    if after != before:
+        with open(VERSIONED, "w", encoding="utf-8") as out:
+            out.write(after)
+
+
 def sum_of_sources():
-    """Returns the sum of what decides the program's bytes, src/ of the crates that it stands on and their lines of crates.txt,
-    or nothing where that can't be read."""
-    with contextlib.suppress(OSError, ValueError):
+    """Returns the sum of what decides the program's bytes, the version, src/ of the crates that it stands on and their lines of
+    crates.txt, but for the file that says this sum, or nothing where that can't be read."""
+    with contextlib.suppress(OSError, ValueError, AttributeError):
         lines = {name: line.partition("#")[0].rstrip("\n") for line, name, _ in crates.rows(TOP) if name}
         names = crates.in_order(crates.read(TOP), "zirofen")
         files = {os.path.relpath(f"{at}/{it}", f"{TOP}/crates")
                  for name in names for at, _, found in os.walk(f"{TOP}/crates/{name}/src") for it in found}
+        files.remove(os.path.relpath(VERSIONED, f"{TOP}/crates"))
         sums = [f"{sum_of(f'{TOP}/crates/{it}')}  {it}" for it in sorted(files, key=os.fsencode)]
-        return hashlib.sha256("".join(f"{it}\n" for it in [*(lines[it] for it in names), *sums]).encode()).hexdigest()
+        return hashlib.sha256("".join(f"{it}\n" for it in [version()[0], *(lines[it] for it in names), *sums]).encode()).hexdigest()
     return ""
 
 
@@ -70,7 +90,7 @@ class Program:
             ran = subprocess.run([self.path, "--version"], stderr=subprocess.STDOUT, **HEARD)
         except OSError as error:
             return f"it doesn't run here: {error.strerror}"
-        if (ran.returncode, ran.stdout) == (0, f"zirofen {self.says('version')}\n"):
+        if (ran.returncode, ran.stdout) == (0, f"zirofen {self.says('version')} ({self.says('sources')[:12]})\n"):
             return ""
         return f"it doesn't run here, and ended with status {ran.returncode}: {(ran.stdout or 'it wrote nothing').splitlines()[0]}"
 
@@ -173,9 +193,8 @@ def keep_built(sources):
     if sum_of_sources() != sources:
         return "not built: a source was changed meanwhile. Build again"
     with contextlib.suppress(OSError):
-        version = subprocess.run([BUILT.path, "--version"], **HEARD).stdout.rpartition(" ")[2].strip()
         with open(BUILT.manifest, "w", encoding="utf-8") as out:
-            out.write(manifest_of(BUILT, version, toolchain(), sources))
+            out.write(manifest_of(BUILT, version()[0], toolchain(), sources))
     return BUILT.unfit() and f"what was built can't answer: {BUILT.unfit()}"
 
 
@@ -184,6 +203,7 @@ def build():
     left of a build that failed has no manifest with its sum, and is no program."""
     why, sources = hinders(), sum_of_sources()
     if not why:
+        write_digits(sources)
         say("proving and building; from nothing this took 23 minutes on 4 cores, and 3 GB of memory")
         before = {it: signal.signal(it, interrupt) for it in ENDING}
         try:

@@ -41,8 +41,8 @@ def fault(cause, *words):
 
 
 def version():
-    with open(f"{TOP}/crates/arguments/src/command.rt", encoding="utf-8") as source:
-        return re.search(r'^const VERSION: &str = "(.*)";$', source.read(), re.M)[1]
+    with open(f"{TOP}/crates/zirofen/src/version.rt", encoding="utf-8") as source:
+        return re.search(r'^pub const VERSION: &str = "(.*)";$', source.read(), re.M)[1]
 
 
 def command_lines(_):

@@ -11,7 +11,8 @@ SHELL = """z=$PWD/zirofen r=release/zirofen out=crates/zirofen/out kept=.chosen
 low() { printf %s "$1" >crates/low/src/lib.rt; }
 alone() { PATH=/usr/bin:/bin "$@"; }
 of_sums() { sed -i "s/^program .*/program $(sha256sum <$r | cut -c1-64)/" release/MANIFEST; }
-played() { printf '%s\\n' '#!/bin/sh' 'case "$1" in --version) echo zirofen 0.3.1; exit;; esac' "$1" >$r; of_sums; }
+digits() { sed -n 's/^sources \\(.\\{12\\}\\).*/\\1/p' release/MANIFEST; }
+played() { printf '%s\\n' '#!/bin/sh' "case \\$1 in --version) echo 'zirofen 0.3.1 ($(digits))'; exit;; esac" "$1" >$r; of_sums; }
 builds() { [ "$(wc -l <"$PLAYED/starts")" = "$1" ] || echo "not $1 builds" >&2; }
 seen() { bash -c '. "$1"; look "$2"' look "$z" "$PWD"; }
 nobody() { [ $UID = 0 ] || exit 77; setpriv --reuid 65534 --regid 65534 --clear-groups "$@"; }
@@ -94,7 +95,7 @@ ROWS = {
         ("was=$(stat -c %y%i $kept); alone $z may; s=$?; [ \"$was\" = \"$(stat -c %y%i $kept)\" ] || echo anew >&2; exit $s", "released"),
         ("sed -i 's/^sources 0*/sources 1/' release/MANIFEST; alone $z may", 70, SOURCE, NO_RT),
         ("printf 'release\\n%s' \"$(seen)\" >$kept; alone $z may", "released"),
-        ("played 'exit 2'; sed -i s/0.3.1/0.3.1\\;exit\\ 1/ $r; printf 'release\\n%s' \"$(seen)\" >$kept; alone $z may", 70, SOURCE, NO_RT)),
+        ("played 'exit 2'; sed -i 's/exit;;/exit 1;;/' $r; printf 'release\\n%s' \"$(seen)\" >$kept; alone $z may", 70, SOURCE, NO_RT)),
     "a change is seen whatever its time and size, and a program that was replaced": (
         ("sleep 2.1; $z may", "released"),
         ("touch -r crates/low/src/lib.rt ../at; low wol; touch -r ../at crates/low/src/lib.rt; alone $z may", 70, SOURCE, NO_RT),
@@ -153,6 +154,8 @@ ROWS = {
           for it, told in (("s/^kit .*/kit other/", "release/ was made by other, and this toolchain is some-kit"), ("$a further line", LINES),
                            ("s/^kit/kit /", LINES), ("s/^version/version 1/", UNFIT), ("s/^sources/sources 1/", "is of other sources"),
                            ("s/^program/program 1/", OTHER_BYTES), ("d", OTHER_BYTES))),
+        *((f"v=crates/zirofen/src/version.rt; cp $v ..; sed -i '{it}' $v; tools/released >&2; s=$?; cp ../version.rt $v; exit $s", 1, told, FAILED)
+          for it, told in (("s/(.*)/(000000000000)/", "is built to say that it is 0.3.1 of 000000000000"), ("s/0.3.1/0.3.2/", "is of other sources"))),
         ("low x; tools/released >&2", 1, "is of other sources", FAILED), ("low low; echo >>$r; tools/released >&2", 1, OTHER_BYTES, FAILED)),
 }
 

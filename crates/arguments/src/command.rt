@@ -7,8 +7,6 @@ ghost use Rattle.arguments.specs.CommandLine.{word_option, number_option, flag, 
 use clap::{Arg, ArgAction, Command, value_parser};
 use std::alloc::{AllocError, Global};
 
-const VERSION: &str = "0.2.0";
-
 const HELP: &str = "\
 Status: 3 where the answer is a fault, whose line comes first on standard error; else each command's --help tells.
 `fault: usage` means that the command line isn't as --help says.
@@ -177,7 +175,8 @@ fn program_command<'a>(alloc: Global) -> Command<'a>
 {
     Command::new(alloc, "zirofen")
         .about("Checks what a user may do in a tree of cgroups")
-        .version(VERSION)
+        // which one it is, the program's uppermost crate tells
+        .version("")
         .after_help(HELP)
         .subcommand_required(true)
 }

@@ -18,7 +18,7 @@ use std::alloc::Global;
 /// What the words of a command line ask for.
 #[derive(Drop)]
 pub enum Request<'a> {
-    /// What is to be shown, in clap's own words: help, or the version.
+    /// What is to be shown: help, in clap's own words, or the version.
     Help(clap::Error),
     May(May<'a>),
     Check(Check<'a>),

@@ -62,7 +62,7 @@ module _ (st : State) (users : List Identity) (subtrees : List Names) (found : â
   sub_at place e within =
       no_fault st (get_or subtrees place e) (sym (none-element (subtree_faults st) subtrees place e within none))
 
-  are_further : AreFurther st users subtrees found
+  pub are_further : AreFurther st users subtrees found
   are_further = record {
     each = Î» user place d e low within.
         known_further st (get_or users user d) (get_or subtrees place e)

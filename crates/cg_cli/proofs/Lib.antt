@@ -5,7 +5,7 @@ mod ReplayEnds
 mod ReplayReads
 pub mod Asked
 pub mod CheckReports
-mod SettleReports
+pub mod SettleReports
 pub mod AdviseReports
 pub mod AdvisedTrees
 pub mod FurtherAdvice
@@ -19,7 +19,7 @@ mod Once
 mod AllPairs
 mod Explaining
 mod SettledPairs
-mod FurtherPairs
+pub mod FurtherPairs
 mod FirstPairs
 mod Closings
 mod ReplayCalls

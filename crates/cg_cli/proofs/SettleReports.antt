@@ -72,7 +72,7 @@ module _ (st : State) (user : Identity) (subtree : Names) where
   pub settled_is_shown : (found : Answer) → IsSettled st user subtree found → IsShown subtree found
   settled_is_shown found = shown_from (answer st user subtree) found (answer_is_shown st user subtree)
 
-  goes_further : IsWellFormed st → IsSubtree st subtree → (given found : Answer) → IsSettledFrom st user subtree given found
+  pub goes_further : IsWellFormed st → IsSubtree st subtree → (given found : Answer) → IsSettledFrom st user subtree given found
       → IsFurther st user subtree given found
   goes_further formed sub Contained found is = is
   goes_further formed sub (Escapes ops) found is = is

@@ -12,12 +12,10 @@ use Rattle.arguments.specs.Given.{ids_of, tree_file, other_file}
 use Rattle.cg_model.specs.Listed.{Listed}
 use Rattle.cg_format.specs.Readings.{Reading, vocabulary_in}
 use Rattle.cg_cli.specs.AllPairs.{all_report, ReportsPairs}
-use Rattle.cg_cli.specs.Advising.{advise_report}
 use Rattle.cg_cli.specs.Audits.{audit_report}
 use Rattle.cg_cli.specs.Explaining.{TellsPairs, ReportsTold}
 use Rattle.cg_model.specs.States.{State}
 use Rattle.cg_model.specs.Mends.{Pair}
-use Rattle.cg_cli.specs.FurtherAdvice.{AdvisesFurther}
 use Rattle.cg_cli.specs.FurtherPairs.{first_pair_report}
 use Rattle.cg_cli.specs.Upgrades.{Upgrades}
 use Rattle.streams.specs.Written.{AppendsPart}
@@ -125,25 +123,16 @@ ReportsTold-Keeps (Err fault) old mid new (Ok status) h k = h
 ReportsTold-Keeps (Err fault) old mid new (Err NoMemory) h k = (h.0, Keeps-Keeps old mid new h.1 k)
 ReportsTold-Keeps (Err fault) old mid new (Err other) h k = (h.0, Keeps-Keeps old mid new h.1 k)
 
-AdvisesFurther-Keeps : (tree : Reading) (users : List (ℕ × List ℕ)) (subtrees : List (List ℕ)) (old mid new : Option (List ℕ))
-    (result : Result ℕ CliFault)
-    → AdvisesFurther tree users subtrees old mid result → Keeps mid new → AdvisesFurther tree users subtrees old new result
-AdvisesFurther-Keeps tree users subtrees old mid new result (inl said) k = inl (Reports-Keeps _ old mid new result said k)
-AdvisesFurther-Keeps tree users subtrees old mid new result (inr held) k = inr (Reports-Keeps _ old mid new result held.0 k, held.1)
-
-AdviseSays-by : (settle : Bool) (tree : Reading) (users : List (ℕ × List ℕ)) (subtrees : List (List ℕ)) (old mid new : Option (List ℕ))
-    (result : Result ℕ CliFault)
-    → MatchBool settle (AdvisesFurther tree users subtrees old mid result) (Reports (advise_report tree users subtrees) old mid result)
-    → Keeps mid new
-    → MatchBool settle (AdvisesFurther tree users subtrees old new result) (Reports (advise_report tree users subtrees) old new result)
-AdviseSays-by true tree users subtrees old mid new result said k = AdvisesFurther-Keeps tree users subtrees old mid new result said k
-AdviseSays-by false tree users subtrees old mid new result said k = Reports-Keeps _ old mid new result said k
+AdviseSays-by : (settle : Bool) (settled guarded : Report) (old mid new : Option (List ℕ)) (result : Result ℕ CliFault)
+    → MatchBool settle (Reports settled old mid result) (Reports guarded old mid result) → Keeps mid new
+    → MatchBool settle (Reports settled old new result) (Reports guarded old new result)
+AdviseSays-by true settled guarded old mid new result said k = Reports-Keeps settled old mid new result said k
+AdviseSays-by false settled guarded old mid new result said k = Reports-Keeps guarded old mid new result said k
 
 AdviseSays-Keeps : (advise : Advise) (old mid new : Option (List ℕ)) (result : Result ℕ CliFault) (tree : Reading)
     → AdviseSays advise old mid result tree → Keeps mid new → AdviseSays advise old new result tree
 AdviseSays-Keeps advise old mid new result tree said k =
-    AdviseSays-by advise.settle tree (map ids_of advise.users.items) (map (λ subtree. subtree.now) advise.subtrees.items) old mid new result
-    said k
+    AdviseSays-by advise.settle _ _ old mid new result said k
 
 Upgrades-Keeps : (vocabulary : Vocabulary) (tree : Reading) (old mid new : Option (List ℕ)) (result : Result ℕ CliFault)
     → Upgrades vocabulary old mid result tree → Keeps mid new → Upgrades vocabulary old new result tree

@@ -1,5 +1,5 @@
 -- What stands beside an answer: of the tree's text, and of the users. Own.
-use Rattle.std.specs.Prelude.{◌≡◌, ℕ, List, ◌∷◌, [], map, Option, None, Result, Ok, Err}
+use Rattle.std.specs.Prelude.{◌≡◌, ℕ, List, ◌∷◌, [], map, Option, None, MatchOption, Result, Ok, Err}
 use Rattle.cg_cgroup.specs.Identity.{Identity}
 use Rattle.cg_model.specs.Once.{once}
 use Rattle.cg_model.specs.States.{State}
@@ -29,6 +29,10 @@ IsNoted known given beside = (text : List ℕ) × IsTree known text × IsNotedOf
 -- where no user is asked about
 abbrev pub IsPlain : Option (List ℕ) → Beside → Type 0
 IsPlain known beside = (text : List ℕ) × IsTree known text × (beside.mode ≡ spelled_mode text) × (beside.stranger ≡ None)
+
+-- by the users about whom is asked, where that is looked at
+abbrev pub IsNotedBy : Option (List ℕ) → Option (List (ℕ × List ℕ)) → Beside → Type 0
+IsNotedBy known users beside = MatchOption users (IsPlain known beside) (λ given. IsNoted known given beside)
 
 abbrev pub IsNotedFor : Request → Files → Option (List ℕ) → Beside → Type 0
 IsNotedFor (request.Help help) files given beside = (beside.mode ≡ None) × (beside.stranger ≡ None)

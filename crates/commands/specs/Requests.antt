@@ -15,13 +15,15 @@ use Rattle.arguments.specs.declared.request.Request.TheVariants as request
 use Rattle.cg_format.specs.Readings.{Reading, OnText, vocabulary_in}
 use Rattle.cg_cli.specs.May.{may_report}
 use Rattle.cg_cli.specs.Containment.{check_report}
-use Rattle.cg_cli.specs.Settling.{AskedReports, FurtherSays, IsFurther}
+use Rattle.cg_cli.specs.Settled.{IsSettledFrom}
+use Rattle.cg_cli.specs.Settling.{AskedReports, FurtherSays}
 use Rattle.cg_cli.specs.Audits.{audit_report}
 use Rattle.cg_cli.specs.AllPairs.{all_report, ReportsPairs}
 use Rattle.cg_cli.specs.Explaining.{explain_asked, ReportsTold}
 use Rattle.cg_cli.specs.Advising.{advise_report, advise_pairs_report}
-use Rattle.cg_cli.specs.FurtherAdvice.{AdvisesFurther}
-use Rattle.cg_cli.specs.FurtherPairs.{ReportsFirst, ReportsFurther}
+use Rattle.cg_cli.specs.SettledAdvice.{advise_settled_report}
+use Rattle.cg_cli.specs.FurtherPairs.{ReportsFirst}
+use Rattle.cg_cli.specs.SettledPairs.{ReportsSettled}
 use Rattle.cg_cli.specs.Upgrades.{Upgrades}
 use Rattle.cg_cli.specs.Replays.{closed, lines_report}
 use Rattle.cg_cli.specs.Replaying.{Reporting, ReplaysFrom}
@@ -66,17 +68,18 @@ may_said may tree = may_report tree may.user.uid may.user.gids.items may.pid may
 abbrev pub check_said : Check → Reading → Report
 check_said check tree = check_report tree check.user.uid check.user.gids.items check.subtree.now
 
--- one of the reports that go further than that of check
+-- what check says, or where that is unsettled what the second row of guards and the planner know
 abbrev pub SettlesAs : Check → Option (List ℕ) → Option (List ℕ) → Result ℕ CliFault → Reading → Type 0
 SettlesAs check old new result tree =
-    AskedReports (FurtherSays IsFurther) tree check.user.uid check.user.gids.items check.subtree.now old new result
+    AskedReports (FurtherSays IsSettledFrom) tree check.user.uid check.user.gids.items check.subtree.now old new result
 
--- what guards tell to change, or what is told where more is known
+-- what guards tell to change, or what is to be changed where the second row doesn't hold
 abbrev pub AdviseSays : Advise → Option (List ℕ) → Option (List ℕ) → Result ℕ CliFault → Reading → Type 0
 AdviseSays advise old new result tree =
     let users = map ids_of advise.users.items in
     let subtrees = map (λ subtree. subtree.now) advise.subtrees.items in
-    MatchBool advise.settle (AdvisesFurther tree users subtrees old new result) (Reports (advise_report tree users subtrees) old new result)
+    MatchBool advise.settle (Reports (advise_settled_report tree users subtrees) old new result)
+    (Reports (advise_report tree users subtrees) old new result)
 
 -- the first fault of the lines of a text, or the report on the pairs that they name
 abbrev pub pairs_said : List ℕ → Reading → Report
@@ -87,10 +90,10 @@ abbrev pub GuardsSay : Bool → List (ℕ × List ℕ) → List (List ℕ) → O
 GuardsSay all users subtrees old new result tree =
     MatchBool all (ReportsPairs (all_report tree users subtrees) old new result) (Reports (audit_report tree users subtrees) old new result)
 
--- the same of pairs that may be listed where more is known
+-- the same of pairs that the second row of guards and the planner leave
 abbrev pub FurtherSay : Bool → List (ℕ × List ℕ) → List (List ℕ) → Option (List ℕ) → Option (List ℕ) → Result ℕ CliFault → Reading → Type 0
 FurtherSay all users subtrees old new result tree =
-    MatchBool all (ReportsFurther ReportsPairs tree users subtrees old new result) (ReportsFurther ReportsFirst tree users subtrees old new result)
+    MatchBool all (ReportsSettled ReportsPairs tree users subtrees old new result) (ReportsSettled ReportsFirst tree users subtrees old new result)
 
 -- what guards tell of the pairs, or what is told where more is known
 abbrev pub AuditSays : Audit → Option (List ℕ) → Option (List ℕ) → Result ℕ CliFault → Reading → Type 0

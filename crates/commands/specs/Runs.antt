@@ -1,6 +1,6 @@
 -- What the words of a command line lead to, and how the program ends. Own.
-use Rattle.std.specs.Prelude.{◌≡◌, ◌⊎◌, ℕ, Bool, false, List, [], Option, Result, Ok, Err, IfOk, IsOk, IsErr}
-use Rattle.std.specs.Io.KnownBytes.{Appends, Keeps, append_known}
+use Rattle.std.specs.Prelude.{◌≡◌, ◌⊎◌, ℕ, List, Option, Result, Ok, Err, IfOk, IsOk, IsErr}
+use Rattle.std.specs.Io.KnownBytes.{Keeps, append_known}
 use Rattle.arguments.specs.Words.{Makes, IsNone}
 use Rattle.arguments.specs.declared.request.Request.{Request}
 use Rattle.cg_faults.specs.declared.fault.CliFault.{CliFault}
@@ -8,7 +8,9 @@ use Rattle.cg_faults.specs.declared.fault.CliFault.TheVariants.{Write, NoMemory}
 use Rattle.streams.specs.declared.write.WriteFailed.{WriteFailed}
 use Rattle.cg_help.specs.Beside.{beside_lines}
 use Rattle.cg_help.specs.declared.beside.Beside.{Beside}
-use Rattle.commands.specs.Faults.{Prints, WritesFront}
+use Rattle.cg_help.specs.Help.{IsHelp}
+use Rattle.commands.specs.Faults.{IsTold, Prints}
+use Rattle.commands.specs.declared.fault.Untold.{Untold}
 use Rattle.commands.specs.Requests.{Files, CarriesOut}
 use Rattle.commands.specs.declared.fault.Fault.{Fault}
 use Rattle.commands.specs.declared.fault.Fault.TheVariants.{Usage, Cli}
@@ -61,14 +63,18 @@ abbrev pub exit_status : Result ℕ Fault → ℕ
 exit_status (Ok status) = status
 exit_status (Err fault) = 3
 
--- The line of a fault lies in the second writer, and help may stand below it; or a front of the line, where a write failed.
-abbrev pub TellsFault : Fault → Option (List ℕ) → Option (List ℕ) → Type 0
-TellsFault fault old new =
-    (line : Option (List ℕ)) × (is_told : Bool) × (help : List ℕ)
-    × Prints fault old line is_told × Appends line new help × (is_told ≡ false → help ≡ [])
+-- What lies below the line of a fault, by whether that was printed: help, where all was told.
+abbrev pub HelpsBelow : Option (List ℕ) → Option (List ℕ) → Result (Unit {0}) Untold → Result (Unit {0}) Untold → Type 0
+HelpsBelow line new (Ok done) told = (help : List ℕ) × IsHelp help × IsTold help line new told
+HelpsBelow line new (Err why) told = (told ≡ Err why) × Keeps line new
 
--- Beside an answer stand the lines of what was noted, and nothing else; or a front of them, where a write failed; or nothing, where
--- memory was refused.
-abbrev pub Tells : Result ℕ Fault → Beside → Option (List ℕ) → Option (List ℕ) → Type 0
-Tells (Ok status) beside old new = WritesFront (beside_lines beside) old new ⊎ Keeps old new
-Tells (Err fault) beside old new = TellsFault fault old new
+-- The line of a fault lies in the second writer, and below it help, where memory sufficed for that. Where a write failed a front of
+-- both lies there, and where memory was refused for the line that of out of memory.
+abbrev pub TellsFault : Fault → Option (List ℕ) → Option (List ℕ) → Result (Unit {0}) Untold → Type 0
+TellsFault fault old new told =
+    (line : Option (List ℕ)) × (printed : Result (Unit {0}) Untold) × Prints fault old line printed × HelpsBelow line new printed told
+
+-- Beside an answer lie the lines of what was noted, and nothing else.
+abbrev pub Tells : Result ℕ Fault → Beside → Option (List ℕ) → Option (List ℕ) → Result (Unit {0}) Untold → Type 0
+Tells (Ok status) beside old new told = IsTold (beside_lines beside) old new told
+Tells (Err fault) beside old new told = TellsFault fault old new told

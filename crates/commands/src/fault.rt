@@ -1,7 +1,7 @@
 //! Why the program ends without a command's status.
-ghost use Rattle.std.specs.Prelude.{◌≡◌, ◌≢◌, ◌⊎◌};
+ghost use Rattle.std.specs.Prelude.{◌≡◌, ◌≢◌, ◌⊎◌, IfErr};
 ghost use Rattle.std.specs.IoError.{error_kind};
-ghost use Rattle.commands.specs.Faults.{lifted, Prints};
+ghost use Rattle.commands.specs.Faults.{lifted, IsTold, Prints};
 ghost use Rattle.commands.specs.declared.fault.Fault.TheVariants.{Cli};
 ghost use Rattle.cg_faults.specs.declared.fault.CliFault.TheVariants.{NoMemory as MemoryFault};
 
@@ -10,7 +10,7 @@ use cg_faults::fault::{CliFault, fault_text};
 use std::alloc::Global;
 use std::io;
 use std::io::{ErrorKind, Write};
-use streams::write::write_whole;
+use streams::write::{WriteFailed, write_whole};
 
 /// Why the program ends without a command's status.
 #[derive(Clone, Copy, Debug, PartialEq, Eq)]
@@ -19,6 +19,15 @@ pub enum Fault {
     Usage,
     /// A command, or what stands around it, failed.
     Cli(CliFault),
+}
+
+/// Why not all lies on standard error that is told there.
+#[derive(Clone, Copy, Debug, PartialEq, Eq)]
+pub enum Untold {
+    /// A write failed, or took nothing.
+    Write,
+    /// There was no memory for it.
+    NoMemory,
 }
 
 impl Fault {
@@ -34,24 +43,36 @@ impl Fault {
         }
     }
 
-    /// Writes the fault's line, or that of out of memory where there is none for it, and says whether its own was written.
-    /// Where even that fails there is nobody left to tell.
-    pub fn print<W: Write>(self, alloc: Global, out: &mut W) -> bool
+    /// Writes the fault's line, or that of out of memory where there is none for it.
+    ///
+    /// # Errors
+    /// `Write` where a write failed or took nothing, and a front of the line is written; `NoMemory` where there was no memory for
+    /// the line, and that of out of memory is written, or a front of it. Where even that fails there is nobody left to tell.
+    pub fn print<W: Write>(self, alloc: Global, out: &mut W) -> Result<(), Untold>
         ensures { Prints self (W.contents out.old) (W.contents out.new) result }
     {
         let fault = match self {
-            Fault::Usage => {
-                return write_whole(out, b"fault: usage\n").is_ok();
-            }
+            Fault::Usage => return written(out, b"fault: usage\n"),
             Fault::Cli(fault) => fault,
         };
         match fault_text(alloc, &fault) {
-            Ok(line) => write_whole(out, line.as_slice()).is_ok(),
+            Ok(line) => written(out, line.as_slice()),
             Err(_) => {
                 let _ = write_whole(out, b"fault: memory\n");
-                false
+                Err(Untold::NoMemory)
             }
         }
+    }
+}
+
+/// Writes a text whole, unless a write fails or takes nothing.
+pub(crate) fn written<W: Write>(out: &mut W, text: &[u8]) -> Result<(), Untold>
+    ensures told { IsTold text.now (W.contents out.old) (W.contents out.new) result }
+    ensures fault { IfErr result (λ why. why ≡ Untold.Write) }
+{
+    match write_whole(out, text) {
+        Ok(()) => Ok(()),
+        Err(WriteFailed) => Err(Untold::Write),
     }
 }
 

@@ -1,9 +1,13 @@
 //! The program: its words, files and streams in, a status out.
 #![tactic(auto)]
 
+mod both;
 mod carried;
 pub mod fault;
+mod on_tree;
 mod pairs;
 pub mod program;
 pub mod run;
+mod texts;
+mod users;
 pub mod waiting;

@@ -4,7 +4,7 @@ ghost use Rattle.std.specs.IoError.{error_kind};
 ghost use Rattle.std.specs.Io.KnownBytes.{Keeps};
 ghost use Rattle.cg_help.specs.Beside.{beside_lines};
 ghost use Rattle.commands.specs.Beside.{IsBeside};
-ghost use Rattle.commands.specs.Faults.{WritesFront};
+ghost use Rattle.commands.specs.Faults.{IsTold};
 ghost use Rattle.commands.specs.Runs.{exit_status, TellsFault, Tells, RunsTo};
 ghost use Rattle.commands.specs.declared.fault.Fault.{Fault};
 ghost use Rattle.commands.specs.declared.fault.Fault.TheVariants.{Cli, Usage as UsageFault};
@@ -12,8 +12,9 @@ ghost use Rattle.streams.specs.declared.write.WriteFailed.{WriteFailed};
 ghost use Rattle.cg_faults.specs.declared.fault.CliFault.TheVariants.{NoMemory as MemoryFault};
 
 use crate::carried::Noted;
-use crate::fault::Fault;
-use crate::run::run;
+use crate::fault::{Fault, Untold, written};
+use crate::run::{CommandLine, run};
+use cg_cgroup::memory::NoMemory;
 use cg_help::beside::{Beside, beside_lines};
 use cg_help::help::{Seen, help_text};
 use std::alloc::Global;
@@ -22,7 +23,6 @@ use std::io::{ErrorKind, Read, Write};
 use streams::again::Again;
 use streams::files::Files;
 use streams::kept::Kept;
-use streams::write::write_whole;
 
 /// The status of a fault.
 const FAULT: u8 = 3;
@@ -38,7 +38,9 @@ pub struct Ended<W, E> {
     pub status: u8,
     /// The writer of the report. There is none where there was no memory for the buffer before it.
     pub out: Option<W>,
-    /// The writer of a fault's line.
+    /// Whether all that is told on standard error lies there.
+    pub told: Result<(), Untold>,
+    /// The writer of a fault's line, or of what stands beside an answer.
     pub errors: E,
 }
 
@@ -47,6 +49,7 @@ pub struct Ended<W, E> {
 /// at the words, the files and the input.
 pub fn run_program<F: Files, I: Read + Drop, W: Write + Drop, E: Write + Drop>(
     alloc: Global,
+    version: &str,
     words: io::Result<Vec<String>>,
     files: &F,
     input: I,
@@ -54,7 +57,7 @@ pub fn run_program<F: Files, I: Read + Drop, W: Write + Drop, E: Write + Drop>(
     errors: E,
 ) -> Ended<W, E>
     ensures { (answer : Result ℕ Fault) × (beside : Beside) × (result.status ≡ exit_status answer)
-        × Tells answer beside (E.contents errors) (E.contents result.errors)
+        × Tells answer beside (E.contents errors) (E.contents result.errors) result.told
         × MatchOption result.out (answer ≡ Err (Cli MemoryFault)) (λ below. MatchResult words
         (λ words. (written : Result (Unit {0}) WriteFailed) × RunsTo (map string_bytes words.items) (F.given files.now)
         (I.remaining input) (W.contents out) (W.contents below) answer written
@@ -73,10 +76,18 @@ pub fn run_program<F: Files, I: Read + Drop, W: Write + Drop, E: Write + Drop>(
                 line: None,
             };
             let fault = Fault::of_words(error);
-            let status = status_told(alloc, files, Err(fault), unseen, NOTHING, &mut errors);
+            let (status, told) = status_told(
+                alloc,
+                files,
+                Err(fault),
+                unseen,
+                NOTHING,
+                &mut errors,
+            );
             return Ended {
                 status,
                 out: Some(out),
+                told,
                 errors: errors.inner,
             };
         }
@@ -86,22 +97,28 @@ pub fn run_program<F: Files, I: Read + Drop, W: Write + Drop, E: Write + Drop>(
         line: None,
         beside: NOTHING,
     };
-    let ended = run(alloc, words.as_slice(), files, &mut input, &mut noted, out);
+    let line = CommandLine {
+        version,
+        words: words.as_slice(),
+    };
+    let ended = run(alloc, line, files, &mut input, &mut noted, out);
     let seen = Seen {
         words: Some(words.as_slice()),
         input: input.whole(),
         line: noted.line.as_ref().map(Vec::as_slice),
     };
     let beside = noted.beside;
-    let status = status_told(alloc, files, ended.answer, seen, beside, &mut errors);
+    let (status, told) = status_told(alloc, files, ended.answer, seen, beside, &mut errors);
     Ended {
         status,
         out: ended.out,
+        told,
         errors: errors.inner,
     }
 }
 
-/// The status of an answer. Where it is a fault, its line is written, and help below it; else what stands beside an answer.
+/// The status of an answer, and whether all that is told was written. Where the answer is a fault, its line is written, and help
+/// below it; else what stands beside an answer.
 fn status_told<F: Files, E: Write>(
     alloc: Global,
     files: &F,
@@ -109,50 +126,43 @@ fn status_told<F: Files, E: Write>(
     seen: Seen<'_, '_, '_>,
     beside: Beside,
     errors: &mut E,
-) -> u8
-    ensures status { result ≡ exit_status answer }
-    ensures told { Tells answer beside (E.contents errors.old) (E.contents errors.new) }
+) -> (u8, Result<(), Untold>)
+    ensures status { result.0 ≡ exit_status answer }
+    ensures told { Tells answer beside (E.contents errors.old) (E.contents errors.new) result.1 }
 {
     match answer {
-        Ok(status) => {
-            tell_beside(alloc, beside, errors);
-            status
-        }
-        Err(fault) => {
-            tell(alloc, files, fault, seen, errors);
-            FAULT
-        }
+        Ok(status) => (status, tell_beside(alloc, beside, errors)),
+        Err(fault) => (FAULT, tell(alloc, files, fault, seen, errors)),
     }
 }
 
-/// Writes a fault's line, and below it what a second look finds. Where that fails there is no help.
+/// Writes a fault's line, and below it what a second look finds. Where the line can't be written there is no help.
 fn tell<F: Files, E: Write>(
     alloc: Global,
     files: &F,
     fault: Fault,
     seen: Seen<'_, '_, '_>,
     errors: &mut E,
-)
-    ensures { TellsFault fault (E.contents errors.old) (E.contents errors.new) }
+) -> Result<(), Untold>
+    ensures { TellsFault fault (E.contents errors.old) (E.contents errors.new) result }
 {
-    if !fault.print(alloc, errors) {
-        return;
-    }
+    fault.print(alloc, errors)?;
     let of_call = match fault {
         Fault::Usage => None,
         Fault::Cli(inner) => Some(inner),
     };
-    if let Ok(help) = help_text(alloc, files, of_call.as_ref(), seen) {
-        let _ = write_whole(errors, help.as_slice());
+    match help_text(alloc, files, of_call.as_ref(), seen) {
+        Err(NoMemory) => Err(Untold::NoMemory),
+        Ok(help) => written(errors, help.as_slice()),
     }
 }
 
-/// Writes what stands beside an answer. Where that fails nothing more is said.
-fn tell_beside<E: Write>(alloc: Global, beside: Beside, errors: &mut E)
-    ensures { WritesFront (beside_lines beside) (E.contents errors.old) (E.contents errors.new)
-        ⊎ Keeps (E.contents errors.old) (E.contents errors.new) }
+/// Writes what stands beside an answer.
+fn tell_beside<E: Write>(alloc: Global, beside: Beside, errors: &mut E) -> Result<(), Untold>
+    ensures { IsTold (beside_lines beside) (E.contents errors.old) (E.contents errors.new) result }
 {
-    if let Ok(lines) = beside_lines(alloc, beside) {
-        let _ = write_whole(errors, lines.as_slice());
+    match beside_lines(alloc, beside) {
+        Err(NoMemory) => Err(Untold::NoMemory),
+        Ok(lines) => written(errors, lines.as_slice()),
     }
 }

@@ -28,13 +28,20 @@ pub struct Ended<W> {
     pub out: Option<W>,
 }
 
+/// A command line, and which version the program says that it is.
+#[derive(Clone, Copy, Debug)]
+pub struct CommandLine<'a> {
+    pub version: &'a str,
+    pub words: &'a [String],
+}
+
 /// Carries out what the words of a command line ask for.
 ///
 /// What no file is named for is read from `input`, and the report goes to `out`, through a buffer. What help is made of is put into
 /// `noted`.
 pub fn run<F: Files, I: Read + Drop, W: Write + Drop>(
     alloc: Global,
-    words: &[String],
+    line: CommandLine<'_>,
     files: &F,
     input: I,
     noted: &mut Noted,
@@ -42,9 +49,9 @@ pub fn run<F: Files, I: Read + Drop, W: Write + Drop>(
 ) -> Ended<W>
     ensures answer { MatchOption result.out
         (result.answer ≡ Err (Cli MemoryFault))
-        (λ written. RunsTo (map string_bytes words.now) (F.given files.now) (I.remaining input)
+        (λ written. RunsTo (map string_bytes line.entry.words.now) (F.given files.now) (I.remaining input)
         (W.contents out) (W.contents written) result.answer result.written) }
-    ensures beside { IsBeside (map string_bytes words.now) (F.given files.now) (I.remaining input) result.answer noted.new.beside }
+    ensures beside { IsBeside (map string_bytes line.entry.words.now) (F.given files.now) (I.remaining input) result.answer noted.new.beside }
 {
     let Ok(mut report) = BufWriter::new(alloc, Again { inner: out }) else {
         return Ended {
@@ -53,7 +60,7 @@ pub fn run<F: Files, I: Read + Drop, W: Write + Drop>(
             out: None,
         };
     };
-    let (answer, written) = answered(alloc, words, files, input, noted, &mut report);
+    let (answer, written) = answered(alloc, line, files, input, noted, &mut report);
     // what a write left that failed isn't written again
     let (below, _) = report.into_parts();
     Ended {
@@ -69,23 +76,31 @@ type Answered<E> = (Result<u8, E>, Result<(), WriteFailed>);
 /// Carries out what the words ask for, with a report that is held in a buffer.
 fn answered<F: Files, I: Read + Drop, W: Write + Drop>(
     alloc: Global,
-    words: &[String],
+    line: CommandLine<'_>,
     files: &F,
     input: I,
     noted: &mut Noted,
     report: &mut BufWriter<W>,
 ) -> Answered<Fault>
     requires { writer_buffer report.old ≡ [] }
-    ensures leads { LeadsTo (map string_bytes words.now) (F.given files.now) (I.remaining input)
+    ensures leads { LeadsTo (map string_bytes line.entry.words.now) (F.given files.now) (I.remaining input)
         (writer_contents W.contents report.old) (writer_contents W.contents report.new) result.0 }
     ensures tells { TellsWrites result.0 result.1 }
     ensures whole { OnOk result.1 (writer_buffer report.new ≡ []) }
-    ensures beside { IsBeside (map string_bytes words.now) (F.given files.now) (I.remaining input) result.0 noted.new.beside }
+    ensures beside { IsBeside (map string_bytes line.entry.words.now) (F.given files.now) (I.remaining input) result.0 noted.new.beside }
 {
-    match Request::from_words(alloc, words) {
+    match Request::from_words(alloc, line.words) {
         Err(fault) => (Err(Fault::from(fault)), Ok(())),
         Ok(request) => {
-            let (ended, written) = reported(alloc, &request, files, input, noted, report);
+            let (ended, written) = reported(
+                alloc,
+                line.version,
+                &request,
+                files,
+                input,
+                noted,
+                report,
+            );
             (of_call(ended), written)
         }
     }
@@ -104,6 +119,7 @@ fn of_call(ended: Result<u8, CliFault>) -> Result<u8, Fault>
 /// Carries a request out whose report is held in a buffer.
 fn reported<F: Files, I: Read + Drop, W: Write + Drop>(
     alloc: Global,
+    version: &str,
     request: &Request<'_>,
     files: &F,
     input: I,
@@ -117,7 +133,7 @@ fn reported<F: Files, I: Read + Drop, W: Write + Drop>(
     ensures whole { OnOk result.1 (writer_buffer report.new ≡ []) }
     ensures noted { IfOk result.0 (λ _. IsNotedFor request.now (F.given files.now) (I.remaining input) noted.new.beside) }
 {
-    let ended = carried_out(alloc, request, files, input, noted, report);
+    let ended = carried_out(alloc, version, request, files, input, noted, report);
     flushed(ended, report)
 }
 

@@ -1,5 +1,5 @@
 -- What is advised and listed where more is known than guards tell.
-use Rattle.std.proofs.Common.{◌≡◌, ◌≢◌, ℕ, List, [], Option, Some, None, Result, Ok, Err, ap, sym, ◌∙◌, subst, inl, inr}
+use Rattle.std.proofs.Common.{◌≡◌, ◌≢◌, ℕ, List, [], Option, Some, None, Result, Ok, Err, refl, ap, sym, ◌∙◌, subst, inl, inr}
 use Rattle.std.specs.Prelude.{◌⊎◌, codes}
 use Rattle.std.specs.List.{flat_map}
 use Rattle.cg_cgroup.specs.Paths.{Names, same_path}
@@ -16,7 +16,15 @@ use Rattle.cg_cli.specs.Advising.{advise_report}
 use Rattle.cg_cli.specs.Audits.{users_read, paths_read}
 use Rattle.cg_cli.specs.FurtherAdvice.{AreHeld, AreHeldAsNamed, AdvisesFurther}
 use Rattle.cg_cli.specs.AllPairs.{ReportsPairs}
-use Rattle.cg_cli.specs.FurtherPairs.{listed_from, AreFurther, MayList, ListsOn, ListsFurther, first_pair_status, first_pair_report, ReportsFirst, ReportsFurther}
+use Rattle.cg_cli.specs.FurtherPairs.{listed_from, AreFurther, first_pair_status, first_pair_report, ReportsFirst}
+use Rattle.cg_cli.specs.Asking.{read_in_turn}
+use Rattle.cg_cli.specs.Audited.{AreKnownWithEach}
+use Rattle.cg_cli.specs.May.{tree_read}
+use Rattle.cg_cli.specs.SettledAdvice.{advise_settled_report}
+use Rattle.cg_cli.specs.SettledPairs.{MayBeFound, MayFollow, MayReport, ReportsSettled}
+use Rattle.cg_cli.proofs.FurtherAdvice.{advises_further}
+use Rattle.cg_cli.proofs.FurtherPairs.{are_further}
+use Rattle.cg_format.specs.Readings.{Reading}
 use Rattle.cg_cli.specs.Once.{same_user}
 use Rattle.cg_cli.specs.Reports.{Reports}
 use Rattle.cg_faults.specs.Faults.{lifted_check}
@@ -36,7 +44,7 @@ module _ (st : State) (given : List (ℕ × List ℕ)) (words : List (List ℕ))
       (subst (λ paths. AreHeld are.state users paths) (same_Ok are.subtrees subtrees (sym are.of_subtrees ∙ of_paths))
       (subst (λ who. AreHeld are.state who are.subtrees) (same_Ok are.users users (sym are.of_users ∙ of_users)) are.held))
 
-  pub further_told : users ≢ [] → (old new : Option (List ℕ)) (status : ℕ) → AdvisesFurther (Ok st) given words old new (Ok status)
+  further_told : users ≢ [] → (old new : Option (List ℕ)) (status : ℕ) → AdvisesFurther (Ok st) given words old new (Ok status)
       → (Reports (advise_report (Ok st) given words) old new (Ok status)
       ⊎ Reports (record { text = codes "contained\n"; ending = Ok 0 }) old new (Ok status))
       × (status ≡ 0 → AreHeld st users subtrees)
@@ -47,44 +55,65 @@ module _ (st : State) (given : List (ℕ × List ℕ)) (words : List (List ℕ))
   )
   further_told some old new status (inr said) = (inr said.0, λ zero. as_read said.1)
 
+  pub settled_told : users ≢ [] → (old new : Option (List ℕ)) (status : ℕ)
+      → Reports (advise_settled_report (Ok st) given words) old new (Ok status)
+      → Reports (advise_settled_report (Ok st) given words) old new (Ok status)
+      × (Reports (advise_report (Ok st) given words) old new (Ok status)
+      ⊎ Reports (record { text = codes "contained\n"; ending = Ok 0 }) old new (Ok status))
+      × (status ≡ 0 → AreHeld st users subtrees)
+  settled_told some old new status said =
+      let told = further_told some old new status (advises_further (Ok st) given words old new (Ok status) well_formed said) in
+      (said, told.0, told.1)
+    where
+      well_formed : (other : State) → ◌≡◌ {A = Reading} (Ok st) (Ok other) → IsWellFormed other
+      well_formed other is = subst IsWellFormed (same_Ok st other is) formed
+
 -- ---- what is listed
 
 module _ (st : State) (given : List (ℕ × List ℕ)) (words : List (List ℕ)) (users : List Identity) (subtrees : List Names)
-    (of_users : users_read given ≡ Ok users) (of_paths : paths_read words ≡ Ok subtrees) (old new : Option (List ℕ)) (status : ℕ) where
-  abbrev MayListOf : List Identity → List Names → Result (List Listed) CliFault → Type 0
-  MayListOf who paths =
-      MayList st (once same_user who) (once same_path paths) (first (flat_map (subtree_faults st) (once same_path paths)))
+    (formed : IsWellFormed st) (of_users : users_read given ≡ Ok users) (of_paths : paths_read words ≡ Ok subtrees)
+    (old new : Option (List ℕ)) (status : ℕ) where
+  abbrev who : List Identity
+  who = once same_user users
 
-  lists_as_read : (report : Result (List Listed) CliFault) → ListsFurther (Ok st) given words report → MayListOf users subtrees report
-  lists_as_read report lists =
-      subst (λ p. ListsOn p (λ paths. MayListOf users paths) report) of_paths
-      (subst (λ u. ListsOn u (λ who. ListsOn (paths_read words) (λ paths. MayListOf who paths)) report) of_users lists)
+  abbrev tops : List Names
+  tops = once same_path subtrees
+
+  -- what is known of each user with each subtree, and what follows from it
+  abbrev AreFound : (ℕ → ℕ → Answer) → Type 0
+  AreFound found = AreKnownWithEach st who tops found × AreFurther st who tops found
+
+  found_as_read : (report : Result (List Listed) CliFault) → MayReport (Ok st) given words report
+      → MayBeFound st who tops (first (flat_map (subtree_faults st) tops)) report
+  found_as_read report may =
+      subst (λ p. MayFollow (read_in_turn (Ok users) p (tree_read (Ok st))) report) of_paths
+      (subst (λ u. MayFollow (read_in_turn u (paths_read words) (tree_read (Ok st))) report) of_users may)
 
   listed_told : {P : Type 0} (says : Result (List Listed) CliFault → Option (List ℕ) → Option (List ℕ) → Result ℕ CliFault → Type 0)
       → ((fault : CliFault) → ¬ (says (Err fault) old new (Ok status)))
-      → ((found : ℕ → ℕ → Answer) → AreFurther st (once same_user users) (once same_path subtrees) found
-      → says (Ok (listed_from found 0 (once same_user users) (once same_path subtrees))) old new (Ok status) → P)
-      → ReportsFurther says (Ok st) given words old new (Ok status) → P
+      → ((found : ℕ → ℕ → Answer) → AreFound found → says (Ok (listed_from found 0 who tops)) old new (Ok status) → P)
+      → ReportsSettled says (Ok st) given words old new (Ok status) → P
   listed_told {P} says never tell told =
-      by_fault (first (flat_map (subtree_faults st) (once same_path subtrees))) (lists_as_read told.0 told.1)
+      by_fault (first (flat_map (subtree_faults st) tops)) refl (found_as_read told.0 told.1)
     where
-      by_fault : (fault : Option CheckFault) → MayList st (once same_user users) (once same_path subtrees) fault told.0 → P
-      by_fault None may = tell may.0 may.1 (subst (λ report. says report old new (Ok status)) may.2 told.2)
-      by_fault (Some fault) same =
+      by_fault : (fault : Option CheckFault) → first (flat_map (subtree_faults st) tops) ≡ fault
+          → MayBeFound st who tops fault told.0 → P
+      by_fault None none may =
+          tell may.1.0 (may.1.1, are_further st who tops may.1.0 formed none may.1.1)
+          (subst (λ report. says report old new (Ok status)) (may.2 ∙ ap Ok may.1.2) told.2)
+      by_fault (Some fault) is same =
           absurd (never (lifted_check fault) (subst (λ report. says report old new (Ok status)) same told.2))
 
-  pub all_told : ReportsFurther ReportsPairs (Ok st) given words old new (Ok status)
-      → (found : ℕ → ℕ → Answer) × AreFurther st (once same_user users) (once same_path subtrees) found
-      × ReportsPairs (Ok (listed_from found 0 (once same_user users) (once same_path subtrees))) old new (Ok status)
+  pub all_told : ReportsSettled ReportsPairs (Ok st) given words old new (Ok status)
+      → (found : ℕ → ℕ → Answer) × AreFound found × ReportsPairs (Ok (listed_from found 0 who tops)) old new (Ok status)
       × (status ≡ 0 → users ≢ [] → AreHeld st users subtrees)
   all_told told =
-      listed_told ReportsPairs (λ fault said. said) (λ found further reports. (
+      listed_told ReportsPairs (λ fault said. said) (λ found are reports. (
         found,
-        further,
+        are,
         reports,
         λ zero some.
-            none_held st users subtrees found further
-            (all_none (listed_from found 0 (once same_user users) (once same_path subtrees)) (reports.0 ∙ zero)) some,
+            none_held st users subtrees found are.1 (all_none (listed_from found 0 who tops) (reports.0 ∙ zero)) some,
       )) told
 
   no_status : (fault : CliFault) → ¬ (ReportsFirst (Err fault) old new (Ok status))
@@ -92,18 +121,16 @@ module _ (st : State) (given : List (ℕ × List ℕ)) (words : List (List ℕ))
       let same : ◌≡◌ {A = Result ℕ CliFault} (Err fault) (Ok status) = said.0 in
       let never : ⊥ = cc in never
 
-  pub first_told : ReportsFurther ReportsFirst (Ok st) given words old new (Ok status)
-      → (found : ℕ → ℕ → Answer) × AreFurther st (once same_user users) (once same_path subtrees) found
-      × Reports (first_pair_report (listed_from found 0 (once same_user users) (once same_path subtrees))) old new (Ok status)
+  pub first_told : ReportsSettled ReportsFirst (Ok st) given words old new (Ok status)
+      → (found : ℕ → ℕ → Answer) × AreFound found × Reports (first_pair_report (listed_from found 0 who tops)) old new (Ok status)
       × (status ≡ 0 → users ≢ [] → AreHeld st users subtrees)
   first_told told =
-      listed_told ReportsFirst no_status (λ found further reports. (
+      listed_told ReportsFirst no_status (λ found are reports. (
         found,
-        further,
+        are,
         reports,
         λ zero some.
-            none_held st users subtrees found further
-            (first_none found 0 (once same_user users) (once same_path subtrees)
-            (same_Ok (first_pair_status (listed_from found 0 (once same_user users) (once same_path subtrees))) status reports.0 ∙ zero))
-            some,
+            none_held st users subtrees found are.1
+            (first_none found 0 who tops
+            (same_Ok (first_pair_status (listed_from found 0 who tops)) status reports.0 ∙ zero)) some,
       )) told

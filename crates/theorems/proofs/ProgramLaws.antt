@@ -17,12 +17,15 @@ use Rattle.cg_model.specs.Several.{AreContained}
 use Rattle.cg_format.specs.Readings.{Reading, IsReading}
 use Rattle.cg_format.specs.TextOf.{IsTextOf}
 use Rattle.cg_format.proofs.ReadingLaws.{one_reading}
+use Rattle.cg_cli.specs.Audited.{AreKnownWithEach}
 use Rattle.cg_cli.specs.Advising.{advise_report, advise_pairs_report}
 use Rattle.cg_cli.specs.FurtherAdvice.{AreHeld}
 use Rattle.cg_cli.specs.FurtherPairs.{listed_from, AreFurther, first_pair_report}
 use Rattle.cg_cli.specs.AllPairs.{all_report, ReportsPairs}
 use Rattle.cg_cli.specs.Containment.{answer_report}
 use Rattle.cg_cli.specs.Explaining.{explain_asked, ReportsTold}
+use Rattle.cg_cli.specs.Settled.{IsSettledFrom}
+use Rattle.cg_cli.specs.SettledAdvice.{advise_settled_report}
 use Rattle.cg_cli.specs.Settling.{IsFurther}
 use Rattle.cg_cli.specs.Audits.{users_read, paths_read, audit_report}
 use Rattle.cg_cli.specs.Once.{same_user}
@@ -54,7 +57,7 @@ use Rattle.commands.proofs.BufferedLaws.{CarriesOut-Keeps}
 use Rattle.commands.proofs.PairLaws.{asked_about}
 use Rattle.theorems.proofs.GuardedLaws.{contained_by_status}
 use Rattle.theorems.proofs.SettledLaws.{settled_as}
-use Rattle.theorems.proofs.FurtherLaws.{further_told, all_told, first_told}
+use Rattle.theorems.proofs.FurtherLaws.{settled_told, all_told, first_told}
 use Rattle.theorems.proofs.StatusLaws.{all_contained_by_status}
 use Rattle.cg_cgroup.specs.declared.files.Vocabulary.{Vocabulary}
 use Rattle.cg_format.specs.Readings.{vocabulary_in}
@@ -199,6 +202,7 @@ module _ (files : Files) (given old new : Option (List ℕ)) (status : ℕ) wher
         → source files (name_of check.tree) given ≡ Some text → IsTextOf st text
         → user_of check.user.uid check.user.gids.items ≡ Some user → path_at check.subtree.now ≡ Some subtree
         → (found : Answer) × Reports (answer_report subtree found) old new (Ok status)
+        × IsSettledFrom st user subtree (answer st user subtree) found
         × IsFurther st user subtree (answer st user subtree) found
         × (found ≡ Contained → IsContained st user subtree)
         × ((ops : List Op) → found ≡ Escapes ops → ¬ (IsHeld st (by_user user ops) subtree))
@@ -257,11 +261,12 @@ module _ (files : Files) (given old new : Option (List ℕ)) (status : ℕ) wher
 
       pub advise_settled_ended : (users : List Identity) (subtrees : List Names) → advise.settle ≡ true → users_read who ≡ Ok users
           → paths_read paths ≡ Ok subtrees → users ≢ []
-          → (Reports (advise_report (Ok st) who paths) old new (Ok status)
+          → Reports (advise_settled_report (Ok st) who paths) old new (Ok status)
+          × (Reports (advise_report (Ok st) who paths) old new (Ok status)
           ⊎ Reports (record { text = codes "contained\n"; ending = Ok 0 }) old new (Ok status))
           × (status ≡ 0 → AreHeld st users subtrees)
       advise_settled_ended users subtrees further of_users of_paths some =
-          further_told st who paths users subtrees of_text.says.formed of_users of_paths some old new status
+          settled_told st who paths users subtrees of_text.says.formed of_users of_paths some old new status
           (each_alone _ _ advise.settle further told)
 
     pub explain_ended : (explain : Explain) → CarriesOut (request.Explain explain) files given old new (Ok status)
@@ -308,15 +313,19 @@ module _ (files : Files) (given old new : Option (List ℕ)) (status : ℕ) wher
         by_more = each_alone _ _ audit.settle further audited
 
         pub all_settled_ended : audit.all ≡ true
-            → (found : ℕ → ℕ → Answer) × AreFurther st (once same_user who) (once same_path paths) found
+            → (found : ℕ → ℕ → Answer)
+            × (AreKnownWithEach st (once same_user who) (once same_path paths) found
+            × AreFurther st (once same_user who) (once same_path paths) found)
             × ReportsPairs (Ok (listed_from found 0 (once same_user who) (once same_path paths))) old new (Ok status)
             × (status ≡ 0 → who ≢ [] → AreHeld st who paths)
         all_settled_ended each =
-            all_told st users subtrees who paths of_users of_paths old new status (each_alone _ _ audit.all each by_more)
+            all_told st users subtrees who paths of_text.says.formed of_users of_paths old new status (each_alone _ _ audit.all each by_more)
 
         pub settled_ended : audit.all ≡ false
-            → (found : ℕ → ℕ → Answer) × AreFurther st (once same_user who) (once same_path paths) found
+            → (found : ℕ → ℕ → Answer)
+            × (AreKnownWithEach st (once same_user who) (once same_path paths) found
+            × AreFurther st (once same_user who) (once same_path paths) found)
             × Reports (first_pair_report (listed_from found 0 (once same_user who) (once same_path paths))) old new (Ok status)
             × (status ≡ 0 → who ≢ [] → AreHeld st who paths)
         settled_ended first =
-            first_told st users subtrees who paths of_users of_paths old new status (first_alone _ _ audit.all first by_more)
+            first_told st users subtrees who paths of_text.says.formed of_users of_paths old new status (first_alone _ _ audit.all first by_more)

@@ -20,15 +20,17 @@ use Rattle.cg_check.proofs.Checking.{no_fault, answer-guarded}
 use Rattle.cg_cli.specs.Arguments.{path_read}
 use Rattle.cg_cli.specs.Containment.{in_call, answer_report}
 use Rattle.cg_cli.specs.Reports.{Report, Reports}
+use Rattle.cg_cli.specs.Settled.{IsSettledFrom}
 use Rattle.cg_cli.specs.Settling.{SaysOn, AskedSays, AskedReports, FurtherSays, IsFurther}
 use Rattle.cg_faults.specs.Faults.{lifted_check}
 use Rattle.cg_faults.specs.declared.fault.CliFault.{CliFault}
 use Rattle.cg_faults.specs.declared.fault.CliFault.TheVariants.{BadPath}
+use Rattle.cg_cli.proofs.SettleReports.{goes_further}
 use Rattle.theorems.proofs.GuardedLaws.{named_read}
 
 module _ (st : State) (user : Identity) (subtree : Names) where
   abbrev SaysAfter : Answer → Report → Type 0
-  SaysAfter given said = (found : Answer) × IsFurther st user subtree given found × (said ≡ answer_report subtree found)
+  SaysAfter given said = (found : Answer) × IsSettledFrom st user subtree given found × (said ≡ answer_report subtree found)
 
   -- what is said with a status is an answer, of a subtree without a fault
   answered : (fault : Option CheckFault) (stated : Answer) (said : Report) (status : ℕ)
@@ -63,16 +65,18 @@ module _ (st : State) (user : Identity) (subtree : Names) where
 
   module _ (uid : ℕ) (gids word : List ℕ) (of_user : user_of uid gids ≡ Some user) (of_path : path_at word ≡ Some subtree)
       (formed : IsWellFormed st) where
-    of_state : (said : Report) → AskedSays (FurtherSays IsFurther) (Ok st) uid gids word said → FurtherSays IsFurther st user subtree said
+    of_state : (said : Report) → AskedSays (FurtherSays IsSettledFrom) (Ok st) uid gids word said
+        → FurtherSays IsSettledFrom st user subtree said
     of_state said asked =
-        subst (λ p. SaysOn p (λ path. FurtherSays IsFurther st user path) said)
+        subst (λ p. SaysOn p (λ path. FurtherSays IsSettledFrom st user path) said)
         (ap (λ (found : Option Names). ok_or found BadPath) of_path)
-        (subst (λ u. SaysOn u (λ user. SaysOn (path_read word) (λ path. FurtherSays IsFurther st user path)) said)
+        (subst (λ u. SaysOn u (λ user. SaysOn (path_read word) (λ path. FurtherSays IsSettledFrom st user path)) said)
         (named_read uid gids user of_user) asked)
 
     pub settled_as : (old new : Option (List ℕ)) (status : ℕ)
-        → AskedReports (FurtherSays IsFurther) (Ok st) uid gids word old new (Ok status)
+        → AskedReports (FurtherSays IsSettledFrom) (Ok st) uid gids word old new (Ok status)
         → (found : Answer) × Reports (answer_report subtree found) old new (Ok status)
+        × IsSettledFrom st user subtree (answer st user subtree) found
         × IsFurther st user subtree (answer st user subtree) found
         × (found ≡ Contained → IsContained st user subtree)
         × ((ops : List Op) → found ≡ Escapes ops → ¬ (IsHeld st (by_user user ops) subtree))
@@ -80,11 +84,13 @@ module _ (st : State) (user : Identity) (subtree : Names) where
         let says =
         answered (first (subtree_faults st subtree)) (answer st user subtree) reported.0 status (of_state reported.0 reported.1)
         reported.2.0 in
-        let there = no_fault st subtree (sym says.0) in (
+        let there = no_fault st subtree (sym says.0) in
+        let further = goes_further st user subtree formed there (answer st user subtree) says.1.0 says.1.1 in (
           says.1.0,
           subst (λ (r : Report). Reports r old new (Ok status)) says.1.2 reported.2,
           says.1.1,
+          further,
           contained_further (answer st user subtree) says.1.0
-              (λ is. contained-guarded st user subtree formed there (answer-guarded st user subtree is)) says.1.1,
-          λ ops. escapes_further (answer st user subtree) says.1.0 ops (escape-broken st user subtree ops) says.1.1,
+              (λ is. contained-guarded st user subtree formed there (answer-guarded st user subtree is)) further,
+          λ ops. escapes_further (answer st user subtree) says.1.0 ops (escape-broken st user subtree ops) further,
         )

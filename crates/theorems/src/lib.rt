@@ -48,7 +48,10 @@ ghost use Rattle.cg_cli.specs.May.{may_report};
 ghost use Rattle.cg_cli.specs.Courses.{verdict_status};
 ghost use Rattle.cg_cli.specs.Replays.{is_newline, longest_line, outcome_of, replay_report};
 ghost use Rattle.cg_cli.specs.Containment.{answer_report, check_report};
+ghost use Rattle.cg_cli.specs.Settled.{IsSettledFrom};
+ghost use Rattle.cg_cli.specs.SettledAdvice.{advise_settled_report};
 ghost use Rattle.cg_cli.specs.Settling.{IsFurther};
+ghost use Rattle.cg_cli.specs.Audited.{AreKnownWithEach};
 ghost use Rattle.cg_cli.specs.Audits.{users_read, paths_read, audit_report};
 ghost use Rattle.cg_cli.specs.Once.{same_user};
 ghost use Rattle.cg_cli.specs.AllPairs.{all_report, ReportsPairs, UnlistedAreContained};
@@ -267,6 +270,7 @@ pub fn the_program()
         → source files (name_of check.tree) given ≡ Some text → IsTextOf st text
         → user_of check.user.uid check.user.gids.items ≡ Some user → path_at check.subtree.now ≡ Some subtree
         → (found : Answer) × Reports (answer_report subtree found) old new (Ok status)
+        × IsSettledFrom st user subtree (answer st user subtree) found
         × IsFurther st user subtree (answer st user subtree) found
         × (found ≡ Contained → IsContained st user subtree)
         × ((ops : List Op) → found ≡ Escapes ops → ¬ (IsHeld st (by_user user ops) subtree)) }
@@ -284,14 +288,16 @@ pub fn the_program()
         → CarriesOut (request.Audit audit) files given old new (Ok status) → audit.settle ≡ true → audit.all ≡ false
         → source files (name_of audit.tree) given ≡ Some text → IsTextOf st text → users_read (map ids_of audit.users.items) ≡ Ok users
         → paths_read (map (λ subtree. subtree.now) audit.subtrees.items) ≡ Ok subtrees
-        → (found : ℕ → ℕ → Answer) × AreFurther st (once same_user users) (once same_path subtrees) found
+        → (found : ℕ → ℕ → Answer) × (AreKnownWithEach st (once same_user users) (once same_path subtrees) found
+        × AreFurther st (once same_user users) (once same_path subtrees) found)
         × Reports (first_pair_report (listed_from found 0 (once same_user users) (once same_path subtrees))) old new (Ok status)
         × (status ≡ 0 → users ≢ [] → AreHeld st users subtrees) }
     ensures audit_all_settled { (audit : Audit) (files : Files) (given old new : Option (List ℕ)) (status : ℕ) (text : List ℕ) (st : State) (users : List Identity) (subtrees : List Names)
         → CarriesOut (request.Audit audit) files given old new (Ok status) → audit.settle ≡ true → audit.all ≡ true
         → source files (name_of audit.tree) given ≡ Some text → IsTextOf st text → users_read (map ids_of audit.users.items) ≡ Ok users
         → paths_read (map (λ subtree. subtree.now) audit.subtrees.items) ≡ Ok subtrees
-        → (found : ℕ → ℕ → Answer) × AreFurther st (once same_user users) (once same_path subtrees) found
+        → (found : ℕ → ℕ → Answer) × (AreKnownWithEach st (once same_user users) (once same_path subtrees) found
+        × AreFurther st (once same_user users) (once same_path subtrees) found)
         × ReportsPairs (Ok (listed_from found 0 (once same_user users) (once same_path subtrees))) old new (Ok status)
         × (status ≡ 0 → users ≢ [] → AreHeld st users subtrees) }
     ensures explain { (explain : Explain) (files : Files) (given old new : Option (List ℕ)) (status : ℕ) (text : List ℕ) (st : State)
@@ -306,7 +312,8 @@ pub fn the_program()
         → CarriesOut (request.Advise advise) files given old new (Ok status) → advise.settle ≡ true
         → source files (name_of advise.tree) given ≡ Some text → IsTextOf st text → users_read (map ids_of advise.users.items) ≡ Ok users
         → paths_read (map (λ subtree. subtree.now) advise.subtrees.items) ≡ Ok subtrees → users ≢ []
-        → (Reports (advise_report (Ok st) (map ids_of advise.users.items) (map (λ subtree. subtree.now) advise.subtrees.items)) old new (Ok status)
+        → Reports (advise_settled_report (Ok st) (map ids_of advise.users.items) (map (λ subtree. subtree.now) advise.subtrees.items)) old new (Ok status)
+        × (Reports (advise_report (Ok st) (map ids_of advise.users.items) (map (λ subtree. subtree.now) advise.subtrees.items)) old new (Ok status)
         ⊎ Reports (record { text = codes "contained\n"; ending = Ok 0 }) old new (Ok status))
         × (status ≡ 0 → AreHeld st users subtrees) }
     ensures advise_pairs { (advise : AdvisePairs) (files : Files) (given old new : Option (List ℕ)) (status : ℕ) (text pairs : List ℕ) (st : State)

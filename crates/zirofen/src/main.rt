@@ -1,6 +1,8 @@
 //! Zirofen's program: the host's words, files and streams are handed over, and the status back.
 #![tactic(auto)]
 
+mod version;
+
 use commands::program::run_program;
 use commands::waiting::tell_waiting;
 use std::io::IsTerminal;
@@ -8,6 +10,7 @@ use std::process::ExitCode;
 use std::{env, io};
 use streams::again::Again;
 use streams::files::HostFiles;
+use version::VERSION;
 
 fn main(rt: HostRuntime) -> ExitCode {
     let words = words(&rt);
@@ -20,6 +23,7 @@ fn main(rt: HostRuntime) -> ExitCode {
     ExitCode::from(
         run_program(
             rt.alloc(),
+            VERSION,
             words,
             &HostFiles { rt: &rt },
             rt.stdin(),

@@ -1,0 +1,260 @@
+//! The commands that are asked of one tree: which file has it, about whom they ask, and the call that answers.
+ghost use Rattle.std.specs.Prelude.{◌≡◌, ◌⊎◌, ◌∷◌, ℕ, List, [], map, Option, None, Some, Result, IfOk, MatchOption};
+ghost use Rattle.cg_cgroup.specs.declared.files.Vocabulary.{Vocabulary};
+ghost use Rattle.cg_format.specs.Readings.{Reading, OnText, vocabulary_in};
+ghost use Rattle.cg_cli.specs.Reports.{Reports};
+ghost use Rattle.cg_cli.specs.Strangers.{IsFirstStranger};
+ghost use Rattle.cg_cli.specs.Upgrades.{Upgrades};
+ghost use Rattle.cg_faults.specs.declared.fault.CliFault.{CliFault};
+ghost use Rattle.arguments.specs.Given.{ids_of};
+ghost use Rattle.commands.specs.Beside.{IsNotedBy};
+ghost use Rattle.commands.specs.Requests.{source, name_of, may_said, check_said, SettlesAs, AdviseSays, AuditSays, ExplainSays, IsUnread, OnTreeText};
+
+use crate::texts::tree_text;
+use crate::users::{all_ids, ids};
+use arguments::request::{Advise, Audit, Check, Explain, May, Upgrade};
+use cg_cli::advise::advise_bytes;
+use cg_cli::advise_settle::advise_settled_bytes;
+use cg_cli::audit::audit_bytes;
+use cg_cli::audit_all::audit_all_bytes;
+use cg_cli::audit_settle::{audit_all_settled_bytes, audit_settled_bytes};
+use cg_cli::check::check_bytes;
+use cg_cli::explain::explain_bytes;
+use cg_cli::may::may_bytes;
+use cg_cli::settle::settle_bytes;
+use cg_cli::upgrade::upgrade_bytes;
+use cg_faults::fault::CliFault;
+use cg_help::beside::Beside;
+use cg_help::modes::spelled_mode;
+use std::alloc::Global;
+use std::io::{Read, Write};
+use streams::files::Files;
+
+/// A command that is asked of one tree.
+pub(crate) trait OnTree {
+    /// The name of the tree's file, where one is named.
+    ghost file: { Self → Option (List ℕ) };
+
+    /// The users about whom it asks, where it asks what a tree says of them.
+    ghost users: { Self → Option (List (ℕ × List ℕ)) };
+
+    /// What may be answered, and written by then, on a text with some vocabulary of what it is read as.
+    ghost answers: { Self → Vocabulary → Reading → Option (List ℕ) → Option (List ℕ) → Result ℕ CliFault → Type 0 };
+
+    /// The tree's file.
+    fn tree(&self) -> Option<&str>
+        ensures { name_of result ≡ file self.now };
+
+    /// The call that answers on the text of a tree. Where that says nothing of a user who is asked about, `stranger` is the
+    /// first such user's uid.
+    fn answer<W: Write>(
+        &self,
+        alloc: Global,
+        tree: &[u8],
+        stranger: &mut Option<u32>,
+        out: &mut W,
+    ) -> Result<u8, CliFault>
+        ensures answer { OnText tree.now (λ read. answers self.now (vocabulary_in tree.now) read (W.contents out.old) (W.contents out.new) result)
+            ⊎ IsUnread (W.contents out.old) (W.contents out.new) result }
+        ensures stranger { MatchOption (users self.now) (stranger.new ≡ stranger.old)
+            (λ given. IsFirstStranger tree.now given result stranger.new) };
+}
+
+/// Carries out a command that is asked of one tree, whose text is read from `input` where no file is named.
+pub(crate) fn on_tree<C: OnTree, F: Files, I: Read + Drop, W: Write>(
+    alloc: Global,
+    asked: &C,
+    files: &F,
+    input: I,
+    beside: &mut Beside,
+    out: &mut W,
+) -> Result<u8, CliFault>
+    ensures answer { OnTreeText (source (F.given files.now) (C.file asked.now) (I.remaining input))
+        (λ vocabulary read. C.answers asked.now vocabulary read (W.contents out.old) (W.contents out.new) result)
+        (W.contents out.old) (W.contents out.new) result }
+    ensures noted { IfOk result (λ _. IsNotedBy (source (F.given files.now) (C.file asked.now) (I.remaining input)) (C.users asked.now) beside.new) }
+{
+    let tree = tree_text(alloc, files, asked.tree(), input)?;
+    *beside = Beside {
+        mode: spelled_mode(tree.as_slice()),
+        stranger: None,
+    };
+    asked.answer(alloc, tree.as_slice(), &mut beside.stranger, out)
+}
+
+impl OnTree for May<'_> {
+    ghost file = { λ may. name_of may.tree };
+
+    ghost users = { λ _. None };
+
+    ghost answers = { λ may _ read old new result. Reports (may_said may read) old new result };
+
+    fn tree(&self) -> Option<&str> {
+        self.tree
+    }
+
+    fn answer<W: Write>(
+        &self,
+        alloc: Global,
+        tree: &[u8],
+        _: &mut Option<u32>,
+        out: &mut W,
+    ) -> Result<u8, CliFault> {
+        may_bytes(alloc, tree, ids(&self.user), self.pid, self.to, out)
+    }
+}
+
+impl OnTree for Check<'_> {
+    ghost file = { λ check. name_of check.tree };
+
+    ghost users = { λ check. Some (ids_of check.user ∷ []) };
+
+    ghost answers = { λ check _ read old new result. Reports (check_said check read) old new result };
+
+    fn tree(&self) -> Option<&str> {
+        self.tree
+    }
+
+    fn answer<W: Write>(
+        &self,
+        alloc: Global,
+        tree: &[u8],
+        stranger: &mut Option<u32>,
+        out: &mut W,
+    ) -> Result<u8, CliFault> {
+        let user = ids(&self.user);
+        check_bytes(alloc, tree, user, self.subtree, stranger, out)
+    }
+}
+
+/// What `check` is asked, looked at further.
+#[derive(Drop)]
+pub(crate) struct Settling<'r, 'a> {
+    pub asked: &'r Check<'a>,
+}
+
+impl OnTree for Settling<'_, '_> {
+    ghost file = { λ settling. name_of settling.asked.now.tree };
+
+    ghost users = { λ settling. Some (ids_of settling.asked.now.user ∷ []) };
+
+    ghost answers = { λ settling _ read old new result. SettlesAs settling.asked.now old new result read };
+
+    fn tree(&self) -> Option<&str> {
+        self.asked.tree
+    }
+
+    fn answer<W: Write>(
+        &self,
+        alloc: Global,
+        tree: &[u8],
+        stranger: &mut Option<u32>,
+        out: &mut W,
+    ) -> Result<u8, CliFault> {
+        let user = ids(&self.asked.user);
+        settle_bytes(alloc, tree, user, self.asked.subtree, stranger, out)
+    }
+}
+
+impl OnTree for Audit<'_> {
+    ghost file = { λ audit. name_of audit.tree };
+
+    ghost users = { λ audit. Some (map ids_of audit.users.items) };
+
+    ghost answers = { λ audit _ read old new result. AuditSays audit old new result read };
+
+    fn tree(&self) -> Option<&str> {
+        self.tree
+    }
+
+    fn answer<W: Write>(
+        &self,
+        alloc: Global,
+        tree: &[u8],
+        stranger: &mut Option<u32>,
+        out: &mut W,
+    ) -> Result<u8, CliFault> {
+        let users = all_ids(alloc, self.users.as_slice())?;
+        let (users, subtrees) = (users.as_slice(), self.subtrees.as_slice());
+        match (self.settle, self.all) {
+            (false, false) => audit_bytes(alloc, tree, users, subtrees, stranger, out),
+            (false, true) => audit_all_bytes(alloc, tree, users, subtrees, stranger, out),
+            (true, false) => audit_settled_bytes(alloc, tree, users, subtrees, stranger, out),
+            (true, true) => audit_all_settled_bytes(alloc, tree, users, subtrees, stranger, out),
+        }
+    }
+}
+
+impl OnTree for Explain<'_> {
+    ghost file = { λ explain. name_of explain.tree };
+
+    ghost users = { λ explain. Some (map ids_of explain.users.items) };
+
+    ghost answers = { λ explain _ read old new result. ExplainSays explain old new result read };
+
+    fn tree(&self) -> Option<&str> {
+        self.tree
+    }
+
+    fn answer<W: Write>(
+        &self,
+        alloc: Global,
+        tree: &[u8],
+        stranger: &mut Option<u32>,
+        out: &mut W,
+    ) -> Result<u8, CliFault> {
+        let users = all_ids(alloc, self.users.as_slice())?;
+        let (users, subtrees) = (users.as_slice(), self.subtrees.as_slice());
+        explain_bytes(alloc, tree, users, subtrees, stranger, out)
+    }
+}
+
+impl OnTree for Advise<'_> {
+    ghost file = { λ advise. name_of advise.tree };
+
+    ghost users = { λ advise. Some (map ids_of advise.users.items) };
+
+    ghost answers = { λ advise _ read old new result. AdviseSays advise old new result read };
+
+    fn tree(&self) -> Option<&str> {
+        self.tree
+    }
+
+    fn answer<W: Write>(
+        &self,
+        alloc: Global,
+        tree: &[u8],
+        stranger: &mut Option<u32>,
+        out: &mut W,
+    ) -> Result<u8, CliFault> {
+        let users = all_ids(alloc, self.users.as_slice())?;
+        let (users, subtrees) = (users.as_slice(), self.subtrees.as_slice());
+        if self.settle {
+            advise_settled_bytes(alloc, tree, users, subtrees, stranger, out)
+        } else {
+            advise_bytes(alloc, tree, users, subtrees, stranger, out)
+        }
+    }
+}
+
+impl OnTree for Upgrade<'_> {
+    ghost file = { λ upgrade. name_of upgrade.tree };
+
+    ghost users = { λ _. None };
+
+    ghost answers = { λ _ vocabulary read old new result. Upgrades vocabulary old new result read };
+
+    fn tree(&self) -> Option<&str> {
+        self.tree
+    }
+
+    fn answer<W: Write>(
+        &self,
+        alloc: Global,
+        tree: &[u8],
+        _: &mut Option<u32>,
+        out: &mut W,
+    ) -> Result<u8, CliFault> {
+        upgrade_bytes(alloc, tree, out)
+    }
+}

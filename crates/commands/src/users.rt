@@ -1,0 +1,55 @@
+//! Users and pairs as the command line names them, handed to a call.
+ghost use Rattle.std.specs.Prelude.{◌≡◌, map, IfOk, IfErr};
+ghost use Rattle.cg_cli.specs.Pairs.{pair_given};
+ghost use Rattle.arguments.specs.Given.{ids_of, ids_of_pair};
+
+use arguments::named_pair::NamedPair;
+use arguments::named_user::NamedUser;
+use cg_cli::advise_pairs::PairIds;
+use cg_cli::arguments::UserIds;
+use cg_faults::fault::CliFault;
+use std::alloc::Global;
+
+/// The user as a call takes them.
+pub(crate) fn ids(user: &NamedUser) -> UserIds<'_>
+    ensures uid { result.uid ≡ user.now.uid }
+    ensures gids { result.gids.now ≡ user.now.gids.items }
+{
+    UserIds {
+        uid: user.uid,
+        gids: user.gids.as_slice(),
+    }
+}
+
+/// The users as a call takes them.
+pub(crate) fn all_ids<'a>(
+    alloc: Global,
+    users: &'a [NamedUser],
+) -> Result<Vec<UserIds<'a>>, CliFault>
+    ensures ids { IfOk result (λ all. map (λ user. (user.uid, user.gids.now)) all.items ≡ map ids_of users.now) }
+    ensures fault { IfErr result (λ fault. fault ≡ CliFault.NoMemory) }
+{
+    let mut all = Vec::new(alloc);
+    for user in users {
+        all.push(ids(user))?;
+    }
+    Ok(all)
+}
+
+/// The pairs as a call takes them.
+pub(crate) fn pair_ids<'a>(
+    alloc: Global,
+    pairs: &'a [NamedPair<'a>],
+) -> Result<Vec<PairIds<'a>>, CliFault>
+    ensures pairs { IfOk result (λ all. map pair_given all.items ≡ map ids_of_pair pairs.now) }
+    ensures fault { IfErr result (λ fault. fault ≡ CliFault.NoMemory) }
+{
+    let mut all = Vec::new(alloc);
+    for pair in pairs {
+        all.push(PairIds {
+            user: ids(&pair.user),
+            subtree: pair.subtree,
+        })?;
+    }
+    Ok(all)
+}
