@@ -1,4 +1,3 @@
--- How it is read and written: nobody has to believe it.
 -- What calls read before they ask a tree.
 use Rattle.std.specs.Prelude.{◌≡◌, ℕ, Bool, true, List, Result, Ok, Err}
 use Rattle.cg_cgroup.specs.Paths.{Names, same_path}

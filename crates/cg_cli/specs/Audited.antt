@@ -1,4 +1,3 @@
--- How an answer is found: nobody has to believe it.
 -- What is known of several users with a subtree, by their places: where check finds no list one may be planned, and those
 -- against whom there is none are asked together.
 use Rattle.std.specs.Prelude.{◌≡◌, ◌≢◌, ℕ, ◌<◌, Bool, true, false, not, List, [], ◌∷◌, length, get_or}

@@ -1,4 +1,3 @@
--- How it is read and written: nobody has to believe it.
 -- The report of the advice where the second row of guards is asked first.
 use Rattle.std.specs.Prelude.{ℕ, Bool, cond, List, Option, None, Result}
 use Rattle.std.specs.List.{list_all, flat_map}

@@ -1,4 +1,3 @@
--- How it is read and written: nobody has to believe it.
 -- The report on all pairs of some users and subtrees that aren't settled.
 use Rattle.std.specs.Prelude.{◌≡◌, ℕ, List, Option, Some, None, Result, Ok, Err}
 use Rattle.std.specs.List.{flat_map}

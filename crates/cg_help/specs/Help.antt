@@ -1,4 +1,3 @@
--- How it is read and written: nobody has to believe it.
 -- What stands below the line of a fault: lines, each of which begins with two spaces. Own.
 use Rattle.std.specs.Prelude.{ℕ, Bool, true, false, List, [], ◌≡◌, ◌⊎◌}
 use Rattle.text_places.specs.Shown.{indented}

@@ -10,7 +10,7 @@ use Rattle.commands.specs.declared.fault.Fault.{Fault}
 use Rattle.commands.specs.declared.fault.Fault.TheVariants.{Usage, Cli}
 use Rattle.commands.specs.declared.fault.Untold.{Untold}
 use Rattle.commands.specs.declared.fault.Untold.TheVariants.{Write, NoMemory}
-use Rattle.commands.specs.Faults.{printed_line, WritesFront, IsTold, Prints}
+use Rattle.commands.specs.Faults.{printed_line, WritesFront, LiesThere, Prints}
 
 -- what a write that isn't looked at left
 writes_front : {E : Type 0} (written : Result (Unit {0}) E) (text : List ℕ) (old new : Option (List ℕ))
@@ -28,8 +28,8 @@ pub prints_memory : {E : Type 0} (fault : CliFault) (written : Result (Unit {0})
 prints_memory fault written old new all part = (no_usage fault, writes_front written (fault_line MemoryFault) old new all part)
 
 -- and where there was
-pub prints_told : (fault : Fault) (told : Result (Unit {0}) Untold) (old new : Option (List ℕ)) → IsTold (printed_line fault) old new told
-    → IfErr told (λ why. why ≡ Write) → Prints fault old new told
+pub prints_told : (fault : Fault) (told : Result (Unit {0}) Untold) (old new : Option (List ℕ))
+    → LiesThere (printed_line fault) old new told → IfErr told (λ why. why ≡ Write) → Prints fault old new told
 prints_told fault (Ok done) old new says why = says
 prints_told fault (Err Write) old new says why = says
 prints_told fault (Err NoMemory) old new says why = let never : ⊥ = cc in absurd never

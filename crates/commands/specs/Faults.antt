@@ -24,10 +24,10 @@ abbrev pub WritesFront : List ℕ → Option (List ℕ) → Option (List ℕ) �
 WritesFront text old new = Appends old new text ⊎ AppendsPart old new text
 
 -- All of a text lies there, a front of it where a write failed, or nothing where there was no memory for it.
-abbrev pub IsTold : List ℕ → Option (List ℕ) → Option (List ℕ) → Result (Unit {0}) Untold → Type 0
-IsTold text old new (Ok done) = Appends old new text
-IsTold text old new (Err Write) = AppendsPart old new text
-IsTold text old new (Err NoMemory) = Keeps old new
+abbrev pub LiesThere : List ℕ → Option (List ℕ) → Option (List ℕ) → Result (Unit {0}) Untold → Type 0
+LiesThere text old new (Ok done) = Appends old new text
+LiesThere text old new (Err Write) = AppendsPart old new text
+LiesThere text old new (Err NoMemory) = Keeps old new
 
 -- Of a fault its line. Where there was no memory for the line, that of out of memory takes its place.
 abbrev pub Prints : Fault → Option (List ℕ) → Option (List ℕ) → Result (Unit {0}) Untold → Type 0

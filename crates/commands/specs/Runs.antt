@@ -9,7 +9,7 @@ use Rattle.streams.specs.declared.write.WriteFailed.{WriteFailed}
 use Rattle.cg_help.specs.Beside.{beside_lines}
 use Rattle.cg_help.specs.declared.beside.Beside.{Beside}
 use Rattle.cg_help.specs.Help.{IsHelp}
-use Rattle.commands.specs.Faults.{IsTold, Prints}
+use Rattle.commands.specs.Faults.{LiesThere, Prints}
 use Rattle.commands.specs.declared.fault.Untold.{Untold}
 use Rattle.commands.specs.Requests.{Files, CarriesOut}
 use Rattle.commands.specs.declared.fault.Fault.{Fault}
@@ -65,7 +65,7 @@ exit_status (Err fault) = 3
 
 -- What lies below the line of a fault, by whether that was printed: help, where all was told.
 abbrev pub HelpsBelow : Option (List ℕ) → Option (List ℕ) → Result (Unit {0}) Untold → Result (Unit {0}) Untold → Type 0
-HelpsBelow line new (Ok done) told = (help : List ℕ) × IsHelp help × IsTold help line new told
+HelpsBelow line new (Ok done) told = (help : List ℕ) × IsHelp help × LiesThere help line new told
 HelpsBelow line new (Err why) told = (told ≡ Err why) × Keeps line new
 
 -- The line of a fault lies in the second writer, and below it help, where memory sufficed for that. Where a write failed a front of
@@ -76,5 +76,5 @@ TellsFault fault old new told =
 
 -- Beside an answer lie the lines of what was noted, and nothing else.
 abbrev pub Tells : Result ℕ Fault → Beside → Option (List ℕ) → Option (List ℕ) → Result (Unit {0}) Untold → Type 0
-Tells (Ok status) beside old new told = IsTold (beside_lines beside) old new told
+Tells (Ok status) beside old new told = LiesThere (beside_lines beside) old new told
 Tells (Err fault) beside old new told = TellsFault fault old new told

@@ -1,7 +1,7 @@
 //! Why the program ends without a command's status.
 ghost use Rattle.std.specs.Prelude.{◌≡◌, ◌≢◌, ◌⊎◌, IfErr};
 ghost use Rattle.std.specs.IoError.{error_kind};
-ghost use Rattle.commands.specs.Faults.{lifted, IsTold, Prints};
+ghost use Rattle.commands.specs.Faults.{lifted, LiesThere, Prints};
 ghost use Rattle.commands.specs.declared.fault.Fault.TheVariants.{Cli};
 ghost use Rattle.cg_faults.specs.declared.fault.CliFault.TheVariants.{NoMemory as MemoryFault};
 
@@ -67,7 +67,7 @@ impl Fault {
 
 /// Writes a text whole, unless a write fails or takes nothing.
 pub(crate) fn written<W: Write>(out: &mut W, text: &[u8]) -> Result<(), Untold>
-    ensures told { IsTold text.now (W.contents out.old) (W.contents out.new) result }
+    ensures told { LiesThere text.now (W.contents out.old) (W.contents out.new) result }
     ensures fault { IfErr result (λ why. why ≡ Untold.Write) }
 {
     match write_whole(out, text) {

@@ -4,7 +4,7 @@ ghost use Rattle.std.specs.IoError.{error_kind};
 ghost use Rattle.std.specs.Io.KnownBytes.{Keeps};
 ghost use Rattle.cg_help.specs.Beside.{beside_lines};
 ghost use Rattle.commands.specs.Beside.{IsBeside};
-ghost use Rattle.commands.specs.Faults.{IsTold};
+ghost use Rattle.commands.specs.Faults.{LiesThere};
 ghost use Rattle.commands.specs.Runs.{exit_status, TellsFault, Tells, RunsTo};
 ghost use Rattle.commands.specs.declared.fault.Fault.{Fault};
 ghost use Rattle.commands.specs.declared.fault.Fault.TheVariants.{Cli, Usage as UsageFault};
@@ -159,7 +159,7 @@ fn tell<F: Files, E: Write>(
 
 /// Writes what stands beside an answer.
 fn tell_beside<E: Write>(alloc: Global, beside: Beside, errors: &mut E) -> Result<(), Untold>
-    ensures { IsTold (beside_lines beside) (E.contents errors.old) (E.contents errors.new) result }
+    ensures { LiesThere (beside_lines beside) (E.contents errors.old) (E.contents errors.new) result }
 {
     match beside_lines(alloc, beside) {
         Err(NoMemory) => Err(Untold::NoMemory),

@@ -319,7 +319,8 @@ module _ (files : Files) (given old new : Option (List ℕ)) (status : ℕ) wher
             × ReportsPairs (Ok (listed_from found 0 (once same_user who) (once same_path paths))) old new (Ok status)
             × (status ≡ 0 → who ≢ [] → AreHeld st who paths)
         all_settled_ended each =
-            all_told st users subtrees who paths of_text.says.formed of_users of_paths old new status (each_alone _ _ audit.all each by_more)
+            all_told st users subtrees who paths of_text.says.formed of_users of_paths old new status
+            (each_alone _ _ audit.all each by_more)
 
         pub settled_ended : audit.all ≡ false
             → (found : ℕ → ℕ → Answer)
@@ -328,4 +329,5 @@ module _ (files : Files) (given old new : Option (List ℕ)) (status : ℕ) wher
             × Reports (first_pair_report (listed_from found 0 (once same_user who) (once same_path paths))) old new (Ok status)
             × (status ≡ 0 → who ≢ [] → AreHeld st who paths)
         settled_ended first =
-            first_told st users subtrees who paths of_text.says.formed of_users of_paths old new status (first_alone _ _ audit.all first by_more)
+            first_told st users subtrees who paths of_text.says.formed of_users of_paths old new status
+            (first_alone _ _ audit.all first by_more)
