@@ -1,4 +1,3 @@
--- What laws beside the theorems speak of: nobody has to believe it.
 -- The second row of guards: what bars some users from breaking a subtree, together, whatever processes there are.
 use Rattle.std.specs.Prelude.{◌≡◌, ◌⊎◌, ℕ, Bool, true, false, List, [], ◌∷◌}
 use Rattle.std.specs.List.{All, Contains}
