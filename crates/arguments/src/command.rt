@@ -85,7 +85,7 @@ Of every user and every subtree, by user and then subtree, the line `pair` names
 stands has a line `holds` or `fails`: the guard, the cgroup, the entry with its owner and mode, and where it fails by what they
 reach it, `owner`, `group` or `others`. Where a guard fails, lines follow of what the second row of guards asks: that the subtree
 stays, what its parent enables, its limit files, and each cgroup to which a move over the edge of the subtree may lead. Then the
-two limits of the subtree have a line each with how many there are, and last stands the first line of what settle says.
+two limits of the subtree have a line each with how many there are, and last stands the first line of what settle may say.
 The status is 1 where one escapes, else 2 where one is unsettled. Users and subtrees that are named again count once.
 A user is UID or UID:GID,GID.. in decimal digits, with up to 32 gids, of which the first is the primary one.
 `fault: usage` means that the command line isn't as it says above.
