@@ -1,7 +1,7 @@
 //! The help below the line of a fault.
-ghost use Rattle.std.specs.Prelude.{◌≡◌, [], true, false, IfOk};
+ghost use Rattle.std.specs.Prelude.{◌≡◌, [], true, false, IfOk, option_copied};
 ghost use Rattle.std.specs.Option.{option_map_or};
-ghost use Rattle.cg_help.specs.Help.{IsHelp, has_help};
+ghost use Rattle.cg_help.specs.Help.{IsHelpFor, has_help, plain_help};
 
 use crate::files::{read_again, why_unread};
 use crate::given::{other_of, paths_of, tree_of};
@@ -18,6 +18,22 @@ use cg_model::fault::CheckFault;
 use std::alloc::{AllocError, Global};
 use streams::files::Files;
 use text_places::shown::{indented, quoted};
+
+const ROOT_USER: &str = "uid 0 is root's, whom no owner and no mode keeps: root isn't checked";
+
+const GIDS: &str = "a user has at most 32 gids: name those that stand in the tree";
+
+const PID: &str = "a PID is 1 to 4194303";
+
+const ROOT_SUBTREE: &str = "the root is handed to nobody: name a cgroup below it";
+
+const TOO_LONG: &str =
+    "a text has at most 16777216 bytes, or 67108864 where format = 4 is its first line, or its second behind controllers = [..]";
+
+const TOO_MANY: &str =
+    "a tree has at most 4096 cgroups and 4096 processes, or 65536 of each with format = 4";
+
+const STEPS: &str = "a replay takes at most 65536 operations";
 
 const NO_PAIR: &str =
     "no line names a pair, and the text isn't what audit writes where it has none to list, the one line contained:
@@ -43,11 +59,14 @@ pub fn help_text<F: Files>(
     fault: Option<&CliFault>,
     seen: Seen<'_, '_, '_>,
 ) -> Result<Vec<u8>, NoMemory>
-    ensures form { IfOk result (λ help. IsHelp help.items) }
+    ensures said { IfOk result (λ help. IsHelpFor (option_copied fault.entry) help.items) }
     ensures silent { option_map_or (λ fault. has_help fault.now) fault.entry true ≡ false → IfOk result (λ help. help.items ≡ []) }
 {
     if !has_help(fault) {
         return Ok(Vec::new(alloc));
+    }
+    if let Some(words) = plain_words(fault) {
+        return Ok(indented(alloc, words)?);
     }
     match said(alloc, files, fault, seen)? {
         None => Ok(Vec::new(alloc)),
@@ -60,6 +79,23 @@ fn has_help(fault: Option<&CliFault>) -> bool
     ensures { result ≡ option_map_or (λ fault. has_help fault.now) fault.entry true }
 {
     !matches!(fault, Some(CliFault::Write | CliFault::NoMemory))
+}
+
+/// What is said of a fault of which no second look tells more.
+fn plain_words(fault: Option<&CliFault>) -> Option<&'static str>
+    ensures { option_copied result ≡ plain_help (option_copied fault.entry) }
+{
+    match fault? {
+        CliFault::Uid => Some(ROOT_USER),
+        CliFault::Gids => Some(GIDS),
+        CliFault::Pid => Some(PID),
+        CliFault::Subtree(CheckFault::RootSubtree) => Some(ROOT_SUBTREE),
+        CliFault::Tree(TreeFault::TooLong) => Some(TOO_LONG),
+        CliFault::Tree(TreeFault::TooMany) => Some(TOO_MANY),
+        CliFault::TooManySteps => Some(STEPS),
+        CliFault::NoPair => Some(NO_PAIR),
+        _ => None,
+    }
 }
 
 fn said<F: Files>(
@@ -106,31 +142,8 @@ fn fault_said<F: Files>(
     seen: Seen<'_, '_, '_>,
 ) -> Result<Option<String>, NoMemory> {
     match fault {
-        CliFault::Uid => plainly(
-            alloc,
-            "uid 0 is root's, whom no owner and no mode keeps: root isn't checked",
-        ),
-        CliFault::Gids => plainly(
-            alloc,
-            "a user has at most 32 gids: name those that stand in the tree",
-        ),
-        CliFault::Pid => plainly(alloc, "a PID is 1 to 4194303"),
         CliFault::BadPath => first_bad_path(alloc, request),
-        CliFault::Subtree(CheckFault::RootSubtree) => {
-            plainly(
-                alloc,
-                "the root is handed to nobody: name a cgroup below it",
-            )
-        }
         CliFault::Subtree(_) => missing_path(alloc, files, request, seen),
-        CliFault::Tree(TreeFault::TooLong) => plainly(
-            alloc,
-            "a text has at most 16777216 bytes, or 67108864 where format = 4 is its first line, or its second behind controllers = [..]",
-        ),
-        CliFault::Tree(TreeFault::TooMany) => plainly(
-            alloc,
-            "a tree has at most 4096 cgroups and 4096 processes, or 65536 of each with format = 4",
-        ),
         CliFault::Tree(fault) => match tree_bytes(alloc, files, request, seen)? {
             Some(bytes) => Ok(tree_said(alloc, *fault, bytes.as_slice())?),
             None => Ok(None),
@@ -143,8 +156,6 @@ fn fault_said<F: Files>(
             }
             None => Ok(None),
         },
-        CliFault::TooManySteps => plainly(alloc, "a replay takes at most 65536 operations"),
-        CliFault::NoPair => plainly(alloc, NO_PAIR),
         _ => Ok(None),
     }
 }

@@ -1,10 +1,11 @@
 -- What a fault of the command line is to the program, and what the program writes of a fault. Own.
-use Rattle.std.specs.Prelude.{◌≢◌, ℕ, List, codes, Option, Result, Ok, Err, ◌⊎◌}
+use Rattle.std.specs.Prelude.{◌≢◌, ℕ, List, codes, Option, Some, None, Result, Ok, Err, ◌⊎◌}
 use Rattle.std.specs.Io.KnownBytes.{Appends, Keeps}
 use Rattle.arguments.specs.declared.fault.ArgumentsFault.{ArgumentsFault}
 use Rattle.arguments.specs.declared.fault.ArgumentsFault.TheVariants as arguments
 use Rattle.cg_faults.specs.FaultLines.{plain_line, fault_line}
 use Rattle.streams.specs.Written.{AppendsPart}
+use Rattle.cg_faults.specs.declared.fault.CliFault.{CliFault}
 use Rattle.cg_faults.specs.declared.fault.CliFault.TheVariants.{NoMemory as MemoryFault}
 use Rattle.commands.specs.declared.fault.Fault.{Fault}
 use Rattle.commands.specs.declared.fault.Fault.TheVariants.{Usage, Cli}
@@ -14,6 +15,11 @@ use Rattle.commands.specs.declared.fault.Untold.TheVariants.{Write, NoMemory}
 abbrev pub lifted : ArgumentsFault → Fault
 lifted arguments.Usage = Usage
 lifted arguments.NoMemory = Cli MemoryFault
+
+-- the fault of a call, where it is one's
+abbrev pub call_fault : Fault → Option CliFault
+call_fault Usage = None
+call_fault (Cli fault) = Some fault
 
 abbrev pub printed_line : Fault → List ℕ
 printed_line Usage = plain_line (codes "usage")

@@ -8,9 +8,10 @@ use Rattle.cg_faults.specs.declared.fault.CliFault.TheVariants.{Write, NoMemory}
 use Rattle.streams.specs.declared.write.WriteFailed.{WriteFailed}
 use Rattle.cg_help.specs.Beside.{beside_lines}
 use Rattle.cg_help.specs.declared.beside.Beside.{Beside}
-use Rattle.cg_help.specs.Help.{IsHelp}
-use Rattle.commands.specs.Faults.{LiesThere, Prints}
+use Rattle.cg_help.specs.Help.{IsHelpFor}
+use Rattle.commands.specs.Faults.{call_fault, LiesThere, Prints}
 use Rattle.commands.specs.declared.fault.Untold.{Untold}
+use Rattle.commands.specs.declared.fault.Untold.TheVariants.{NoMemory as NoRoom}
 use Rattle.commands.specs.Requests.{Files, CarriesOut}
 use Rattle.commands.specs.declared.fault.Fault.{Fault}
 use Rattle.commands.specs.declared.fault.Fault.TheVariants.{Usage, Cli}
@@ -64,15 +65,16 @@ exit_status (Ok status) = status
 exit_status (Err fault) = 3
 
 -- What lies below the line of a fault, by whether that was printed: help, where all was told.
-abbrev pub HelpsBelow : Option (List ℕ) → Option (List ℕ) → Result (Unit {0}) Untold → Result (Unit {0}) Untold → Type 0
-HelpsBelow line new (Ok done) told = (help : List ℕ) × IsHelp help × LiesThere help line new told
-HelpsBelow line new (Err why) told = (told ≡ Err why) × Keeps line new
+abbrev pub HelpsBelow : Fault → Option (List ℕ) → Option (List ℕ) → Result (Unit {0}) Untold → Result (Unit {0}) Untold → Type 0
+HelpsBelow fault line new (Ok done) (Err NoRoom) = Keeps line new
+HelpsBelow fault line new (Ok done) told = (help : List ℕ) × IsHelpFor (call_fault fault) help × LiesThere help line new told
+HelpsBelow fault line new (Err why) told = (told ≡ Err why) × Keeps line new
 
 -- The line of a fault lies in the second writer, and below it help, where memory sufficed for that. Where a write failed a front of
 -- both lies there, and where memory was refused for the line that of out of memory.
 abbrev pub TellsFault : Fault → Option (List ℕ) → Option (List ℕ) → Result (Unit {0}) Untold → Type 0
 TellsFault fault old new told =
-    (line : Option (List ℕ)) × (printed : Result (Unit {0}) Untold) × Prints fault old line printed × HelpsBelow line new printed told
+    (line : Option (List ℕ)) × (printed : Result (Unit {0}) Untold) × Prints fault old line printed × HelpsBelow fault line new printed told
 
 -- Beside an answer lie the lines of what was noted, and nothing else.
 abbrev pub Tells : Result ℕ Fault → Beside → Option (List ℕ) → Option (List ℕ) → Result (Unit {0}) Untold → Type 0

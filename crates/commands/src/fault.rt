@@ -1,7 +1,7 @@
 //! Why the program ends without a command's status.
 ghost use Rattle.std.specs.Prelude.{◌≡◌, ◌≢◌, ◌⊎◌, IfErr};
 ghost use Rattle.std.specs.IoError.{error_kind};
-ghost use Rattle.commands.specs.Faults.{lifted, LiesThere, Prints};
+ghost use Rattle.commands.specs.Faults.{lifted, call_fault, LiesThere, Prints};
 ghost use Rattle.commands.specs.declared.fault.Fault.TheVariants.{Cli};
 ghost use Rattle.cg_faults.specs.declared.fault.CliFault.TheVariants.{NoMemory as MemoryFault};
 
@@ -40,6 +40,16 @@ impl Fault {
             Fault::Cli(CliFault::NoMemory)
         } else {
             Fault::Usage
+        }
+    }
+
+    /// The fault of a call, where it is one's.
+    pub fn of_call(self) -> Option<CliFault>
+        ensures { result ≡ call_fault self }
+    {
+        match self {
+            Fault::Usage => None,
+            Fault::Cli(fault) => Some(fault),
         }
     }
 

@@ -147,10 +147,7 @@ fn tell<F: Files, E: Write>(
     ensures { TellsFault fault (E.contents errors.old) (E.contents errors.new) result }
 {
     fault.print(alloc, errors)?;
-    let of_call = match fault {
-        Fault::Usage => None,
-        Fault::Cli(inner) => Some(inner),
-    };
+    let of_call = fault.of_call();
     match help_text(alloc, files, of_call.as_ref(), seen) {
         Err(NoMemory) => Err(Untold::NoMemory),
         Ok(help) => written(errors, help.as_slice()),
