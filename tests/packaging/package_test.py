@@ -110,7 +110,7 @@ class PackageTest(unittest.TestCase):
             said = run("dpkg-deb", "--field", file, "Package", "Version", "Architecture", "Depends", "Recommends", "Breaks", "Replaces")
             self.assertEqual(said.stdout.splitlines(), [f"Package: {name}", f"Version: {version}", *told])
             self.assertEqual(run("dpkg-deb", "--extract", file, out).returncode, 0)
-        self.assertEqual(run(f"{out}/usr/bin/zirofen", "--version").stdout, f"zirofen {self.program.version}\n")
+        self.assertEqual(run(f"{out}/usr/bin/zirofen", "--version").stdout, f"{self.program.line()}\n")
         self.helpers_run(f"{out}/usr/bin", f"{out}/{package.DOCS}/examples/delegation.toml")
 
     def debian_file(self, name):
@@ -210,10 +210,10 @@ class PackageTest(unittest.TestCase):
         environment = {**os.environ, "ZIROFEN": f"{folder}/zirofen"}
         said = run(f"{folder}/zirofen-host", "--version", env=environment)
         helper = f"zirofen-host {version.VERSION} ({version.sum_of(PACKAGE)})"
-        self.assertEqual((said.stdout, said.stderr), (f"{helper}\nzirofen {self.program.version}\n", ""))
+        self.assertEqual((said.stdout, said.stderr), (f"{helper}\n{self.program.line()}\n", ""))
         checked = run(f"{folder}/zirofen-host", "check", "--json", "--tree", tree, env=environment)
         found = json.loads(checked.stdout)
-        self.assertEqual((found["program"], found["helper"], checked.stderr), (f"zirofen {self.program.version}", helper, ""))
+        self.assertEqual((found["program"], found["helper"], checked.stderr), (self.program.line(), helper, ""))
         with open(f"{self.folder.name}/report.json", "w", encoding="ascii") as out:
             out.write(checked.stdout)
         self.assertIn("<!DOCTYPE html>", run(f"{folder}/zirofen-host", "page", out.name).stdout)
@@ -347,7 +347,7 @@ class PackageTest(unittest.TestCase):
     def test_the_helpers_tell_their_version_and_the_programs(self):
         environment = {**os.environ, "ZIROFEN": self.program.path}
         said = run(sys.executable, f"{TOP}/host/zirofen-host", "--version", env=environment).stdout
-        self.assertEqual(said, f"zirofen-host {version.VERSION} ({version.sum_of(PACKAGE)})\nzirofen {self.program.version}\n")
+        self.assertEqual(said, f"zirofen-host {version.VERSION} ({version.sum_of(PACKAGE)})\n{self.program.line()}\n")
 
 
 if __name__ == "__main__":
