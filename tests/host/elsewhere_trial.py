@@ -8,8 +8,8 @@ tells of it. Run by hand, as root, in a machine with systemd that may be thrown 
 HOST_FOLDER has zirofen-host. Each user has a service with Delegate=yes: the first is hostile, the second is handed no more, and the
 third, in every other run, a limit too. In each run of a way its finding and the status are held against what they are to be, and what
 is said of the two others against what was said before. With --containers it starts containers of each engine that is installed (docker,
-podman, rootless podman, lxc, nspawn) instead, and neither finding may come up there but for an entry that one of them was given. Status 1
-says that something is otherwise.
+podman, rootless podman, lxc, nspawn) instead, and neither finding may come up there but for an entry that one of them was given. On Debian
+docker needs the packages docker-cli (13) and apparmor (12) too, which a bare root leaves out. Status 1 says that something is otherwise.
 """
 import argparse
 import contextlib
@@ -488,11 +488,13 @@ def start_docker(folder):
     said("systemctl", "start", "docker", timeout=900)
     subprocess.run(f"tar -C {image_of(folder, 'docker')} -c . | docker import - busy", shell=True, check=True, capture_output=True)
     for name in ("one", "two"):
+        said("docker", "rm", "-f", name, check=False)
         said("docker", "run", "-d", "--network", "none", "--name", name, "busy", "sleep", "100000")
 
 
 def start_podman(folder):
     for name in ("one", "two"):
+        said("podman", "rm", "-f", "-t", "0", name, check=False)
         said("podman", "run", "-d", "--network", "none", "--name", name, "--rootfs", image_of(folder, f"podman-{name}"), "sleep", "100000")
 
 
