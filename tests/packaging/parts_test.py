@@ -75,7 +75,7 @@ class TextTest(unittest.TestCase):
                               "it", "1")
         self.assertEqual(told.splitlines()[:5], ["it (0.2.0-1) unstable; urgency=medium", "", "  * One thing.", "",
                                                  " -- They <they@it>  Wed, 25 Nov 2026 12:00:00 +0000"])
-        self.assertIn("it (0.1.0) unstable", told)
+        self.assertIn("it (0.1.0-1) unstable", told)
 
     def test_commands_and_options_are_those_of_help(self):
         known = completions.read(lambda *words: LOOK if words else HELP)
