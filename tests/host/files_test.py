@@ -93,18 +93,19 @@ class OpenFilesTest(HostTest):
 class CapabilitiesTest(HostTest):
     """What a process may raise again counts as what it has."""
 
+    def found(self, report):
+        return [(each.path, each.entry, each.whom[0].name, each.processes) for each in report.broken if each.what == "capability"]
+
     def test_what_is_permitted_and_not_effective(self):
         self.host.cgroup("/svc.service", owners=owned(1000), pids=(7, 8))
         self.host.process(7, uid=1000, gid=1000, capabilities=0, permitted=0b10)
         self.host.process(8, uid=1000, gid=1000, capabilities=0)
-        self.assertEqual(self.told(self.report(), "capability"), [
-            "/svc.service: inside: process 7 of alice(1000) has CAP_DAC_OVERRIDE, and passes over owners"])
+        self.assertEqual(self.found(self.report()), [("/svc.service", "CAP_DAC_OVERRIDE", "alice(1000)", (7,))])
 
     def test_what_a_thread_has_alone(self):
         self.host.cgroup("/svc.service", owners=owned(1000), pids=(7,))
         self.host.process(7, uid=1000, gid=1000, threads=(0, 1 << 21))
-        self.assertEqual(self.told(self.report(), "capability"), [
-            "/svc.service: inside: process 7 of alice(1000) has CAP_SYS_ADMIN, and passes over owners"])
+        self.assertEqual(self.found(self.report()), [("/svc.service", "CAP_SYS_ADMIN", "alice(1000)", (7,))])
 
     def test_more_threads_than_are_looked_at(self):
         self.host.cgroup("/svc.service", owners=owned(1000), pids=(7, 2000))
@@ -114,9 +115,8 @@ class CapabilitiesTest(HostTest):
         self.host.process(9000, uid=1001, gid=1001, threads=(1 << 21,))
         with mock.patch.object(bounded, "THREADS", bounded.Budget("threads", 2000)):
             found = self.report()
-        self.assertEqual(self.told(found, "capability"), [
-            "/b.service: inside: process 9000 of bob(1001) has CAP_SYS_ADMIN, and passes over owners",
-            "alice(1000): 1002 threads weren't looked at: more than 2000 run"])
+        self.assertEqual(self.found(found), [("/b.service", "CAP_SYS_ADMIN", "bob(1001)", (9000,))])
+        self.assertEqual(self.told(found, "capability"), ["alice(1000): 1002 threads weren't looked at: more than 2000 run"])
 
 
 if __name__ == "__main__":
