@@ -94,7 +94,8 @@ class CapabilitiesTest(HostTest):
     """What a process may raise again counts as what it has."""
 
     def found(self, report):
-        return [(each.path, each.entry, each.whom[0].name, each.processes) for each in report.broken if each.what == "capability"]
+        return [(each.path, each.entry, each.whom[0].name, tuple(each.processes))
+                for each in report.report.broken if each.what == "capability"]
 
     def test_what_is_permitted_and_not_effective(self):
         self.host.cgroup("/svc.service", owners=owned(1000), pids=(7, 8))
