@@ -299,7 +299,8 @@ class HelperTest(HostTest):
             ended = self.check(*words)
             self.assertEqual((ended.returncode, os.listdir(hers)), (3, []))
             self.assertEqual((ended.stdout + ended.stderr).count("root writes into none of theirs"), 1)
-            self.assertEqual([line.split()[2:] for line in ended.stdout.splitlines()[1:3]], [["contained", "/a"], ["contained", "/b"]])
+            self.assertEqual([line.split()[2:] for line in ended.stdout.splitlines()[1:3]],
+                             [["contained", "[limited]", "/a"], ["contained", "[limited]", "/b"]])
 
     def test_what_somebody_puts_where_something_is_kept(self):
         """The answers of the others are the same, whatever stands at FILE and at FILE.new."""
@@ -315,7 +316,8 @@ class HelperTest(HostTest):
             is_pipe = stat.S_ISFIFO(os.lstat(kept).st_mode)
             ended = self.check("--baseline-update", baseline, *(() if is_pipe else ("--keep", kept)))
             self.assertEqual((ended.returncode, ended.stderr), (0, ""))
-            self.assertEqual([line.split()[2:] for line in ended.stdout.splitlines()[1:3]], [["contained", "/a"], ["contained", "/b"]])
+            self.assertEqual([line.split()[2:] for line in ended.stdout.splitlines()[1:3]],
+                             [["contained", "[limited]", "/a"], ["contained", "[limited]", "/b"]])
             self.assertEqual((os.lstat(baseline).st_uid, read(secret)), (0, SECRET))
             if is_pipe:
                 self.assertIn("it is a pipe of somebody else's", self.check("--keep", kept).stdout)
