@@ -28,14 +28,17 @@ class Call:
     def __init__(self, module, is_public, at, lines):
         head = next(it for it in range(at["first"] - 1, len(lines)) if HEAD.match(lines[it]))
         body = next((it for it in range(head, len(lines)) if BODY.match(lines[it])), head)
-        above = next((lines[it] for it in range(head, -1, -1) if re.match(r"\w", lines[it])), "")
-        owners = OWNER.match(above) if lines[head].startswith(" ") else None
+        above = next((it for it in range(head, -1, -1) if re.match(r"\w", lines[it])), head)
+        owners = OWNER.match(lines[above]) if lines[head].startswith(" ") else None
         trait, of, kind = owners.groups() if owners else (None, None, None)
         self.module, self.name, self.file, self.lines = module, at["name"], at["file"], range(at["first"], at["last"] + 1)
         self.owners = [it for it in (trait, of, kind) if it]
         self.is_public = is_public and bool("pub fn" in lines[head] or trait or of)
         self.is_own = self.is_public and "pub fn" in lines[head]
-        self.clauses = CLAUSE.findall("\n".join(lines[head : body + 1]))
+        self.contract = "\n".join(lines[head : body + 1])
+        self.clauses = CLAUSE.findall(self.contract)
+        # what its impl or trait says of all its calls
+        self.ghosts = "\n".join(it for it in lines[above:head] if it.startswith("    ghost "))
         self.says = comment_of(lines[at["first"] - 1 : head])
 
     def paths(self):
