@@ -31,11 +31,15 @@ def sum_of(folder: str = HERE) -> str:
 
 
 @functools.lru_cache(maxsize=None)
-def told() -> str:
-    """The line that names this helper."""
+def digits() -> str:
+    """The sum of this helper, as it was left when it was installed."""
     try:
         with open(os.path.join(HERE, SUM), encoding="ascii") as opened:
-            digits = opened.read(DIGITS)
+            return opened.read(DIGITS)
     except (OSError, UnicodeDecodeError):
-        digits = sum_of()
-    return f"{NAME} {VERSION} ({digits})"
+        return sum_of()
+
+
+def told() -> str:
+    """The line that names this helper."""
+    return f"{NAME} {VERSION} ({digits()})"

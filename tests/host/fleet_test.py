@@ -130,7 +130,7 @@ class ManyTest(FleetTest):
         contained = HOSTS - 40 - SAME - ESCAPING
         self.assertEqual(lines[-1], f"{HOSTS} hosts: 40 no report, {ESCAPING} escapes, {SAME} opened, {contained} contained")
         # the worst on top
-        answers = [re.split("  +", line)[1] for line in lines[1:-1] if line[0] != " "]
+        answers = [re.split("  +", line)[1] for line in lines[1:-2] if line[0] != " "]
         self.assertEqual(list(dict.fromkeys(answers)), ["no report", "escapes", "opened", "contained"])
         self.assertRegex(text, f"\n{SAME} hosts +opened +4 +2 +2 +20")
         self.assertIn("    the same 2 findings:\n    opened /system.slice/job10001.service cpu.max by everybody\n", text)
@@ -253,7 +253,7 @@ class RulesTest(FleetTest):
         with open(f"{self.room}/json", encoding="ascii") as opened:
             self.assertEqual(opened.read(), run(self.folder.folder, "--json")[0])
         self.assertEqual(run(self.folder.folder, "--format", "json")[0], run(self.folder.folder, "--json")[0])
-        self.assertTrue(run(self.folder.folder, "--format", "metrics")[0].startswith("# HELP zirofen_fleet_hosts "))
+        self.assertTrue(run(self.folder.folder, "--format", "metrics")[0].startswith("# HELP zirofen_fleet_info "))
         # everybody may read metrics, whatever the umask is
         self.assertEqual(os.stat(f"{self.room}/metrics").st_mode & 0o777, 0o644)
         for given in (("--json", "--format", "metrics"), ("--format", "sarif"), ("--format", "json=")):

@@ -228,7 +228,7 @@ class WaysTest(HostTest):
         with open(files["json"], encoding="ascii") as text:
             self.assertEqual(json.load(text)["status"], 1)
         ended = self.script("--format", "metrics")
-        self.assertEqual((ended.returncode, ended.stdout.splitlines()[2]), (1, "zirofen_subtrees_asked 1"))
+        self.assertEqual((ended.returncode, ended.stdout.splitlines()[5]), (1, "zirofen_subtrees_asked 1"))
         self.assertEqual(json.loads(self.script("--format", "json").stdout).keys(), json.loads(self.script("--json").stdout).keys())
 
     def test_what_isnt_a_format(self):

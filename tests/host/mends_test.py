@@ -289,7 +289,7 @@ class WrittenTest(HostTest):
 
     def test_nothing_is_to_mend(self):
         report = replace(made(example.kept()), entries=(), opened=(), differs=(), unseen=())
-        self.assertEqual(text(run_of(report), "systemd"), "# nothing is to mend\n")
+        self.assertEqual(text(run_of(report), "systemd"), f"# made with {report.program}\n\n# nothing is to mend\n")
         self.assertNotIn("systemctl", text(run_of(report), "shell"))
 
 

@@ -9,6 +9,7 @@ from dataclasses import replace
 import report_schema
 from check_test import MANAGER, REAL_PROGRAM, HostTest, owned
 from made_up import COMMAND, TOP, path_of
+from shown import without_makers
 from zirofen_host.collect import changes, elsewhere
 from zirofen_host.collect.elsewhere import Accepted
 from zirofen_host.collect.model import AccountLists, Carried, Entry, Source
@@ -175,7 +176,7 @@ class CommandTest(HostTest):
         said = self.plan("--tree", DELEGATION, ops="mkdir /new\nchown /new dir 1001:1001\nchown /new cgroup.procs 1001:1001\n"
                          "chown /new cgroup.subtree_control 1001:1001\nchown / cgroup.procs 1000:0\n")
         self.assertEqual((said.returncode, said.stderr), (1, ""))
-        self.assertEqual(said.stdout.splitlines(), [
+        self.assertEqual(without_makers(said.stdout.splitlines()), [
             "new: / cgroup.procs (1000:0 644): escapes, by uid 1000, of /c0 /c1 /new", "    change: chown root /sys/fs/cgroup/cgroup.procs",
             "new: /new: contained, by 1001 who holds it",
             "worse: /c0: escapes, by 1000 who holds it", "    before: /c0: contained, by 1000 who holds it",
@@ -184,7 +185,7 @@ class CommandTest(HostTest):
 
     def test_nothing_changes(self):
         said = self.plan("--tree", DELEGATION, ops="# nothing\n")
-        self.assertEqual((said.stdout.splitlines(), said.returncode), (
+        self.assertEqual((without_makers(said.stdout.splitlines()), said.returncode), (
             ["nothing is new, worse, changed or gone beside the tree as it is", f"2 asked: 2 contained [limited]; {LIMITS}"], 0))
         # what stands before counts as before
         said = self.plan("--tree", f"{TOP}/examples/delegation-ancestor-owned.toml", ops="set /c0 memory.max 9\n")
@@ -198,7 +199,7 @@ class CommandTest(HostTest):
         files = ("dir", "cgroup.procs", "cgroup.subtree_control", "cgroup.threads", "memory.pressure")
         ops = "mkdir /new\n" + "".join(f"chown /new {name} 1001:1001\n" for name in files)
         said = self.plan("--tree", DELEGATION, ops=ops)
-        *lines, last = said.stdout.splitlines()
+        *lines, last = without_makers(said.stdout.splitlines())
         self.assertEqual((said.returncode, said.stderr, lines), (0, "", [
             "new: /new: contained, by 1001 who holds it", "not-told: cgroup.threads memory.pressure: no answer rests on these"]))
         self.assertNotIn("isn't told: ", last)

@@ -38,4 +38,11 @@ def rows_of(subtree):
 def comparison_lines(report):
     """Of a report with a comparison."""
     report = made(report)
-    return lines.comparison_lines(report, report.baseline)
+    return without_makers(lines.comparison_lines(report, report.baseline))
+
+
+def without_makers(told):
+    """Lines but for the one before the last, which says which program and which helper they are of."""
+    *before, makers, last = told
+    assert makers.startswith("made with "), makers
+    return [*before, last]

@@ -7,12 +7,16 @@ import subprocess
 import sys
 import tempfile
 import unittest
+from dataclasses import replace
 
 from check_test import HostTest, owned
 from made_up import COMMAND, TOP
 from zirofen_host import version
-from zirofen_host.judge import check
-from zirofen_host.show import junit, page, sarif, tree_view
+from zirofen_host.judge import as_json, baseline, check
+from zirofen_host.judge.mends import KINDS, SHELL
+from zirofen_host.judge.model import ABSENT
+
+from zirofen_host.show import fleet, fleet_lines, fleet_metrics, fleet_page, junit, lines, mends, metrics, page, sarif, tree_view
 from zirofen_host.show.run import Run
 
 PACKAGE = f"{TOP}/host/zirofen_host"
@@ -56,9 +60,34 @@ class VersionTest(HostTest):
         (log,) = json.loads("".join(sarif.parts_of(run)))["runs"]
         self.assertEqual(f"zirofen-host {log['tool']['driver']['version']}", version.told())
         self.assertEqual(log["properties"]["program"], "made-up 1.0")
-        for said in ("".join(junit.parts_of(run)), page.page([report]), tree_view.draw(report, tree_view.Drawing())[0]):
+        for said in ("".join(junit.parts_of(run)), page.page([report]), tree_view.draw(report, tree_view.Drawing())[0],
+                     list(lines.lines_of(report))[-2], *(list(mends.lines_of(run, kind))[at] for at, kind in ((0, KINDS[0]), (2, SHELL)))):
             self.assertIn(version.told(), said)
             self.assertIn("made-up 1.0", said)
+        self.assertIn(f'zirofen_host_info{{version="{version.VERSION}",sum="{version.digits()}",program="made-up 1.0"}} 1\n',
+                      "".join(metrics.parts_of(run)))
+        compared = replace(report, baseline=baseline.compared(report, report, "before.json"))
+        self.assertIn(version.told(), list(lines.comparison_lines(compared, compared.baseline))[-2])
+
+    def test_a_program_may_say_anything(self):
+        self.host.cgroup("/a", owners=owned(1000))
+        report = replace(check.report(self.host.snapshot(), self.options(), True), program='a"\\\n\x1b')
+        self.assertIn('program="a\\"\\\\\\\\n\\\\x1b"} 1\n', "".join(metrics.parts_of(Run(report, 0))))
+
+    def test_what_fleet_writes_has_the_helper(self):
+        self.host.cgroup("/a", owners=owned(1000))
+        report, folder = check.report(self.host.snapshot(), self.options(), True), f"{self.host.folder}/reports"
+        os.mkdir(folder)
+        for name, helper in (("a", report.helper), ("b", ABSENT)):
+            with open(f"{folder}/{name}.json", "w", encoding="utf-8") as out:
+                out.writelines(as_json.parts_of(replace(report, helper=helper)))
+        found = fleet.read_fleet(folder, fleet.Rules(None), lambda name, each: None)
+        value = fleet.value_of(found)
+        self.assertEqual((value["helper"], [each["helper"] for each in value["hosts"]]), (version.told(), [version.told(), None]))
+        self.assertEqual(list(fleet_lines.lines_of(found, False))[-2], f"made with {version.told()}")
+        self.assertIn(f"Made with {version.told()}.", fleet_page.Index(found).html())
+        self.assertIn(f'zirofen_fleet_info{{version="{version.VERSION}",sum="{version.digits()}"}} 1\n',
+                      "".join(fleet_metrics.parts_of(found, 1.0, 2.0)))
 
 
 if __name__ == "__main__":

@@ -1,4 +1,5 @@
 """The report of a run that came to the end of its time before it had one: that it isn't whole, and with whom the time went to."""
+from zirofen_host import version
 from zirofen_host.collect import turns
 from zirofen_host.collect.model import About
 from zirofen_host.collect.notes import RUN, Failed
@@ -17,4 +18,5 @@ def report(options: Options, seconds: int) -> Report:
         VERSION, None, about.host or "", about.kernel or "", about.time or "", options.mount, False, False,
         subtrees=(), entries=(), opened=(), faults=(), differs=(), above=(), unseen=(Told.of(Failed(RUN, why)),), snapshot=(), status=FAULT,
         version_1=(), lists=(), users=(), groups=(), cgroups=(), processes=(),
-        limits=(AnswerLimit(TIME, f"it isn't whole: nothing was told of any subtree within {seconds} seconds"),))
+        limits=(AnswerLimit(TIME, f"it isn't whole: nothing was told of any subtree within {seconds} seconds"),),
+        helper=version.told())

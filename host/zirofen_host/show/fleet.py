@@ -7,6 +7,7 @@ from dataclasses import dataclass
 from datetime import datetime, timedelta, timezone
 from typing import Callable, Iterable, Iterator, List, Mapping, Optional, Sequence, Set, Tuple
 
+from zirofen_host import version
 from zirofen_host.collect import bounded
 from zirofen_host.collect.looks import why_of
 from zirofen_host.collect.notes import FAILED
@@ -59,6 +60,8 @@ class Row:
     limits: Optional[Tuple[str, ...]] = ()
     # what stands behind an answer of it
     mark: str = ""
+    # the helper that made its report, where that is told
+    helper: Optional[str] = None
 
     def place(self) -> Tuple[int, int, str]:
         """Where it stands in a table: the gravest first."""
@@ -192,7 +195,7 @@ def row_of(name: str, host: Host, is_listed: bool) -> Row:
     told = None if isinstance(report.limits, Absent) else tuple(each.kind for each in report.limits)
     return Row(name, None, severity.status, severity.value, delegations, contained, open_findings, cut(report.time, 20), of, is_listed,
                tuple(cut(each, LONGEST_LINE) for each in notes), tuple(lines), len(host.findings), alike.digest(),
-               told, limits.mark_of(report))
+               told, limits.mark_of(report), None if isinstance(report.helper, Absent) else cut(report.helper, LONGEST_NAME))
 
 
 def is_of(name: str, host: str) -> bool:
@@ -273,9 +276,9 @@ def value_of(fleet: Fleet) -> Mapping[str, object]:
     hosts: List[Mapping[str, object]] = [
         {"host": row.name, "counts": row.why is None, "why": row.why, "status": row.status, "answer": row.kind,
          "delegations": row.delegations, "contained": row.contained, "open": row.open, "time": row.time or None,
-         "of": row.of, "listed": row.is_listed, "limits": row.limits, "notes": list(row.notes),
+         "of": row.of, "helper": row.helper, "listed": row.is_listed, "limits": row.limits, "notes": list(row.notes),
          "findings": row.findings, "first": list(row.lines)}
         for row in fleet.rows]
     alike = [{"hosts": [row.name for row in group.rows], "answer": group.first.kind, "why": group.first.why,
               "findings": group.first.findings} for group in fleet.groups() if len(group.rows) > 1]
-    return {"version": 1, "status": fleet.status, "hosts": hosts, "alike": alike}
+    return {"version": 1, "helper": version.told(), "status": fleet.status, "hosts": hosts, "alike": alike}

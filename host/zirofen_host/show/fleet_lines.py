@@ -2,6 +2,7 @@
 from collections import Counter
 from typing import Iterator, List, Sequence, Tuple
 
+from zirofen_host import version
 from zirofen_host.show import words
 from zirofen_host.show.fleet import LONGEST_NAME, NO_REPORT, ORDER, Alike, Fleet, Row, cut
 
@@ -82,4 +83,5 @@ def lines_of(fleet: Fleet, is_each: bool) -> Iterator[str]:
             yield from (f"    {line}" for line in told(groups[at - 1]))
             if len(groups[at - 1].rows) > 1:
                 yield f"    {names(groups[at - 1])}"
+    yield f"made with {version.told()}"
     yield sum_line(fleet)

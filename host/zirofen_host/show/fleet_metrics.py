@@ -5,7 +5,7 @@ from typing import Iterator
 
 from zirofen_host.judge.severity import OF_STATUS
 from zirofen_host.show.fleet import ORDER, TIME, Fleet, Row
-from zirofen_host.show.metrics import ALONE, Gauge, Values, lines_of
+from zirofen_host.show.metrics import ALONE, Gauge, Values, about, lines_of
 
 
 def moments(fleet: Fleet) -> Iterator[float]:
@@ -29,6 +29,7 @@ def is_another(row: Row) -> bool:
 
 def gauges(fleet: Fleet, seconds: float, ended: float) -> Iterator[Gauge]:
     kinds, statuses = Counter(row.kind for row in fleet.rows), Counter(row.status for row in fleet.rows)
+    yield Gauge("zirofen_fleet_info", "The helper that made this, by its version and the sum of its files.", {about(): 1})
     yield Gauge("zirofen_fleet_hosts", "Hosts by the gravest that is found of each; no_report: its report is missing or doesn't count.",
                 {(("answer", kind.replace(" ", "_")),): kinds[kind] for kind in ORDER})
     yield Gauge("zirofen_fleet_hosts_with_status", "Hosts by the status of each.",

@@ -4,7 +4,7 @@ import os
 import re
 from typing import Iterator, List
 
-from zirofen_host import output
+from zirofen_host import output, version
 from zirofen_host.judge.model import Report
 from zirofen_host.show import page, words
 from zirofen_host.show.fleet import LONGEST_NAME, NO_REPORT, ORDER, Alike, Fleet, Row, cut
@@ -78,7 +78,7 @@ class Index:
         head = "".join(f'<th scope="col">{each}</th>' for each in COLUMNS)
         worst = FAULT if kinds[0] == NO_REPORT else kinds[0]
         return filled("fleet.html", title=words.count(len(rows), "host"), kind=css(worst), sign=SIGNS[worst][0],
-                      sentence=text(sum_line(self.fleet)), head=head, rows="".join(self.parts()))
+                      sentence=text(sum_line(self.fleet)), made=text(version.told()), head=head, rows="".join(self.parts()))
 
 
 def write_index(folder: str, fleet: Fleet) -> None:

@@ -166,7 +166,7 @@ def parts_of(run: Run) -> Iterator[str]:
     suites = ElementTree.Element("testsuites", {"name": "zirofen", **counts})
     suite = ElementTree.SubElement(suites, "testsuite", {"name": subject, **counts, "timestamp": moment, "hostname": subject})
     properties = ElementTree.SubElement(suite, "properties")
-    for name, value in zip(("program", "helper"), words.made_by(run.report)):
+    for name, value in words.makers(run.report).items():
         ElementTree.SubElement(properties, "property", {"name": name, "value": plain(value)})
     names = run.report.names
     for case in cases:

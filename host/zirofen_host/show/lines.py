@@ -20,7 +20,7 @@ from zirofen_host.judge.standing import cause_of, is_empty, standings, status_te
 from zirofen_host.profile import ancestors
 from zirofen_host.show import container_lines
 from zirofen_host.show.folded import Part, folded
-from zirofen_host.show.words import STANDINGS, listed, standing_text
+from zirofen_host.show.words import STANDINGS, listed, made_by, standing_text
 
 # how far the table's columns are filled up; a longer word stands out
 WIDEST = (20, 24, 48)
@@ -293,7 +293,15 @@ def lines_of(report: Report, is_each: bool = False) -> Iterator[str]:
     yield from (f"snapshot: {line}" for line in told_lines(snapshot, is_each))
     if not report.unseen and not report.snapshot:
         yield "this host tells of nothing"
+    yield from made_lines(report)
     yield sum_line(report)
+
+
+def made_lines(report: Report) -> Iterator[str]:
+    """Which program and which helper a report is of, before its last line."""
+    names = listed(made_by(report))
+    if names:
+        yield f"made with {names}"
 
 
 def by_kind(compared: Comparison) -> Iterator[Tuple[str, Tuple[Difference, ...]]]:
@@ -328,6 +336,7 @@ def comparison_lines(report: Report, compared: Comparison, is_each: bool = False
         yield INSIDE_MEANS
     if not any(found for _, found in by_kind(compared)):
         yield f"nothing is new, worse, changed or gone since {compared.time or compared.file}"
+    yield from made_lines(report)
     yield compared_line(report, compared)
 
 

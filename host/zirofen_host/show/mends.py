@@ -4,7 +4,7 @@ from typing import Iterator
 from zirofen_host.fault import plain
 from zirofen_host.judge.notes import NoCause
 from zirofen_host.judge.mends import SHELL, Mend, mends_of
-from zirofen_host.show.lines import together
+from zirofen_host.show.lines import made_lines, together
 from zirofen_host.show.run import Run
 
 NOTHING = "# nothing is to mend"
@@ -36,7 +36,8 @@ def lines_of(run: Run, kind: str) -> Iterator[str]:
     if is_script:
         yield "#!/bin/sh"
         yield f"# what mends {run.subject}, for root on that host; it was carried out by nobody"
-        yield ""
+    yield from (f"# {line}" for line in made_lines(run.report))
+    yield ""
     for number, mend in enumerate(mends):
         if number:
             yield ""

@@ -1,7 +1,10 @@
-"""A report as Prometheus' text format, for node_exporter's textfile collector: numbers alone, under labels of this module's making."""
+"""A report as Prometheus' text format, for node_exporter's textfile collector: numbers alone, under labels of this module's making, and
+which helper and program they are of."""
 from collections import Counter
 from typing import Dict, Iterator, Mapping, NamedTuple, Tuple
 
+from zirofen_host import version
+from zirofen_host.fault import plain
 from zirofen_host.judge import limits
 from zirofen_host.judge.severity import Severity
 from zirofen_host.judge.model import ABSENT, Absent
@@ -31,6 +34,16 @@ def label(severity: Severity) -> str:
     return severity.value.replace(" ", "_")
 
 
+def about() -> Tuple[Tuple[str, str], ...]:
+    """Labels of which helper this is."""
+    return ("version", version.VERSION), ("sum", version.digits())
+
+
+def quoted(text: str) -> str:
+    """A label's value, as the format has it."""
+    return '"' + plain(text).replace("\\", "\\\\").replace('"', '\\"') + '"'
+
+
 def kind_labels(rule: Rule) -> Tuple[Tuple[str, str], ...]:
     """Labels of a kind of finding: of an entry's the guard, which the severity stands beside."""
     kind = rule.at if rule.word == NAMES[rule.severity] else rule.id
@@ -42,6 +55,8 @@ def gauges(run: Run) -> Iterator[Gauge]:
     counts = Counter(each.rule.id for each in found if each.accepted is ABSENT)
     standing = standings(run.report)
     answers = Counter(standing.values())
+    yield Gauge("zirofen_host_info", "The helper that made this, by its version and the sum of its files, and the program that it asked.",
+                {(*about(), ("program", run.report.program or "")): 1})
     yield Gauge("zirofen_subtrees_asked", "Subtrees that were asked of.", {ALONE: len(standing)})
     yield Gauge("zirofen_subtrees", "Subtrees by the gravest that is told of each.",
                 {(("answer", label(each)),): answers[each] for each in Severity if each not in OF_HOST})
@@ -61,7 +76,7 @@ def gauges(run: Run) -> Iterator[Gauge]:
 def lines_of(gauge: Gauge) -> Iterator[str]:
     yield f"# HELP {gauge.name} {gauge.told}\n# TYPE {gauge.name} gauge\n"
     for labels, value in gauge.values.items():
-        told = ",".join(f'{name}="{word}"' for name, word in labels)
+        told = ",".join(f"{name}={quoted(word)}" for name, word in labels)
         yield f"{gauge.name}{{{told}}} {value}\n" if told else f"{gauge.name} {value}\n"
 
 

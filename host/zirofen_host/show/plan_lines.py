@@ -6,7 +6,7 @@ from zirofen_host.judge import as_json
 from zirofen_host.judge.model import Absent, Comparison, Report
 from zirofen_host.judge.notes import NotPlanned
 from zirofen_host.judge.plan import AS_IT_IS, status_of
-from zirofen_host.show.lines import asked_line, by_kind, difference_lines
+from zirofen_host.show.lines import asked_line, by_kind, difference_lines, made_lines
 
 
 def lines_of(report: Report, compared: Comparison) -> Iterator[str]:
@@ -17,6 +17,7 @@ def lines_of(report: Report, compared: Comparison) -> Iterator[str]:
         yield f"nothing is new, worse, changed or gone beside {AS_IT_IS}"
     yield from (f"as before: {each.line}" for each in compared.stand)
     yield from (each.line for each in report.unseen if each.kind == NotPlanned.kind)
+    yield from made_lines(report)
     yield asked_line(report)
 
 

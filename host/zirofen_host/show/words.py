@@ -1,5 +1,5 @@
 """What a report's words mean, said in sentences: answers, guards, and whom an entry lets in."""
-from typing import Iterable, List, Optional, Sequence
+from typing import Iterable, List, Mapping, Optional, Sequence
 
 from zirofen_host.collect.model import Value
 from zirofen_host.judge import limits
@@ -44,9 +44,14 @@ def name_of(report: Report) -> str:
     return report.host or "a tree text"
 
 
+def makers(report: Report) -> Mapping[str, str]:
+    """What made a report, as far as it is told: the program, and the helper."""
+    told = {"program": report.program, "helper": None if isinstance(report.helper, Absent) else report.helper}
+    return {name: line for name, line in told.items() if line}
+
+
 def made_by(report: Report) -> Iterable[str]:
-    """What made a report: the program, and the helper, where it is told."""
-    return filter(None, (report.program, None if isinstance(report.helper, Absent) else report.helper))
+    return makers(report).values()
 
 
 def visible(text: str) -> str:
