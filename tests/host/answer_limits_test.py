@@ -1,24 +1,31 @@
 """Tests of what narrows an answer: each form tells it, on hosts in which what was left out is broken."""
+import errno
 import json
 import os
 import re
+import subprocess
 import tempfile
+import time
 import unittest
 from dataclasses import replace
 from unittest import mock
 
-from check_test import HostTest, of_options, owned
+from check_test import GROUP, PASSWD, PROGRAM, REAL_PROGRAM, SUBORDINATE, HostTest, of_options, owned
+from made_up import MEMORY, MadeUp
 from shown import made
+from zirofen_host import fault
 from zirofen_host.ask import accepted
+from zirofen_host.ask.program import Program
 from zirofen_host.ask.questions import subtrees_by
-from zirofen_host.collect import elsewhere
+from zirofen_host.collect import bounded, elsewhere
+from zirofen_host.collect import snapshot as snapshots
 from zirofen_host.collect.accounts import accounts_of
-from zirofen_host.collect.model import Unheld
-from zirofen_host.collect.notes import Changing, Lacking
-from zirofen_host.collect.reasons import NeverSettled, Unreadable
+from zirofen_host.collect.bounded import Budget
+from zirofen_host.collect.mount import Mounts
+from zirofen_host.collect.processes import lacking_notes
 from zirofen_host.collect.snapshot import tree_text
 from zirofen_host.judge import check, limits
-from zirofen_host.judge.model import ABSENT, AnswerLimit
+from zirofen_host.judge.model import ABSENT
 from zirofen_host.judge.rules import findings_of
 from zirofen_host.show import fleet, fleet_lines, junit, metrics, page, sarif, tree_view
 from zirofen_host.show.lines import lines_of
@@ -71,50 +78,136 @@ class AnswerLimitsTest(HostTest):
         self.assertIn("The whole host has 2", self.part(report, "/a"))
         self.assertIn('zirofen_answer_limits{kind="only"} 0', "".join(metrics.parts_of(self.run_of(report))))
 
-    def of_text(self, **more):
-        """The report of a text that carries nothing of its host: in it a group lets somebody in, and a process runs elsewhere."""
-        self.host.cgroup("/b", owners={**owned(1001), "memory.max": (0, 50)}, modes={"memory.max": 0o664})
-        file = f"{self.host.folder}/host.toml"
+    def anew(self):
+        """A host of two delegations that are contained, with what was said of one before gone."""
+        folder = tempfile.TemporaryDirectory(dir=MEMORY)
+        self.addCleanup(folder.cleanup)
+        self.host = MadeUp(folder.name)
+        self.host.accounts(passwd=PASSWD, group=GROUP, subuid=SUBORDINATE, subgid=SUBORDINATE)
+        self.host.cgroup("/", enabled="memory")
+        for path, uid in (("/a", 1000), ("/b", 1001)):
+            self.host.cgroup(path, owners=owned(uid))
+
+    def alice_holds_bobs(self, number=3):
+        """A process of hers holds a limit of his open."""
+        self.anew()
+        self.host.process(7, uid=1000, gid=1000)
+        self.host.opens(7, number, "/b/memory.max", os.O_WRONLY)
+
+    def written(self, change=lambda text: text, is_carried=True):
+        """A text of the host."""
+        file, taken = f"{self.host.folder}/host.toml", self.host.snapshot()
+        carried = elsewhere.carried(taken, accounts_of(self.host.etc, taken)) if is_carried else ()
         with open(file, "w", encoding="ascii") as out:
-            out.write(tree_text(self.host.snapshot(), True))
+            out.write(change(elsewhere.text_with(taken, [*carried], True) if is_carried else tree_text(taken, True)))
+        return file
+
+    def of_text(self, file, **more):
         options = self.options(**{"tree": file, "accounts": None, **more})
         return check.report(accepted.take(options, subtrees_by(options)), options, True)
 
-    def of_later(self):
-        """The report of a text with a record that this version doesn't know."""
-        file, taken = f"{self.host.folder}/later.toml", self.host.snapshot()
-        with open(file, "w", encoding="ascii") as out:
-            out.write(elsewhere.text_with(taken, [*elsewhere.carried(taken, accounts_of(self.host.etc, taken))], True))
-            out.write('#= {"novelty":{"path":"/b"}}\n')
-        options = self.options(tree=file)
-        return check.report(accepted.take(options, subtrees_by(options)), options, True)
+    def as_a_host(self):
+        """The report of the host as if it were one: a service manager's, without the options that it mounts with."""
+        mounts = Mounts(f"3 1 0:29 / {self.host.mount} rw - cgroup2 cgroup2 rw\n")
+        options = self.options(plain_folder=False)
+        with mock.patch.object(snapshots, "refuse_what_is_no_host", lambda _: mounts), self.host.owned(), \
+                mock.patch.object(snapshots, "lacking_notes", lambda _: ()), mock.patch.object(snapshots.containers, "scopes", lambda _: ()):
+            return check.report(snapshots.take(options, subtrees_by(options)), options, True)
 
-    def beside(self, **more):
-        """The report of a host of which more was found, or not."""
-        return check.report(replace(self.host.snapshot(), **more), self.options(), True)
+    def pairs(self):
+        """For each thing that narrows an answer a host in which what was left out is broken: its report without that, which says so, and
+        with it."""
+        for name in ("options", "texts", "what_was_found", "without_time"):
+            yield from getattr(self, f"pairs_by_{name}")()
 
-    def each_narrowed(self):
-        """For each thing that narrows an answer the report of a host in which what was left out is broken."""
-        yield (limits.ONLY,), self.narrowed(only=b"/a")
-        yield (limits.NO_PROCESSES,), self.narrowed(no_processes=True)
-        yield (limits.TREE_FORMAT,), self.narrowed(tree_format=2)
+    def pairs_by_options(self):
+        yield (limits.ONLY,), self.narrowed(), self.narrowed(only=b"/a")
+        self.host.cgroup("/b", owners=owned(1001), more=("memory.swap.max",), modes={"memory.swap.max": 0o666})
+        # of what stands in no text is seen that it is open, and not what comes of it
+        yield (limits.TREE_FORMAT,), self.narrowed(), self.narrowed(tree_format=2)
+        # a process that its user moves out, and nothing that could be moved
+        self.anew()
+        self.host.cgroup("/b", owners=owned(1001), pids=(7,))
+        self.host.cgroup("/", enabled="memory", owners={"cgroup.procs": 1001})
+        self.host.process(7, uid=1001, gid=1001)
+        self.program = REAL_PROGRAM
+        yield (limits.NO_PROCESSES,), self.narrowed(), self.narrowed(no_processes=True)
+        self.program = PROGRAM
+        self.anew()
+        self.host.cgroup("/init.scope")
         with mock.patch.object(limits, "of_options", of_options):
-            yield (limits.PLAIN_FOLDER,), self.narrowed()
-        yield (limits.ACCOUNTS, limits.PREMISES), self.of_text()
-        yield (limits.PREMISES,), self.of_text(accounts=self.host.etc)
-        yield (limits.WALK,), self.beside(notes=(Changing("/c", NeverSettled(5)),))
-        yield (limits.BUDGETS,), self.beside(unheld=(Unheld(1000, None, Unreadable("over a budget")),))
-        yield (limits.LACKING,), self.beside(notes=(Lacking("/", "SYS_PTRACE", "what others hold open"),))
-        yield (limits.VERSION_1,), self.beside(version_1=("memory",))
-        yield (limits.LATER,), self.of_later()
-        # what there was no time to ask is a fault of its own (budgets_test)
-        yield (limits.TIME,), replace(self.narrowed(), limits=(AnswerLimit(limits.TIME, "there was no time to ask of a subtree"),))
+            yield (limits.PLAIN_FOLDER,), self.as_a_host(), self.narrowed()
+
+    def pairs_by_texts(self):
+        self.alice_holds_bobs()
+        whole, text = self.narrowed(), self.written(is_carried=False)
+        yield (limits.ACCOUNTS, limits.PREMISES), whole, self.of_text(text)
+        yield (limits.PREMISES,), whole, self.of_text(text, accounts=self.host.etc)
+        whole = self.of_text(self.written())
+        later = self.written(lambda text: text.replace('#= {"held":', '#= {"held-by-a-later-one":'))
+        yield (limits.LATER,), whole, self.of_text(later)
+
+    def pairs_by_what_was_found(self):
+        self.anew()
+        self.host.cgroup("/c", owners={**owned(1002), "memory.max": 1002})
+        whole = self.narrowed()
+        os.rename(f"{self.host.mount}/c", f"{self.host.mount}/a name that no text has")
+        yield (limits.WALK,), whole, self.narrowed()
+        self.alice_holds_bobs(4)
+        self.host.opens(7, 3, "/a/memory.max", os.O_RDONLY)
+        whole = self.narrowed()
+        with mock.patch.object(bounded, "DESCRIPTORS", Budget("open files with a path", 1)):
+            yield (limits.BUDGETS,), whole, self.narrowed()
+        yield (limits.LACKING,), whole, self.without_ptrace()
+        self.anew()
+        self.host.cgroup("/b", owners=owned(1001), modes={"memory.max": 0o666})
+        whole = self.narrowed()
+        self.anew()
+        self.host.cgroup("/", enabled="")
+        self.host.cgroup("/b", owners=owned(1001), without=("memory.max",))
+        os.makedirs(f"{self.host.proc}/self")
+        with open(f"{self.host.proc}/self/mountinfo", "w", encoding="ascii") as out:
+            out.write("9 1 0:30 / /sys/fs/cgroup/memory rw - cgroup cgroup rw,memory\n")
+        yield (limits.VERSION_1,), whole, self.narrowed()
+
+    def without_ptrace(self):
+        """As a helper sees it that hasn't the capability by which others' descriptors are read."""
+        read = bounded.read_link
+
+        def refused(place):
+            if "/fd/" in os.fsdecode(place):
+                raise PermissionError(errno.EACCES, "Permission denied")
+            return read(place)
+        os.makedirs(f"{self.host.proc}/self")
+        with open(f"{self.host.proc}/self/status", "w", encoding="ascii") as out:
+            out.write("CapEff:\t000001fffff7ffff\n")
+        with mock.patch.object(bounded, "read_link", refused):
+            taken = self.host.snapshot()
+            return check.report(replace(taken, notes=(*taken.notes, *lacking_notes(self.host.proc))), self.options(), True)
+
+    def pairs_by_without_time(self):
+        """A program that comes to no end where it is asked of what is broken."""
+        self.anew()
+        self.host.cgroup("/b", owners=owned(1001), modes={"memory.max": 0o666})
+        whole, start = self.narrowed(), Program.start
+
+        def started(of, words):
+            if "/b" in words:
+                raise subprocess.TimeoutExpired(words, 1)
+            return start(words)
+        clock = mock.patch.multiple(fault._Clock, end_of_asking=time.monotonic() + 100, end=time.monotonic() + 200)
+        with clock, mock.patch.object(Program, "start", started):
+            yield (limits.TIME,), whole, self.narrowed()
 
     def test_each_is_told_in_each_form(self):
         kinds = set()
-        for told, report in self.each_narrowed():
+        for told, whole, report in self.pairs():
             kinds.update(told)
             with self.subTest(told):
+                self.assertEqual((whole.limits, whole.status), ((), 2 if limits.PLAIN_FOLDER in told else 1))
+                # what is broken isn't seen, and that is why
+                lost = {each.rule.id for each in findings_of(whole)} - {each.rule.id for each in findings_of(report)}
+                self.assertTrue(lost, told)
                 self.assertEqual(tuple(each.kind for each in report.limits), told)
                 self.each_form_tells(report)
                 said = "".join(metrics.parts_of(self.run_of(report)))

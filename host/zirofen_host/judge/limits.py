@@ -43,7 +43,7 @@ def of_options(options: Options) -> Iterator[AnswerLimit]:
     if options.only is not None and not is_root(text_of(options.only)):
         yield AnswerLimit(ONLY, f"nothing but {shown(options.only)} was asked about, what is inside and what is above")
     if options.no_processes:
-        yield AnswerLimit(NO_PROCESSES, "no process was looked at: neither where any runs nor what any holds open")
+        yield AnswerLimit(NO_PROCESSES, "no process stands in the text that was asked of: what is unsettled may be an escape")
     if options.tree is None and options.text_format.number != NEWEST:
         yield AnswerLimit(TREE_FORMAT, f"a text of format {options.text_format.number} tells of three controllers alone, and of no "
                           "further limit file")
