@@ -111,7 +111,8 @@ class AnswerLimitsTest(HostTest):
         mounts = Mounts(f"3 1 0:29 / {self.host.mount} rw - cgroup2 cgroup2 rw\n")
         options = self.options(plain_folder=False)
         with mock.patch.object(snapshots, "refuse_what_is_no_host", lambda _: mounts), self.host.owned(), \
-                mock.patch.object(snapshots, "lacking_notes", lambda _: ()), mock.patch.object(snapshots.containers, "scopes", lambda _: ()):
+                mock.patch.object(snapshots, "lacking_notes", lambda _: ()), \
+                mock.patch.object(snapshots.containers, "scopes", lambda _: ()):
             return check.report(snapshots.take(options, subtrees_by(options)), options, True)
 
     def pairs(self):
