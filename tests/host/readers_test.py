@@ -17,7 +17,7 @@ READS = {"open", "os.open", "os.fdopen", "os.read", "os.pread", "os.readv", "os.
 METHODS = {"read", "readline", "readlines", "read_text", "read_bytes", "iterdir", "readlink", "getxattr", "listxattr", "rglob"}
 # what a function reads that no user can choose
 NO_READS = {("show.markup", "read"): "the package's own templates",
-            **{("version", name): "the package's own files" for name in ("files_of", "sum_of", "told")}}
+            **{("version", name): "the package's own files" for name in ("files_of", "sum_of", "digits")}}
 # what writes, by how it is called
 WRITES = {"os.write", "os.rename", "os.replace", "os.link", "os.symlink", "os.unlink", "os.remove", "os.mkdir", "os.makedirs", "os.mkfifo",
           "os.chmod", "os.fchmod", "os.chown", "os.fchown", "os.truncate", "shutil.rmtree", "shutil.move", "tempfile.mkstemp",
