@@ -9,17 +9,19 @@ import unittest
 from dataclasses import replace
 from xml.etree import ElementTree
 
-from made_up import TOP
+from check_test import GROUP, PASSWD, SUBORDINATE, HostTest
+from made_up import MEMORY, TOP, MadeUp
+from made_up_hosts import TODAY, DrawnHost
 from page_reader import PageReader
 from shown import made, value_of
 from zirofen_host.arguments import DESCRIPTIONS
+from zirofen_host.judge import acceptances, check, limits
 from zirofen_host.judge.model import (ABSENT, Acceptance, AnswerLimit, EntryFinding, FaultFinding, HeldBy, HeldFinding, HolderAnswer,
                                       OpenedFinding, Owner, Report, ReportCgroup, RootInside, RunsElsewhere, Subtree, Told, Whom)
 from zirofen_host.judge.rules import GUARDS
 from zirofen_host.judge.severity import STATUSES, Severity
 from zirofen_host.judge.standing import severity_of, standings
-from zirofen_host.show import fleet, fleet_lines, junit, metrics, page, sarif, tree_view
-from zirofen_host.show.lines import lines_of
+from zirofen_host.show import fleet, fleet_lines, junit, lines, metrics, page, sarif, tree_view
 from zirofen_host.show.run import Run
 from zirofen_host.show.tree_view import Drawing
 
@@ -115,12 +117,14 @@ class Drawn:
                 for _ in (self.some(1) or range(self.one == "stale")))
 
 
-class GravityTest(unittest.TestCase):
+class Forms(unittest.TestCase):
+    """That the forms of a report say the same of how it stands."""
+
     def forms_agree(self, report):
         """Status, last line, table, the page's head, the tree, JUnit's, SARIF's and metrics' counts, and the fleet's row."""
         severity, standing = severity_of(report), standings(report)
         run = Run(report, report.status, ended=1795736189.0)
-        *_, last = lines_of(report)
+        *_, last = lines.lines_of(report)
         status, asked = map(int, LAST.match(last).groups())
         self.assertEqual((status, asked), (report.status, len(standing)), last)
         self.assertEqual(" by " in last.partition(";")[0], report.status != 0, last)
@@ -129,9 +133,21 @@ class GravityTest(unittest.TestCase):
             count = sum(found is each for found in standing.values())
             word = "contained [" if each is Severity.LIMITED else each.value
             self.assertEqual(f"{count} {word}" in last.partition("asked: ")[2], count > 0, (last, each))
+        self.the_table(report, standing)
         self.the_page(report, severity, contained)
         self.the_fleet(report, severity, contained)
         self.the_others(run, severity, standing)
+
+    def the_table(self, report, standing):
+        """Each subtree has its rows, and one that is contained no other answer."""
+        shown = list(lines.table(report, True)) if report.subtrees else []
+        for subtree in report.subtrees:
+            for who, _, answer, path, _ in lines.rows_of(subtree, limits.mark_of(report), True):
+                row = [line for line in shown if line.startswith(who) and f"  {answer} " in line and path in line]
+                self.assertTrue(row, (who, answer, path))
+                if standing[path] in (Severity.CONTAINED, Severity.LIMITED) and not answer.startswith("above: "):
+                    self.assertRegex(answer, r"^(contained|held by root alone)( \[(limited|v1)\])*$")
+                    self.assertEqual("[" in answer, bool(report.limits))
 
     def the_page(self, report, severity, contained):
         drawn = page.page([report])
@@ -158,15 +174,26 @@ class GravityTest(unittest.TestCase):
         self.assertEqual(log["invocations"][0]["exitCode"], run.status)
         levels = {each["level"] for each in log["results"] if "suppressions" not in each}
         graver = {level for level in levels if level != "note"}
+        counted = [each for each in log["results"] if "suppressions" not in each and each["level"] != "note"]
+        self.assertEqual(len(counted), sum(each.is_counted for each in run.findings))
         if not any(kind is severity for kind in standing.values()) or severity not in STATUSES:
             self.assertEqual(bool(graver), run.status != 0, (severity, log["results"]))
         suite = ElementTree.fromstring("".join(junit.parts_of(run)))
         failing = int(suite.get("failures")) + int(suite.get("errors"))
         self.assertEqual(failing > 0, run.status != 0, severity)
+        failed = {case.get("classname") for case in suite.iter("testcase")
+                  if case.find("failure") is not None or case.find("error") is not None}
+        for path, of in standing.items():
+            if of in (Severity.CONTAINED, Severity.LIMITED, Severity.ESCAPES):
+                self.assertEqual(path in failed, of is Severity.ESCAPES, (path, of))
         told = dict(re.findall(r'zirofen_subtrees\{answer="([a-z_]+)"\} ([0-9]+)', "".join(metrics.parts_of(run))))
         counts = {each.value.replace(" ", "_"): sum(found is each for found in standing.values()) for each in Severity}
         self.assertEqual({word: int(count) for word, count in told.items()}, {word: counts[word] for word in told})
         self.assertEqual(sum(map(int, told.values())), len(standing))
+
+
+class DrawnTest(Forms):
+    """Reports that are drawn as data: all that one may tell, together as no host has it."""
 
     def test_all_forms_agree(self):
         severities = set()
@@ -177,6 +204,38 @@ class GravityTest(unittest.TestCase):
                 self.forms_agree(report)
         self.assertEqual(severities, set(Severity) - {Severity.ABOVE}, "what no host of them is")
 
+
+class WalkedTest(Forms, HostTest):
+    """Hosts that are made up, walked over and asked."""
+
+    folder = MEMORY
+
+    def report_of(self, seed):
+        """The report of a host, with what is accepted of it."""
+        with tempfile.TemporaryDirectory(dir=MEMORY) as folder:
+            self.host = MadeUp(folder)
+            self.host.accounts(passwd=PASSWD, group=GROUP, subuid=SUBORDINATE, subgid=SUBORDINATE)
+            drawn = DrawnHost(seed, self.host)
+            drawn.write()
+            options = self.options(**drawn.options)
+            with drawn.seen() as mount_options:
+                taken = replace(self.host.snapshot(only=options.only), mount_options=mount_options)
+                report = check.report(taken, options, True)
+        given = drawn.accepted(report)
+        return acceptances.applied(report, given, TODAY) if given else report
+
+    def test_all_forms_agree(self):
+        severities = set()
+        for seed in range(HOSTS):
+            with self.subTest(seed):
+                report = self.report_of(seed)
+                severities.add(severity_of(report))
+                self.value_of(report)
+                self.forms_agree(report)
+        self.assertEqual(severities, set(Severity) - {Severity.ABOVE}, "what no host of them is")
+
+
+class TableTest(unittest.TestCase):
     def test_help_and_docs_have_the_statuses_of_the_table(self):
         statuses = [str(status) for status, _ in itertools.groupby(each.status for each in Severity)]
         for name in ("check", "fleet"):
