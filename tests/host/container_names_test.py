@@ -122,6 +122,17 @@ class NamesTest(HierarchyTest):
             if name in ("text", "json", "sarif", "junit", "page"):
                 self.assertIn("processes of theirs are outside of what they hold", said, name)
 
+    def test_where_they_are_is_told_by_a_containers_name(self):
+        """A job of theirs, which is one of root's containers, and several processes in it."""
+        self.host.cgroup("/job_1")
+        for pid, path in ((7, "/job_1/step_0"), (8, "/job_1/step_1"), (9, "/cron")):
+            self.host.cgroup(path, pids=(pid,))
+            self.host.process(pid, uid=1000)
+        scope = Scope(path_of("/job_1"), "slurm", "1", "1", None)
+        for name, said in self.forms_of(self.of(scopes=(scope,))).items():
+            if name in ("text", "json", "sarif", "junit", "page"):
+                self.assertRegex(said, r"alice\(1000\)[^\n]* in (<code>)?/cron(</code> <code>| )slurm:1", name)
+
     def test_hosts_with_the_same_share_a_row_in_a_fleet(self):
         for number in (1, 2):
             self.assertIn("opened docker:web cpu.max by everybody", self.forms_of(self.made_again(number))["fleet"])

@@ -33,6 +33,7 @@ MOUNT, ROOM = "/sys/fs/cgroup", "/run/zirofen-elsewhere"
 HOSTILE, QUIET, OPEN = "zirofen-hostile", "zirofen-quiet", "zirofen-open"
 USERS = HOSTILE, QUIET, OPEN
 JAIL = "/zirofen-jail"
+ROOTLESS = "zirofen-podman"
 # on a mount without a manager, where no account is made
 BY_HAND = {HOSTILE: 61001, QUIET: 61002, OPEN: 61003}
 FIRST, RANGE = 2_000_000, 65_536
@@ -471,7 +472,8 @@ def image_of(folder, kind):
     root = f"{folder}/{kind}"
     for name in ("bin", "proc", "sys", "dev", "tmp", "etc", "root", "run", "usr", "var"):
         os.makedirs(f"{root}/{name}", exist_ok=True)
-    shutil.copy(shutil.which("busybox"), f"{root}/bin/busybox")
+    if not os.path.exists(f"{root}/bin/busybox"):
+        shutil.copy(shutil.which("busybox"), f"{root}/bin/busybox")
     for name in ("sh", "sleep", "cat"):
         if not os.path.islink(f"{root}/bin/{name}"):
             os.symlink("busybox", f"{root}/bin/{name}")
@@ -481,12 +483,17 @@ def image_of(folder, kind):
     return root
 
 
-def start_docker(folder):
+def ready_docker(folder):
+    """Docker, with an image of busybox's, and without a network."""
     os.makedirs("/etc/docker", exist_ok=True)
     with open("/etc/docker/daemon.json", "w", encoding="ascii") as out:
         json.dump({"bridge": "none", "iptables": False, "ip6tables": False}, out)
     said("systemctl", "start", "docker", timeout=900)
     subprocess.run(f"tar -C {image_of(folder, 'docker')} -c . | docker import - busy", shell=True, check=True, capture_output=True)
+
+
+def start_docker(folder):
+    ready_docker(folder)
     for name in ("one", "two"):
         said("docker", "rm", "-f", name, check=False)
         said("docker", "run", "-d", "--network", "none", "--name", name, "busy", "sleep", "100000")
@@ -498,18 +505,27 @@ def start_podman(folder):
         said("podman", "run", "-d", "--network", "none", "--name", name, "--rootfs", image_of(folder, f"podman-{name}"), "sleep", "100000")
 
 
-def start_rootless(folder):
-    """A user's own, with a lingering manager."""
-    if subprocess.run(["id", "zirofen-podman"], capture_output=True).returncode:
-        said("useradd", "--create-home", "zirofen-podman")
-    uid = uid_of("zirofen-podman")
-    said("loginctl", "enable-linger", "zirofen-podman", check=False)
-    said("systemctl", "start", f"user@{uid}.service")
-    root = image_of("/home/zirofen-podman", "rootfs")
-    said("chown", "-R", f"{uid}:{uid}", root)
+def rootless(*words):
+    """What a user does who has no more than their own, in their session."""
+    uid = uid_of(ROOTLESS)
     of_user = (f"XDG_RUNTIME_DIR=/run/user/{uid}", f"DBUS_SESSION_BUS_ADDRESS=unix:path=/run/user/{uid}/bus")
-    run = ("podman", "run", "-d", "--network", "none", "--rootfs", root, "sleep", "100000")
-    said("runuser", "-u", "zirofen-podman", "--", "env", "-C", "/home/zirofen-podman", *of_user, *run)
+    return said("runuser", "-u", ROOTLESS, "--", "env", "-C", f"/home/{ROOTLESS}", *of_user, *words)
+
+
+def ready_rootless():
+    """A user of their own with a lingering manager, and a root for containers of theirs."""
+    if subprocess.run(["id", ROOTLESS], capture_output=True).returncode:
+        said("useradd", "--create-home", ROOTLESS)
+    uid = uid_of(ROOTLESS)
+    said("loginctl", "enable-linger", ROOTLESS, check=False)
+    said("systemctl", "start", f"user@{uid}.service")
+    root = image_of(f"/home/{ROOTLESS}", "rootfs")
+    said("chown", "-R", f"{uid}:{uid}", root)
+    return root
+
+
+def start_rootless(folder):
+    rootless("podman", "run", "-d", "--network", "none", "--rootfs", ready_rootless(), "sleep", "100000")
 
 
 def start_lxc(folder):

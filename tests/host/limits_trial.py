@@ -237,18 +237,23 @@ def carried_out(place, command, text):
     it is refused this writes the same as that user."""
     if not subprocess.run(["sh", "-c", command], stdin=subprocess.DEVNULL, capture_output=True).returncode:
         return ""
+    return written_as(place.uid, place.gid, place.name, f"{text}\n") or "a write without a shell is carried out"
+
+
+def written_as(uid, gid, path, text):
+    """The name of the error by which a write of a user's ends, and nothing where it doesn't."""
     child = os.fork()
     if not child:
         try:
             os.setgroups([])
-            os.setgid(place.gid)
-            os.setuid(place.uid)
-            write(place.name, f"{text}\n")
+            os.setgid(gid)
+            os.setuid(uid)
+            write(path, text)
         except OSError as error:
             os._exit(error.errno)
         os._exit(0)
     ended = os.waitstatus_to_exitcode(os.waitpid(child, 0)[1])
-    return errno.errorcode.get(ended, "a write without a shell is carried out")
+    return errno.errorcode.get(ended, str(ended)) if ended else ""
 
 
 def is_taken(place, text, before):

@@ -174,8 +174,8 @@ class SettingsOfUnitsTest(HostTest):
     """Where root's settings are known, they are what is written."""
 
     def mend(self, told, **more):
-        self.host.cgroup("/", enabled="memory pids")
-        self.host.cgroup("/system.slice", enabled="memory pids")
+        self.host.cgroup("/", enabled="cpu memory pids")
+        self.host.cgroup("/system.slice", enabled="cpu memory pids")
         self.host.cgroup("/system.slice/app.service", **more)
         told = {"app.service": {"Id": "app.service", "ControlGroup": "/system.slice/app.service", **told}}
         with mock.patch.object(settings, "read", lambda *_: told):
@@ -212,6 +212,13 @@ class SettingsOfUnitsTest(HostTest):
                                                 "#     MemoryMax=62914560"])
         self.assertNotIn("TasksMax=1754", " ".join(lines[at:]))
 
+    def test_a_weight_is_written_behind_what_lets_a_cgroup_take_one(self):
+        """An idle cgroup takes no weight."""
+        _, lines = self.mend({"CPUWeight": "50"}, marks=(MARK,), owners=owned(1001), more=("cpu.idle",), modes={"cpu.idle": 0o646},
+                             values={"cpu.idle": "1", "cpu.weight": 0})
+        place = f"{self.host.mount}/system.slice/app.service"
+        self.assertEqual([line for line in lines if line.startswith("echo")], [f"echo 0 >{place}/cpu.idle", f"echo 50 >{place}/cpu.weight"])
+
     def test_a_unit_that_is_elsewhere(self):
         """Somebody made a cgroup of its name."""
         _, lines = self.mend({"MemoryMax": "104857600", "ControlGroup": "/system.slice/other/app.service"}, owners=owned(1001),
@@ -240,7 +247,8 @@ class WantedTest(unittest.TestCase):
                 ({"MemoryLow": "infinity"}, "memory.low", "max", True), ({"MemoryLow": "0"}, "memory.low", "0", False),
                 ({"MemoryMin": "[not set]"}, "memory.min", "0", False), ({"MemorySwapMax": "0"}, "memory.swap.max", "0", True),
                 ({"TasksMax": "18446744073709551615"}, "pids.max", "max", False), ({"CPUWeight": "[not set]"}, "cpu.weight", "100", False),
-                ({"CPUWeight": "idle"}, "cpu.idle", "1", True), ({"CPUWeight": "50"}, "cpu.idle", "0", False),
+                ({"CPUWeight": "idle"}, "cpu.idle", "1", True), ({"CPUWeight": "50"}, "cpu.idle", "0", True),
+                ({"CPUWeight": "[not set]"}, "cpu.idle", "0", False),
                 ({"CPUQuotaPerSecUSec": "200ms"}, "cpu.max", "20000 100000", True),
                 ({"CPUQuotaPerSecUSec": "1.5s", "CPUQuotaPeriodUSec": "10ms"}, "cpu.max", "15000 10000", True),
                 ({"CPUQuotaPerSecUSec": "1min 500ms", "CPUQuotaPeriodUSec": "infinity"}, "cpu.max", "6050000 100000", True),

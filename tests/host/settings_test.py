@@ -4,7 +4,12 @@ import unittest
 from unittest import mock
 
 from check_test import HostTest, owned
+from shown import lines_of
+from zirofen_host.ask import accepted
+from zirofen_host.fault import Fault
 from zirofen_host.judge import check, settings
+from zirofen_host.options import CheckOptions
+from zirofen_host.runs import check as runs_check
 
 SHOWN = {"MemoryMax": "infinity", "MemoryHigh": "8200", "TasksMax": "7", "MemoryLow": "0", "MemoryMin": "[not set]",
          "CPUQuotaPerSecUSec": "infinity"}
@@ -66,7 +71,36 @@ class RestartTest(HostTest):
     def test_where_there_is_no_manager(self):
         self.assertIsNone(settings.systemctl_of(self.options()))
         self.assertEqual(settings.read(None), {})
-        self.assertEqual(settings.read(f"{self.host.folder}/none"), {})
+
+    def failing(self, text="echo 'Failed to connect to bus' >&2; exit 1"):
+        """A systemctl that doesn't tell."""
+        file = self.systemctl()
+        with open(file, "w", encoding="ascii") as out:
+            out.write(f"#!/bin/sh\n{text}\n")
+        return file
+
+    def test_one_that_doesnt_answer_is_a_fault(self):
+        with self.assertRaisesRegex(Fault, "^systemctl show ended with 1: Failed to connect to bus$"):
+            settings.read(self.failing())
+        with mock.patch.object(settings, "SECONDS", 0.1), self.assertRaisesRegex(Fault, "^systemctl show didn't answer within 0.1 seconds"):
+            settings.read(self.failing("exec sleep 60"))
+        self.assertRaises(OSError, settings.read, f"{self.host.folder}/none")
+
+    def test_it_is_told_that_it_didnt_answer(self):
+        """What limits should have isn't known then, and a limit that somebody lifted is told by nothing else."""
+        self.host.cgroup("/svc.service", owners=owned(1000), values={"memory.max": 40960})
+        line = "failed: settings of units: systemctl show ended with 1: Failed to connect to bus"
+        with mock.patch("shutil.which", lambda _: f"{self.host.folder}/systemctl"), mock.patch("os.path.isdir", lambda _: True):
+            options = self.options(plain_folder=False)
+            self.systemctl(svc_service={})
+            first = settings.read(settings.systemctl_of(options))
+            self.failing()
+            behind = check.report(self.host.snapshot(), options, False, first)
+            with mock.patch.object(accepted, "take", lambda *_: self.host.snapshot()):
+                before = runs_check.report_of(CheckOptions(**vars(options)), ()).report
+        for report in (behind, before):
+            told = [each for each in lines_of(report) if "failed: " in each or each.startswith("restart: ")]
+            self.assertEqual((report.status, told), (3, [line if report is behind else f"snapshot: {line}"]))
 
 
 if __name__ == "__main__":

@@ -101,7 +101,7 @@ def name_of(checked: Checked, uid: int) -> str:
 
 def report_of(checked: Checked, is_whole: bool) -> Report:
     """The report on a host that was asked. What fails of it is told, and all else stands."""
-    snapshot, about, answers, looks = checked.snapshot, checked.snapshot.about, checked.answers, Looks()
+    snapshot, about, answers, looks = checked.snapshot, checked.snapshot.about, checked.answers, checked.looks
     looks.failed += checked.programs.failed
     advised = looks.at("advice", lambda: advise(checked), Advised({}, checked.judged.faults))
     subtrees = looks.each("answers", checked.questions.subtrees, lambda path: subtree_of(checked, path))

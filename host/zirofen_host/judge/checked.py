@@ -1,6 +1,6 @@
 """A host that was asked, on its way to a report: who was asked of what, and what the answers come to."""
 from collections import defaultdict
-from dataclasses import dataclass
+from dataclasses import dataclass, field
 from functools import cached_property
 from typing import DefaultDict, FrozenSet, Iterable, List, Mapping, Optional, Sequence, Tuple, Union
 
@@ -10,13 +10,14 @@ from zirofen_host.ask.texts import Programs
 from zirofen_host.collect.causes import Found, look
 from zirofen_host.collect.containers import word_of
 from zirofen_host.collect.holds import Holds
+from zirofen_host.collect.looks import Looks
 from zirofen_host.collect.model import Entry, Scope, Snapshot, User
 from zirofen_host.files import Kind, kind_of
 from zirofen_host.judge.judged import Judged, LetIn, Place
 from zirofen_host.judge.model import ABSENT, Absent, Wanted, Within
 from zirofen_host.judge.names import Names
 from zirofen_host.judge.opened import find_openings
-from zirofen_host.judge.settings import CGROUP, Agreed, Settings, agreed_at, systemctl_of
+from zirofen_host.judge.settings import CGROUP, LOOK, Agreed, Settings, agreed_at, systemctl_of
 from zirofen_host.judge.shell import Change, change_commands
 from zirofen_host.judge.wanted import unit_at, wanted_by
 from zirofen_host.options import Options
@@ -41,6 +42,8 @@ class Checked:
     holds: Holds
     # of units, before the host was looked at
     settings: Settings
+    # of which some fail
+    looks: Looks = field(default_factory=Looks)
 
     @cached_property
     def openings(self) -> List[Tuple[Place, Entry, List[LetIn]]]:
@@ -60,7 +63,9 @@ class Checked:
     def agreed(self) -> Mapping[CgroupPath, Agreed]:
         """What root's settings say of the units whose limits matter, and what these have."""
         matter = {path: unit for path, unit in self.units.items() if self.is_limit_open(path) or path in self.questions.holders}
-        return agreed_at(self.snapshot, matter, systemctl_of(self.options), self.settings) if matter else {}
+        if not matter:
+            return {}
+        return self.looks.at(LOOK, lambda: agreed_at(self.snapshot, matter, systemctl_of(self.options), self.settings), {})
 
     @cached_property
     def wanted(self) -> Mapping[CgroupPath, Mapping[str, Wanted]]:

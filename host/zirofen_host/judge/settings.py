@@ -10,11 +10,12 @@ from typing import Dict, Iterable, Iterator, List, Mapping, NamedTuple, Optional
 from zirofen_host import ending
 from zirofen_host.collect.model import Snapshot, Value
 from zirofen_host.collect.snapshot import value_of
+from zirofen_host.fault import Fault
 from zirofen_host.files import Kind, kind_of
 from zirofen_host.judge.notes import LostLimit, Restart
 from zirofen_host.judge.wanted import NUMBERS, PAGE, PROPERTIES, QUOTA, Shown, wanted_by
 from zirofen_host.options import Options
-from zirofen_host.profile import LIMIT_FILES, SETTINGS, CgroupPath, is_usual, text_of
+from zirofen_host.profile import LIMIT_FILES, SETTINGS, CgroupPath, is_usual, shown, text_of
 
 # by a unit's name, and by what a setting is called where it is asked for
 Settings = Mapping[str, Shown]
@@ -23,7 +24,10 @@ Settings = Mapping[str, Shown]
 UNITS = ("*.service", "*.slice", "*.scope")
 # the cgroup that a unit has, which says that a path is its
 CGROUP = "ControlGroup"
-SECONDS = 30
+# that systemctl has, which asks the manager about unit after unit
+SECONDS = 120
+# what is told of where it fails
+LOOK = "settings of units"
 
 
 class Agreed(NamedTuple):
@@ -40,15 +44,17 @@ def systemctl_of(options: Options) -> Optional[str]:
 
 
 def read(systemctl: Optional[str], units: Sequence[str] = UNITS) -> Settings:
-    """The settings of units; none where they aren't told."""
+    """The settings of units; none where there is no manager. One that doesn't answer is a fault: what limits are to have isn't known."""
     if not systemctl or not units:
         return {}
     words = [systemctl, "show", f"--property=Id,{CGROUP},{','.join(PROPERTIES)}", "--", *units]
     try:
-        said = ending.run(words, SECONDS).stdout
-    except (OSError, subprocess.TimeoutExpired):
-        return {}
-    blocks = [dict(line.split("=", 1) for line in block.splitlines() if "=" in line) for block in said.split("\n\n")]
+        said = ending.run(words, SECONDS)
+    except subprocess.TimeoutExpired:
+        raise Fault(f"systemctl show didn't answer within {SECONDS} seconds") from None
+    if said.returncode and not said.stdout:
+        raise Fault(f"systemctl show ended with {said.returncode}: {shown(said.stderr.strip().partition(chr(10))[0])}")
+    blocks = [dict(line.split("=", 1) for line in block.splitlines() if "=" in line) for block in said.stdout.split("\n\n")]
     return {block["Id"]: block for block in blocks if block.get("Id")}
 
 

@@ -105,7 +105,7 @@ def outside(checked: Checked) -> Iterator[Told]:
         if uid in held and held[uid].isdisjoint((at, *ancestors(at))):
             places[uid].add(at)
     for uid, found in sorted(places.items()):
-        yield of_user(checked, uid, Outside(checked.names.user(uid), texts_of(sorted(found))))
+        yield of_user(checked, uid, Outside(checked.names.user(uid), tuple(dict.fromkeys(map(checked.container_text, sorted(found))))))
 
 
 def capabilities(checked: Checked) -> Iterator[Told]:

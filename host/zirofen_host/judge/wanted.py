@@ -79,7 +79,9 @@ def of_quota(shown: Shown) -> Optional[Tuple[str, bool]]:
 
 
 def of_idle(shown: Shown) -> Optional[Tuple[str, bool]]:
-    return ("1", True) if shown[CPU_WEIGHT] == IDLE else ("0", False)
+    """A weight that is set says that it isn't idle: an idle cgroup takes none."""
+    word = shown[CPU_WEIGHT]
+    return ("1", True) if word == IDLE else ("0", word not in (*NOT_SET, *UNLIMITED))
 
 
 def of_io_weight(shown: Shown) -> Optional[Tuple[str, bool]]:
