@@ -48,7 +48,7 @@ class DrawnHost:
         for number in range(0 if self.one in without else self.chance.choice((1, 1, 2, 4))):
             self.subtree(f"/s{number}", self.chance.choice(USERS))
         if self.is_there("opened"):
-            self.host.cgroup("/x", modes={"memory.max": 0o666})
+            self.host.cgroup("/x", more=("cgroup.kill",), modes={"cgroup.kill": 0o666})
         for what, capabilities in (("container", ADMIN), ("held container", CHOWN)):
             if self.is_there(what):
                 self.container(f"/system.slice/{what.replace(' ', '-')}.service", capabilities)

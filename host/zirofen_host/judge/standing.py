@@ -40,9 +40,10 @@ CAUSES: Dict[Tuple[str, Severity], Tuple[str, str]] = {
 
 
 def is_empty(report: Report) -> bool:
-    """Whether neither anything to ask nor a container of root's was found, in a run that came to an end of its own."""
+    """Whether neither anything to ask nor a container of root's was found, in a run that came to an end of its own. What has no answer
+    was found."""
     has_ended = not any((each.kind, each.place) == (FAILED, RUN) for each in report.unseen)
-    return has_ended and not report.asked and not report.containers
+    return has_ended and not report.asked and not report.containers and not report.faults
 
 
 def accepted_subtrees(report: Report) -> FrozenSet[str]:
