@@ -94,7 +94,7 @@ MODEL = ("tests/model/[!d]*",)
 MAKERS = ("lintian", "groff", "mandoc", "man-db", "fish", "zsh", "ansible-core", "python3-pip", "python3-setuptools", "python3-wheel")
 PARTS = [
     Part("released", "tools/released", ("tools/released", *WRAPPER)),
-    Part("promises", "tools/promises", ("tools", "gate", "crates.txt", "crates", "docs/*.md")),
+    Part("promises", "tools/promises", ("tools", "gate", "crates.txt", "crates", "docs/*.md", "host/zirofen_host")),
     of_toolchain("gate/laid_out", "crates", "crates.txt"),
     Part("plant", "gate/plant --compare", ("gate", "crates", "crates.txt", "HANDLES")),
     of_toolchain("gate/tests", "HANDLES", *(f"{CRATE}{it}" for it in ("test_calls", "test_layers", "test_plans"))),
@@ -118,6 +118,7 @@ PARTS = [
     of_folder("tests/gate", "tests/gate", "gate", "verify", "tools", "zirofen", "crates.txt", "crates/machine",
               "tests/program/trial_rows.py"),
     of_folder("tests/tools", "tests/tools", "tests/model/trials", "tests/model/second", "tests/program/*.py", "tools", "gate", "crates.txt", "crates", "docs", "CHANGELOG.md",
+              "host/zirofen_host",
               "examples", "zirofen", PROGRAM),
     *host_tests(),
     Part("unit_tests", "host/lint", ("host", "tests/host"), ("mypy", "flake8")),

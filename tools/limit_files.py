@@ -1,10 +1,16 @@
-"""Whether what the docs and the code say of limit files is what the definition says: one row for each in KINDS."""
-import collections, re
+"""Whether what the docs, the code and the helpers for hosts say of limit files, and of how much a text takes, is what the definition says:
+one row for each limit file in KINDS, and for each further one in OTHER_KINDS."""
+import collections, os, re, sys
 
 from edited import text_of
 
+sys.path.append(f"{os.path.dirname(os.path.dirname(os.path.abspath(__file__)))}/host")
+from zirofen_host import files, profile
+
 KINDS = "crates/cg_cgroup/specs/Kinds.antt"
+OTHER_KINDS = "crates/cg_cgroup/specs/OtherKinds.antt"
 CODE = "crates/cg_cgroup/src/files.rt"
+HOST, FORMATS_OF_HOST = "host/zirofen_host/files.py", "host/zirofen_host/profile.py"
 
 # a limit file: its name, the controller that brings it or None, its value where it is missing, and what it takes
 File = collections.namedtuple("File", "name controller default least greatest takes_max")
@@ -12,6 +18,15 @@ File = collections.namedtuple("File", "name controller default least greatest ta
 ROW = re.compile(
     r"^kind_of \w+ = (?:record \()?usual \d+ \(codes \"([^\"]+)\"\) (?:None|\(Some (\w+)\)) (?:(Max)|\(At (\d+)\))"
     r"(?:\) \{ least = (\d+); greatest = (\d+); takes_max = (true|false) \})?$", re.M)
+FURTHER = re.compile(r"^other_kind \w+ = (?:by_device \()?row \d+ \(codes \"([^\"]+)\"\) (?:None|\(Some (\w+)\)) ", re.M)
+# a number of the helpers' formats, where the definition has it, and how it stands there
+NUMBERS = [
+    (profile.TEXT_FORMATS[2].most_rows, "crates/cg_format/specs/Form.antt", r"^most_rows Two = (\d+)$"),
+    (profile.TEXT_FORMATS[4].most_rows, "crates/cg_format/specs/Form.antt", r"^most_rows Four = (\d+)$"),
+    (profile.TEXT_FORMATS[2].longest, "crates/cg_format/specs/TreeTexts.antt", r"^longest_text text = .* (\d+)$"),
+    (profile.TEXT_FORMATS[4].longest, "crates/cg_format/specs/TreeTexts.antt", r"^longest_text text = .* (\d+) \d+$"),
+    (profile.LARGEST_PID, "crates/cg_cgroup/specs/Numbers.antt", r"^is_pid .* nat_le number (\d+)$"),
+]
 USUAL = re.compile(r"least = (\d+);\s+greatest = (\d+);\s+takes_max = (true|false);")
 
 
@@ -88,3 +103,22 @@ def faults_of_code(text):
     """Returns how many limit files there are, and those whose name stands in the code otherwise than once, in its table."""
     counts = {it.name: text.count('"' + it.name + '"') for it in kinds_of(text_of(KINDS))}
     return len(counts), [f"{name} stands {count} times" for name, count in counts.items() if count != 1]
+
+
+def faults_of_host(_):
+    """Returns how many limit files there are, and those of which the table of the helpers for hosts says otherwise."""
+    rows = [File(it.name, it.controller, it.usual, *it.range) for it in files.LIMIT_FILES.values()]
+    further = [(name, it.controller) for name, it in files.FURTHER_FILES.items()]
+    wanted = kinds_of(text_of(KINDS))
+    told = [(name, by.lower() or None) for name, by in FURTHER.findall(text_of(OTHER_KINDS))]
+    faults = [f"{it.name} isn't as in the definition" for it in rows if it not in wanted]
+    faults += [f"{name} isn't as in the definition" for name, by in further if (name, by) not in told]
+    if not faults and (rows, further) != (wanted, told):
+        faults = ["the table of limit files has other rows, or another order"]
+    return len(wanted) + len(told), faults
+
+
+def faults_of_numbers(_, numbers=NUMBERS):
+    """Returns how many numbers the helpers for hosts have of the formats, and those that the definition hasn't."""
+    return len(numbers), [f"{number} isn't what {file} says" for number, file, pattern in numbers
+                          if re.findall(pattern, text_of(file), re.M) != [str(number)]]

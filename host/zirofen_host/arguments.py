@@ -7,13 +7,12 @@ from zirofen_host.fault import Parser
 from zirofen_host.parsing import StableParser
 from zirofen_host.installed import MANUAL, NAME, TOLD_PROGRAM, default_program
 from zirofen_host.options import MOUNT, PROC, Way
-from zirofen_host.profile import NEWEST, TEXT_FORMATS, is_number
+from zirofen_host.profile import LARGEST_ID, NEWEST, TEXT_FORMATS, is_number
 
 ABOUT = f"""The helpers of zirofen for a running host: from its cgroups to answers. They are no part of what is proved.
 
 usage: {NAME} COMMAND ..      what each does: {NAME} COMMAND --help
        {NAME} --version"""
-LARGEST_ID = 4294967295
 # what a check writes
 FORMATS = ("text", "json", "sarif", "junit", "metrics")
 # what is written of many hosts

@@ -1,7 +1,8 @@
-"""What each interface file of a cgroup is, in one table of whole names."""
+"""What each interface file of a cgroup is: what writing it does, and in one table all facts of those by which a limit is set."""
+from dataclasses import dataclass
 from enum import Enum
-from functools import lru_cache
-from typing import Dict, Optional, Tuple
+from functools import cached_property, lru_cache
+from typing import Collection, Dict, List, NamedTuple, Optional, Tuple, Union
 
 
 class Kind(Enum):
@@ -12,25 +13,149 @@ class Kind(Enum):
     TELLS = "tells"
     # it does something to processes, or to what is counted, at once
     ACTS = "acts"
-    # a kernel lists it in /sys/kernel/cgroup/delegate, as made to be handed over
-    HANDED_OVER = "handed over"
+    # a kernel lists it in KERNEL_LIST, as made to be delegated
+    DELEGATED = "delegated"
 
 
-# the size of a huge page in a name
-SIZE = "SIZE"
+class Told(Enum):
+    """Which tree texts tell of a file."""
+    ALWAYS = "every text"
+    FURTHER = "a text of format 4, where it isn't root's own"
+    NEVER = "none"
 
-# Documentation/admin-guide/cgroup-v2.rst, "Core Interface Files" and "Controllers"
+
+class Form(Enum):
+    """How the setting of a unit says what a limit file has."""
+    NUMBER = "one number"
+    SHARE = "a share of a processor's time"
+    IDLE = "the word idle"
+    WEIGHT = "a weight of all devices"
+    LIST = "a list of numbers"
+    # as by a device's name, which a cgroup's file doesn't tell
+    OTHER = "otherwise"
+
+
+class Range(NamedTuple):
+    """The numbers that a tree text takes of a limit, and whether it takes max."""
+    least: int
+    greatest: int
+    takes_max: bool
+
+
+# every controller that a tree text may name, in the order of each text
+CONTROLLERS = ("cpuset", "cpu", "io", "memory", "hugetlb", "pids", "rdma", "misc", "dmem")
+DIRECTORY = "dir"
+CONTROL_FILES = PROCS, CONTROL = "cgroup.procs", "cgroup.subtree_control"
+# what is handed over with a subtree's top
+HANDED_OVER = (DIRECTORY, *CONTROL_FILES)
+# the size of a huge page in a name, and the sizes that a tree text names
+SIZE, PAGE_SIZES = "SIZE", ("16GB", "16MB", "1GB", "1MB", "2GB", "2MB", "32MB", "512MB", "64KB")
+# microseconds of cpu.max where nobody set others; bytes of a page, in which memory is kept
+PERIOD, PAGE = 100000, 4096
+# as many bytes as no machine has: where a kernel doesn't write max, its own bound rounded down to whole pages, below 2^63
+NO_LIMIT = 2**62
+# what takes bytes
+OF_BYTES = ("memory.", "hugetlb.")
+USUAL_RANGE = Range(0, 2**63 - 1, True)
+
+
+@dataclass(frozen=True)
+class LimitFile:
+    """A file by which a limit or its like is set."""
+    name: str
+    # what it has where nobody set it
+    usual: Union[int, str]
+    # the first kernel that has it, in a hierarchy of version 2
+    since: Tuple[int, int]
+    told: Told = Told.FURTHER
+    kind: Kind = Kind.LIMIT
+    # the setting of a unit that brings its value back, and how
+    setting: Optional[str] = None
+    form: Form = Form.NUMBER
+    # it has a line for each device or resource, of which each may have one
+    is_keyed: bool = False
+    # more of it is more than root's settings say; of all others less is
+    is_share: bool = False
+    # the limit files that whoever writes it changes, where it isn't itself alone: an idle cgroup takes no weight
+    changes: Tuple[str, ...] = ()
+    # what is below that it counts
+    counts: Optional[str] = None
+    range: Range = USUAL_RANGE
+
+    @cached_property
+    def controller(self) -> Optional[str]:
+        """The controller that brings it, by which its name begins."""
+        word = self.name.partition(".")[0]
+        return None if word == "cgroup" else word
+
+    def is_brought_by(self, enabled: Collection[str]) -> bool:
+        """Whether it stands below a cgroup that enables some controllers."""
+        return self.controller is None or self.controller in enabled
+
+
+CPU_WEIGHTS = ("cpu.idle", "cpu.weight")
+# first what every text tells of, in its order; then what a text of format 4 tells of, in the order of bytes; and then others
+LIMITS = (
+    LimitFile("cgroup.max.descendants", "max", (4, 14), Told.ALWAYS, counts="cgroups"),
+    LimitFile("cgroup.max.depth", "max", (4, 14), Told.ALWAYS, counts="levels"),
+    LimitFile("cpu.weight", 100, (4, 15), Told.ALWAYS, setting="CPUWeight", is_share=True, range=Range(1, 10000, False)),
+    LimitFile("memory.min", 0, (4, 18), Told.ALWAYS, setting="MemoryMin", is_share=True),
+    LimitFile("memory.low", 0, (4, 5), Told.ALWAYS, setting="MemoryLow", is_share=True),
+    LimitFile("memory.high", "max", (4, 5), Told.ALWAYS, setting="MemoryHigh"),
+    LimitFile("memory.max", "max", (4, 5), Told.ALWAYS, setting="MemoryMax"),
+    LimitFile("pids.max", "max", (4, 5), Told.ALWAYS, setting="TasksMax"),
+
+    LimitFile("cgroup.freeze", "0", (5, 2), kind=Kind.ACTS),
+    LimitFile("cpu.idle", "0", (5, 15), setting="CPUWeight", form=Form.IDLE, changes=CPU_WEIGHTS),
+    LimitFile("cpu.max", f"max {PERIOD}", (4, 15), setting="CPUQuota", form=Form.SHARE),
+    LimitFile("cpu.max.burst", "0", (5, 14)),
+    LimitFile("cpu.uclamp.max", "max", (5, 4)),
+    LimitFile("cpu.uclamp.min", "0.00", (5, 4)),
+    LimitFile("cpu.weight.nice", "0", (4, 15), setting="CPUWeight", form=Form.OTHER, changes=CPU_WEIGHTS),
+    LimitFile("cpuset.cpus", "", (5, 0), setting="AllowedCPUs", form=Form.LIST),
+    LimitFile("cpuset.cpus.exclusive", "", (6, 7)),
+    LimitFile("cpuset.cpus.partition", "member", (5, 0)),
+    LimitFile("cpuset.mems", "", (5, 0), setting="AllowedMemoryNodes", form=Form.LIST),
+    LimitFile("dmem.low", "0", (6, 14), is_keyed=True),
+    LimitFile("dmem.max", "max", (6, 14), is_keyed=True),
+    LimitFile("dmem.min", "0", (6, 14), is_keyed=True),
+    LimitFile("hugetlb.SIZE.max", "max", (5, 6)),
+    LimitFile("hugetlb.SIZE.rsvd.max", "max", (5, 7)),
+    LimitFile("io.bfq.weight", "default 100", (4, 12)),
+    LimitFile("io.latency", "", (4, 19), setting="IODeviceLatencyTargetSec", form=Form.OTHER),
+    LimitFile("io.max", "max", (4, 5), setting="IOReadBandwidthMax", form=Form.OTHER),
+    LimitFile("io.prio.class", "no-change", (5, 14)),
+    LimitFile("io.weight", "default 100", (4, 5), setting="IOWeight", form=Form.WEIGHT, is_share=True),
+    LimitFile("memory.swap.high", "max", (5, 8)),
+    LimitFile("memory.swap.max", "max", (4, 5), setting="MemorySwapMax"),
+    LimitFile("memory.zswap.max", "max", (5, 19), setting="MemoryZSwapMax"),
+    LimitFile("memory.zswap.writeback", "1", (6, 8)),
+    LimitFile("misc.max", "max", (5, 13), is_keyed=True),
+    LimitFile("rdma.max", "max", (4, 11), is_keyed=True),
+
+    LimitFile("io.cost.model", "", (5, 4), Told.NEVER),
+    LimitFile("io.cost.qos", "", (5, 4), Told.NEVER),
+    LimitFile("cgroup.pressure", "1", (6, 1), Told.NEVER, Kind.ACTS),
+    LimitFile("cgroup.type", "domain", (4, 14), Told.NEVER, Kind.ACTS),
+    LimitFile("memory.oom.group", "0", (4, 19), Told.NEVER, Kind.DELEGATED))
+BY_NAME: Dict[str, LimitFile] = {row.name: row for row in LIMITS}
+
+
+def told_in(told: Told) -> Dict[str, LimitFile]:
+    """The limit files of some texts by their whole names, of each size of a huge page one, in their order."""
+    found = {row.name.replace(SIZE, size): row for row in LIMITS if row.told is told
+             for size in (PAGE_SIZES if SIZE in row.name else ("",))}
+    return found if told is Told.ALWAYS else dict(sorted(found.items()))
+
+
+LIMIT_FILES, FURTHER_FILES = told_in(Told.ALWAYS), told_in(Told.FURTHER)
+# by the settings that bring them, the limit files that have one number by these
+BY_SETTING: Dict[str, str] = {row.setting: row.name for row in LIMITS if row.setting and row.form is Form.NUMBER}
+# those that bound how much is below a cgroup, and what each counts
+COUNTING: Dict[str, str] = {row.name: row.counts for row in LIMITS if row.counts}
+
+# Documentation/admin-guide/cgroup-v2.rst, "Core Interface Files" and "Controllers": all that isn't in LIMITS
 NAMES: Dict[Kind, Tuple[str, ...]] = {
-    Kind.LIMIT: (
-        "cgroup.max.depth", "cgroup.max.descendants",
-        "cpu.idle", "cpu.max", "cpu.max.burst", "cpu.uclamp.max", "cpu.uclamp.min", "cpu.weight", "cpu.weight.nice",
-        "cpuset.cpus", "cpuset.cpus.exclusive", "cpuset.cpus.partition", "cpuset.mems",
-        "dmem.low", "dmem.max", "dmem.min",
-        "hugetlb.SIZE.max", "hugetlb.SIZE.rsvd.max",
-        "io.bfq.weight", "io.cost.model", "io.cost.qos", "io.latency", "io.max", "io.prio.class", "io.weight",
-        "memory.high", "memory.low", "memory.max", "memory.min", "memory.swap.high", "memory.swap.max", "memory.zswap.max",
-        "memory.zswap.writeback",
-        "misc.max", "pids.max", "rdma.max"),
     Kind.TELLS: (
         "cgroup.controllers", "cgroup.events", "cgroup.stat", "cgroup.stat.local",
         "cpu.pressure", "cpu.stat", "cpu.stat.local",
@@ -44,24 +169,30 @@ NAMES: Dict[Kind, Tuple[str, ...]] = {
         "misc.capacity", "misc.current", "misc.events", "misc.events.local", "misc.peak",
         "pids.current", "pids.events", "pids.events.local", "pids.peak",
         "rdma.current", "rdma.events", "rdma.events.local", "rdma.peak"),
-    Kind.ACTS: ("cgroup.freeze", "cgroup.kill", "cgroup.pressure", "cgroup.type"),
-    Kind.HANDED_OVER: ("cgroup.procs", "cgroup.subtree_control", "cgroup.threads", "memory.oom.group", "memory.reclaim"),
+    Kind.ACTS: ("cgroup.kill",),
+    Kind.DELEGATED: (*CONTROL_FILES, "cgroup.threads", "memory.reclaim"),
 }
-KINDS: Dict[str, Kind] = {name: kind for kind, names in NAMES.items() for name in names}
+KINDS: Dict[str, Kind] = {**{row.name: row.kind for row in LIMITS}, **{name: kind for kind, names in NAMES.items() for name in names}}
+# the kernel's own list of what is made to be delegated, and what stands there where it has none
+KERNEL_LIST = "/sys/kernel/cgroup/delegate"
+USUAL_LIST = tuple(sorted(name for name, kind in KINDS.items() if kind is Kind.DELEGATED))
 # the controllers that have limits
-OF_LIMITS = frozenset(name.partition(".")[0] for name in NAMES[Kind.LIMIT]) - {"cgroup"}
+OF_LIMITS = frozenset(row.controller for row in LIMITS if row.kind is Kind.LIMIT and row.controller)
 # of those by which something is set, the ones that can't be read, or that list what isn't a value
-WITHOUT_VALUE = ("cgroup.kill", "cgroup.procs", "cgroup.subtree_control", "cgroup.threads", "memory.reclaim")
+WITHOUT_VALUE = ("cgroup.kill", *NAMES[Kind.DELEGATED])
 # files of the kind that tells which a manager hands to whoever wants to be woken
-PRESSURE = ("cpu.pressure", "io.pressure", "irq.pressure", "memory.pressure")
+PRESSURE = tuple(name for name in NAMES[Kind.TELLS] if name.endswith(".pressure"))
+
+
+def in_tables(file: str) -> str:
+    """A file's name as it stands in the tables."""
+    controller, *rest = file.split(".")
+    return ".".join([controller, SIZE, *rest[1:]]) if controller == "hugetlb" and rest else file
 
 
 def kind_of(file: str) -> Optional[Kind]:
     """What a file is by its name; None for a name that isn't known."""
-    controller, *rest = file.split(".")
-    if controller == "hugetlb" and rest:
-        file = ".".join([controller, SIZE, *rest[1:]])
-    return KINDS.get(file)
+    return KINDS.get(in_tables(file))
 
 
 def is_known(file: str) -> bool:
@@ -72,3 +203,41 @@ def is_known(file: str) -> bool:
 def may_set(file: str) -> bool:
     """Whether something is, or may be, set by writing a file. Of a name that isn't known the kernel's mode tells."""
     return kind_of(file) is not Kind.TELLS
+
+
+def is_other_limit(file: str) -> bool:
+    """Whether something is set by a file that isn't one of the limit files of every text."""
+    return is_known(file) and may_set(file) and file not in CONTROL_FILES and file not in LIMIT_FILES
+
+
+def standing(enabled: Collection[str]) -> List[str]:
+    """The limit files of every text that stand below a cgroup that enables some controllers."""
+    return [file for file, row in LIMIT_FILES.items() if row.is_brought_by(enabled)]
+
+
+def setting_of(file: str) -> Optional[str]:
+    """The setting of a unit that brings a file's value back."""
+    return BY_NAME[file].setting if file in BY_NAME else None
+
+
+def usual_of(file: str) -> Union[int, str]:
+    """What a file has where nobody set it; of a name that isn't known by its ending."""
+    row = BY_NAME.get(in_tables(file))
+    return row.usual if row else {"max": "max", "high": "max", "min": "0", "low": "0"}.get(file.rpartition(".")[2], "")
+
+
+def is_usual(file: str, value: Union[int, str, None]) -> bool:
+    """Whether a limit is as it is where nobody has set it."""
+    usual, row = usual_of(file), BY_NAME.get(file)
+    if file in LIMIT_FILES:
+        return value == usual
+    if row and row.is_keyed:
+        return all(word.rpartition("=")[2] == usual for line in str(value or "").splitlines() for word in line.split()[1:])
+    is_none = usual == "max" and str(value).isdigit() and int(value or 0) >= NO_LIMIT
+    return is_none or value in (None, "", usual)
+
+
+def accepts(file: str, value: Union[int, str]) -> bool:
+    """Whether a limit file of every tree text may have a value."""
+    taken = LIMIT_FILES[file].range
+    return value == "max" and taken.takes_max if isinstance(value, str) else taken.least <= value <= taken.greatest

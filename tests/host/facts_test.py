@@ -9,7 +9,8 @@ from zirofen_host.collect import mount, snapshot
 from zirofen_host.collect.model import OTHERS, OWNER, User
 from zirofen_host.collect.mount import Mounts
 from zirofen_host.fault import Fault
-from zirofen_host.judge.judged import OVER, LetIn, Place, Uncontained, lets_in
+from zirofen_host.ask.guards import OVER
+from zirofen_host.judge.judged import LetIn, Place, Uncontained, lets_in
 from zirofen_host.profile import path_of
 from unittest import mock
 

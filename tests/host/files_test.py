@@ -1,28 +1,42 @@
 """Tests of the table of what a cgroup's files are, and of what follows from it."""
 import os
+import re
 import unittest
 from unittest import mock
 
 from check_test import HostTest, owned
 from zirofen_host import files
 from zirofen_host.collect import bounded
-from zirofen_host.files import Kind, kind_of
-from zirofen_host.profile import CONTROL_FILES, LIMIT_FILES, SETTINGS, USUAL_LIST
+from zirofen_host.files import CONTROL_FILES, FURTHER_FILES, LIMIT_FILES, LIMITS, USUAL_LIST, Form, Kind, Told, kind_of
 
 REAL_MOUNT = "/sys/fs/cgroup"
 
 
 class TableTest(unittest.TestCase):
     def test_each_name_is_there_once(self):
-        names = [name for some in files.NAMES.values() for name in some]
+        names = [*(limit.name for limit in LIMITS), *(name for some in files.NAMES.values() for name in some)]
         self.assertEqual(len(names), len(set(names)))
-        self.assertEqual(set(files.NAMES), set(Kind))
+        self.assertEqual(set(files.KINDS.values()), set(Kind))
+
+    def test_which_texts_tell_of_limits(self):
+        told = {told: [limit.name for limit in LIMITS if limit.told is told] for told in Told}
+        self.assertEqual(told[Told.ALWAYS], list(LIMIT_FILES))
+        self.assertEqual(told[Told.FURTHER], sorted(told[Told.FURTHER]))
+        self.assertEqual({files.in_tables(name) for name in FURTHER_FILES}, set(told[Told.FURTHER]))
+        never = {limit.name for limit in LIMITS if limit.kind is Kind.LIMIT and limit.told is Told.NEVER}
+        self.assertEqual(never, {"io.cost.model", "io.cost.qos"})
+
+    def test_settings_bring_values(self):
+        """A file without a setting has no form of one, and a number is brought by one setting alone."""
+        self.assertEqual({limit.form for limit in LIMITS if not limit.setting}, {Form.NUMBER})
+        self.assertEqual(len(files.BY_SETTING), sum(limit.form is Form.NUMBER for limit in LIMITS if limit.setting))
+        self.assertEqual({each for limit in LIMITS for each in limit.changes} - set(files.BY_NAME), set())
 
     def test_what_others_name_is_in_it(self):
         self.assertEqual({kind_of(file) for file in LIMIT_FILES}, {Kind.LIMIT})
-        self.assertEqual({kind_of(file) for file in (*CONTROL_FILES, *USUAL_LIST)}, {Kind.HANDED_OVER})
+        self.assertEqual({kind_of(file) for file in (*CONTROL_FILES, *USUAL_LIST)}, {Kind.DELEGATED})
         self.assertEqual({kind_of(file) for file in files.PRESSURE}, {Kind.TELLS})
-        self.assertTrue(all(files.may_set(file) and files.is_known(file) for file in (*SETTINGS, *files.WITHOUT_VALUE)))
+        self.assertTrue(all(files.may_set(file) and files.is_known(file) for file in (*files.BY_NAME, *files.WITHOUT_VALUE)))
 
     def test_names_are_whole(self):
         for file, kind in (("cpuset.cpus.effective", Kind.TELLS), ("cpuset.mems.effective", Kind.TELLS),
@@ -40,6 +54,8 @@ class TableTest(unittest.TestCase):
         with os.scandir(mount) as entries:
             names = [entry.name for entry in entries if entry.is_file(follow_symlinks=False)]
         self.assertEqual([name for name in names if not files.is_known(name)], [])
+        release = tuple(map(int, re.match(r"([0-9]+)\.([0-9]+)", os.uname().release).groups()))
+        self.assertEqual([name for name in names if name in files.BY_NAME and files.BY_NAME[name].since > release], [])
 
 
 class OpenFilesTest(HostTest):

@@ -11,6 +11,7 @@ from made_up import DELEGATED, TOP, MadeUpTest, path
 from plan_test import changed, snapshot_of
 from shown import made
 from zirofen_host.ask import accepted
+from zirofen_host.ask.guards import GUARD_AT
 from zirofen_host.ask.questions import subtrees_by
 from zirofen_host.collect import bounded, elsewhere, walk
 from zirofen_host.collect.accounts import accounts_of
@@ -19,11 +20,11 @@ from zirofen_host.collect.model import Entry, User
 from zirofen_host.collect.snapshot import note_lines, tree_text
 from zirofen_host.collect.tree import read_tree, tree_text as text_of_tree
 from zirofen_host.fault import Fault, plain
-from zirofen_host.files import Kind, kind_of
+from zirofen_host.files import CONTROLLERS, FURTHER_FILES, LIMIT_FILES, Kind, kind_of
 from zirofen_host.judge import check, rules, shell
 from zirofen_host.judge.may import may
 from zirofen_host.options import AskOptions
-from zirofen_host.profile import CONTROLLERS, FURTHER_FILES, KEYED, LIMIT_FILES, TEXT_FORMATS
+from zirofen_host.profile import TEXT_FORMATS
 from zirofen_host.show import steps, view
 
 VALUE = r"\(codes \"[^\"]+\"\)"
@@ -50,7 +51,7 @@ class TableTest(unittest.TestCase):
         with open(f"{TOP}/crates/cg_cgroup/specs/OtherKinds.antt", encoding="utf-8") as text:
             found = ROW.findall(text.read())
         self.assertEqual([(int(number), name, by.lower() or None) for number, name, by in found],
-                         [(number, *each) for number, each in enumerate(FURTHER_FILES.items())])
+                         [(number, name, limit.controller) for number, (name, limit) in enumerate(FURTHER_FILES.items())])
         self.assertEqual((len(found), list(FURTHER_FILES)), (43, sorted(FURTHER_FILES)))
 
     def test_they_are_those_of_the_model(self):
@@ -64,19 +65,19 @@ class TableTest(unittest.TestCase):
             first, _, sizes = names.partition(" where SIZE is ")
             found += [(name.replace("SIZE", size), controller) for size in re.findall(r"`(\w+)`", sizes) or [""]
                       for name in re.findall(r"`([^`]+)`", first)]
-        self.assertEqual(found, list(FURTHER_FILES.items()))
+        self.assertEqual(found, [(name, limit.controller) for name, limit in FURTHER_FILES.items()])
         (keyed,) = re.findall(r"^- Each line of (.*?) begins with the name of a device or of a resource", section, re.M)
         names = [name.replace("*", ".+") for name in re.findall(r"`([^`]+)`", keyed)]
         devices = [file for name in names for file in FURTHER_FILES if re.fullmatch(name, file)]
-        self.assertEqual(devices, sorted((*KEYED, "io.latency", "io.max")))
+        self.assertEqual(devices, sorted((*(name for name, limit in FURTHER_FILES.items() if limit.is_keyed), "io.latency", "io.max")))
 
     def test_what_others_say_of_them(self):
         self.assertEqual({kind_of(file) for file in FURTHER_FILES}, {Kind.LIMIT, Kind.ACTS})
         self.assertEqual([file for file in FURTHER_FILES if kind_of(file) is not Kind.LIMIT], ["cgroup.freeze"])
-        self.assertEqual(set(FURTHER_FILES.values()) - {None}, set(CONTROLLERS) - {"pids"})
+        self.assertEqual({limit.controller for limit in FURTHER_FILES.values()} - {None}, set(CONTROLLERS) - {"pids"})
         self.assertEqual(set(FURTHER_FILES) & set(LIMIT_FILES), set())
         self.assertEqual({number: each.further for number, each in TEXT_FORMATS.items()}, {2: (), 4: tuple(FURTHER_FILES)})
-        self.assertEqual({rules.GUARDS[file] for file in FURTHER_FILES}, {"limit-file"})
+        self.assertEqual({GUARD_AT[file].word for file in FURTHER_FILES}, {"limit-file"})
 
 
 class SnapshotTest(MadeUpTest):

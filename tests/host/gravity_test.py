@@ -18,7 +18,7 @@ from zirofen_host.arguments import DESCRIPTIONS
 from zirofen_host.judge import acceptances, check, limits
 from zirofen_host.judge.model import (ABSENT, Acceptance, AnswerLimit, EntryFinding, FaultFinding, HeldBy, HeldFinding, HolderAnswer,
                                       OpenedFinding, Owner, Report, ReportCgroup, RootInside, RunsElsewhere, Subtree, Told, Whom)
-from zirofen_host.judge.rules import GUARDS
+from zirofen_host.ask.guards import GUARD_AT
 from zirofen_host.judge.severity import STATUSES, Severity
 from zirofen_host.judge.standing import severity_of, standings
 from zirofen_host.show import fleet, fleet_lines, junit, lines, metrics, page, sarif, tree_view
@@ -78,7 +78,7 @@ class Drawn:
         return Subtree(path, None, None, HeldBy("owner", (uid,)), (given,))
 
     def entries(self, paths):
-        names = [name for name in GUARDS if name not in ("unknown", "already-over")]
+        names = [name for name in GUARD_AT if name not in ("unknown", "already-over")]
         return tuple(EntryFinding(path, self.chance.choice(names), OWNED, self.chance.choice(ANSWERS[1:2] + ("unsettled",)), self.whom(),
                                   (path,), None, (), None, accepted=self.accepted()) for path in paths for _ in self.some())
 

@@ -13,7 +13,8 @@ import made_up_program
 from check_test import BY_GROUP, MARK, REAL_PROGRAM, HostTest, InTurn, owned
 from made_up import MEMORY, path, small_texts
 from zirofen_host import fault, progress
-from zirofen_host.profile import CONTROLLERS, FURTHER_FILES, TEXT_FORMATS, text_of
+from zirofen_host.files import CONTROLLERS, FURTHER_FILES
+from zirofen_host.profile import TEXT_FORMATS, text_of
 from zirofen_host.collect import bounded, walk
 from zirofen_host.ask import program as asking
 from zirofen_host.ask import texts

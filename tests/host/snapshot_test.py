@@ -12,7 +12,8 @@ from made_up import DELEGATED, KERNEL_THREAD, TOP, MadeUpTest, path
 from zirofen_host import command, files
 from zirofen_host.collect import mount, walk
 from zirofen_host.fault import Fault
-from zirofen_host.profile import FURTHER_FILES, LIMIT_FILES, TEXT_FORMATS, USUAL, text_of
+from zirofen_host.files import FURTHER_FILES, LIMIT_FILES
+from zirofen_host.profile import TEXT_FORMATS, text_of
 from zirofen_host.collect.mount import Mounts
 from zirofen_host.collect.snapshot import note_lines, tree_text
 from zirofen_host.collect.tree import read_tree, tree_text as text_of_tree
@@ -21,7 +22,8 @@ CONTROLLERS = 'controllers = ["cpu", "memory", "pids"]\n'
 PAGES = ("64KB", "128KB", "256KB", "512KB", "1MB", "2MB", "4MB", "8MB", "16MB", "32MB", "64MB", "128MB", "256MB", "512MB", "1GB", "2GB",
          "16GB")
 # limit files beyond those of every text, the 42 that a text of format 4 tells of where they aren't root's among them
-FURTHER = sorted({name.replace(files.SIZE, size) for name in files.NAMES[files.Kind.LIMIT] for size in PAGES} - set(LIMIT_FILES))
+FURTHER = sorted({name.replace(files.SIZE, size) for name, kind in files.KINDS.items() if kind is files.Kind.LIMIT for size in PAGES}
+                 - set(LIMIT_FILES))
 WRITTEN = r"""
 [[cgroup]]
 path = '/'
@@ -151,7 +153,7 @@ class SnapshotTest(MadeUpTest):
     def test_further_limit_files(self):
         """Sixty in each cgroup, all root's and unset: the text is byte for byte that of the cgroups without them."""
         host, names = self.host, " ".join(walk.CONTROLLERS)
-        unset = {name: USUAL.get(name, "max") for name in FURTHER}
+        unset = {name: str(files.usual_of(name) or "max") for name in FURTHER}
         self.assertEqual(len(FURTHER), 60)
         ways = ((), ("--no-processes",), ("--tree-format", "2"), ("--tree-format", "4"), ("--only", "/a.slice/b"))
         texts = []

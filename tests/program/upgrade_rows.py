@@ -9,8 +9,8 @@ import re
 
 from device_rows import ANSWERS, ASKED, FAULTS
 from trial_rows import CHECKS, REPLAYS, lines
-from zirofen_host.profile import (CONTROL_FILES, FURTHER_FILES, LIMIT_FILES, LONGEST_PATH, MOST_GROUPS, TEXT_FORMATS, accepts, is_root,
-                                  path_of, text_of)
+from zirofen_host.files import CONTROL_FILES, FURTHER_FILES, LIMIT_FILES, accepts
+from zirofen_host.profile import LONGEST_PATH, MOST_GROUPS, TEXT_FORMATS, is_root, path_of, text_of
 from zirofen_host.collect.tree import Row, Tree, tree_text
 from zirofen_host.collect.model import Entry, Placed
 
@@ -56,7 +56,7 @@ def named():
 
 def bound(file, bounds):
     """The first of some values that a file accepts, else its default."""
-    return next((value for value in bounds if accepts(file, value)), LIMIT_FILES[file][1])
+    return next((value for value in bounds if accepts(file, value)), LIMIT_FILES[file].usual)
 
 
 def limited():

@@ -26,7 +26,8 @@ sys.path.insert(0, f"{TOP}/host")
 from device_rows import named as operation_files  # noqa: E402
 from upgrade_rows import (BEFORE_LARGE, LARGE_BEGINNING, LARGE_MOVE, OPS, Asked, asked_of, asked_of_all, edge_trees,  # noqa: E402
                           large_text)
-from zirofen_host.profile import CONTROL_FILES, CONTROLLERS, FURTHER_FILES, LIMIT_FILES, TEXT_FORMATS, path_of  # noqa: E402
+from zirofen_host.files import CONTROL_FILES, CONTROLLERS, FURTHER_FILES, LIMIT_FILES  # noqa: E402
+from zirofen_host.profile import TEXT_FORMATS, path_of  # noqa: E402
 from zirofen_host.collect.tree import read_tree  # noqa: E402
 
 try:
@@ -91,7 +92,7 @@ def is_whole(document, tree, number):
 
 def meaning(tree):
     """All that a tree says, with what its text leaves out."""
-    rows, defaults = {}, {name: default for name, (_, default) in LIMIT_FILES.items()}
+    rows, defaults = {}, {name: limit.usual for name, limit in LIMIT_FILES.items()}
     for path, row in tree.rows.items():
         entries = {name: row.entry(name) for name in ("dir", *CONTROL_FILES, *tree.limit_files(path))}
         values = {name: row.values.get(name, defaults.get(name)) for name in tree.limit_files(path)}

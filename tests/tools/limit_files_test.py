@@ -2,8 +2,9 @@
 import os
 import re
 import unittest
+from unittest import mock
 
-from limit_files import File, kinds_of, model_row, table_below
+from limit_files import NUMBERS, File, faults_of_host, faults_of_numbers, files, kinds_of, model_row, table_below
 
 TOP = os.path.dirname(os.path.dirname(os.path.dirname(os.path.abspath(__file__))))
 # a row of a further limit file: its name, its controller, the text that loosens it, and the other one
@@ -68,6 +69,33 @@ class FurtherFiles(unittest.TestCase):
         rows = table_below(of_top("docs/MODEL.md"), "Further limit file")
         self.assertEqual([[name, *cells] for names, *cells in rows for name in names_in(names)], wanted)
         self.assertEqual(len(wanted), 43)
+
+
+class OfHosts(unittest.TestCase):
+    """What the helpers for hosts say, which is looked for where the definition stands."""
+
+    def setUp(self) -> None:
+        self.addCleanup(os.chdir, os.getcwd())
+        os.chdir(TOP)
+
+    def faults(self, table: str, name: str, *args: object, **more: object) -> list[str]:
+        with mock.patch.dict(getattr(files, table), {name: files.LimitFile(name, *args, **more)}):
+            return faults_of_host("")[1]
+
+    def test_they_say_what_is_defined(self) -> None:
+        self.assertEqual((faults_of_host(""), faults_of_numbers("")), ((51, []), (5, [])))
+
+    def test_another_row_is_a_fault(self) -> None:
+        weight = files.LIMIT_FILES["cpu.weight"]
+        for usual, range_ in ((99, weight.range), (100, files.USUAL_RANGE)):
+            self.assertEqual(self.faults("LIMIT_FILES", "cpu.weight", usual, (4, 15), range=range_), ["cpu.weight isn't as in the definition"])
+        self.assertEqual(self.faults("FURTHER_FILES", "cpu.most", "max", (6, 0)), ["cpu.most isn't as in the definition"])
+        with mock.patch.object(files, "LIMIT_FILES", dict(sorted(files.LIMIT_FILES.items()))):
+            self.assertEqual(faults_of_host("")[1], ["the table of limit files has other rows, or another order"])
+
+    def test_another_number_is_a_fault(self) -> None:
+        number, file, pattern = NUMBERS[0]
+        self.assertEqual(faults_of_numbers("", [(number + 1, file, pattern)]), (1, [f"{number + 1} isn't what {file} says"]))
 
 
 if __name__ == "__main__":

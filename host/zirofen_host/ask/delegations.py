@@ -3,10 +3,12 @@ from collections import defaultdict
 from functools import cached_property
 from typing import Collection, DefaultDict, Dict, FrozenSet, Iterable, Iterator, List, Sequence, Set, Tuple
 
+from zirofen_host.ask.guards import COMMON_ANCESTOR, LIMIT_FILE, PARENT_CONTROL, PARENT_DIRECTORY
 from zirofen_host.ask.model import Delegation, Guarded
 from zirofen_host.collect.accounts import Accounts
 from zirofen_host.collect.model import Entry, Row, Tree, User, set_of_groups
-from zirofen_host.profile import ANYBODY, HANDED_OVER, MOST_GROUPS, CgroupPath, ancestors, is_root, parent_of, tree_order
+from zirofen_host.files import CONTROL, DIRECTORY, HANDED_OVER, PROCS
+from zirofen_host.profile import ANYBODY, MOST_GROUPS, CgroupPath, ancestors, is_root, parent_of, tree_order
 
 
 class Alike:
@@ -116,12 +118,12 @@ class Delegations:
     def guarded(self, subtree: CgroupPath) -> Iterator[Guarded]:
         """The entries that a containment of a subtree stands on, in the order of the guards; a long list for one that lies
         deep, and not kept."""
-        yield from (Guarded("common-ancestor", place, "cgroup.procs") for place in ancestors(subtree))
-        yield from (Guarded("limit-file", subtree, file) for file in self.tree.limit_files(subtree))
+        yield from (Guarded(COMMON_ANCESTOR.word, place, PROCS) for place in ancestors(subtree))
+        yield from (Guarded(LIMIT_FILE.word, subtree, file) for file in self.tree.limit_files(subtree))
         parent = parent_of(subtree)
         if parent is not None:
-            yield Guarded("parent-control", parent, "cgroup.subtree_control")
-            yield Guarded("parent-dir", parent, "dir")
+            yield Guarded(PARENT_CONTROL.word, parent, CONTROL)
+            yield Guarded(PARENT_DIRECTORY.word, parent, DIRECTORY)
 
     def entry(self, path: CgroupPath, name: str) -> Entry:
         return self.tree.rows[path].entry(name)

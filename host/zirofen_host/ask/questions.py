@@ -19,8 +19,9 @@ from zirofen_host.collect.reasons import Reason
 from zirofen_host.collect.snapshot import SubtreesOf
 from zirofen_host.collect.tree import in_order
 from zirofen_host.collect.walk import MANAGERS_MARK
+from zirofen_host.files import COUNTING, HANDED_OVER
 from zirofen_host.options import Options
-from zirofen_host.profile import ANYBODY, HANDED_OVER, MOST_GROUPS, CgroupPath, ancestors, is_root, parent_of, text_of, topmost
+from zirofen_host.profile import ANYBODY, MOST_GROUPS, CgroupPath, ancestors, is_root, parent_of, text_of, topmost
 
 # a unit of the system's manager stands in slices alone; those of a user's manager stand in a unit
 _UNIT = re.compile(r"(/[^/]+\.slice)*/([^/]+\.(service|scope))\Z")
@@ -178,7 +179,7 @@ class Questions:
 
     def already_over(self, subtree: CgroupPath) -> bool:
         row = self.tree.rows[subtree]
-        limits = [row.values.get(name, "max") for name in ("cgroup.max.descendants", "cgroup.max.depth")]
+        limits = [row.values.get(name, "max") for name in COUNTING]
         return any(isinstance(limit, int) and count > limit for count, limit in zip(self.below[subtree], limits))
 
     @cached_property

@@ -8,10 +8,8 @@ from zirofen_host.ask.questions import Questions
 from zirofen_host.collect.accounts import Accounts
 from zirofen_host.collect.model import Snapshot
 from zirofen_host.collect.reasons import Reason
+from zirofen_host.files import COUNTING
 from zirofen_host.profile import ANYBODY, CgroupPath, ancestors
-
-# of what is inside of a subtree an answer rests on nothing but how many cgroups and levels it has, where it has such a limit
-COUNTED = ("cgroup.max.descendants", "cgroup.max.depth")
 
 
 @dataclass(frozen=True)
@@ -46,9 +44,10 @@ def spoiled(snapshot: Snapshot, questions: Questions) -> Dict[CgroupPath, Reason
 
 
 def is_spared(snapshot: Snapshot, accounts: Accounts, changed: Changed, holders: Optional[Holders], path: CgroupPath) -> bool:
-    """Whether a subtree is answered without what changed inside of it: all of that was made by others than who holds it."""
+    """Whether a subtree is answered without what changed inside of it: all of that was made by others than who holds it. Of what is inside
+    an answer rests on nothing but how many cgroups and levels there are, where a limit counts these."""
     row = snapshot.tree.rows.get(path)
-    if row is None or holders is None or ANYBODY in holders.uids or any(isinstance(row.values.get(name), int) for name in COUNTED):
+    if row is None or holders is None or ANYBODY in holders.uids or any(isinstance(row.values.get(name), int) for name in COUNTING):
         return False
     if not changed.places.isdisjoint((path, *ancestors(path))):
         return False

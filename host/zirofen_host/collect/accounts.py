@@ -12,8 +12,7 @@ from zirofen_host.collect import bounded
 from zirofen_host.collect.bounded import Payer
 from zirofen_host.collect.model import Account, AccountLists, Group, Process, Range, Snapshot, User, group_list, set_of_groups
 from zirofen_host.fault import Fault
-
-LARGEST_ID = 4294967295
+from zirofen_host.profile import LARGEST_ID
 
 
 def lines_of(path: str, fields: int) -> List[List[str]]:

@@ -12,7 +12,8 @@ from typing import DefaultDict, Dict, Iterator, List, NamedTuple, Optional, Sequ
 from zirofen_host.collect import bounded
 from zirofen_host.collect.unit_files import DROP_INS, ENDING, FOLDERS, Setting, UnitName, settings_in
 from zirofen_host.fault import Fault
-from zirofen_host.profile import SETTINGS, is_inside
+from zirofen_host.files import setting_of
+from zirofen_host.profile import is_inside
 
 # where the host's files are
 TOP = "/"
@@ -243,7 +244,7 @@ class Found:
 
     def setting(self, unit: str, file: str) -> Optional[Line]:
         """The line that sets a limit of a unit."""
-        name = (SETTINGS.get(file) or "").rstrip("=")
+        name = setting_of(file)
         found = [each for each in self.settings(unit) if each.name == name and each.value] if name else []
         return line_of(found[-1]) if found else None
 

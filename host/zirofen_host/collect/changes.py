@@ -5,12 +5,11 @@ from typing import Callable, Dict, Iterable, Iterator, List, Mapping, NamedTuple
 
 from zirofen_host.collect.accounts import is_id
 from zirofen_host.collect.model import DEFAULT_FILE, Cgroup, Entry, Placed, Row, Snapshot, Value
-from zirofen_host.collect.snapshot import LARGEST_PID
 from zirofen_host.collect.walk import MARKS
 from zirofen_host.fault import Fault
-from zirofen_host.files import Kind, is_known, kind_of
-from zirofen_host.profile import (CONTROL_FILES, DIRECTORY_MODE, FURTHER_FILES, LIMIT_FILES, LONGEST_PATH, CgroupPath, accepts, ancestors,
-                                  is_inside, is_line, is_name, is_number, is_root, parent_of, path_of, shown, text_of)
+from zirofen_host.files import CONTROL_FILES, FURTHER_FILES, LIMIT_FILES, Kind, accepts, is_known, kind_of, standing
+from zirofen_host.profile import (DIRECTORY_MODE, LARGEST_PID, LONGEST_PATH, CgroupPath, ancestors, is_inside, is_line, is_name, is_number,
+                                  is_root, parent_of, path_of, shown, text_of)
 
 DIRECTORY = Entry(0, 0, DIRECTORY_MODE)
 # what managers hand over with a subgroup, and a kernel doesn't list
@@ -74,15 +73,12 @@ class Changes:
         return self.rows[parent].enabled if parent else self.snapshot.tree.controllers
 
     def limit_files(self, path: CgroupPath) -> List[str]:
-        return [] if is_root(path) else [file for file, (controller, _) in LIMIT_FILES.items()
-                                         if controller is None or controller in self.controllers_for(path)]
+        return [] if is_root(path) else standing(self.controllers_for(path))
 
     def is_further(self, path: CgroupPath, name: str) -> bool:
         """Whether a name is that of a further limit file that stands at a cgroup, and that the text's format has."""
-        if name not in self.snapshot.tree.format.further or is_root(path):
-            return False
-        controller = FURTHER_FILES[name]
-        return controller is None or controller in self.controllers_for(path)
+        is_told = name in self.snapshot.tree.format.further and not is_root(path)
+        return is_told and FURTHER_FILES[name].is_brought_by(self.controllers_for(path))
 
     def children(self, path: CgroupPath) -> List[CgroupPath]:
         return [each for each in self.rows if parent_of(each) == path]
@@ -113,7 +109,7 @@ class Changes:
         """A limit file comes, with its default."""
         row = self.rows[path]
         files = {**row.files, file: DEFAULT_FILE}
-        self.rows[path] = replace(row, files=files, values={**row.values, file: LIMIT_FILES[file][1]})
+        self.rows[path] = replace(row, files=files, values={**row.values, file: LIMIT_FILES[file].usual})
         self.cgroups[path] = replace(self.cgroups[path], files={**self.cgroups[path].files, file: DEFAULT_FILE})
 
     def take_away(self, path: CgroupPath, file: str) -> None:
@@ -139,7 +135,7 @@ class Changes:
         if name in CONTROL_FILES or name in LIMIT_FILES or self.is_further(path, name):
             self.rows[path] = replace(row, files={**row.files, name: entry})
         elif self.snapshot.source.file is not None and self.snapshot.source.carried is None:
-            if name not in HANDED_OVER_TOO and kind_of(name) not in (Kind.TELLS, Kind.HANDED_OVER):
+            if name not in HANDED_OVER_TOO and kind_of(name) not in (Kind.TELLS, Kind.DELEGATED):
                 refuse(f"the text carries nothing of its host, and has no place for {name}")
             self.unplaced[path, name] = entry
         elif kind_of(name) is Kind.TELLS:
@@ -187,7 +183,7 @@ class Changes:
         self.cgroups[path] = replace(self.cgroups[path], enabled=enabled)
         for each in children:
             behind = self.limit_files(each)
-            gone = {file for file in self.snapshot.tree.format.further if FURTHER_FILES[file] in disabled}
+            gone = {file for file in self.snapshot.tree.format.further if FURTHER_FILES[file].controller in disabled}
             for file in gone.union(before[each]).difference(behind):
                 self.take_away(each, file)
             for file in set(behind) - set(before[each]):

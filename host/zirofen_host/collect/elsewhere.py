@@ -19,8 +19,8 @@ from zirofen_host.collect.notes import CarriedNote, LimitsOfVersion1, Note, Othe
 from zirofen_host.collect.reasons import CHANGED, CarriedOfSomebody, CarriedReason, Reason
 from zirofen_host.collect.tree import number_in, parts_in, table_in, text_in, texts_in
 from zirofen_host.fault import Fault
-from zirofen_host.files import OF_LIMITS, is_known
-from zirofen_host.profile import CONTROL_FILES, LIMIT_FILES, CgroupPath, is_other_limit, is_root, path_of, text_of
+from zirofen_host.files import CONTROL_FILES, LIMIT_FILES, OF_LIMITS, is_known, is_other_limit
+from zirofen_host.profile import CgroupPath, is_root, path_of, text_of
 
 # of a text that tells where threads run and what processes hold
 HOLDS = "threads and descriptors"
@@ -204,7 +204,7 @@ def with_defaults(tree: Tree) -> Tree:
     """A tree with the values that aren't written since they are the default. The root has no limits."""
     rows = {}
     for path, row in tree.rows.items():
-        values = {name: LIMIT_FILES[name][1] for name in tree.limit_files(path) if name in LIMIT_FILES}
+        values = {name: LIMIT_FILES[name].usual for name in tree.limit_files(path) if name in LIMIT_FILES}
         rows[path] = row if is_root(path) else replace(row, values={**values, **row.values})
     return replace(tree, rows=rows)
 

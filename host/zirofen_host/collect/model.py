@@ -6,8 +6,8 @@ from typing import Collection, FrozenSet, Iterable, List, Mapping, NamedTuple, O
 
 from zirofen_host.collect.notes import Note
 from zirofen_host.collect.reasons import Reason
-from zirofen_host.profile import (DIRECTORY_MODE, FILE_MODE, FURTHER_FILES, LIMIT_FILES, TEXT_FORMATS, CgroupPath, TextFormat,
-                                  parent_of)
+from zirofen_host.files import FURTHER_FILES, standing
+from zirofen_host.profile import DIRECTORY_MODE, FILE_MODE, TEXT_FORMATS, CgroupPath, TextFormat, parent_of
 
 OWNER, GROUP, OTHERS = CLASSES = ("owner", "group", "others")
 
@@ -142,7 +142,7 @@ class Tree:
         """The limit files that stand at a cgroup, in their order, and behind them the further ones that are told of."""
         parent = parent_of(path)
         enabled = self.rows[parent].enabled if parent else ()
-        first = [file for file, (controller, _) in LIMIT_FILES.items() if controller is None or controller in enabled]
+        first = standing(enabled)
         further = self.rows[path].further
         return first + further if further else first
 

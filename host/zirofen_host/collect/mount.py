@@ -4,16 +4,16 @@ from typing import Dict, FrozenSet, List, Mapping, Optional, Tuple
 
 from zirofen_host.collect import bounded
 from zirofen_host.fault import Fault
-from zirofen_host.files import OF_LIMITS
+from zirofen_host.files import CONTROL_FILES, OF_LIMITS, USUAL_LIST
 from zirofen_host.options import PROC
-from zirofen_host.profile import CONTROL_FILES, USUAL_LIST
+from zirofen_host.profile import LARGEST_ID
 
 # the number of the cgroup namespace that a kernel begins with
 FIRST_NAMESPACE = "cgroup:[4026531835]"
 FIRST_PID_NAMESPACE = "pid:[4026531836]"
 # what version 1 calls otherwise
 V1_NAMES = {"blkio": "io"}
-WHOLE_UID_MAP = ["0", "0", "4294967295"]
+WHOLE_UID_MAP = ["0", "0", str(LARGEST_ID)]
 
 
 class Mounts:

@@ -18,12 +18,11 @@ from zirofen_host.collect.notes import (ANY_MODE, Changing, FileOfNoController, 
 from zirofen_host.collect.processes import Reader, lacking_notes
 from zirofen_host.collect.tree import tree_text as text_of_tree
 from zirofen_host.fault import Fault
-from zirofen_host.files import KINDS
+from zirofen_host.files import CONTROL_FILES, FURTHER_FILES, KERNEL_LIST, KINDS, LIMIT_FILES, accepts
 from zirofen_host.options import PROC, Options
-from zirofen_host.profile import (CONTROL_FILES, FURTHER_FILES, KERNEL_LIST, LIMIT_FILES, ROOT, CgroupPath, TextFormat, accepts, ancestors,
-                                  is_inside, is_line, is_root, parent_of, shown, text_of, topmost)
+from zirofen_host.profile import (LARGEST_PID, ROOT, CgroupPath, TextFormat, ancestors, is_inside, is_line, is_root, parent_of, shown,
+                                  text_of, topmost)
 
-LARGEST_PID = 4194303
 NOTHING_HELD: held.Found = (), ()
 # names of files that may stand nowhere yet
 KNOWN = {name.encode() for name in (*KINDS, *FURTHER_FILES)}
@@ -89,16 +88,16 @@ class Bending:
         values: Dict[str, Value] = {}
         parent = parent_of(path)
         available = self.cgroups[parent].enabled if parent else ()
-        for file, (controller, default) in LIMIT_FILES.items():
-            stands = controller is None or controller in available
+        for file, limit in LIMIT_FILES.items():
+            stands = limit.is_brought_by(available)
             if file not in found.files:
                 if stands and parent and (path, file) not in self.covered:
-                    self.notes.append(NoFile(text_of(path), file, default))
+                    self.notes.append(NoFile(text_of(path), file, limit.usual))
             elif stands:
                 files[file] = self.plain(file, found.files[file])
                 values[file] = self.value(path, file, found.texts[file])
             else:
-                self.notes.append(FileOfNoController(text_of(path), file, controller))
+                self.notes.append(FileOfNoController(text_of(path), file, limit.controller))
         for file in self.further(path, found, available):
             files[file] = self.plain(file, found.files[file])
             value = self.further_value(path, file, found.further.get(file, ""))
@@ -115,9 +114,9 @@ class Bending:
             reached = self.reached[id(found.files)] = walk.reached_in(found.files) if self.text_format.further else []
         if not reached or is_root(path):
             return []
-        brought = [file for file in reached if FURTHER_FILES[file] is None or FURTHER_FILES[file] in available]
+        brought = [file for file in reached if FURTHER_FILES[file].is_brought_by(available)]
         for file in sorted(set(reached).difference(brought)):
-            self.notes.append(FileOfNoController(text_of(path), file, FURTHER_FILES[file]))
+            self.notes.append(FileOfNoController(text_of(path), file, FURTHER_FILES[file].controller))
         return brought
 
     def further_value(self, path: CgroupPath, file: str, text: str) -> Optional[str]:
@@ -139,9 +138,9 @@ class Bending:
 
     def value(self, path: CgroupPath, file: str, text: str) -> Value:
         value: Value = int(text) if text.isdigit() and len(text) <= 20 else text
-        if value == "max" and file != "cpu.weight" or isinstance(value, int) and accepts(file, value):
+        if accepts(file, value):
             return value
-        bent = 1 if value == 0 else LIMIT_FILES[file][1]
+        bent = 1 if value == 0 else LIMIT_FILES[file].usual
         self.notes.append(OtherValue(text_of(path), file, text, bent))
         return bent
 

@@ -5,8 +5,9 @@ from typing import Callable, Iterable, List, Mapping, Sequence, Tuple, Type, Typ
 
 from zirofen_host.collect.model import Entry, Placed, Row, Tree, Value
 from zirofen_host.fault import Fault
-from zirofen_host.profile import (CONTROL_FILES, DIRECTORY_MODE, FILE_MODE, FURTHER_FILES, LIMIT_FILES, TEXT_FORMATS, CgroupPath,
-                                  TextFormat, is_root, parent_of, path_of, text_of, tree_order)
+from zirofen_host.files import CONTROL_FILES, FURTHER_FILES, LIMIT_FILES
+from zirofen_host.profile import (DIRECTORY_MODE, FILE_MODE, TEXT_FORMATS, CgroupPath, TextFormat, is_root, parent_of, path_of, text_of,
+                                  tree_order)
 
 Table = Mapping[str, object]
 Kind = TypeVar("Kind")
@@ -28,7 +29,7 @@ def entry_parts(entry: Entry, usual_mode: int) -> List[str]:
 def file_line(row: Row, file: str) -> List[str]:
     """The line of a file, or nothing where all of it is default."""
     parts = entry_parts(row.entry(file), FILE_MODE)
-    if file in row.values and row.values[file] != LIMIT_FILES[file][1]:
+    if file in row.values and row.values[file] != LIMIT_FILES[file].usual:
         value = row.values[file]
         parts.append('value = "max"' if value == "max" else f"value = {value}")
     return [f'"{file}" = {{ {", ".join(parts)} }}'] if parts else []

@@ -16,9 +16,8 @@ from zirofen_host.collect.bounded import Payer, Spent
 from zirofen_host.collect.model import Cgroup, Entry, FilePlace
 from zirofen_host.collect.reasons import CHANGED, Changed, MountedOver, NeverSettled, Reason, Unreadable
 from zirofen_host.fault import Fault
-from zirofen_host.files import may_set
-from zirofen_host.profile import (CONTROL_FILES, CONTROLLERS, FURTHER_FILES, LIMIT_FILES, LONGEST_PATH, ROOT, CgroupPath, ancestors,
-                                  is_name, parent_of, shown, topmost)
+from zirofen_host.files import CONTROL_FILES, CONTROLLERS, FURTHER_FILES, LIMIT_FILES, may_set
+from zirofen_host.profile import LONGEST_PATH, ROOT, CgroupPath, ancestors, is_name, parent_of, shown, topmost
 
 MANAGERS_MARK, OWNERS_MARK = MARKS = ("trusted.delegate", "user.delegate")
 MOST_WALKS = 8

@@ -5,18 +5,17 @@ the host: where the text hasn't all of them they are left out.
 """
 from typing import Dict, Iterator, List, Sequence, Tuple
 
+from zirofen_host.ask.guards import GUARDS
 from zirofen_host.ask.model import Answer
 from zirofen_host.ask.program import CONTAINED, UNSETTLED, WORDS, Refused, abilities_of, answer_of, user_word
 from zirofen_host.collect.model import Snapshot, User
 from zirofen_host.fault import FAULT, Fault
-from zirofen_host.judge.may import ABOVE
+from zirofen_host.files import COUNTING
 from zirofen_host.judge.names import Names, names_of
 from zirofen_host.judge.one import One, Standing, Warn, standing
 from zirofen_host.options import AskOptions
 from zirofen_host.profile import MOST_GROUPS, text_of
 
-# what whoever writes an entry does by it
-LETS = {**ABOVE, "limit-file": "sets this limit"}
 BY = {"owner": "as its owner", "group": "through its group", "others": "as one of all others"}
 STAYS = {"spared": "the subtree stays: they don't write the directory where it would be removed",
          "upheld": "the subtree stays: a cgroup below it does", "removed": "the subtree may be removed"}
@@ -26,7 +25,6 @@ TAKES = {"spared": "they move no process there", "enabling": "no process goes th
          "takes": "they may move a process there"}
 GROWS = {"spared": "they make no cgroup in it", "full": "a limit leaves no room for a cgroup in it",
          "grows": "they may make a cgroup in it"}
-BELOW = {"cgroup.max.descendants": "cgroups", "cgroup.max.depth": "levels"}
 # lines of the second row of guards
 FURTHER = ("stays", "control", "files", "shut")
 
@@ -36,7 +34,7 @@ def entry_text(names: Names, words: Sequence[str]) -> str:
     guard, path, entry, owner, mode, *by = words
     uid, _, gid = owner.partition(":")
     whose = f"{'the directory' if entry == 'dir' else entry} of {path} ({names.user(int(uid))}, {names.group(int(gid))}, {mode})"
-    return f"{whose} {f'is theirs {BY[by[0]]}' if by else 'is out of their reach'}: whoever writes it {LETS[guard]}"
+    return f"{whose} {f'is theirs {BY[by[0]]}' if by else 'is out of their reach'}: whoever writes it {GUARDS[guard].deed}"
 
 
 def text_of_words(names: Names, words: Sequence[str]) -> str:
@@ -44,7 +42,7 @@ def text_of_words(names: Names, words: Sequence[str]) -> str:
     kind, path, *rest = words
     if kind == "already-over":
         file, number, most = rest
-        return f"{number} {BELOW[file]} below {path}, and {'no limit' if most == 'max' else f'{most} at most'}"
+        return f"{number} {COUNTING[file]} below {path}, and {'no limit' if most == 'max' else f'{most} at most'}"
     if kind == "stays":
         return STAYS[rest[0]]
     if kind == "control":

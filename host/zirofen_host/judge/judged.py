@@ -3,6 +3,7 @@ from collections import defaultdict
 from dataclasses import dataclass
 from typing import DefaultDict, Dict, FrozenSet, Iterable, List, Mapping, NamedTuple, Optional, Sequence, Set, Tuple
 
+from zirofen_host.ask.guards import OVER, UNKNOWN
 from zirofen_host.ask.model import Answer, Answers, Pair
 from zirofen_host.ask.program import worst
 from zirofen_host.ask.questions import Questions
@@ -10,10 +11,7 @@ from zirofen_host.collect import bounded
 from zirofen_host.collect.bounded import Spent
 from zirofen_host.collect.model import GROUP, OTHERS, OWNER, Entry, User
 from zirofen_host.fault import FAULT
-from zirofen_host.profile import ANYBODY, CgroupPath, is_inside, tree_order
-
-# what lets somebody in where no entry does
-OVER, UNKNOWN = "already-over", "unknown"
+from zirofen_host.profile import ANYBODY, MOST_GROUPS, CgroupPath, is_inside, tree_order
 
 
 class Place(NamedTuple):
@@ -88,7 +86,7 @@ def uncontained(questions: Questions, answers: Answers) -> List[Uncontained]:
     """Every pair that isn't contained, those that weren't asked first, and the others in the order of the tree."""
     found = []
     for each in answers.plan.cut:
-        line = f"{each.count} of their groups matter here, and the program takes 32: nothing was asked"
+        line = f"{each.count} of their groups matter here, and the program takes {MOST_GROUPS}: nothing was asked"
         found.append(Uncontained(Pair(each.user, each.subtree), Answer(FAULT, (line,)), None))
     for pair in sorted(answers.found, key=in_turn):
         answer = answers.found[pair]

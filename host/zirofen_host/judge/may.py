@@ -4,22 +4,18 @@ from collections import defaultdict
 from typing import DefaultDict, Dict, Iterable, Iterator, List, NamedTuple, Sequence, Tuple
 
 from zirofen_host.ask.delegations import Delegations
+from zirofen_host.ask.guards import GUARDS, IN_SUBTREE, LIMIT_FILE
 from zirofen_host.collect.accounts import accounts_of
 from zirofen_host.collect.model import OWNER, Entry, Snapshot, User
 from zirofen_host.collect.tree import in_order
 from zirofen_host.fault import Fault
+from zirofen_host.files import HANDED_OVER
 from zirofen_host.judge.finding_lines import some
 from zirofen_host.judge.names import names_of
 from zirofen_host.judge.one import Warn, is_known, users_of
 from zirofen_host.options import AskOptions
-from zirofen_host.profile import HANDED_OVER, CgroupPath, ancestors, is_inside, path_of, shown, text_of
+from zirofen_host.profile import CgroupPath, ancestors, is_inside, path_of, shown, text_of
 
-# what an entry lets its user do where it is of the subtree, and where a guard stands on it
-HERE = {"dir": "makes and removes cgroups here", "cgroup.procs": "moves processes into it",
-        "cgroup.subtree_control": "enables and disables controllers here, and so limit files below"}
-ABOVE = {"common-ancestor": "moves processes over the subtree's edge, into what else they write cgroup.procs of",
-         "parent-control": "takes limit files of the subtree away, and brings them",
-         "parent-dir": "removes the subtree where it is empty, and makes others beside it"}
 # kinds of cgroups that are told; where there are more, it is told how many
 MOST = 64
 
@@ -50,8 +46,8 @@ def lets_at(delegations: Delegations, user: User, path: CgroupPath, whats: Itera
 def above(delegations: Delegations, user: User, subtree: CgroupPath) -> Iterator[Tuple[CgroupPath, Tuple[Lets, ...]]]:
     """What they do from above."""
     for each in delegations.guarded(subtree):
-        if each.guard in ABOVE:
-            lets = lets_at(delegations, user, each.path, [(each.name, ABOVE[each.guard])])
+        if each.guard != LIMIT_FILE.word:
+            lets = lets_at(delegations, user, each.path, [(each.name, GUARDS[each.guard].deed)])
             if lets:
                 yield each.path, lets
 
@@ -60,7 +56,7 @@ def inside(delegations: Delegations, user: User, subtree: CgroupPath) -> Iterato
     """What they do at the subtree's top and below."""
     for path in in_order(path for path in delegations.tree.rows if is_inside(path, subtree)):
         files = [(file, f"sets {file}") for file in delegations.tree.limit_files(path)]
-        lets = lets_at(delegations, user, path, [*((name, HERE[name]) for name in HANDED_OVER), *files])
+        lets = lets_at(delegations, user, path, [*((name, IN_SUBTREE[name]) for name in HANDED_OVER), *files])
         if lets:
             yield path, lets
 

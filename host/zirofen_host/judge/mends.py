@@ -10,16 +10,17 @@ from dataclasses import dataclass
 from typing import Callable, DefaultDict, Dict, Iterable, Iterator, List, Mapping, Optional, Sequence, Tuple, Union
 
 from zirofen_host.arguments import MENDS
+from zirofen_host.ask.guards import OVER, UNKNOWN
 from zirofen_host.collect.notes import FAILED
 from zirofen_host.collect.model import OWNER
+from zirofen_host.files import BY_NAME, COUNTING, FURTHER_FILES, HANDED_OVER, LIMIT_FILES, PERIOD, Form, is_usual, setting_of
 from zirofen_host.judge.finding_lines import whom_text
-from zirofen_host.judge.judged import OVER, UNKNOWN
 from zirofen_host.judge.model import ABSENT, Absent, Report, ReportCgroup, Wanted
 from zirofen_host.judge.notes import Restart
 from zirofen_host.judge.rules import ACCEPTABLE, DIFFERS, NOTHING_ASKED, OPENED, OPENED_DIRECTORY, ROOT_HELD, VERSION_1, Finding
 from zirofen_host.judge.shell import place as place_of
-from zirofen_host.judge.wanted import files_with, is_decided, is_same, unit_at, written
-from zirofen_host.profile import (FURTHER_FILES, HANDED_OVER, LIMIT_FILES, SETTINGS, is_root, is_usual, parent_of, path_of, tree_order)
+from zirofen_host.judge.wanted import IDLE, OF_ALL, files_with, is_decided, is_same, unit_at, written
+from zirofen_host.profile import is_root, parent_of, path_of, tree_order
 
 # the kinds of mends that are written
 KINDS = MENDS
@@ -29,8 +30,6 @@ DROP_IN = "60-zirofen.conf"
 SERVICE, SLICE = "Service", "Slice"
 DELEGATE = "Delegate=yes"
 CONTROL = "cgroup.subtree_control"
-# microseconds of cpu.max where nobody set others
-PERIOD = 100000
 NOT_FOUND = "nothing that was read gives it away"
 NOT_LOOKED = "no file of the host was looked at for what gives it away"
 # what is said of what has no entry
@@ -79,49 +78,47 @@ class Mend:
     withheld: Tuple[Withheld, ...] = ()
 
 
-def bytes_or_number(setting: str, value: str) -> List[str]:
-    return [f"{setting}{'infinity' if value == 'max' else value}"] if value == "max" or _NUMBER.fullmatch(value) else []
+def of_number(setting: str, value: str) -> List[str]:
+    return [f"{setting}={'infinity' if value == 'max' else value}"] if value == "max" or _NUMBER.fullmatch(value) else []
 
 
-def of_quota(value: str) -> List[str]:
+def of_quota(setting: str, value: str) -> List[str]:
     """cpu.max as a share of one processor, and its period where that isn't the usual one."""
     found = _QUOTA.fullmatch(value)
     if found is None:
         return []
     quota, period = int(found[1]), int(found[2])
     share = f"{quota * 100 / period:.2f}".rstrip("0").rstrip(".")
-    return [f"CPUQuota={share}%", *([] if period == PERIOD else [f"CPUQuotaPeriodSec={period}us"])]
+    return [f"{setting}={share}%", *([] if period == PERIOD else [f"CPUQuotaPeriodSec={period}us"])]
 
 
-def of_idle(value: str) -> List[str]:
-    return ["CPUWeight=idle"] if value == "1" else []
+def of_idle(setting: str, value: str) -> List[str]:
+    return [f"{setting}={IDLE}"] if value == "1" else []
 
 
-def of_io_weight(value: str) -> List[str]:
+def of_weight(setting: str, value: str) -> List[str]:
     """The weight for all devices, where none has another."""
-    word, _, number = value.partition(" ")
-    return [f"IOWeight={number}"] if word == "default" and _NUMBER.fullmatch(number) else []
+    number = value[len(OF_ALL):]
+    return [f"{setting}={number}"] if value.startswith(OF_ALL) and _NUMBER.fullmatch(number) else []
 
 
 def of_list(setting: str, value: str) -> List[str]:
     """A list in place of the unit's own, which a manager would add it to."""
-    return [setting, f"{setting}{value}"] if _LIST.fullmatch(value) else []
+    return [f"{setting}=", f"{setting}={value}"] if _LIST.fullmatch(value) else []
 
 
-# what brings the value of a limit file; of the others a number is written as it is
-BRINGS: Dict[str, Callable[[str], List[str]]] = {
-    "cpu.max": of_quota, "cpu.idle": of_idle, "io.weight": of_io_weight, "io.max": lambda _: [], "io.latency": lambda _: [],
-    "cpu.weight.nice": lambda _: [], "cpuset.cpus": lambda value: of_list("AllowedCPUs=", value),
-    "cpuset.mems": lambda value: of_list("AllowedMemoryNodes=", value)}
+# what brings the value of a limit file
+BRINGS: Dict[Form, Callable[[str, str], List[str]]] = {
+    Form.NUMBER: of_number, Form.SHARE: of_quota, Form.IDLE: of_idle, Form.WEIGHT: of_weight, Form.LIST: of_list}
 
 
 def settings_for(file: str, row: Optional[ReportCgroup]) -> List[str]:
     """The settings that bring what a file has now; none where nobody set it, and where it isn't known."""
-    setting, found = SETTINGS.get(file), row.files.get(file) if row else None
+    setting, found = setting_of(file), row.files.get(file) if row else None
     if not setting or found is None or isinstance(found.value, Absent) or is_usual(file, found.value):
         return []
-    value = " ".join(str(found.value).split())
-    return BRINGS[file](value) if file in BRINGS else bytes_or_number(setting, value)
+    form = BY_NAME[file].form
+    return BRINGS[form](setting, " ".join(str(found.value).split())) if form in BRINGS else []
 
 
 @dataclass(frozen=True)
@@ -204,16 +201,16 @@ class Place:
         """What stays, in words."""
         entries = {each.entry for each in self.found if each.rule.id in ACCEPTABLE}
         if OVER in entries:
-            yield ("no setting of a unit brings cgroup.max.descendants and cgroup.max.depth: what sets them has to at each start, before "
-                   "anything is made inside, as ExecStartPre=+")
+            yield (f"no setting of a unit brings {' and '.join(COUNTING)}: what sets them has to at each start, before anything is made "
+                   "inside, as ExecStartPre=+")
         if UNKNOWN in entries:
             yield "nothing is known to make it: report it"
         if entries - {OVER, UNKNOWN} or any(each.rule.id == DIFFERS for each in self.found):
             yield from self.told_of_causes()
         yield from self.told_of_settings()
-        if any(SETTINGS.get(file) and not settings_for(file, self.row) and is_set(file, self.row) for file in self.files):
+        if any(setting_of(file) and not settings_for(file, self.row) and is_set(file, self.row) for file in self.files):
             yield "a setting brings a limit of a device by its name, which a cgroup doesn't tell: set it by hand in the unit"
-        if self.restarts and not any(SETTINGS.get(file) for file in self.files):
+        if self.restarts and not any(setting_of(file) for file in self.files):
             yield "no setting brings these limits: what sets them has to at each start, as ExecStartPost=+"
 
     def told_of_causes(self) -> Iterator[str]:
@@ -226,7 +223,7 @@ class Place:
 
     def told_of_settings(self) -> Iterator[str]:
         """What root's settings say of the limits."""
-        limits = [file for file in self.files if SETTINGS.get(file) and is_in(file, self.row)]
+        limits = [file for file in self.files if setting_of(file) and is_in(file, self.row)]
         own = dict.fromkeys(self.wanted[file].setting for file in limits if file in self.wanted and self.wanted[file].is_set)
         if own and self.unit:
             yield f"{' '.join(own)} of {self.unit.name} says it, and its next start brings it: no drop-in is wanted"
@@ -279,7 +276,8 @@ def restored_below(report: Report, rows: Mapping[str, ReportCgroup], path: str) 
 
 
 def controller_of(file: str) -> Optional[str]:
-    return LIMIT_FILES[file][0] if file in LIMIT_FILES else FURTHER_FILES.get(file)
+    found = LIMIT_FILES.get(file) or FURTHER_FILES.get(file)
+    return found.controller if found else None
 
 
 def where_to_look(path: str, unit: Optional[Unit]) -> str:

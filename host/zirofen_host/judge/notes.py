@@ -7,6 +7,7 @@ from zirofen_host.collect.notes import BUDGETS, Note, classes
 from zirofen_host.collect.reasons import Reason
 from zirofen_host.judge.finding_lines import some
 from zirofen_host.judge.model import Wanted
+from zirofen_host.profile import MOST_GROUPS
 
 
 def numbers(found: Iterable[int]) -> str:
@@ -190,7 +191,7 @@ class OwnersMark(JoinedNote):
 class LeftOutGroups(Note):
     """Groups of a user that the program wasn't told."""
     kind = "groups"
-    meaning = "The program takes 32 groups of a user."
+    meaning = f"The program takes {MOST_GROUPS} groups of a user."
     count: int
 
     @property

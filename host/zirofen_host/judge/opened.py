@@ -12,9 +12,9 @@ from zirofen_host.ask.questions import Questions
 from zirofen_host.collect.bounded import Spent
 from zirofen_host.collect.model import GROUP, OTHERS, OWNER, Entry, Snapshot, User
 from zirofen_host.collect.walk import MANAGERS_MARK
-from zirofen_host.files import PRESSURE, is_known, may_set
+from zirofen_host.files import CONTROL_FILES, FURTHER_FILES, LIMIT_FILES, PRESSURE, is_known, may_set
 from zirofen_host.judge.judged import LetIn, Place
-from zirofen_host.profile import ANYBODY, CONTROL_FILES, FURTHER_FILES, LIMIT_FILES, CgroupPath, is_root, tree_order
+from zirofen_host.profile import ANYBODY, CgroupPath, is_root, tree_order
 
 GROUP_WRITES, OTHERS_WRITE, SOMEBODY_WRITES = 0o020, 0o002, 0o222
 # why a directory counts in which a manager makes what it starts: it adopts a cgroup that it finds there

@@ -2,6 +2,7 @@
 from dataclasses import dataclass, replace
 from typing import Dict, Iterator, Optional, Tuple, Union
 
+from zirofen_host.ask.guards import GUARD_AT, GUARDS, UNKNOWN_GUARD
 from zirofen_host.collect.notes import FAILED
 from zirofen_host.collect.model import OWNER
 from zirofen_host.judge import long_lists
@@ -10,11 +11,9 @@ from zirofen_host.judge.finding_lines import (CAPABILITY, INSIDE_MEANS, MOUNT_OP
                                               entry_line, fault_line, held_line, inside_line, opened_line, premise_line,
                                               processes_text, runs_line, version_1_line)
 from zirofen_host.judge.severity import ACCEPTED, Severity, of_answer, of_fault
-from zirofen_host.judge.judged import OVER, UNKNOWN
 from zirofen_host.judge.standing import is_empty
 from zirofen_host.judge.model import (ABSENT, Absent, DiffersFinding, EntryFinding, HeldFinding, OpenedFinding, PremiseFinding, Report,
                                       RootInside, RunsElsewhere, Whom, Within)
-from zirofen_host.profile import FURTHER_FILES, LIMIT_FILES
 
 NOTHING_ASKED, VERSION_1, DIFFERS = "nothing-asked", "version-1", "differs"
 OPENED, OPENED_DIRECTORY = "opened", "opened/dir"
@@ -25,17 +24,6 @@ HELD, HELD_PERHAPS = "held-entry", "held-entry/perhaps"
 PREMISES = (MOUNT_OPTIONS, MOUNTED_OVER, CAPABILITY)
 # whom a container lets out
 ROOT = Whom(OWNER, 0, "root(0)", ())
-# the guard that stands on an entry, by the entry's name; what is no entry has its own word
-GUARDS: Dict[str, str] = {"cgroup.procs": "common-ancestor", "cgroup.subtree_control": "parent-control", "dir": "parent-dir",
-                          **dict.fromkeys((*LIMIT_FILES, *FURTHER_FILES), "limit-file"), OVER: OVER, UNKNOWN: UNKNOWN}
-# what each guard that fails lets happen
-LETS: Dict[str, str] = {
-    "common-ancestor": "somebody writes cgroup.procs above a subtree, and so moves processes over its edge",
-    "limit-file": "somebody writes a limit file of a subtree, and so lifts the limit",
-    "parent-control": "somebody writes cgroup.subtree_control above a subtree, and so takes its limit files away",
-    "parent-dir": "somebody writes the directory above a subtree, and so removes it or makes others beside it",
-    OVER: "a subtree has more cgroups or levels than its own limits let it have",
-    UNKNOWN: "the program tells it, and this helper finds no entry that it rests on"}
 PROVED = {Severity.ESCAPES: ("escapes", "Proved: there are operations of theirs that break the subtree"),
           Severity.UNSETTLED: ("unsettled", "Nothing that was tried breaks the subtree, and nothing shows that it holds")}
 SEEN = "Seen by the helper, and not proved."
@@ -62,8 +50,8 @@ class Rule:
 
 def made_rules() -> Iterator[Rule]:
     for severity, (word, proof) in PROVED.items():
-        for guard, lets in LETS.items():
-            yield Rule(word, guard, severity, f"{lets[0].upper()}{lets[1:]}.", f"{proof}.")
+        for guard in GUARDS.values():
+            yield Rule(word, guard.word, severity, f"{guard.finding[0].upper()}{guard.finding[1:]}.", f"{proof}.")
     yield Rule(OPENED, "", Severity.OPENED, "Somebody writes a limit that they shouldn't, or an entry that the service manager keeps for "
                "itself.", SEEN)
     yield Rule(OPENED, "dir", Severity.OPENED,
@@ -138,7 +126,7 @@ class Finding:
 def of_entry(each: EntryFinding) -> Finding:
     word = PROVED.get(of_answer(each.answer), PROVED[Severity.ESCAPES])[0]
     example = tuple(long_lists.shown(each.example.lines)) if each.example else ()
-    return Finding(RULES[f"{word}/{GUARDS.get(each.entry, UNKNOWN)}"], each.path, each.entry, entry_line([each]), each.whom,
+    return Finding(RULES[f"{word}/{GUARD_AT.get(each.entry, UNKNOWN_GUARD).word}"], each.path, each.entry, entry_line([each]), each.whom,
                    each.subtrees, example, each.changes, each.setting, each.accepted, each.within, each.causes)
 
 

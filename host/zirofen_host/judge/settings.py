@@ -11,11 +11,11 @@ from zirofen_host import ending
 from zirofen_host.collect.model import Snapshot, Value
 from zirofen_host.collect.snapshot import value_of
 from zirofen_host.fault import Fault
-from zirofen_host.files import Kind, kind_of
+from zirofen_host.files import BY_SETTING, LIMIT_FILES, PAGE, Kind, is_usual, kind_of, setting_of
 from zirofen_host.judge.notes import LostLimit, Restart
-from zirofen_host.judge.wanted import NUMBERS, PAGE, PROPERTIES, QUOTA, Shown, wanted_by
+from zirofen_host.judge.wanted import PROPERTIES, QUOTA, Shown, wanted_by
 from zirofen_host.options import Options
-from zirofen_host.profile import LIMIT_FILES, SETTINGS, CgroupPath, is_usual, shown, text_of
+from zirofen_host.profile import CgroupPath, shown, text_of
 
 # by a unit's name, and by what a setting is called where it is asked for
 Settings = Mapping[str, Shown]
@@ -79,7 +79,7 @@ def lost(values: Mapping[str, Optional[Value]], settings: Mapping[str, str]) -> 
 
 def different(values: Mapping[str, Optional[Value]], settings: Mapping[str, str]) -> Iterator[LostLimit]:
     wanted = wanted_by(settings)
-    for name, file in NUMBERS.items():
+    for name, file in BY_SETTING.items():
         value = values.get(file)
         if name in settings and value is not None and not is_same(settings[name], file, value):
             yield LostLimit(file, str(value), f"{name}={settings[name]}", wanted.get(file))
@@ -91,7 +91,7 @@ def different(values: Mapping[str, Optional[Value]], settings: Mapping[str, str]
 def unsettable(values: Mapping[str, Optional[Value]]) -> Iterable[LostLimit]:
     """Limits that are set and that no setting brings."""
     return (LostLimit(file, " ".join(str(value).split()), "no setting brings it") for file, value in values.items()
-            if not SETTINGS.get(file) and not is_usual(file, value))
+            if not setting_of(file) and not is_usual(file, value))
 
 
 def is_same(setting: str, file: str, value: Value) -> bool:

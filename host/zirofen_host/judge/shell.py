@@ -5,7 +5,8 @@ from typing import Callable, Dict, Iterable, List, Mapping, Optional, Sequence, 
 
 from zirofen_host.collect.model import Entry, User
 from zirofen_host.fault import Fault
-from zirofen_host.profile import CONTROL_FILES, CONTROLLERS, FURTHER_FILES, LIMIT_FILES, is_line, is_number, is_root
+from zirofen_host.files import CONTROL_FILES, CONTROLLERS, FURTHER_FILES, LIMIT_FILES
+from zirofen_host.profile import is_line, is_number, is_root
 
 # the words of what to change, as the program advises it
 Change = Sequence[str]

@@ -7,27 +7,25 @@ from typing import Callable, Dict, Iterable, Iterator, List, Mapping, Optional, 
 from zirofen_host.ask.questions import unit_of
 from zirofen_host.collect.accounts import is_id
 from zirofen_host.collect.model import AccountLists, Snapshot
-from zirofen_host.collect.snapshot import LARGEST_PID
 from zirofen_host.collect.unit_files import UnitFile, filled, specifiers
 from zirofen_host.fault import Fault
-from zirofen_host.profile import (CONTROL_FILES, CONTROLLERS, FURTHER_FILES, HANDED_OVER, LIMIT_FILES, ROOT, SETTINGS, CgroupPath,
-                                  ancestors, is_name, is_root, parent_of, path_of, text_of)
+from zirofen_host.files import BY_SETTING, CONTROL_FILES, CONTROLLERS, FURTHER_FILES, HANDED_OVER, LIMIT_FILES, PAGE, USUAL_LIST, standing
+from zirofen_host.profile import LARGEST_PID, ROOT, CgroupPath, ancestors, is_name, is_root, parent_of, path_of, text_of
 
 SERVICE, SLICE = "service", "slice"
 # what a manager of this version and of newer ones knows: subgroups, and giving a unit to a group alone
 SUBGROUPS = 254
 # handed over with a delegated unit; where the cgroup above enables memory what is in OF_MEMORY, too
 DELEGATED = (*HANDED_OVER, "cgroup.threads")
-OF_MEMORY = ("memory.oom.group", "memory.reclaim")
+OF_MEMORY = tuple(file for file in USUAL_LIST if file.startswith("memory."))
 # of a subgroup all of its files are, and these are limits
-OF_A_SUBGROUP = tuple(file for file, (controller, _) in LIMIT_FILES.items() if controller is None)
-PAGE = 4096
+OF_A_SUBGROUP = tuple(standing(()))
 # uids that a manager takes for users that are there while a service runs
 DYNAMIC = range(61184, 65520)
 FACTORS = {"": 1, "B": 1, "K": 2**10, "M": 2**20, "G": 2**30, "T": 2**40, "P": 2**50, "E": 2**60}
 YES, NO = ("1", "yes", "y", "true", "t", "on"), ("0", "no", "n", "false", "f", "off")
 # the limit file that each setting sets, with what it is in
-LIMITS: Dict[str, str] = {setting.rstrip("="): file for file, setting in SETTINGS.items() if setting and file in LIMIT_FILES}
+LIMITS: Dict[str, str] = {setting: file for setting, file in BY_SETTING.items() if file in LIMIT_FILES}
 # the controllers that a manager enables, all of them for a unit with Delegate=yes; and the settings for which it enables some
 MANAGED = ("cpuset", "cpu", "io", "memory", "pids")
 ENABLING = {"cpuset": re.compile(r"(Startup)?Allowed(CPUs|MemoryNodes)\Z"), "cpu": re.compile(r"(Startup)?CPU(Weight|Shares|Quota)"),
@@ -99,8 +97,8 @@ class Plan:
     def further(self, path: CgroupPath) -> List[str]:
         """The further limit files that are told of at a cgroup, as far as the cgroup above still brings them."""
         row, parent = self.snapshot.tree.rows.get(path), parent_of(path)
-        brought = (None, *(self.enabled[parent] if parent else ()))
-        return [file for file in row.further if FURTHER_FILES[file] in brought] if row else []
+        brought = self.enabled[parent] if parent else ()
+        return [file for file in row.further if FURTHER_FILES[file].is_brought_by(brought)] if row else []
 
     def cgroup(self, path: CgroupPath) -> None:
         """A cgroup is there, and all above it; files of one that was there are as a new one's."""
@@ -241,7 +239,7 @@ class Started:
                    if (self.unit.last(setting) or "yes").lower() not in NO}
         wanted |= {name for name, setting in (("io", "IOAccounting"), ("io", "BlockIOAccounting"))
                    if (self.unit.last(setting) or "no").lower() in YES}
-        wanted |= {str(LIMIT_FILES[file][0]) for setting, file in LIMITS.items() if self.is_limited(setting, file)}
+        wanted |= {str(LIMIT_FILES[file].controller) for setting, file in LIMITS.items() if self.is_limited(setting, file)}
         return wanted | {name for name, enabling in ENABLING.items() if any(enabling.match(each.name) for each in self.unit.settings)}
 
     def is_limited(self, setting: str, file: str) -> bool:
@@ -249,7 +247,7 @@ class Started:
         value = self.unit.last(setting)
         if value is None:
             return setting == "TasksMax" and self.unit.name.kind == SERVICE
-        return of_text(file, value) != str(LIMIT_FILES[file][1])
+        return of_text(file, value) != str(LIMIT_FILES[file].usual)
 
     def start_slices(self, path: CgroupPath) -> None:
         """The slices that it brings, which aren't there yet, with what their files say."""
@@ -275,15 +273,14 @@ class Started:
         self.plan.cgroup(path)
         self.plan.enable(path, self.controllers(delegated))
         parent = parent_of(path)
-        files = [file for file, (controller, _) in LIMIT_FILES.items()
-                 if parent and (controller is None or controller in self.plan.enabled[parent])]
+        files = standing(self.plan.enabled[parent]) if parent else []
         if was_there and self.unit.name.kind == SERVICE:
             further = self.plan.further(path)
             for name in ("dir", *CONTROL_FILES, *files, *further):
                 self.plan.change("chown", text_of(path), name, "0:0")
                 self.plan.change("chmod", text_of(path), name, "755" if name == "dir" else "644")
             for file in files:
-                self.plan.change("set", text_of(path), file, str(LIMIT_FILES[file][1]))
+                self.plan.change("set", text_of(path), file, str(LIMIT_FILES[file].usual))
         for file, number in self.limits():
             if file in files:
                 self.plan.change("set", text_of(path), file, number)
@@ -383,7 +380,7 @@ def slice_path(name: str) -> CgroupPath:
 def of_text(file: str, value: str) -> Optional[str]:
     """What a limit file has where a unit has a value; None for a share of what the host has, and for what is no number."""
     if value == "infinity":
-        return "max" if file != "cpu.weight" else None
+        return "max" if LIMIT_FILES[file].range.takes_max else None
     found = _SIZE.match(value)
     if found is None or found[2] and not file.startswith(("memory.", "pids.")):
         return None

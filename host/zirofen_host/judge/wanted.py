@@ -3,29 +3,21 @@ import re
 from typing import Callable, Dict, Iterator, Mapping, Optional, Tuple, Union
 
 from zirofen_host.ask.questions import is_slice, unit_of
-from zirofen_host.files import KINDS
+from zirofen_host.files import BY_NAME, KINDS, LIMITS, PAGE, PERIOD, Form, LimitFile, is_usual
 from zirofen_host.judge.model import Wanted
 from zirofen_host.judge.shell import echoed, place
-from zirofen_host.profile import LIMIT_FILES, SETTINGS, CgroupPath, is_usual, path_of, text_of
+from zirofen_host.profile import CgroupPath, path_of, text_of
 
-# the file that each setting brings, where both are one number
-NUMBERS = {setting.rstrip("="): file for file in (*LIMIT_FILES, "memory.swap.max", "memory.zswap.max") if (setting := SETTINGS[file])}
-# what cpu.max is brought by
+# what cpu.max is brought by, as systemctl tells it
 QUOTA, QUOTA_PERIOD = "CPUQuotaPerSecUSec", "CPUQuotaPeriodUSec"
-LISTS = {"AllowedCPUs": "cpuset.cpus", "AllowedMemoryNodes": "cpuset.mems"}
-IO_WEIGHT, CPU_WEIGHT, IDLE = "IOWeight", "CPUWeight", "idle"
-# all that systemctl is asked for
-PROPERTIES = (*NUMBERS, QUOTA, QUOTA_PERIOD, IO_WEIGHT, *LISTS)
+IDLE = "idle"
 UNLIMITED = ("infinity", "18446744073709551615")
 NOT_SET = ("", "[not set]")
-PAGE = 4096
-# microseconds of cpu.max where nobody set others, and the least quota that a kernel takes
-PERIOD, LEAST_QUOTA = 100000, 1000
+# the least quota that a kernel takes, in microseconds
+LEAST_QUOTA = 1000
 MICROSECONDS = {"us": 1, "ms": 1000, "s": 10**6, "min": 60 * 10**6, "h": 3600 * 10**6}
-# files of which more is more than root's settings say, each with what a number stands behind; of all others it is less
-SHARES = {"memory.min": "", "memory.low": "", "cpu.weight": "", "io.weight": "default "}
-# what is written for a file that changes others: an idle cgroup takes no weight
-WITH = {"cpu.weight.nice": ("cpu.idle", "cpu.weight"), "cpu.idle": ("cpu.idle", "cpu.weight")}
+# what the number of a weight of all devices stands behind
+OF_ALL = "default "
 _SPAN = re.compile(r"([0-9]{1,15})(?:\.([0-9]{1,6}))?(us|ms|s|min|h)")
 _RANGES = re.compile(r"[0-9]{1,6}(-[0-9]{1,6})?([ ,][0-9]{1,6}(-[0-9]{1,6})?)*\Z")
 _NUMBER = re.compile(r"[0-9]{1,19}\Z")
@@ -34,6 +26,13 @@ _UNIT = re.compile(r"[A-Za-z0-9:_.@\\-]{1,255}\Z")
 
 # by a setting's name
 Shown = Mapping[str, str]
+# the text of a file, and whether that is set
+Said = Optional[Tuple[str, bool]]
+
+
+def asked_by(limit: LimitFile) -> str:
+    """What the setting of a limit file is called where systemctl is asked for it."""
+    return QUOTA if limit.form is Form.SHARE else limit.setting or ""
 
 
 def unit_at(path: Union[str, CgroupPath]) -> Optional[str]:
@@ -44,9 +43,9 @@ def unit_at(path: Union[str, CgroupPath]) -> Optional[str]:
     return (name[1:] if name[:1] == "_" else name) if name is not None and _UNIT.match(name) else None
 
 
-def of_number(shown: Shown, setting: str, file: str) -> Optional[Tuple[str, bool]]:
-    """What a file has where it is one number, and whether that is set."""
-    word, usual = shown[setting], str(LIMIT_FILES[file][1] if file in LIMIT_FILES else "max")
+def of_number(shown: Shown, limit: LimitFile) -> Said:
+    """What a file has where it is one number."""
+    word, usual = shown[asked_by(limit)], str(limit.usual)
     if word in NOT_SET or word in UNLIMITED and usual != "0":
         return usual, False
     if word in UNLIMITED:
@@ -54,7 +53,7 @@ def of_number(shown: Shown, setting: str, file: str) -> Optional[Tuple[str, bool
     if not _NUMBER.match(word):
         return None
     number = int(word)
-    value = str(number // PAGE * PAGE if file.startswith("memory.") else number)
+    value = str(number // PAGE * PAGE if limit.controller == "memory" else number)
     return value, value != usual
 
 
@@ -68,9 +67,9 @@ def of_span(text: str) -> Optional[int]:
                for each in found if each)
 
 
-def of_quota(shown: Shown) -> Optional[Tuple[str, bool]]:
+def of_quota(shown: Shown, limit: LimitFile) -> Said:
     if shown[QUOTA] in (*UNLIMITED, *NOT_SET):
-        return f"max {PERIOD}", False
+        return str(limit.usual), False
     period = PERIOD if shown.get(QUOTA_PERIOD, "") in (*UNLIMITED, *NOT_SET) else of_span(shown[QUOTA_PERIOD])
     each_second = of_span(shown[QUOTA])
     if period is None or each_second is None or each_second * period // 10**6 < LEAST_QUOTA:
@@ -78,45 +77,42 @@ def of_quota(shown: Shown) -> Optional[Tuple[str, bool]]:
     return f"{each_second * period // 10**6} {period}", True
 
 
-def of_idle(shown: Shown) -> Optional[Tuple[str, bool]]:
+def of_idle(shown: Shown, limit: LimitFile) -> Said:
     """A weight that is set says that it isn't idle: an idle cgroup takes none."""
-    word = shown[CPU_WEIGHT]
-    return ("1", True) if word == IDLE else ("0", word not in (*NOT_SET, *UNLIMITED))
+    word = shown[asked_by(limit)]
+    return ("1", True) if word == IDLE else (str(limit.usual), word not in (*NOT_SET, *UNLIMITED))
 
 
-def of_io_weight(shown: Shown) -> Optional[Tuple[str, bool]]:
-    word = shown[IO_WEIGHT]
+def of_weight(shown: Shown, limit: LimitFile) -> Said:
+    word = shown[asked_by(limit)]
     if word in (*NOT_SET, *UNLIMITED):
-        return "default 100", False
-    return (f"default {word}", True) if _NUMBER.match(word) else None
+        return str(limit.usual), False
+    return (f"{OF_ALL}{word}", True) if _NUMBER.match(word) else None
 
 
-def of_list(shown: Shown, setting: str) -> Optional[Tuple[str, bool]]:
-    word = shown[setting]
+def of_list(shown: Shown, limit: LimitFile) -> Said:
+    word = shown[asked_by(limit)]
     if word in NOT_SET:
-        return "", False
+        return str(limit.usual), False
     return (word.replace(" ", ","), True) if _RANGES.match(word) else None
 
 
-def reader_of(setting: str, file: str, read: Callable[[Shown, str, str], Optional[Tuple[str, bool]]]) -> "Reader":
-    return setting, lambda shown: read(shown, setting, file)
-
-
-# a setting, and what a file has by it
-Reader = Tuple[str, Callable[[Shown], Optional[Tuple[str, bool]]]]
-READERS: Dict[str, Reader] = {
-    **{file: reader_of(setting, file, of_number) for setting, file in NUMBERS.items()},
-    **{file: reader_of(setting, file, lambda shown, name, _: of_list(shown, name)) for setting, file in LISTS.items()},
-    "cpu.max": (QUOTA, of_quota), "cpu.idle": (CPU_WEIGHT, of_idle), "io.weight": (IO_WEIGHT, of_io_weight)}
+# what a file has by its setting
+READERS: Dict[Form, Callable[[Shown, LimitFile], Said]] = {
+    Form.NUMBER: of_number, Form.LIST: of_list, Form.SHARE: of_quota, Form.IDLE: of_idle, Form.WEIGHT: of_weight}
+BROUGHT = tuple(limit for form in READERS for limit in LIMITS if limit.form is form and limit.setting)
+# all that systemctl is asked for
+PROPERTIES = tuple(dict.fromkeys((*map(asked_by, BROUGHT), QUOTA_PERIOD)))
 
 
 def wanted_by(shown: Shown) -> Mapping[str, Wanted]:
     """What the settings of a unit say of each limit that they bring, as far as they are told."""
     found = {}
-    for file, (setting, read) in READERS.items():
-        told = read(shown) if setting in shown else None
+    for limit in BROUGHT:
+        setting = asked_by(limit)
+        told = READERS[limit.form](shown, limit) if setting in shown else None
         if told:
-            found[file] = Wanted(told[0], f"{setting}={shown[setting]}", told[1])
+            found[limit.name] = Wanted(told[0], f"{setting}={shown[setting]}", told[1])
     return found
 
 
@@ -128,11 +124,12 @@ def is_same(file: str, value: object, wanted: Wanted) -> bool:
 
 def is_more(file: str, value: object) -> bool:
     """Whether a file has more than where nobody set anything, and more of it is more than root's settings say."""
-    if file not in SHARES or value is None:
+    limit = BY_NAME.get(file)
+    if limit is None or not limit.is_share or value is None:
         return False
-    word, usual = str(value), str(LIMIT_FILES[file][1]) if file in LIMIT_FILES else "100"
-    number = word[len(SHARES[file]):] if word.startswith(SHARES[file]) else ""
-    return number == "max" or _NUMBER.match(number) is not None and int(number) > int(usual)
+    before = OF_ALL if limit.form is Form.WEIGHT else ""
+    number = str(value)[len(before):] if str(value).startswith(before) else ""
+    return number == "max" or _NUMBER.match(number) is not None and int(number) > int(str(limit.usual)[len(before):])
 
 
 def is_decided(file: str, value: object, wanted: Wanted) -> bool:
@@ -148,4 +145,5 @@ def written(mount: str, path: str, file: str, wanted: Wanted) -> str:
 
 def files_with(file: str) -> Iterator[str]:
     """The limit files that whoever writes a file changes, and that settings bring."""
-    yield from (each for each in WITH.get(file, (file,)) if each in KINDS)
+    changed = BY_NAME[file].changes if file in BY_NAME else ()
+    yield from (each for each in changed or (file,) if each in KINDS)

@@ -5,12 +5,12 @@ from zirofen_host.ask.questions import unit_of
 from zirofen_host.collect.model import Entry
 from zirofen_host.collect.snapshot import value_of
 from zirofen_host.collect.tree import in_order
-from zirofen_host.files import WITHOUT_VALUE
+from zirofen_host.files import CONTROL_FILES, WITHOUT_VALUE, is_other_limit
 from zirofen_host.judge.checked import Checked
 from zirofen_host.judge.findings import owner_of
 from zirofen_host.collect.looks import Looks
 from zirofen_host.judge.model import ABSENT, FileValue, ReportCgroup, ReportFile, ReportGroup, ReportProcess, ReportUser
-from zirofen_host.profile import CONTROL_FILES, CgroupPath, is_other_limit, shown, text_of
+from zirofen_host.profile import CgroupPath, shown, text_of
 
 
 def users_of(checked: Checked) -> Iterable[ReportUser]:

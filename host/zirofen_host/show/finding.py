@@ -2,6 +2,7 @@
 from dataclasses import dataclass, replace
 from typing import Dict, Iterator, List, Optional
 
+from zirofen_host.ask.guards import GUARDS
 from zirofen_host.collect.model import User
 from zirofen_host.fault import Fault
 from zirofen_host.judge import long_lists, shell
@@ -130,8 +131,8 @@ class Article:
             told = "; ".join(filter(None, (part.told, processes_text(part.processes) if part.processes else None)))
             return f"{text(capital(told))}."
         entry = entry_of(part)
-        if entry in words.NO_ENTRY:
-            return f"{text(words.NO_ENTRY[entry])}: {code(part.path)}, {text(words.who(part.whom))}."
+        if entry in GUARDS:
+            return f"{text(GUARDS[entry].no_entry)}: {code(part.path)}, {text(words.who(part.whom))}."
         name = "the directory" if entry == "dir" else code(entry)
         owner = f" ({text(owner_text(part.owner))})" if part.owner else ""
         return name + owner if len(self.finding.parts) > 1 else f"{self.subject()} {name}{owner} of {place_text(part)}."

@@ -7,6 +7,7 @@ from dataclasses import dataclass, field
 from html import escape
 from typing import Dict, List, Mapping, Optional, Set, Tuple
 
+from zirofen_host.ask.guards import GUARDS
 from zirofen_host.collect.model import Value
 from zirofen_host.judge.model import EntryFinding
 from zirofen_host.profile import ancestors, is_inside, is_root
@@ -90,7 +91,7 @@ class Shown:
         whom = self.entries[0].whom
         names = [words.named(each.entry) for each in self.entries]
         how = words.how(whom[0], 1) if len(whom) == 1 else f"{words.who(whom)} reach"
-        if names[0] in words.NO_ENTRY:
+        if names[0] in GUARDS:
             return []
         return [("mark", f"✗ {how}")] + [("entry", f"   {name}") for name in words.some(names, MOST_ENTRIES)]
 

@@ -3,7 +3,8 @@ from dataclasses import dataclass
 from typing import Callable, Dict, List, Mapping, NamedTuple, Optional, Sequence, Tuple, Union
 
 from zirofen_host.collect.model import Value
-from zirofen_host.profile import LIMIT_FILES, is_inside, parent_of
+from zirofen_host.files import LIMIT_FILES
+from zirofen_host.profile import is_inside, parent_of
 from zirofen_host.show.view import Host
 from zirofen_host.show.words import listed, size
 
@@ -94,8 +95,8 @@ class Teller:
         names = {each[1:] for each in changes}
         if path == parent_of(self.subtree):
             self.breaks = Breaks(LIMITS, changes=tuple(
-                Change(file, self.host.value(self.subtree, file), None if f"-{by}" in changes else default)
-                for file, (by, default) in LIMIT_FILES.items() if by in names))
+                Change(file, self.host.value(self.subtree, file), None if f"-{limit.controller}" in changes else limit.usual)
+                for file, limit in LIMIT_FILES.items() if limit.controller in names))
         on = listed(each[1:] for each in changes if each[0] == "+")
         off = listed(each[1:] for each in changes if each[0] == "-")
         told = listed([*([f"enable {on}"] if on else []), *([f"disable {off}"] if off else [])])

@@ -4,7 +4,7 @@ from dataclasses import dataclass
 from functools import cached_property
 from typing import Iterator, List, Optional, Sequence
 
-from zirofen_host.profile import HANDED_OVER
+from zirofen_host.files import HANDED_OVER
 from zirofen_host.show import words
 from zirofen_host.show.finding import Place, id_of
 from zirofen_host.show.lines import beside

@@ -7,12 +7,13 @@ from typing import Callable, Dict, Iterable, Iterator, List, Mapping, Optional, 
 
 from zirofen_host.collect.model import Value
 from zirofen_host.collect.walk import OWNERS_MARK
+from zirofen_host.files import CONTROL_FILES, FURTHER_FILES, HANDED_OVER, LIMIT_FILES, is_usual
 from zirofen_host.judge.model import (Absent, DiffersFinding, EntryFinding, FaultFinding, HeldBy, HeldFinding, NamedScope, OpenedFinding,
                                       Owner, PremiseFinding, Report, ReportCgroup, ReportFile, ReportProcess, ReportUser, RootInside,
                                       RunsElsewhere, Subtree, Whom)
 from zirofen_host.judge.severity import Severity, of_answer, of_fault, of_premise
 from zirofen_host.judge.standing import delegations, severity_of, standings
-from zirofen_host.profile import CONTROL_FILES, FURTHER_FILES, HANDED_OVER, LIMIT_FILES, ancestors, is_usual, parent_of
+from zirofen_host.profile import ancestors, parent_of
 from zirofen_host.show import words
 from zirofen_host.show.lines import alike, entry_in_common, opened_in_common
 from zirofen_host.show.words import ACCEPTED, CONTAINED, COUNTED, LIMITED, NOT_ASKED, STANDINGS, visible

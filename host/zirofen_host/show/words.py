@@ -1,6 +1,7 @@
 """What a report's words mean, said in sentences: answers, guards, and whom an entry lets in."""
 from typing import Iterable, List, Mapping, Optional, Sequence
 
+from zirofen_host.ask.guards import GUARDS
 from zirofen_host.collect.model import Value
 from zirofen_host.judge import limits
 from zirofen_host.judge.model import Absent, Report, Whom
@@ -125,23 +126,11 @@ def named(entry: str) -> str:
     return "the directory" if entry == "dir" else entry
 
 
-# what stands in the place of an entry where there is none
-NO_ENTRY = {"already-over": "The subtree is over its own limits already",
-            "unknown": "This helper finds no entry for what the program told"}
-GUARDS = {
-    "common-ancestor": "by {entry} of {path} processes are moved into and out of the subtree",
-    "limit-file": "by a limit file of the subtree its limit is set",
-    "parent-control": "by cgroup.subtree_control of {path} the subtree's limits come and go",
-    "parent-dir": "by the directory of {path} the subtree is removed, or others are made beside it",
-    "already-over": "the subtree has more cgroups, or more levels, than its own limits allow",
-}
-
-
 def guard(line: str) -> str:
     """What the guard means that an unsettled answer names."""
     words = line.split(" ")
-    told = GUARDS.get(words[1]) if len(words) == 3 else None
-    return told.format(entry="cgroup.procs", path=words[2]) if told else line
+    found = GUARDS.get(words[1]) if len(words) == 3 else None
+    return found.answer.format(path=words[2]) if found and found.answer else line
 
 
 def operation(line: str) -> str:
