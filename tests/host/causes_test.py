@@ -121,6 +121,18 @@ class LookTest(PlantedTest):
         self.assertEqual(list(look.of(APP, "app.service")), [])
         self.assertEqual(look.unread, 5)
 
+    def test_names_that_lead_to_other_units_lack_nothing(self):
+        """Aliases, and units that are masked, of which every host has dozens."""
+        folder = os.path.dirname(self.plant("/usr/lib/systemd/system/app.service", f"[Service]\nExecStartPre=+{CHOWN}\n"))
+        for to, name in (("app.service", "web.service"), ("/lib/systemd/system/app.service", "old.service"), ("/dev/null", "rc.service"),
+                         ("../system/app.service", "new.service")):
+            os.symlink(to, f"{folder}/{name}")
+        look = causes.look(MOUNT, self.top)
+        self.assertEqual((look.unread, len(look.of(APP, "app.service"))), (0, 1))
+        for to, name in (("/opt/app/app.service", "opt.service"), ("../../../../tmp/app.service", "tmp.service")):
+            os.symlink(to, f"{folder}/{name}")
+        self.assertEqual(causes.look(MOUNT, self.top).unread, 2)
+
     def test_what_is_too_much(self):
         self.plant("/etc/cron.d/x", "x" * bounded.ROOT_FILE + f"\n{CHOWN}\n")
         self.plant("/etc/cron.d/y", f"{CHOWN} {'y' * 1000}\n" * 40)

@@ -72,7 +72,7 @@ class Reader:
         try:
             opened = bounded.open_roots(folder.strip("/").split("/"), self.top, folder.startswith(SPOOL))
         except (FileNotFoundError, NotADirectoryError) as error:
-            self.unread += os.path.islink(f"{self.top.rstrip(chr(47))}{folder}") and isinstance(error, NotADirectoryError)
+            self.unread += self.is_link(folder) and isinstance(error, NotADirectoryError)
             return
         except OSError:
             self.unread += 1
@@ -82,23 +82,23 @@ class Reader:
             self.unread += listed.is_cut
             for name, is_folder in sorted(listed.names):
                 if name.endswith(ending) and not is_folder:
-                    text = self.text_in(opened, name)
+                    text = self.text_in(opened, folder, name)
                     if text is not None:
                         yield f"{folder}/{name}", text
         finally:
             os.close(opened)
 
-    def text_in(self, folder: int, name: str) -> Optional[str]:
+    def text_in(self, opened: int, folder: str, name: str) -> Optional[str]:
         if not self.files or not self.bytes:
             self.unread += 1
             return None
         self.files -= 1
         try:
-            found = bounded.read_roots_in(folder, name, min(bounded.ROOT_FILE, self.bytes))
+            found = bounded.read_roots_in(opened, name, min(bounded.ROOT_FILE, self.bytes))
         except FileNotFoundError:
             return None
         except OSError:
-            self.unread += 1
+            self.unread += not self.is_alias(folder, name)
             return None
         self.bytes -= len(found.data)
         self.unread += found.is_cut
@@ -115,9 +115,19 @@ class Reader:
             self.unread += 1
             return None
         try:
-            return self.text_in(opened, name)
+            return self.text_in(opened, folder, name)
         finally:
             os.close(opened)
+
+    def is_alias(self, folder: str, name: str) -> bool:
+        """Whether a unit's file is a link to nothing, or to a unit in these folders, which is read by its own name."""
+        if folder not in UNITS or not self.is_link(f"{folder}/{name}"):
+            return False
+        to = os.path.normpath(os.path.join(folder, bounded.read_link(f"{self.top.rstrip(chr(47))}{folder}/{name}")))
+        return to == os.devnull or os.path.dirname(to) in UNITS
+
+    def is_link(self, file: str) -> bool:
+        return os.path.islink(f"{self.top.rstrip(chr(47))}{file}")
 
     def script(self, program: str) -> Tuple[str, str]:
         """A script of root's that is called by its path, with what it has; of any other program nothing. What stands in /bin is in /usr/bin
