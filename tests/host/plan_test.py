@@ -239,7 +239,7 @@ class HostPlanTest(HostTest):
         options = self.options(PlanOptions)
         with self.host.owned():
             found = plan.before(options)
-        report = plan.compared(found, plan.planned_text(found, lines, options), options)
+        report = plan.compared(found, plan.text_behind(found, plan.Planned(lines), options)[0], options)
         return list(plan_lines.lines_of(report, report.baseline)), plan.status_of(report.baseline, report)
 
     def test_a_unit_that_is_handed_over(self):

@@ -14,6 +14,7 @@ from zirofen_host.collect.accounts import Accounts
 from zirofen_host.collect.bounded import Spent
 from zirofen_host.collect.model import Snapshot, Tree, User
 from zirofen_host.collect.notes import LEFT_OUT
+from zirofen_host.fault import Fault
 from zirofen_host.options import Options
 from zirofen_host.profile import CgroupPath
 
@@ -67,16 +68,18 @@ def ask_in_texts(snapshot: Snapshot, accounts: Accounts, options: Options, folde
     texts.fill(lambda path: questions.holders[path].uids)
     programs = write(texts, options, f"{folder}/{'' if is_large else 'small-'}", snapshot)
     abilities = abilities_of(options.program)
+    if not abilities.has_audit_all:
+        raise Fault(f"{options.program} has no audit --all, which zirofen has since 0.2.0: name a newer one by --zirofen")
     runs = Runs(questions.makers, Spent(bounded.RUNS, accounts.payer))
     plan, over = bounded_plan(questions, plan_of(questions), runs)
     lost.update(over)
     questions = questions.without(over)
-    found, refused = programs.ask(plan.questions, abilities.has_audit_all, questions.person_of)
+    found, refused = programs.ask(plan.questions, questions.person_of)
     questions = questions.without({path for path, why in refused.items() if isinstance(why, NotInTime)})
     further, not_asked = bounded_further(*further_of(questions, plan, found), runs)
-    more, refused_then = programs.ask(further, abilities.has_audit_all, questions.person_of)
+    more, refused_then = programs.ask(further, questions.person_of)
     found.update(more)
-    if abilities.has_settle and abilities.has_audit_all:
+    if abilities.has_settle:
         settled = programs.settled(found, everybody(snapshot.tree, plan, further), settleable(
             has_all_cgroups(snapshot, options, texts.texts), plan, not_asked), made)
         moving = movers(snapshot, accounts)

@@ -28,17 +28,17 @@ class NotInTime(Reason):
         return f"there was no time to ask of it: of {self.seconds} seconds {self.spent} went to what uid {self.person} holds"
 
 
-def ask_in_time(program: Program, questions: Sequence[Question], has_audit_all: bool,
+def ask_in_time(program: Program, questions: Sequence[Question],
                 holder_of: HolderOf) -> Tuple[Answered, Dict[CgroupPath, Reason]]:
     """The answers that aren't contained, and the subtrees for which there was no time."""
     left = seconds_to_ask()
     turns.turn_to(turns.HOST)
     if left is None:
-        return program.ask(questions, has_audit_all), {}
+        return program.ask(questions), {}
     try:
-        return replace(program, limit=time.monotonic() + left / 2).ask(questions, has_audit_all), {}
+        return replace(program, limit=time.monotonic() + left / 2).ask(questions), {}
     except Late:
-        return ask_in_turn(program, by_holder(questions, holder_of), has_audit_all, left)
+        return ask_in_turn(program, by_holder(questions, holder_of), left)
 
 
 def by_holder(questions: Sequence[Question], holder_of: HolderOf) -> Dict[int, List[Question]]:
@@ -54,8 +54,7 @@ def by_holder(questions: Sequence[Question], holder_of: HolderOf) -> Dict[int, L
     return {person: found[person] for person in sorted(found, key=lambda person: (pairs[person], person))}
 
 
-def ask_in_turn(program: Program, shares: Dict[int, List[Question]], has_audit_all: bool,
-                seconds: float) -> Tuple[Answered, Dict[CgroupPath, Reason]]:
+def ask_in_turn(program: Program, shares: Dict[int, List[Question]], seconds: float) -> Tuple[Answered, Dict[CgroupPath, Reason]]:
     """Each person's questions by themselves, for which there is as much of what is left of the time as for each behind them."""
     found: Answered = {}
     late: List[CgroupPath] = []
@@ -65,7 +64,7 @@ def ask_in_turn(program: Program, shares: Dict[int, List[Question]], has_audit_a
         turns.turn_to(person)
         limit = began + (seconds_to_ask() or 0.0) / (len(shares) - number)
         try:
-            found.update(replace(program, limit=limit).ask(questions, has_audit_all))
+            found.update(replace(program, limit=limit).ask(questions))
         except Late:
             late += [path for each in questions for path in each.subtrees]
         spent[person] = time.monotonic() - began

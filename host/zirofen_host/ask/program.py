@@ -1,8 +1,7 @@
 """Asking the program of users and subtrees: every pair that isn't contained, and what to change.
 
-`audit --all` and `advise --pairs` are used where the program's --help has them. Where there is no `audit --all`, `audit` is asked,
-which tells the first pair that isn't contained, again and again from behind the pair that was told. Where there is an
-`audit --settle`, it is asked of what is left unsettled, with everybody together.
+What goes in is a tree text with questions, and what comes out are answers. By `audit --all` every pair is asked of; where the program's
+--help has `audit --settle`, it is asked of what is left unsettled, with everybody together.
 """
 import os
 import signal
@@ -38,7 +37,6 @@ ROOM = 900_000
 Item = TypeVar("Item")
 Result = TypeVar("Result")
 Answered = Dict[Pair, Answer]
-Audit = Callable[[Sequence[User], Sequence[CgroupPath]], Answered]
 
 
 class Ended(NamedTuple):
@@ -174,15 +172,11 @@ class Program:
         words = ("replay", "--tree", self.tree, *user_words(user), "--ops", file, "--subtree", text_of(subtree))
         return self.in_half().run(*words).status == ESCAPES
 
-    def ask(self, questions: Iterable[Question], has_audit_all: bool) -> Answered:
+    def ask(self, questions: Iterable[Question]) -> Answered:
         """The answers that aren't contained."""
-        audit: Audit = self.audit_all if has_audit_all else self.audit_in_turn
-        runs = list(fitting(questions))
-        if not has_audit_all:
-            runs = [Question(some, run.subtrees) for run in runs for some in shares_of(run.users, os.cpu_count() or 1)]
         found: Answered = {}
         try:
-            for answers in at_once(lambda run: asked_in_halves(audit, run.users, run.subtrees), runs, self.memory):
+            for answers in at_once(lambda run: self.in_halves(run.users, run.subtrees), list(fitting(questions)), self.memory):
                 found.update(answers)
         except Refused as refused:
             if isinstance(refused, Late) and self.limit is not None:
@@ -219,8 +213,22 @@ class Program:
         changed = {pair: asked.get(pair, answer) if answer.status == UNSETTLED else answer for pair, answer in found.items()}
         return {pair: answer for pair, answer in changed.items() if answer is not None}
 
-    def audit_all(self, users: Sequence[User], subtrees: Sequence[CgroupPath]) -> Answered:
-        return self.listed(users, subtrees, "--all")
+    def in_halves(self, users: Sequence[User], subtrees: Sequence[CgroupPath]) -> Answered:
+        """The answers of a run; where it ends with a fault, those of its halves, down to the pair that has it."""
+        try:
+            return self.listed(users, subtrees, "--all")
+        except Refused as refused:
+            if refused.is_whole:
+                raise
+            if len(users) == len(subtrees) == 1:
+                return {Pair(users[0], subtrees[0]): Answer(FAULT, (str(refused),))}
+        by_subtree = len(subtrees) > 1
+        found: Answered = {}
+        for some in shares_of(subtrees, 2) if by_subtree else ():
+            found.update(self.in_halves(users, some))
+        for of in () if by_subtree else shares_of(users, 2):
+            found.update(self.in_halves(of, subtrees))
+        return found
 
     def listed(self, users: Sequence[User], subtrees: Sequence[CgroupPath], *options: str) -> Answered:
         """The answers of all pairs that an audit lists."""
@@ -236,28 +244,6 @@ class Program:
         statuses = {answer.status for answer in found.values()}
         if CONTAINED in statuses or ended.status != worst(statuses) or not found and ended.lines != NOTHING_TOLD.lines:
             raise Refused(f"ended with status {ended.status}, which its answers don't have", False)
-        return found
-
-    def audit_in_turn(self, users: Sequence[User], subtrees: Sequence[CgroupPath]) -> Answered:
-        """Without `--all`: the users before the one of the first pair that is told are contained, and so are they before its
-        subtree; they are asked of alone from there on, and then those behind them. One uid may have several lists of groups."""
-        found: Answered = {}
-        left = users
-        while left and (ended := self.audit(left, subtrees)) != NOTHING_TOLD:
-            uid, _ = told_pair(ended, left, subtrees)
-            for user in (user for user in left if user.uid == uid):
-                found.update(self.audit_one(user, subtrees))
-            first = [user.uid for user in left].index(uid)
-            left = [user for user in left[first:] if user.uid != uid]
-        return found
-
-    def audit_one(self, user: User, subtrees: Sequence[CgroupPath]) -> Answered:
-        found: Answered = {}
-        left = subtrees
-        while left and (ended := self.audit([user], left)) != NOTHING_TOLD:
-            _, path = told_pair(ended, [user], left)
-            found[Pair(user, path)] = answer_of(ended.status, ended.lines[1:])
-            left = left[left.index(path) + 1:]
         return found
 
     def advise(self, pairs: Sequence[Pair]) -> List[Advice]:
@@ -310,34 +296,6 @@ def fitting(questions: Iterable[Question]) -> Iterator[Question]:
         for users in blocks_of(question.users, lambda user: ["--uid", user_word(user)], ROOM // 2):
             for subtrees in blocks_of(question.subtrees, lambda path: ["--subtree", text_of(path)], ROOM // 2):
                 yield Question(tuple(users), tuple(subtrees))
-
-
-def asked_in_halves(audit: Audit, users: Sequence[User], subtrees: Sequence[CgroupPath]) -> Answered:
-    """The answers of a run; where it ends with a fault, those of its halves, down to the pair that has it."""
-    try:
-        return audit(users, subtrees)
-    except Refused as refused:
-        if refused.is_whole:
-            raise
-        if len(users) == len(subtrees) == 1:
-            return {Pair(users[0], subtrees[0]): Answer(FAULT, (str(refused),))}
-    found: Answered = {}
-    if len(subtrees) > 1:
-        for some in shares_of(subtrees, 2):
-            found.update(asked_in_halves(audit, users, some))
-    else:
-        for of in shares_of(users, 2):
-            found.update(asked_in_halves(audit, of, subtrees))
-    return found
-
-
-def told_pair(ended: Ended, users: Sequence[User], subtrees: Sequence[CgroupPath]) -> Tuple[int, CgroupPath]:
-    """The uid and the subtree of the pair that a run told."""
-    words = ended.lines[0].split(" ")
-    paths = {text_of(path): path for path in subtrees}
-    if len(words) != 3 or words[0] != "pair" or words[1] not in {str(user.uid) for user in users} or words[2] not in paths:
-        raise Refused(f"an answer that wasn't asked for: {ended.lines[0]!r}", False)
-    return int(words[1]), paths[words[2]]
 
 
 def told_by(ended: "subprocess.CompletedProcess[str]") -> List[str]:

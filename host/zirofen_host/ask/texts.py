@@ -247,7 +247,7 @@ class Programs:
     # where a text couldn't be kept, and why
     failed: Sequence[Failed] = ()
 
-    def ask(self, questions: Sequence[Question], has_audit_all: bool, holder_of: HolderOf) -> Tuple[Answered, Dict[CgroupPath, Reason]]:
+    def ask(self, questions: Sequence[Question], holder_of: HolderOf) -> Tuple[Answered, Dict[CgroupPath, Reason]]:
         """The answers that aren't contained, and the subtrees whose text was refused, each with the program's line, or for which there
         was no time."""
         found: Answered = {}
@@ -260,7 +260,7 @@ class Programs:
             if some:
                 progress.tell(f"asking of {len(text.subtrees)} subtrees in text {number} of {len(self.texts)}")
                 try:
-                    answers, late = ask_in_time(self.of[text.subtrees[0]].until(until), some, has_audit_all, holder_of)
+                    answers, late = ask_in_time(self.of[text.subtrees[0]].until(until), some, holder_of)
                     found.update(answers)
                     refused.update(late)
                 except TreeRefused as fault:

@@ -21,8 +21,9 @@ TOP = "/"
 MOST, LONGEST = 4, 200
 CONFIGURED = ("/etc", "/run", "/usr/local/lib", "/usr/lib")
 # folders of units: those that a manager writes by itself go first or last
-UNITS = ("/etc/systemd/system.control", "/run/systemd/system.control", "/run/systemd/transient", "/run/systemd/generator.early", FOLDERS[0],
-         "/etc/systemd/system.attached", FOLDERS[1], "/run/systemd/generator", *FOLDERS[2:], "/run/systemd/generator.late")
+UNIT_FOLDERS = ("/etc/systemd/system.control", "/run/systemd/system.control", "/run/systemd/transient", "/run/systemd/generator.early",
+                FOLDERS[0], "/etc/systemd/system.attached", FOLDERS[1], "/run/systemd/generator", *FOLDERS[2:],
+                "/run/systemd/generator.late")
 # folders of other files, each with how their names end, and files by themselves
 OTHERS: Tuple[Tuple[str, str], ...] = (
     *((f"{folder}/tmpfiles.d", ".conf") for folder in CONFIGURED), *((f"{folder}/udev/rules.d", ".rules") for folder in CONFIGURED),
@@ -160,7 +161,7 @@ class Found:
         # by a unit's file or its folder of drop-ins the settings of each file in there, by the file's name
         self.units: DefaultDict[str, Dict[str, List[Setting]]] = defaultdict(dict)
         self.named: List[Line] = []
-        for folder in dict.fromkeys(UNITS):
+        for folder in dict.fromkeys(UNIT_FOLDERS):
             self.read_units(folder)
         for folder, ending in OTHERS:
             for file, text in self.reader.texts_in(folder, ending):

@@ -19,7 +19,7 @@ BY_NAMESPACE, BY_ROOT, BY_UNREAD = "cgroup namespace", "root", "namespaces that 
 # by their numbers, the capabilities of a bounding set that decide whether cgroup files are kept from a container
 SEARCH, MODULE, RAWIO, ADMIN = "DAC_READ_SEARCH", "SYS_MODULE", "SYS_RAWIO", "SYS_ADMIN"
 DECIDING = {2: SEARCH, 16: MODULE, 17: RAWIO, 21: ADMIN}
-UNITS = (b".scope", b".service")
+UNIT_ENDINGS = (b".scope", b".service")
 # of a cgroup that no unit is of, the names that stand for one
 TOPMOST = 3
 
@@ -51,7 +51,7 @@ class Found:
 def unit_above(path: CgroupPath) -> CgroupPath:
     """The unit that a cgroup is of, or what stands for one: what a container can make lies in it."""
     names = parts_of(path)
-    at = next((at for at, name in enumerate(names) if name.endswith(UNITS)), TOPMOST - 1)
+    at = next((at for at, name in enumerate(names) if name.endswith(UNIT_ENDINGS)), TOPMOST - 1)
     return CgroupPath(b"/".join(names[:at + 1])) or ROOT
 
 

@@ -25,7 +25,7 @@ class Changed(Reason):
 
 
 @dataclass(frozen=True)
-class NeverSettled(Reason):
+class NeverAgreed(Reason):
     """What matters for a subtree changed through so many walks."""
     walks: int
 

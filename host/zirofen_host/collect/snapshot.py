@@ -181,14 +181,14 @@ def about_this_host() -> About:
     return About(names.nodename, f"{names.sysname} {names.release}", time.strftime("%Y-%m-%dT%H:%M:%SZ", time.gmtime()))
 
 
-def snapshot_of(settled: walk.Settled, reader: Reader, options: Options, mounts: Mounts) -> Snapshot:
+def snapshot_of(agreed: walk.Agreed, reader: Reader, options: Options, mounts: Mounts) -> Snapshot:
     """What was found of this host, as a snapshot."""
-    walked, processes = settled.walk, reader.found
+    walked, processes = agreed.walk, reader.found
     cgroups: Cgroups = walked.found
     root = cgroups[ROOT]
     text_format = options.text_format
     bending = Bending(cgroups, text_format, walked.covered)
-    bending.notes += [*changing_notes(settled.changing), *name_notes(walked), *controller_notes(cgroups, text_format),
+    bending.notes += [*changing_notes(agreed.changing), *name_notes(walked), *controller_notes(cgroups, text_format),
                       *process_notes(reader)]
     looks = Looks()
     rows = {row.path: row for row in looks.each("cgroups", cgroups, lambda path: bending.row(path, cgroups[path]))}
@@ -202,10 +202,10 @@ def snapshot_of(settled: walk.Settled, reader: Reader, options: Options, mounts:
     return Snapshot(about=about_this_host(), mount=options.mount, mount_options=tuple(mounts.options(options.mount)), cgroups=cgroups,
                     tree=tree, processes=processes, kernel_threads=threads, places=walked.places,
                     kernel_list=kernel_list,
-                    notes=(*bending.notes, *version_1_notes(mounts), *lacking, *reader.failed, *looks.failed), changing=settled.changing,
-                    spoiled=settled.spoiled,
+                    notes=(*bending.notes, *version_1_notes(mounts), *lacking, *reader.failed, *looks.failed), changing=agreed.changing,
+                    spoiled=agreed.spoiled,
                     version_1=mounts.limits_of_version_1(),
-                    makers={path: walked.holds[path].uid for path in settled.changing if path in walked.holds},
+                    makers={path: walked.holds[path].uid for path in agreed.changing if path in walked.holds},
                     over=reader.over(), covered=tuple(Covered(path, file, kind) for (path, file), kind in sorted(walked.covered.items())
                                                       if path in rows))
 
@@ -219,12 +219,13 @@ def take(options: Options, subtrees_of: SubtreesOf) -> Snapshot:
     def subtrees_in(walked: walk.Walk, changing: walk.Whys) -> Iterable[CgroupPath]:
         if not running:
             running.append(look_at_processes(options, payer, gids_in(walked.found)))
-        found = snapshot_of(walk.Settled(walked, {}, {}), running[0], options, mounts)
+        found = snapshot_of(walk.Agreed(walked, {}, {}), running[0], options, mounts)
         return subtrees_of(found, changing)
 
-    settled = walk.settled(options.mount, options.only, subtrees_in, payer, options.text_format.further, mounts.below(options.mount))
-    reader = look_at_processes(options, payer, gids_in(settled.walk.found))
-    found, looks = snapshot_of(settled, reader, options, mounts), Looks()
+    agreed = walk.walk_until_agreed(options.mount, options.only, subtrees_in, payer, options.text_format.further,
+                                    mounts.below(options.mount))
+    reader = look_at_processes(options, payer, gids_in(agreed.walk.found))
+    found, looks = snapshot_of(agreed, reader, options, mounts), Looks()
     look = looks.at("root-inside", lambda: inside.look(options.proc, found.cgroups, found.processes), None)
     insides = looks.all("root-inside", look.found) if look else ()
     entries, unheld = looks.at("descriptors", lambda: held.look(options.proc, found, payer, look), NOTHING_HELD)

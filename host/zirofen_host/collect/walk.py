@@ -14,7 +14,7 @@ from zirofen_host import progress
 from zirofen_host.collect import bounded
 from zirofen_host.collect.bounded import Payer, Spent
 from zirofen_host.collect.model import Cgroup, Entry, FilePlace
-from zirofen_host.collect.reasons import CHANGED, Changed, MountedOver, NeverSettled, Reason, Unreadable
+from zirofen_host.collect.reasons import CHANGED, Changed, MountedOver, NeverAgreed, Reason, Unreadable
 from zirofen_host.fault import Fault
 from zirofen_host.files import CONTROL_FILES, CONTROLLERS, FURTHER_FILES, LIMIT_FILES, may_set
 from zirofen_host.profile import LONGEST_PATH, ROOT, CgroupPath, ancestors, is_name, parent_of, shown, topmost
@@ -339,7 +339,7 @@ class Walk:
         self.found = whole(self.found, paths)
 
 
-class Settled(NamedTuple):
+class Agreed(NamedTuple):
     """The last walk, without what changed all the time or can't be read; these, and the subtrees that they spoil, each with why."""
     walk: Walk
     changing: Whys
@@ -457,8 +457,8 @@ def count_of(folder: int, name: bytes, most: int) -> int:
         os.close(here)
 
 
-def settled(mount: str, only: Optional[CgroupPath], subtrees_of: Callable[[Walk, Whys], Iterable[CgroupPath]],
-            payer: Payer = int, further: Sequence[str] = (), below: Below = NOTHING) -> Settled:
+def walk_until_agreed(mount: str, only: Optional[CgroupPath], subtrees_of: Callable[[Walk, Whys], Iterable[CgroupPath]],
+                      payer: Payer = int, further: Sequence[str] = (), below: Below = NOTHING) -> Agreed:
     """Walks until two walks in a row agree on all that can matter for a subtree: itself, what is inside, and its ancestors.
     Only what doesn't agree is walked over again. `subtrees_of` gives the subtrees that are asked of, by a walk and by what
     changes; the values of some further limit files are read. What is mounted inside of the mount is told."""
@@ -482,12 +482,12 @@ def settled(mount: str, only: Optional[CgroupPath], subtrees_of: Callable[[Walk,
         raise Fault(f"the root cgroup: {changing[ROOT]}, through {MOST_WALKS} walks")
     spoiled = spoiled_of(changing, subtrees_of(walk, changing) if changing else ())
     walk.without(changing)
-    return Settled(walk, changing, spoiled)
+    return Agreed(walk, changing, spoiled)
 
 
 def spoiled_of(changing: Whys, subtrees: Iterable[CgroupPath]) -> Dict[CgroupPath, Reason]:
     """The subtrees that are spoiled at last; what can't be read is told of also where it is in no subtree that is known of."""
-    spoiled = {path: NeverSettled(MOST_WALKS) if isinstance(why, Changed) else why for path, why in spoiled_by(changing, subtrees).items()}
+    spoiled = {path: NeverAgreed(MOST_WALKS) if isinstance(why, Changed) else why for path, why in spoiled_by(changing, subtrees).items()}
     for path, why in changing.items():
         if not isinstance(why, Changed) and spoiled.keys().isdisjoint((path, *ancestors(path))):
             spoiled[path] = why

@@ -60,7 +60,3 @@ def answer_of(subtree: Subtree, answer: HolderAnswer, held: Tuple[HeldFinding, .
 def marks_text(*marks: Union[Tuple[str, ...], Absent]) -> str:
     """Marks as they stand behind an answer."""
     return "".join(f" [{mark}]" for each in marks if not isinstance(each, Absent) for mark in each)
-
-
-def is_marked(subtree: Subtree) -> bool:
-    return subtree.marks is not ABSENT or any(each.marks is not ABSENT for each in subtree.answers)

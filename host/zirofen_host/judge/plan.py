@@ -122,11 +122,6 @@ def before(options: PlanOptions) -> Accepted:
     return accepted.accept(options.tree, options.program)
 
 
-def planned_text(found: Accepted, lines: str, options: PlanOptions) -> str:
-    """The text of the tree behind the changes."""
-    return text_behind(found, Planned(lines), options)[0]
-
-
 def text_behind(found: Accepted, planned: Planned, options: PlanOptions) -> Tuple[str, Planned]:
     """The text of the tree behind the changes, and what of them it has no place for, told with what else isn't."""
     changed, unplaced = changes.carried_out(elsewhere.read(found, options.mount), planned.lines)

@@ -21,7 +21,7 @@ from zirofen_host.profile import CgroupPath, shown, text_of
 Settings = Mapping[str, Shown]
 
 # what is loaded of the units that have a cgroup
-UNITS = ("*.service", "*.slice", "*.scope")
+UNIT_PATTERNS = ("*.service", "*.slice", "*.scope")
 # the cgroup that a unit has, which says that a path is its
 CGROUP = "ControlGroup"
 # that systemctl has, which asks the manager about unit after unit
@@ -43,7 +43,7 @@ def systemctl_of(options: Options) -> Optional[str]:
     return shutil.which("systemctl") if has_manager else None
 
 
-def read(systemctl: Optional[str], units: Sequence[str] = UNITS) -> Settings:
+def read(systemctl: Optional[str], units: Sequence[str] = UNIT_PATTERNS) -> Settings:
     """The settings of units; none where there is no manager. One that doesn't answer is a fault: what limits are to have isn't known."""
     if not systemctl or not units:
         return {}

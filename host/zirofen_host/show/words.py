@@ -3,6 +3,7 @@ from typing import Iterable, List, Mapping, Optional, Sequence
 
 from zirofen_host.ask.guards import GUARDS
 from zirofen_host.collect.model import Value
+from zirofen_host.files import OF_BYTES
 from zirofen_host.judge import limits
 from zirofen_host.judge.model import Absent, Report, Whom
 from zirofen_host.judge.severity import Severity
@@ -63,7 +64,7 @@ def visible(text: str) -> str:
 def size(file: str, value: Optional[Value]) -> str:
     """A limit's value, bytes in the largest unit that has it whole."""
     text = " ".join(str(value).split())
-    if file.startswith(("memory.", "hugetlb.")) and text.isdigit():
+    if file.startswith(OF_BYTES) and text.isdigit():
         unit, many = next(((unit, many) for unit, many in SIZES if int(text) and not int(text) % many), ("", 1))
         return f"{int(text) // many}{unit}"
     return text
