@@ -11,7 +11,7 @@ from check_test import BY_GROUP, MARK, HostTest, owned
 from made_up import COMMAND
 from page_reader import PageReader
 from zirofen_host import output
-from zirofen_host.collect import carried, elsewhere
+from zirofen_host.collect import carried, elsewhere, fitting
 from zirofen_host.ask import accepted
 from zirofen_host.ask.questions import subtrees_by
 from zirofen_host.collect.accounts import accounts_of
@@ -22,6 +22,13 @@ from zirofen_host.show import page, tree_view
 from zirofen_host.fault import Fault
 from zirofen_host.collect.mount import Mounts
 from zirofen_host.collect.reasons import CHANGED, Unreadable
+
+
+def in_order(key, value):
+    """A record's value as 0.2.0 wrote it: but for the host itself and cgroups a list."""
+    if not isinstance(value, dict) or key in ("about", "cgroup"):
+        return value
+    return [[in_order("", part) for part in each] if name == "mounts" else each for name, each in value.items()]
 
 
 class ElsewhereTest(HostTest):
@@ -45,11 +52,11 @@ class ElsewhereTest(HostTest):
         taken = taken or self.host.snapshot()
         taken = replace(taken, mount_options=tuple(mounts.options(taken.mount)))
         options = self.options()
-        values = [{"changing": [path.decode(), str(why)]} for path, why in taken.changing.items()]
+        lines = [*fitting.told_changing(taken)]
         if with_host:
-            values += elsewhere.carried(taken, accounts_of(options.accounts, taken))
+            lines += elsewhere.carried(taken, accounts_of(options.accounts, taken))
         with open(self.file, "w", encoding="ascii") as out:
-            out.write(elsewhere.text_with(taken, values, True))
+            out.write(elsewhere.text_with(taken, lines, True))
 
     def elsewhere(self, **more):
         options = self.options(**{"tree": self.file, "accounts": None, "mount": "/none", "proc": "/none", **more})
@@ -210,9 +217,9 @@ class ElsewhereTest(HostTest):
         for line in lines:
             if line.startswith(carried.MARK):
                 ((key, value),) = json.loads(line[len(carried.MARK):]).items()
-                line = "" if key == carried.FORM else f"{carried.MARK}{json.dumps({key: carried.in_order(key, value)})}"
+                line = "" if key == carried.FORM.key else f"{carried.MARK}{json.dumps({key: in_order(key, value)})}"
             told.append(line)
-        self.assertIn(f'{carried.MARK}{{"{carried.FORM}":{carried.VERSION}}}', lines)
+        self.assertIn(f'{carried.MARK}{{"{carried.FORM.key}":{carried.VERSION}}}', lines)
         with open(self.file, "w", encoding="ascii") as out:
             out.write("\n".join(told))
         self.assertEqual(self.without(self.elsewhere()), before)

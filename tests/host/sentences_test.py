@@ -16,7 +16,7 @@ CARRIED = "a text of another host carries sentences alone"
 # where it is no sentence of this package's, or all that there is
 ALLOWED = {
     "ask.program.run": "a line of the program's, which says what it is by its first words",
-    "collect.elsewhere.kind": CARRIED, "collect.elsewhere.version_1_in": CARRIED, "collect.elsewhere.reason_in": CARRIED,
+    "collect.elsewhere.cgroups_of": CARRIED, "collect.elsewhere.version_1_in": CARRIED, "collect.carried.reason_of": CARRIED,
     "collect.unit_files.kind": TEXT_OF_FILE, "collect.unit_files.stem": TEXT_OF_FILE,
     "judge.finding_lines.inside_text": "of what holds a container one is the mount option's own word",
     "show.markup.capital": "a sentence begins with a capital where a word of these begins it, and with a name as it is",

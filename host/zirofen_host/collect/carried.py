@@ -1,85 +1,223 @@
-"""The form of what a text of a host carries in its comments: one schema, by which it is written and read.
+"""What a text of a host carries in its comments: one schema of records, by which they are written and read by name.
 
-A comment that begins with `#= ` and is an object of JSON with one key of this table is a record of the helper's; any other is a comment.
-The first record names the version of this form. Version 1, of 0.2.0, had none, and its records were lists in the order of this table.
+What goes in is what a tree has no place for, or a text, and what comes out are lines of comments, or records. A comment that begins with
+`#= ` and is an object of JSON with one key of this schema is a record; any other is a comment. The first record names the version of this
+form. Version 1, of 0.2.0, had none, and its records were lists in the order of this schema.
 """
 import json
-from typing import Dict, Iterable, Iterator, List, Mapping, NamedTuple, Tuple
+import re
+from dataclasses import dataclass
+from operator import attrgetter
+from typing import Any, Callable, Dict, Generic, Iterable, Iterator, List, Mapping, NamedTuple, Optional, Sequence, Tuple, TypeVar
+
+from zirofen_host.collect.accounts import is_id
+from zirofen_host.collect.model import (Account, CgroupMount, Covered, Entry, FurtherMount, Group, HeldEntry, Holding, Inside, Process,
+                                        Range, Scope, Unheld, User)
+from zirofen_host.collect.notes import CarriedNote, Note
+from zirofen_host.collect.reasons import CHANGED, CarriedOfSomebody, CarriedReason, Reason
+from zirofen_host.collect.tree import number_in, parts_in, table_in, text_in, typed
+from zirofen_host.profile import CgroupPath, path_of, text_of
 
 MARK = "#= "
-# the key of the record that names the version, and the version
-FORM, VERSION = "zirofen-host", 2
-# the names of what is in a record, in the order of version 1; a record without names is a value by itself
-FIELDS: Mapping[str, Tuple[str, ...]] = {
-    FORM: (), "about": (), "cgroup": (), "looked": (), "sharing": (),
-    "account": ("name", "uid", "gid"), "changing": ("path", "why"), "covered": ("path", "file", "type"),
-    "group": ("gid", "members", "name"),
-    "held": ("uid", "path", "file", "pid", "program", "holding"),
-    "inside": ("path", "processes", "by", "mounts", "capabilities", "own_namespace", "host_pids", "is_cut"),
-    "mount": ("place", "top", "folders", "is_known"), "note": ("kind", "place", "text"),
-    "process": ("pid", "uid", "effective_uid", "groups", "name", "capabilities"),
-    "runs": ("pid", "program", "threads", "is_headless", "threads_left", "places"), "scope": ("path", "engine", "id", "name", "holder"),
-    "subgid": ("owner", "first", "count"), "subuid": ("owner", "first", "count"), "unheld": ("uid", "path", "why")}
-# of a record's field the names of what is in each of its parts
-WITHIN: Mapping[Tuple[str, str], Tuple[str, ...]] = {("inside", "mounts"): ("place", "top", "is_writable", "is_above")}
+# the version of this form
+VERSION = 2
+# of a text that tells where threads run and what processes hold
+HOLDS = "threads and descriptors"
+_ENTRY = re.compile(r"([0-9]{1,10}):([0-9]{1,10}):([0-7]{3,4})\Z")
+
+Of = TypeVar("Of")
 
 
-class Record(NamedTuple):
-    """A record: its line, its key and its value, whose parts are in their order."""
-    line: int
-    key: str
+@dataclass(frozen=True)
+class Value(Generic[Of]):
+    """A kind of values: how one is written, and how it is read. What is none is a TypeError or a ValueError."""
+    write: Callable[[Of], object]
+    read: Callable[[object], Of]
+
+
+class Field(NamedTuple):
+    """What stands in a record under a name, and which attribute of what is written it is, where that is called otherwise."""
+    name: str
+    value: Value[Any]
+    attribute: str = ""
+
+
+class Record(Generic[Of]):
+    """A kind of records, by the key of each."""
+
+    def __init__(self, key: str, make: Callable[..., Of], *fields: Field) -> None:
+        self.key, self.fields = key, fields
+        self.make: Callable[..., Of] = make
+
+    def write(self, each: Any) -> object:
+        return {name: value.write(attrgetter(attribute or name)(each)) for name, value, attribute in self.fields}
+
+    def read(self, value: object) -> Of:
+        """What is made of a record; what has further names is of a later version, and a list is of version 1."""
+        found = self.named(value)
+        return self.make(*(field.value.read(found[field.name]) for field in self.fields))
+
+    def named(self, value: object) -> Mapping[str, object]:
+        if isinstance(value, dict):
+            return value
+        if len(parts_in(value)) != len(self.fields):
+            raise ValueError
+        return dict(zip((field.name for field in self.fields), parts_in(value)))
+
+    def line(self, each: Any) -> str:
+        return f"{MARK}{json.dumps({self.key: self.write(each)}, separators=(',', ':'))}\n"
+
+
+class Single(Record[Of]):
+    """A kind of records that have one value, without a name."""
+
+    def __init__(self, key: str, value: Value[Of]) -> None:
+        super().__init__(key, value.read)
+        self.value = value
+
+    def write(self, each: Any) -> object:
+        return self.value.write(each)
+
+    def read(self, value: object) -> Of:
+        return self.make(value)
+
+
+class Host(NamedTuple):
+    """The host itself, of which all else that is carried is."""
+    host: Optional[str]
+    kernel: Optional[str]
+    time: Optional[str]
+    mount: str
+    options: Tuple[str, ...]
+    delegate: Tuple[str, ...]
+
+
+class CarriedCgroup(NamedTuple):
+    """What the tree has no place for of a cgroup: other files, other limits, and marks."""
+    path: CgroupPath
+    files: Mapping[str, Entry]
+    values: Mapping[str, str]
+    marks: Mapping[str, bytes]
+
+
+class Changing(NamedTuple):
+    """What changed all the time or can't be read."""
+    path: CgroupPath
+    why: Reason
+
+
+class Runs(NamedTuple):
+    """What a process that runs elsewhere tells beside the others."""
+    pid: int
+    program: str
+    threads: int
+    is_headless: bool
+    threads_left: int
+    places: Tuple[CgroupPath, ...]
+
+
+def id_of(number: object) -> int:
+    if not is_id(str(number)) or isinstance(number, bool):
+        raise ValueError
+    return int(str(number))
+
+
+def entry_of(word: object) -> Entry:
+    found = _ENTRY.match(text_in(word))
+    if found is None:
+        raise ValueError
+    uid, gid, mode = found.groups()
+    return Entry(id_of(int(uid)), id_of(int(gid)), int(mode, 8))
+
+
+def reason_of(sentence: object) -> Reason:
+    """A reason, of which a text carries the sentence, which says of whom it is."""
+    if str(sentence) == str(CHANGED):
+        return CHANGED
+    return (CarriedOfSomebody if str(sentence).startswith("uid ") else CarriedReason)(str(sentence))
+
+
+def note_of(kind: str, place: str, text: str) -> Note:
+    # a place is a path, or one as it is shown
+    path_of(place)
+    return CarriedNote(place, kind, text)
+
+
+def process_of(pid: int, uid: int, effective: int, gids: Tuple[int, ...], name: str, capabilities: Tuple[str, ...]) -> Process:
+    return Process(pid, uid, User(effective, gids), False, name, capabilities)
+
+
+def perhaps(value: Value[Of]) -> Value[Optional[Of]]:
+    return Value(lambda each: None if each is None else value.write(each), lambda each: None if each is None else value.read(each))
+
+
+def many(value: Value[Of]) -> Value[Tuple[Of, ...]]:
+    return Value(lambda each: list(map(value.write, each)), lambda each: tuple(map(value.read, parts_in(each))))
+
+
+def by_name(value: Value[Of]) -> Value[Mapping[str, Of]]:
+    return Value(lambda each: {name: value.write(of) for name, of in each.items()},
+                 lambda each: {name: value.read(of) for name, of in table_in(each).items()})
+
+
+NUMBER, ID, TEXT = Value[int](int, number_in), Value[int](int, id_of), Value[str](str, text_in)
+# a text of which another value is taken for what stands for it
+ANY_TEXT = Value[str](str, str)
+FLAG = Value[bool](bool, lambda each: typed(bool, each))
+PATH = Value[CgroupPath](text_of, lambda each: path_of(text_in(each)))
+ENTRY = Value[Entry](lambda each: f"{each.uid}:{each.gid}:{each.mode:03o}", entry_of)
+COUNT = Value[int](int, lambda each: id_of(number_in(each) - 1) + 1)
+BYTES = Value[bytes](lambda each: each.decode("latin-1"), lambda each: text_in(each).encode("latin-1"))
+REASON = Value[Reason](str, reason_of)
+MOUNT_INSIDE = Record("", CgroupMount, Field("place", TEXT), Field("top", PATH), Field("is_writable", FLAG), Field("is_above", FLAG))
+
+FORM = Single("zirofen-host", NUMBER)
+LOOKED, SHARING = Single("looked", many(TEXT)), Single("sharing", PATH)
+HOST = Record("about", Host, *(Field(name, perhaps(TEXT)) for name in ("host", "kernel", "time")), Field("mount", TEXT),
+              Field("options", many(TEXT)), Field("delegate", Value[Tuple[str, ...]](list, lambda each: many(TEXT).read(each or []))))
+CGROUP = Record("cgroup", CarriedCgroup, Field("path", PATH), Field("files", by_name(ENTRY)), Field("values", by_name(ANY_TEXT)),
+                Field("marks", by_name(BYTES)))
+ACCOUNT = Record("account", Account, Field("name", ANY_TEXT), Field("uid", ID), Field("gid", ID))
+GROUP = Record("group", Group, Field("gid", ID), Field("members", many(ANY_TEXT)), Field("name", ANY_TEXT))
+CHANGING = Record("changing", Changing, Field("path", PATH), Field("why", REASON))
+COVERED = Record("covered", Covered, Field("path", PATH), Field("file", TEXT), Field("type", TEXT))
+HELD = Record("held", HeldEntry, Field("uid", ID), Field("path", PATH), Field("file", TEXT), Field("pid", NUMBER), Field("program", TEXT),
+              Field("holding", Value[Holding](lambda each: each.value, lambda each: Holding(text_in(each)))))
+UNHELD = Record("unheld", Unheld, Field("uid", ID), Field("path", perhaps(PATH)),
+                Field("why", Value[Reason](str, lambda each: CarriedReason(text_in(each)))))
+INSIDE = Record("inside", Inside, Field("path", PATH), Field("processes", NUMBER), Field("by", many(TEXT)),
+                Field("mounts", many(Value(MOUNT_INSIDE.write, MOUNT_INSIDE.read))), Field("capabilities", many(TEXT)),
+                Field("own_namespace", FLAG, "has_own_namespace"), Field("host_pids", FLAG, "has_host_pids"), Field("is_cut", FLAG))
+MOUNT = Record("mount", FurtherMount, Field("place", TEXT), Field("top", PATH), Field("folders", many(ENTRY)), Field("is_known", FLAG))
+NOTE = Record("note", note_of, Field("kind", ANY_TEXT), Field("place", ANY_TEXT), Field("text", ANY_TEXT))
+PROCESS = Record("process", process_of, Field("pid", NUMBER), Field("uid", NUMBER), Field("effective_uid", NUMBER, "user.uid"),
+                 Field("groups", many(NUMBER), "user.gids"), Field("name", TEXT), Field("capabilities", many(TEXT)))
+RUNS = Record("runs", Runs, Field("pid", NUMBER), Field("program", TEXT), Field("threads", NUMBER), Field("is_headless", FLAG),
+              Field("threads_left", NUMBER), Field("places", many(PATH)))
+SCOPE = Record("scope", Scope, Field("path", PATH), Field("engine", TEXT), Field("id", TEXT), Field("name", perhaps(TEXT)),
+               Field("holder", perhaps(NUMBER)))
+RANGE = Field("owner", ANY_TEXT), Field("first", ID), Field("count", COUNT)
+SUBUID, SUBGID = Record("subuid", Range, *RANGE), Record("subgid", Range, *RANGE)
+RECORDS: Tuple[Record[Any], ...] = (FORM, HOST, CGROUP, LOOKED, SHARING, ACCOUNT, CHANGING, COVERED, GROUP, HELD, INSIDE, MOUNT, NOTE,
+                                    PROCESS, RUNS, SCOPE, SUBGID, SUBUID, UNHELD)
+SCHEMA = {record.key: record for record in RECORDS}
+
+
+def text_of_lines(lines: Iterable[str]) -> str:
+    """Records behind one with the version; nothing where there are none."""
+    found = "".join(lines)
+    return f"\n{FORM.line(VERSION)}{found}" if found else ""
+
+
+class Line(NamedTuple):
+    """A record of a text: the number of its line, its kind, or None where that is a later version's, and its value."""
+    number: int
+    record: Optional[Record[Any]]
     value: object
 
 
-class Unread(Exception):
-    """A line whose record isn't one of this form."""
-
-
-def by_name(key: str, value: object) -> object:
-    """A record's value as it is written."""
-    if not isinstance(value, list) or not FIELDS[key]:
-        return value
-    found: Dict[str, object] = dict(zip(FIELDS[key], value))
-    for (of, field), names in WITHIN.items():
-        if of == key and isinstance(found[field], list):
-            found[field] = [dict(zip(names, listed(each))) for each in listed(found[field])]
-    return found
-
-
-def in_order(key: str, value: object) -> object:
-    """A record's value by the order of its names; what has further names is of a later version. A list is of version 1."""
-    if not isinstance(value, dict) or not FIELDS[key]:
-        return value
-    found: List[object] = [value[name] for name in FIELDS[key]]
-    for (of, field), names in WITHIN.items():
-        if of == key:
-            at = FIELDS[key].index(field)
-            found[at] = [[each[name] for name in names] if isinstance(each, dict) else each for each in listed(found[at])]
-    return found
-
-
-def listed(value: object) -> List[object]:
-    if not isinstance(value, list):
-        raise TypeError
-    return value
-
-
-def lines_of(records: Iterable[Mapping[str, object]]) -> Iterator[str]:
-    """Records as lines of comments, behind one with the version; none where there are none."""
-    first = True
-    for record in records:
-        if first:
-            yield line_of(FORM, VERSION)
-            first = False
-        yield from (line_of(key, value) for key, value in record.items())
-
-
-def line_of(key: str, value: object) -> str:
-    return f"{MARK}{json.dumps({key: by_name(key, value)}, separators=(',', ':'))}\n"
-
-
-def records_in(text: str) -> Iterator[Record]:
-    """The records of a text. What isn't the helper's is a comment; one of a later version's is told by its key."""
+def records_in(text: str) -> Iterator[Line]:
+    """The records of a text. What isn't the helper's is a comment."""
     for number, line in enumerate(text.split("\n"), 1):
         if line.startswith(MARK):
             try:
@@ -88,10 +226,28 @@ def records_in(text: str) -> Iterator[Record]:
                 continue
             if isinstance(found, dict) and len(found) == 1:
                 ((key, value),) = found.items()
-                if key not in FIELDS:
-                    yield Record(number, "", None)
-                    continue
-                try:
-                    yield Record(number, key, in_order(key, value))
-                except (KeyError, TypeError):
-                    raise Unread(number) from None
+                yield Line(number, SCHEMA.get(key), value)
+
+
+class Records:
+    """The records of a text, each read by its kind; those of later versions, which aren't known here, are counted."""
+
+    def __init__(self) -> None:
+        self.found: Dict[str, List[Any]] = {}
+        self.unknown = 0
+
+    def take(self, line: Line) -> Any:
+        """Reads a record, and gives what is made of it."""
+        if line.record is None:
+            self.unknown += 1
+            return None
+        made = line.record.read(line.value)
+        self.found.setdefault(line.record.key, []).append(made)
+        return made
+
+    def all(self, record: Record[Of]) -> Sequence[Of]:
+        """All that is made of the records of a kind, in their order."""
+        return self.found.get(record.key, ())
+
+    def last(self, record: Record[Of]) -> Optional[Of]:
+        return self.all(record)[-1] if self.all(record) else None

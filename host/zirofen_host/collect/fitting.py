@@ -2,8 +2,9 @@
 says so. A check of it has a fault of what it lacks alone."""
 from collections import Counter, defaultdict
 from dataclasses import replace
-from typing import Callable, DefaultDict, Dict, Iterable, List, Mapping, Optional
+from typing import Callable, DefaultDict, Dict, Iterator, List, Optional
 
+from zirofen_host.collect.carried import CHANGING, Changing
 from zirofen_host.collect.holds import Holds
 from zirofen_host.collect.model import Placed, Snapshot
 from zirofen_host.collect.notes import ProcessesOverText, TooLarge
@@ -84,6 +85,6 @@ def without_processes(snapshot: Snapshot, holds: Holds) -> Snapshot:
     return replace(snapshot, tree=replace(snapshot.tree, processes=processes), notes=tuple(notes))
 
 
-def told_changing(snapshot: Snapshot) -> Iterable[Mapping[str, object]]:
+def told_changing(snapshot: Snapshot) -> Iterator[str]:
     """What a text always carries: what it lacks, and why."""
-    return ({"changing": [text_of(path), str(why)]} for path, why in snapshot.changing.items())
+    return (CHANGING.line(Changing(path, why)) for path, why in snapshot.changing.items())

@@ -4,7 +4,7 @@ import dataclasses
 import os
 import re
 import subprocess
-from typing import Iterator, Mapping, NamedTuple, Optional, Sequence, Tuple
+from typing import Iterator, NamedTuple, Optional, Sequence, Tuple
 
 from zirofen_host import ending, output
 from zirofen_host.arguments import NEW_SYSTEMD
@@ -46,7 +46,7 @@ def as_read(text: str) -> Iterator[str]:
     return (" ".join(words) for _, words in changes.lines_in(text))
 
 
-def carried(of: Snapshot, folder: Optional[str]) -> Iterator[Mapping[str, object]]:
+def carried(of: Snapshot, folder: Optional[str]) -> Iterator[str]:
     """What a text has beside its tree; one that carries nothing carries nothing behind changes either."""
     yield from fitting.told_changing(of)
     if of.source.file is None or of.source.carried:

@@ -1,6 +1,6 @@
 """Writes a host as a tree text."""
 import argparse
-from typing import Iterator, Mapping
+from typing import Iterator
 
 from zirofen_host import fault
 from zirofen_host.ask import named
@@ -16,7 +16,7 @@ def run(given: argparse.Namespace) -> int:
     taken = snapshot.take(options, snapshot.all_that_changes)
     accounts = accounts_of(options.accounts, taken) if options.with_host else None
 
-    def carried(of: Snapshot) -> Iterator[Mapping[str, object]]:
+    def carried(of: Snapshot) -> Iterator[str]:
         yield from fitting.told_changing(of)
         if accounts:
             yield from elsewhere.carried(of, accounts)
