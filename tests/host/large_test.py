@@ -353,7 +353,7 @@ class SlowTest(unittest.TestCase):
             for seconds in (0.2, -9):
                 asked = Program(program, "none", 0, True).until(time.monotonic() + seconds)
                 with self.assertRaisesRegex(asking.TooLarge, "^the program took too long$"):
-                    asked.ask([Question((User(1000, ()),), (path("/a"),))], True)
+                    asked.ask([Question((User(1000, ()),), (path("/a"),))])
             self.assertEqual(Program(program, "none").until(5), Program(program, "none"))
 
 
