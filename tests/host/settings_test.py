@@ -65,7 +65,7 @@ class RestartTest(HostTest):
 
     def test_a_scope_is_never_started_again(self):
         self.host.cgroup("/run-1.scope", owners=owned(1000), values={"cgroup.max.depth": 5})
-        with mock.patch.object(settings, "UNITS", ("*",)):
+        with mock.patch.object(settings, "UNIT_PATTERNS", ("*",)):
             self.assertEqual(self.restarts(run_1_scope={}), [])
 
     def test_where_there_is_no_manager(self):
