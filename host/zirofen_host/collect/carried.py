@@ -31,8 +31,8 @@ Of = TypeVar("Of")
 @dataclass(frozen=True)
 class Value(Generic[Of]):
     """A kind of values: how one is written, and how it is read. What is none is a TypeError or a ValueError."""
-    write: Callable[[Of], object]
-    read: Callable[[object], Of]
+    to_json: Callable[[Of], object]
+    from_json: Callable[[object], Of]
 
 
 class Field(NamedTuple):
@@ -49,13 +49,13 @@ class Record(Generic[Of]):
         self.key, self.fields = key, fields
         self.make: Callable[..., Of] = make
 
-    def write(self, each: Any) -> object:
-        return {name: value.write(attrgetter(attribute or name)(each)) for name, value, attribute in self.fields}
+    def to_json(self, each: Any) -> object:
+        return {name: value.to_json(attrgetter(attribute or name)(each)) for name, value, attribute in self.fields}
 
-    def read(self, value: object) -> Of:
+    def from_json(self, value: object) -> Of:
         """What is made of a record; what has further names is of a later version, and a list is of version 1."""
         found = self.named(value)
-        return self.make(*(field.value.read(found[field.name]) for field in self.fields))
+        return self.make(*(field.value.from_json(found[field.name]) for field in self.fields))
 
     def named(self, value: object) -> Mapping[str, object]:
         if isinstance(value, dict):
@@ -65,20 +65,20 @@ class Record(Generic[Of]):
         return dict(zip((field.name for field in self.fields), parts_in(value)))
 
     def line(self, each: Any) -> str:
-        return f"{MARK}{json.dumps({self.key: self.write(each)}, separators=(',', ':'))}\n"
+        return f"{MARK}{json.dumps({self.key: self.to_json(each)}, separators=(',', ':'))}\n"
 
 
 class Single(Record[Of]):
     """A kind of records that have one value, without a name."""
 
     def __init__(self, key: str, value: Value[Of]) -> None:
-        super().__init__(key, value.read)
+        super().__init__(key, value.from_json)
         self.value = value
 
-    def write(self, each: Any) -> object:
-        return self.value.write(each)
+    def to_json(self, each: Any) -> object:
+        return self.value.to_json(each)
 
-    def read(self, value: object) -> Of:
+    def from_json(self, value: object) -> Of:
         return self.make(value)
 
 
@@ -148,16 +148,16 @@ def process_of(pid: int, uid: int, effective: int, gids: Tuple[int, ...], name: 
 
 
 def perhaps(value: Value[Of]) -> Value[Optional[Of]]:
-    return Value(lambda each: None if each is None else value.write(each), lambda each: None if each is None else value.read(each))
+    return Value(lambda each: None if each is None else value.to_json(each), lambda each: None if each is None else value.from_json(each))
 
 
 def many(value: Value[Of]) -> Value[Tuple[Of, ...]]:
-    return Value(lambda each: list(map(value.write, each)), lambda each: tuple(map(value.read, parts_in(each))))
+    return Value(lambda each: list(map(value.to_json, each)), lambda each: tuple(map(value.from_json, parts_in(each))))
 
 
 def by_name(value: Value[Of]) -> Value[Mapping[str, Of]]:
-    return Value(lambda each: {name: value.write(of) for name, of in each.items()},
-                 lambda each: {name: value.read(of) for name, of in table_in(each).items()})
+    return Value(lambda each: {name: value.to_json(of) for name, of in each.items()},
+                 lambda each: {name: value.from_json(of) for name, of in table_in(each).items()})
 
 
 NUMBER, ID, TEXT = Value[int](int, number_in), Value[int](int, id_of), Value[str](str, text_in)
@@ -174,7 +174,7 @@ MOUNT_INSIDE = Record("", CgroupMount, Field("place", TEXT), Field("top", PATH),
 FORM = Single("zirofen-host", NUMBER)
 LOOKED, SHARING = Single("looked", many(TEXT)), Single("sharing", PATH)
 HOST = Record("about", Host, *(Field(name, perhaps(TEXT)) for name in ("host", "kernel", "time")), Field("mount", TEXT),
-              Field("options", many(TEXT)), Field("delegate", Value[Tuple[str, ...]](list, lambda each: many(TEXT).read(each or []))))
+              Field("options", many(TEXT)), Field("delegate", Value[Tuple[str, ...]](list, lambda each: many(TEXT).from_json(each or []))))
 CGROUP = Record("cgroup", CarriedCgroup, Field("path", PATH), Field("files", by_name(ENTRY)), Field("values", by_name(ANY_TEXT)),
                 Field("marks", by_name(BYTES)))
 ACCOUNT = Record("account", Account, Field("name", ANY_TEXT), Field("uid", ID), Field("gid", ID))
@@ -186,7 +186,7 @@ HELD = Record("held", HeldEntry, Field("uid", ID), Field("path", PATH), Field("f
 UNHELD = Record("unheld", Unheld, Field("uid", ID), Field("path", perhaps(PATH)),
                 Field("why", Value[Reason](str, lambda each: CarriedReason(text_in(each)))))
 INSIDE = Record("inside", Inside, Field("path", PATH), Field("processes", NUMBER), Field("by", many(TEXT)),
-                Field("mounts", many(Value(MOUNT_INSIDE.write, MOUNT_INSIDE.read))), Field("capabilities", many(TEXT)),
+                Field("mounts", many(Value(MOUNT_INSIDE.to_json, MOUNT_INSIDE.from_json))), Field("capabilities", many(TEXT)),
                 Field("own_namespace", FLAG, "has_own_namespace"), Field("host_pids", FLAG, "has_host_pids"), Field("is_cut", FLAG))
 MOUNT = Record("mount", FurtherMount, Field("place", TEXT), Field("top", PATH), Field("folders", many(ENTRY)), Field("is_known", FLAG))
 NOTE = Record("note", note_of, Field("kind", ANY_TEXT), Field("place", ANY_TEXT), Field("text", ANY_TEXT))
@@ -241,7 +241,7 @@ class Records:
         if line.record is None:
             self.unknown += 1
             return None
-        made = line.record.read(line.value)
+        made = line.record.from_json(line.value)
         self.found.setdefault(line.record.key, []).append(made)
         return made
 
