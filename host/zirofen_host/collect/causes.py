@@ -122,10 +122,10 @@ class Reader:
 
     def is_alias(self, folder: str, name: str) -> bool:
         """Whether a unit's file is a link to nothing, or to a unit in these folders, which is read by its own name."""
-        if folder not in UNITS or not self.is_link(f"{folder}/{name}"):
+        if folder not in UNIT_FOLDERS or not self.is_link(f"{folder}/{name}"):
             return False
         to = os.path.normpath(os.path.join(folder, bounded.read_link(f"{self.top.rstrip(chr(47))}{folder}/{name}")))
-        return to == os.devnull or os.path.dirname(to) in UNITS
+        return to == os.devnull or os.path.dirname(to) in UNIT_FOLDERS
 
     def is_link(self, file: str) -> bool:
         return os.path.islink(f"{self.top.rstrip(chr(47))}{file}")
