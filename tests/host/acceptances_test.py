@@ -3,15 +3,14 @@ import datetime
 import json
 import os
 import random
-import subprocess
-import sys
 import unittest
 from dataclasses import replace
 
 import debian_readers
+from called import called
 from check_test import HostTest, owned
 from formats_test import run_of, schema
-from made_up import COMMAND, TOP
+from made_up import TOP
 from shown import comparison_lines, lines_of, made
 from zirofen_host.fault import Fault
 from zirofen_host.judge import acceptances, baseline, standing
@@ -229,8 +228,8 @@ class AcceptancesTest(HostTest):
 
     def test_from_outside(self):
         def script(*words):
-            return subprocess.run([sys.executable, COMMAND, "check", "--plain-folder", "--mount", self.host.mount, "--proc", self.host.proc,
-                                   "--accounts", self.host.etc, "--zirofen", self.program, *words], capture_output=True, text=True)
+            return called("check", "--plain-folder", "--mount", self.host.mount, "--proc", self.host.proc, "--accounts", self.host.etc,
+                          "--zirofen", self.program, *words)
         self.write(*({**row, "until": "9999-12-31"} for row in self.ALL))
         ended = script("--accept", self.file)
         self.assertEqual((ended.returncode, ended.stderr, ended.stdout.count("\naccepted: ")), (0, "", 3))

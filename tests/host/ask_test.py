@@ -1,11 +1,10 @@
 """Tests of asking by name, and of operations as shell commands."""
 import os
 import subprocess
-import sys
 import unittest
 
+from called import called
 from check_test import HostTest, owned
-from made_up import COMMAND
 from zirofen_host.judge import one, shell
 from zirofen_host.options import AskOptions
 from zirofen_host.fault import Fault
@@ -123,7 +122,7 @@ class CommandsTest(HostTest):
 
     def test_script(self):
         def script(*words, given=OPERATIONS):
-            return subprocess.run([sys.executable, COMMAND, "commands", *words], input=given, capture_output=True, text=True)
+            return called("commands", *words, given=given)
         self.assertEqual(script().stdout.splitlines(), COMMANDS)
         ended = script("--uid", "1000", "--gid", "5", "--gid", "6", "--mount", "/m", given="rmdir /a\n")
         self.assertEqual(ended.stdout, "setpriv --reuid 1000 --regid 5 --groups 6 sh -c 'rmdir /m/a'\n")

@@ -2,13 +2,11 @@
 import json
 import os
 import re
-import subprocess
-import sys
 import unittest
 from dataclasses import replace
 
+from called import called
 from check_test import MARK, HostTest, owned
-from made_up import COMMAND
 from zirofen_host.judge import baseline
 from shown import comparison_lines, made
 from zirofen_host.fault import Fault
@@ -200,9 +198,8 @@ class BaselineTest(HostTest):
     @unittest.skipUnless(os.geteuid() == 0, "only root gives files away")
     def test_from_outside(self):
         def script(*words):
-            return subprocess.run([sys.executable, COMMAND, "check", "--plain-folder", "--mount", self.host.mount, "--proc",
-                                   self.host.proc, "--accounts", self.host.etc, "--zirofen", self.program, *words],
-                                  capture_output=True, text=True)
+            return called("check", "--plain-folder", "--mount", self.host.mount, "--proc", self.host.proc, "--accounts", self.host.etc,
+                          "--zirofen", self.program, *words)
         plain, first = script(), script("--baseline", self.file)
         self.assertEqual((first.returncode, first.stdout), (2, plain.stdout))
         self.assertEqual(first.stderr, f"zirofen-host check: {self.file} is a baseline from now on, which accepts nothing\n")

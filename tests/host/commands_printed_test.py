@@ -3,11 +3,9 @@ import html
 import os
 import re
 import shlex
-import subprocess
-import sys
 
+from called import called
 from check_test import HostTest, owned
-from made_up import COMMAND
 from zirofen_host.collect.snapshot import tree_text
 from zirofen_host.judge import check
 from zirofen_host.options import CheckOptions, TreeOptions
@@ -42,8 +40,7 @@ class PrintedTest(HostTest):
         environment = {**os.environ, "ZIROFEN": self.program}
         name, *words = shlex.split(command)
         self.assertEqual(name, "zirofen-host")
-        return subprocess.run([sys.executable, COMMAND, *words], capture_output=True, text=True, env=environment, cwd=self.host.folder,
-                              check=False)
+        return called(*words, env=environment, cwd=self.host.folder)
 
     def each_command_answers(self, report, of):
         """Each command that asks, run as it is printed: of the tree that it is printed of."""

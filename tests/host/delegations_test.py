@@ -1,13 +1,12 @@
 """Tests of finding delegations, and of who stands behind a uid or a gid."""
 import os
 import random
-import subprocess
-import sys
 import tempfile
 import unittest
 from unittest import mock
 
-from made_up import COMMAND, DELEGATED, HERE, TOP, MadeUpTest, accounts_with, path
+from called import PROGRAM, called
+from made_up import DELEGATED, TOP, MadeUpTest, accounts_with, path
 from zirofen_host.collect.accounts import Accounts, accounts_here
 from zirofen_host.ask import delegations, questions
 from zirofen_host.ask.delegations import Delegations
@@ -257,9 +256,8 @@ class AccountsTest(unittest.TestCase):
 
 class ScriptTest(MadeUpTest):
     def script(self, *words, given=""):
-        return subprocess.run([sys.executable, COMMAND, "delegations", "--accounts", self.host.etc, "--zirofen",
-                               f"{HERE}/made_up_program.py", *words], input=given, capture_output=True, text=True,
-                              env={**os.environ, "CALLS": os.devnull})
+        return called("delegations", "--accounts", self.host.etc, "--zirofen", PROGRAM, *words, given=given,
+                      env={**os.environ, "CALLS": os.devnull})
 
     def test_lines(self):
         self.host.accounts(passwd=PASSWD, group=GROUP, subuid=SUBORDINATE, subgid=SUBORDINATE)

@@ -1,14 +1,12 @@
 """Tests of judging a text that was taken on another host."""
 import json
 import os
-import subprocess
-import sys
 import unittest
 from dataclasses import replace
 from unittest import mock
 
+from called import called
 from check_test import BY_GROUP, MARK, HostTest, owned
-from made_up import COMMAND
 from page_reader import PageReader
 from zirofen_host import output
 from zirofen_host.collect import carried, elsewhere, fitting
@@ -227,7 +225,7 @@ class ElsewhereTest(HostTest):
     @unittest.skipUnless(os.geteuid() == 0, "only root gives files away")
     def test_from_outside(self):
         def script(name, *words, given=None):
-            return subprocess.run([sys.executable, COMMAND, name, *words], input=given, capture_output=True, text=True)
+            return called(name, *words, given=given)
         text = script("snapshot", "--plain-folder", "--mount", self.host.mount, "--proc", self.host.proc, "--accounts",
                       self.host.etc, "--with-host").stdout
         self.assertIn(carried.MARK, text)

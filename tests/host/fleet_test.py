@@ -14,6 +14,7 @@ import browser
 import crowded
 import debian_readers
 import example
+from called import called
 from made_up import COMMAND, MEMORY
 from page_reader import PageReader
 from zirofen_host import command
@@ -354,7 +355,7 @@ class BrowserTest(FleetTest):
 
 class PageTest(FleetTest):
     def page(self, *given):
-        return subprocess.run([sys.executable, COMMAND, "page", *given], capture_output=True, text=True, encoding="utf-8")
+        return called("page", *given)
 
     def test_a_report_that_is_empty_is_a_row(self):
         self.folder.put("web2", "")

@@ -3,8 +3,6 @@ import json
 import os
 import shlex
 import stat
-import subprocess
-import sys
 import tempfile
 import unittest
 from dataclasses import replace
@@ -12,8 +10,9 @@ from dataclasses import replace
 import debian_readers
 import example
 from as_json_test import kept_reports
+from called import called
 from check_test import MARK, HostTest, owned
-from made_up import COMMAND, HERE, TOP
+from made_up import HERE, TOP
 from shown import made
 from zirofen_host.fault import Fault
 from zirofen_host.judge import baseline
@@ -211,8 +210,8 @@ class WaysTest(HostTest):
                 formats.ways_to_check(CheckOptions(format=given))
 
     def script(self, *words):
-        return subprocess.run([sys.executable, COMMAND, "check", "--plain-folder", "--mount", self.host.mount, "--proc", self.host.proc,
-                               "--accounts", self.host.etc, "--zirofen", self.program, *words], capture_output=True, text=True)
+        return called("check", "--plain-folder", "--mount", self.host.mount, "--proc", self.host.proc, "--accounts", self.host.etc,
+                      "--zirofen", self.program, *words)
 
     @unittest.skipUnless(os.geteuid() == 0, "only root gives files away")
     def test_several_from_one_walk(self):

@@ -4,17 +4,15 @@ import datetime
 import json
 import os
 import shutil
-import subprocess
-import sys
 import unittest
 from dataclasses import replace
 from unittest import mock
 
 import debian_readers
 import report_schema
+from called import called
 from check_test import HostTest, owned
 from formats_test import run_of, schema
-from made_up import COMMAND
 from page_reader import PageReader
 from shown import comparison_lines, lines_of, made
 from zirofen_host.ask.accepted import accept
@@ -592,8 +590,7 @@ class ToldTest(InsideTest):
         for value in ("[]", '["/", 1, ["root"], [], [], 1, false, false]', '["/", 1, ["root"], [["/x"]], [], true, false, false]'):
             with open(file, "w", encoding="ascii") as out:
                 out.write('format = 1\ncontrollers = []\n[[cgroup]]\npath = "/"\n#= {"inside": ' + value + "}\n")
-            ended = subprocess.run([sys.executable, COMMAND, "check", "--tree", file, "--zirofen", self.program], capture_output=True,
-                                   text=True)
+            ended = called("check", "--tree", file, "--zirofen", self.program)
             self.assertEqual((ended.returncode, "what it carries isn't known" in ended.stderr), (3, True), value + ended.stderr)
 
 

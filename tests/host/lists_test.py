@@ -1,12 +1,11 @@
 """Tests of lists of operations that can be tried, with the real program."""
 import os
-import subprocess
-import sys
 import unittest
 from dataclasses import replace
 
+from called import called
 from check_test import REAL_PROGRAM, HostTest, owned
-from made_up import COMMAND, path
+from made_up import path
 from page_reader import PageReader
 from shown import made
 from zirofen_host.ask.program import Program
@@ -116,9 +115,8 @@ class ListsTest(HostTest):
     @unittest.skipUnless(os.geteuid() == 0, "only root gives files away")
     def test_from_outside(self):
         self.processes((7, 9), (8,), p7={"permitted": NET})
-        ended = subprocess.run([sys.executable, COMMAND, "commands", "--plain-folder", "--mount", self.host.mount, "--proc", self.host.proc,
-                                "--zirofen", self.program, "--uid", "1000", "--gid", "1000", "--subtree", "/up/svc"],
-                               input="move 7 /up/svc\n", capture_output=True, text=True)
+        ended = called("commands", "--plain-folder", "--mount", self.host.mount, "--proc", self.host.proc, "--zirofen", self.program,
+                       "--uid", "1000", "--gid", "1000", "--subtree", "/up/svc", given="move 7 /up/svc\n")
         self.assertEqual((ended.returncode, ended.stderr), (0, ""))
         self.assertIn("echo 9 >", ended.stdout)
 

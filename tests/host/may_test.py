@@ -1,12 +1,12 @@
 """Tests of what somebody may do with a subtree at all, beside what the program says of single operations."""
 import os
 import subprocess
-import sys
 import unittest
 from unittest import mock
 
+from called import called
 from check_test import REAL_PROGRAM, HostTest, owned
-from made_up import COMMAND, TOP
+from made_up import TOP
 from zirofen_host.fault import Fault
 from zirofen_host.judge import may
 from zirofen_host.options import AskOptions
@@ -84,8 +84,7 @@ class CommandTest(unittest.TestCase):
     """By the command, on a tree whose operations the program is asked of too."""
 
     def run_it(self, *words):
-        return subprocess.run([sys.executable, COMMAND, "ask", *words, "--zirofen", REAL_PROGRAM], capture_output=True, text=True,
-                              env={**os.environ})
+        return called("ask", *words, "--zirofen", REAL_PROGRAM, env={**os.environ})
 
     def test_either_order_of_words(self):
         tree = f"{TOP}/examples/delegation.toml"

@@ -2,15 +2,14 @@
 import json
 import os
 import subprocess
-import sys
 import unittest
 from dataclasses import replace
 from unittest import mock
 
 import example
+from called import called
 from check_test import MANAGER, MARK, PROGRAM, HostTest, owned
 from formats_test import odd_report, run_of
-from made_up import COMMAND
 from shown import made
 from zirofen_host.judge import check, mends, settings, wanted
 from zirofen_host.judge.model import ABSENT, ReportCgroup, ReportFile, Told
@@ -307,8 +306,8 @@ class CommandTest(HostTest):
         self.host.cgroup("/system.slice", enabled="memory")
         self.host.cgroup("/system.slice/a.service", owners={**owned(os.geteuid() or 1000), "memory.max": os.geteuid() or 1000},
                          values={"memory.max": 8192})
-        return subprocess.run([sys.executable, COMMAND, "check", "--mount", self.host.mount, "--proc", self.host.proc, "--plain-folder",
-                               "--accounts", self.host.etc, "--zirofen", PROGRAM, *words], capture_output=True, text=True, check=False)
+        return called("check", "--mount", self.host.mount, "--proc", self.host.proc, "--plain-folder", "--accounts", self.host.etc,
+                      "--zirofen", PROGRAM, *words)
 
     def test_mends_stand_in_place_of_the_text(self):
         plain, said = self.check(), self.check("--mends", "systemd")

@@ -3,16 +3,15 @@ import gzip
 import json
 import os
 import re
-import subprocess
-import sys
 import tempfile
 import time
 import unittest
 
 import browser
 import example
+from called import called
 from check_test import BY_GROUP, MARK, REAL_PROGRAM, HostTest, owned
-from made_up import COMMAND, HERE
+from made_up import HERE
 from page_reader import PageReader
 from shown import made
 from zirofen_host.judge import saved
@@ -318,10 +317,9 @@ class MadeUpTest(HostTest, PageTest):
     def test_a_check_writes_its_page(self):
         self.host.cgroup("/bad", owners={**owned(1000), "memory.max": 1000})
         out = f"{self.host.folder}/page.html"
-        words_ = [sys.executable, COMMAND, "check", "--plain-folder", "--mount", self.host.mount, "--proc", self.host.proc,
-                  "--accounts", self.host.etc, "--zirofen", self.program]
-        plain = subprocess.run(words_, capture_output=True, text=True)
-        ended = subprocess.run([*words_, "--html", out], capture_output=True, text=True)
+        words_ = ["check", "--plain-folder", "--mount", self.host.mount, "--proc", self.host.proc, "--accounts", self.host.etc,
+                  "--zirofen", self.program]
+        plain, ended = called(*words_), called(*words_, "--html", out)
         self.assertEqual((ended.stdout, ended.stderr, ended.returncode), (plain.stdout, "", 1))
         with open(out, encoding="utf-8") as opened:
             self.assertIn("alice(1000) changes a limit of", PageReader(opened.read()).text())
@@ -330,13 +328,12 @@ class MadeUpTest(HostTest, PageTest):
             page.write(self.host.etc, [made(example.kept())])
         self.assertEqual([name for name in os.listdir(self.host.folder) if name.startswith(".")], [])
         with open(f"{self.host.folder}/before.json", "w", encoding="ascii") as before:
-            subprocess.run([*words_, "--json"], stdout=before)
+            before.write(called(*words_, "--json").stdout)
         self.host.cgroup("/new", owners=owned(1001))
-        subprocess.run([*words_, "--baseline", before.name, "--html", out], capture_output=True)
+        called(*words_, "--baseline", before.name, "--html", out)
         with open(out, encoding="utf-8") as opened:
             self.assertRegex(PageReader(opened.read()).text("host-1-baseline"), "Since 20.*\nNew\n/new: contained, by 1001 who holds it")
-        none = subprocess.run([*words_, "--html", f"{out}/none/x"], capture_output=True, text=True)
-        plain = subprocess.run(words_, capture_output=True, text=True)
+        none, plain = called(*words_, "--html", f"{out}/none/x"), called(*words_)
         self.assertEqual((none.stdout, none.returncode, none.stderr.count("\n")), (plain.stdout, 3, 1))
 
     @unittest.skipUnless(REAL_PROGRAM, "the program isn't built")
@@ -417,18 +414,17 @@ class SavedTest(unittest.TestCase):
 class ScriptTest(unittest.TestCase):
     def test_help_says_what_they_are(self):
         for name in ("page", "tree"):
-            ended = subprocess.run([sys.executable, COMMAND, name, "--help"], capture_output=True, text=True)
+            ended = called(name, "--help")
             self.assertIn("no part of the proved program", ended.stdout)
 
-    def page(self, *given, **more):
-        words_ = [sys.executable, COMMAND, "page", *given]
-        return subprocess.run(words_, capture_output=True, text=True, encoding="utf-8", **more)
+    def page(self, *words_, given=None):
+        return called("page", *words_, given=given)
 
     def test_reports_of_files_and_of_standard_input(self):
         made = page_of(example.kept())
         self.assertEqual((self.page(example.KEPT).stdout, self.page(example.KEPT).returncode), (made, 0))
         with open(example.KEPT, encoding="ascii") as text:
-            self.assertEqual(self.page("-", input=text.read()).stdout, made)
+            self.assertEqual(self.page("-", given=text.read()).stdout, made)
         self.assertIn('id="host-2"', self.page(example.KEPT, example.KEPT).stdout)
 
     def test_faults(self):

@@ -1,14 +1,13 @@
 """Tests of changes of root's that are asked about before they are made."""
 import json
 import os
-import subprocess
-import sys
 import unittest
 from dataclasses import replace
 
 import report_schema
+from called import called
 from check_test import MANAGER, REAL_PROGRAM, HostTest, owned
-from made_up import COMMAND, TOP, path_of
+from made_up import TOP, path_of
 from shown import without_makers
 from zirofen_host.collect import changes, elsewhere
 from zirofen_host.collect.elsewhere import Accepted
@@ -169,8 +168,7 @@ class ChangesTest(unittest.TestCase):
 @unittest.skipUnless(REAL_PROGRAM, "there is no program")
 class CommandTest(HostTest):
     def plan(self, *words, ops=""):
-        return subprocess.run([sys.executable, COMMAND, "plan", "--zirofen", REAL_PROGRAM, "--ops", "-", *words], input=ops,
-                              capture_output=True, text=True, check=False)
+        return called("plan", "--zirofen", REAL_PROGRAM, "--ops", "-", *words, given=ops)
 
     def test_what_is_new_and_worse(self):
         said = self.plan("--tree", DELEGATION, ops="mkdir /new\nchown /new dir 1001:1001\nchown /new cgroup.procs 1001:1001\n"

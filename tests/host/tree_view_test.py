@@ -10,6 +10,7 @@ import tempfile
 import unittest
 
 import example
+from called import called
 from check_test import HostTest, owned
 from made_up import COMMAND, HERE, TOP
 from page_test import HOSTILE, REAL, hostile, many, real
@@ -135,10 +136,9 @@ class LiveTest(HostTest):
         self.host.cgroup("/other", owners=owned(1001))
         place = ["--plain-folder", "--mount", self.host.mount, "--proc", self.host.proc, "--accounts", self.host.etc,
                  "--zirofen", self.program]
-        checked = subprocess.run([sys.executable, COMMAND, "check", "--json", *place], capture_output=True, text=True).stdout
+        checked = called("check", "--json", *place).stdout
         for only in ("/", "/bad"):
-            words_ = [sys.executable, COMMAND, "tree", "--ascii", *place, *(["--only", only] if only != "/" else [])]
-            ended = subprocess.run(words_, capture_output=True, text=True)
+            ended = called("tree", "--ascii", *place, *(["--only", only] if only != "/" else []))
             self.assertEqual((ended.returncode, ended.stderr), (0, ""))
             lines, told = drawn(json.loads(checked), None, True, only=only), ended.stdout.splitlines()
             # the time is another, and of a part alone no more is counted

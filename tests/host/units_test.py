@@ -1,16 +1,16 @@
 """Tests of units as changes to a tree."""
 import json
 import os
-import subprocess
-import sys
 import tempfile
 import unittest
 from dataclasses import replace
 
 import report_schema
+from called import called
 from check_test import REAL_PROGRAM
-from made_up import COMMAND, TOP, path_of
+from made_up import TOP, path_of
 from plan_test import ROOT, snapshot_of
+from shown import without_makers
 from zirofen_host.collect import changes
 from zirofen_host.collect.model import Account, AccountLists, Carried, Entry, Group, Source
 from zirofen_host.collect.unit_files import FOLDERS, UnitFile, UnitName, read_slice, read_units, specifiers
@@ -359,8 +359,7 @@ class FilesTest(UnitsTest):
 @unittest.skipUnless(REAL_PROGRAM, "there is no program")
 class CommandTest(UnitsTest):
     def plan(self, *words):
-        return subprocess.run([sys.executable, COMMAND, "plan", "--zirofen", REAL_PROGRAM, "--tree", f"{TOP}/examples/delegation.toml",
-                               *words], capture_output=True, text=True, check=False)
+        return called("plan", "--zirofen", REAL_PROGRAM, "--tree", f"{TOP}/examples/delegation.toml", *words)
 
     def test_a_unit_is_asked_about(self):
         file = self.write("a.service", "[Service]\nUser=900\nDelegate=yes\nExecStart=/x\nTasksMax=5\nPAMName=login\n")
@@ -368,7 +367,7 @@ class CommandTest(UnitsTest):
         untold = "a.service: PAMName=login: what it makes of who runs there isn't told"
         slices = "a.service: of system.slice no file is read with --tree: name it with --unit"
         self.assertEqual((said.returncode, said.stderr), (2, ""))
-        self.assertEqual(said.stdout.splitlines(), [
+        self.assertEqual(without_makers(said.stdout.splitlines()), [
             "new: /system.slice/a.service: contained, by 900 who holds it [limited]", f"not-told: {slices}",
             "3 asked: 3 contained [limited]; limits of this answer: it was asked by number: who is in which group, and whose ids are "
             "subordinate, isn't known; the text doesn't tell where threads run and what processes hold open; what may give entries away "
@@ -377,7 +376,7 @@ class CommandTest(UnitsTest):
         self.assertEqual((lines.stdout.splitlines()[:2], lines.stderr), ([f"# not told: {slices}", f"# not told: {untold}"], ""))
         # what was printed is what can be read again
         ops = self.write("ops", lines.stdout)
-        new, last = self.plan("--ops", ops).stdout.splitlines()
+        new, last = without_makers(self.plan("--ops", ops).stdout.splitlines())
         self.assertEqual((new, last.partition(";")[0]), ("new: /system.slice/a.service: contained, by 900 who holds it",
                                                          "3 asked: 3 contained [limited]"))
         self.assertNotIn("isn't told: ", last)
