@@ -4,12 +4,12 @@ import json
 import os
 import re
 import subprocess
-import sys
 import tempfile
 import unittest
 
+from called import called
 from check_test import REAL_PROGRAM, owned
-from made_up import COMMAND, TOP, MadeUp, MadeUpTest
+from made_up import TOP, MadeUp, MadeUpTest
 from made_up_hosts import CHOWN, IMAGE, MEMORY_OF_V1, NAMESPACES, OF_FIRST, OWN_ROOT
 from zirofen_host.arguments import DESCRIPTIONS
 from zirofen_host.collect.bounded import CGROUP_BYTES
@@ -102,8 +102,7 @@ class HostTest(MadeUpTest):
 
     def of_host(self, command, *words):
         """A command of the helper on this host."""
-        return ended(sys.executable, COMMAND, command, "--plain-folder", "--mount", self.host.mount, "--proc", self.host.proc,
-                     "--accounts", self.host.etc, *words)
+        return called(command, "--plain-folder", "--mount", self.host.mount, "--proc", self.host.proc, "--accounts", self.host.etc, *words)
 
     def text(self):
         """A text of this host with all that a check elsewhere needs."""
@@ -179,12 +178,12 @@ class HostTest(MadeUpTest):
                 given = getattr(self, severity.value.replace(" ", "_"))() or ()
                 of_host = severity in (Severity.OWN_FAULT, Severity.LIMITED)
                 words = ("--zirofen", REAL_PROGRAM, "--json", *given)
-                said = self.of_host("check", *words) if of_host else ended(sys.executable, COMMAND, "check", "--tree", self.text(), *words)
+                said = self.of_host("check", *words) if of_host else called("check", "--tree", self.text(), *words)
                 self.assertEqual((said.returncode, said.stderr), (severity.status, ""))
                 self.assertEqual(standing.is_empty(saved.check(json.loads(said.stdout), "it")), severity is Severity.NOTHING_ASKED)
                 os.mkdir(f"{self.host.folder}/reports")
                 self.put("reports/host.json", said.stdout)
-                fleet = ended(sys.executable, COMMAND, "fleet", f"{self.host.folder}/reports")
+                fleet = called("fleet", f"{self.host.folder}/reports")
                 self.assertEqual((fleet.returncode, fleet.stderr), (severity.status, ""))
                 self.assertEqual(re.split("  +", fleet.stdout.splitlines()[1])[1], severity.value)
 
@@ -201,14 +200,14 @@ class HelperTest(unittest.TestCase):
                 self.assertEqual(set(map(int, re.findall(r"\b[0-4]\b", told))), set(by_status), command)
                 for status, (words, given) in by_status.items():
                     with self.subTest(command, status=status):
-                        said = ended(sys.executable, COMMAND, command, *words, given=given)
+                        said = called(command, *words, given=given)
                         self.assertEqual(said.returncode, status, said)
 
     def of_files(self, folder):
         """Calls that read a report, and what a made-up host is."""
         file, host = f"{folder}/report.json", MadeUp(f"{folder}/host")
         with open(file, "w", encoding="utf-8") as out:
-            out.write(ended(sys.executable, COMMAND, "check", *ASKED, "--tree", GOOD, "--json").stdout)
+            out.write(called("check", *ASKED, "--tree", GOOD, "--json").stdout)
         host.cgroup("/")
         on_host = ("--plain-folder", "--mount", host.mount, "--proc", host.proc, "--accounts", host.etc)
         return {"page": {0: ((file,), None), 3: ((f"{folder}/none.json",), None)},
