@@ -368,6 +368,10 @@ def options_here():
 
 
 def of_docker_run():
+    """One that ends at once takes them; one that goes on is to be named."""
+    said("docker", "rm", "-f", "hostns", check=False)
+    said(*DOCKER, "--name", "hostns", "--cgroupns=host", "busy", *SLEEP)
+    said("mount", "-o", "remount,nsdelegate,memory_recursiveprot", MOUNT)
     said("docker", "run", "--rm", "--network", "none", "--cgroupns=host", "busy", "cat", "/etc/passwd")
 
 
@@ -381,24 +385,27 @@ def hierarchy(options):
         ready_docker(FOLDER)
     first = Checked(options, "--baseline-update", base)
     yield "as it was booted", f"{sorted(options_here())}, status {first.status}", [] if not first.premise("mount-options") else ["found"]
-    takes = (("docker run --rm --cgroupns=host", of_docker_run, "dockerd"), ("mount -t cgroup2 none /mnt", of_mount, "sh"))
-    for name, take, program in takes:
+    takes = (("docker run --rm --cgroupns=host", of_docker_run, "dockerd", "docker:hostns"),
+             ("mount -t cgroup2 none /mnt", of_mount, "sh", "/mnt"))
+    for name, take, program, word in takes:
         if shutil.which(program):
             take()
-            yield from without_options(options, name, base)
+            yield from without_options(options, name, base, word)
     said("umount", "/mnt", check=False)
 
 
-def without_options(options, name, base):
+def without_options(options, name, base, word):
+    """What is told of options that are gone: with whom they went, or where the hierarchy is mounted once more."""
     gone = options_here()
     checked = Checked(options, "--baseline", base)
     found = checked.premise("mount-options")
     told = [each for kind in ("new", "worse") for each in checked.report["baseline"][kind] if each["what"] == "mount-options"]
-    further = checked.lines("/mnt")
+    texts = (*(each["told"] for each in found), *(" ".join((each["place"], each["text"])) for each in checked.report["unseen"]))
+    beside = [text for text in texts if word in text]
     wrong = lacking((("still there", bool(gone)), ("no finding", not found), ("status", checked.status not in (1, 2)),
-                     ("not in the baseline's", not told), ("no line of the further mount", "mount -t" in name and not further)))
+                     ("not in the baseline's", not told), (f"no {word}", not beside)))
     yield name, f"left {sorted(gone) or 'neither'}, {[each['entry'] for each in found]}, status {checked.status}, " \
-                f"{', '.join(kind for kind in ('new', 'worse') if checked.report['baseline'][kind])}; {'; '.join(further)[:300]}", wrong
+                f"{', '.join(kind for kind in ('new', 'worse') if checked.report['baseline'][kind])}; {'; '.join(beside)[:600]}", wrong
     for command in [command for each in found for command in each["changes"]]:
         said("sh", "-c", command)
         after = Checked(options, "--baseline", base)
