@@ -17,7 +17,8 @@ from zirofen_host import command, fault
 from zirofen_host.ask import accepted, in_time
 from zirofen_host.ask import program as asking
 from zirofen_host.ask.model import Question
-from zirofen_host.ask.questions import Runs, bounded_further, subtrees_by
+from zirofen_host.ask.affordable import Runs, bounded_further
+from zirofen_host.ask.questions import subtrees_by
 from zirofen_host.collect import bounded, descriptors, mount_kinds, processes, snapshot, turns, walk
 from zirofen_host.collect.notes import FAILED
 from zirofen_host.collect.accounts import Accounts

@@ -8,11 +8,11 @@ from zirofen_host import output
 from zirofen_host.ask.program import Program
 from zirofen_host.collect import bounded, elsewhere
 from zirofen_host.collect import snapshot as snapshots
+from zirofen_host.collect.agreement import spoiled_of
 from zirofen_host.collect.elsewhere import Accepted
 from zirofen_host.collect.model import Snapshot
 from zirofen_host.collect.snapshot import SubtreesOf
 from zirofen_host.collect.tree import read_tree
-from zirofen_host.collect.walk import spoiled_of
 from zirofen_host.fault import Fault
 from zirofen_host.options import Options
 from zirofen_host.profile import LONGEST_TEXT

@@ -6,7 +6,8 @@ from zirofen_host.ask.held import movers
 from zirofen_host.ask.in_time import NotInTime
 from zirofen_host.ask.model import Answers, Plan, Question
 from zirofen_host.ask.program import TooLarge, abilities_of
-from zirofen_host.ask.questions import Questions, Runs, bounded_further, bounded_plan, further_of, plan_of, questions_of
+from zirofen_host.ask.affordable import Runs, bounded_further, bounded_plan
+from zirofen_host.ask.questions import Questions, further_of, plan_of, questions_of
 from zirofen_host.ask.spoiled import spoiled
 from zirofen_host.ask.texts import Programs, Text, texts_of, write
 from zirofen_host.collect import bounded, turns

@@ -10,9 +10,7 @@ from typing import (AbstractSet, Callable, Collection, Container, DefaultDict, D
 from zirofen_host.ask.delegations import Delegations
 from zirofen_host.ask.model import Answer, Cut, Guarded, Holders, Pair, Plan, Question
 from zirofen_host.ask.program import ESCAPES
-from zirofen_host.collect import bounded
 from zirofen_host.collect.accounts import Accounts, accounts_of
-from zirofen_host.collect.bounded import Spent
 from zirofen_host.collect.holds import Holds, handed_in
 from zirofen_host.collect.model import CLASSES, GROUP, OTHERS, OWNER, Snapshot, Tree, User
 from zirofen_host.collect.reasons import Reason
@@ -341,39 +339,6 @@ def with_questions(plan: Plan, questions: Questions, asked: Mapping[CgroupPath, 
     return replace(plan, questions=asks, expected_of=expected_of)
 
 
-@dataclass(frozen=True)
-class Runs:
-    """What the questions for what each person made have cost."""
-    makers: Holds
-    spent: Spent
-
-    def affordable(self, asked: Iterable[Question]) -> Tuple[List[Question], Dict[CgroupPath, Reason]]:
-        """Questions without what is over somebody's budget, and the subtrees that this is, each with why."""
-        kept: List[Question] = []
-        over: Dict[CgroupPath, Reason] = {}
-        for each in asked:
-            makers = {path: self.makers.within(path) or 0 for path in each.subtrees}
-            dropped = {maker for maker in set(makers.values()) if not self.spent.take(maker)}
-            over.update({path: self.spent.budget.exceeded_by(maker) for path, maker in makers.items() if maker in dropped})
-            kept.append(Question(each.users, tuple(path for path in each.subtrees if makers[path] not in dropped)))
-        return [each for each in kept if each.subtrees], over
-
-
-def bounded_plan(questions: Questions, plan: Plan, runs: Runs) -> Tuple[Plan, Dict[CgroupPath, Reason]]:
-    """A plan with no more uids of one person's than are asked of, and no more questions for what one person made: of what is over
-    these budgets nothing is asked, and it is told of which subtrees, each with why."""
-    payer = questions.accounts.payer
-    users = Spent(bounded.USERS, payer)
-    uids = {user.uid for each in plan.questions for user in each.users}
-    left_out = {uid for uid in sorted(uids, key=lambda uid: (payer(uid) != uid, uid)) if not users.take(uid)}
-    asked, over = runs.affordable(plan.questions)
-    kept = [Question(tuple(user for user in each.users if user.uid not in left_out), each.subtrees) for each in asked]
-    lost = {payer(uid) for uid in left_out}
-    over.update({path: bounded.USERS.exceeded_by(person) for path in questions.subtrees for person in lost
-                 if any(payer(uid) == person for uid in questions.holders[path].uids)} if lost else {})
-    return replace(plan, questions=tuple(each for each in kept if each.users)), over
-
-
 def named_as_asked(plan: Plan, path: CgroupPath) -> Set[User]:
     return {plan.asked_as[user] for user in plan.named[path] if user in plan.asked_as}
 
@@ -413,15 +378,3 @@ def further_of(questions: Questions, plan: Plan, found: Mapping[Pair, Answer]) -
             left = len(everybody - of) - len(some)
             not_asked.update({path: left} if left else {})
     return tuple(Question(users, tuple(paths)) for users, paths in further.items() if users), not_asked
-
-
-def bounded_further(further: Iterable[Question], not_asked: Mapping[CgroupPath, int],
-                    runs: Runs) -> Tuple[Tuple[Question, ...], Dict[CgroupPath, int]]:
-    """Further questions without what is over somebody's budget, and of how many users each subtree isn't asked about."""
-    further = tuple(further)
-    kept, over = runs.affordable(further)
-    left: Dict[CgroupPath, int] = Counter(not_asked)
-    for users, paths in further:
-        for path in paths:
-            left[path] += len(users) if path in over else 0
-    return tuple(kept), {path: count for path, count in left.items() if count}

@@ -221,6 +221,39 @@ def list_folder(folder: Union[str, int], most: int) -> Listed:
     return Listed(names[:most], True) if len(names) > most else Listed(names, False)
 
 
+def folders_in(folder: int) -> List[str]:
+    try:
+        return [name for name, is_folder in list_folder(folder, NAMES).names if is_folder]
+    except OSError:
+        return []
+
+
+def count_folders(folder: int, name: bytes, most: int) -> int:
+    """How many folders one is, with all inside, however deep: one folder is open at a time. No more than one over so many are
+    counted."""
+    count, levels, here = 0, [[os.fsdecode(name)]], os.dup(folder)
+    try:
+        while levels and count <= most:
+            is_up = not levels[-1]
+            try:
+                below = open_folder(".." if is_up else levels[-1].pop(), here)
+            except OSError:
+                # it went, and there is no way up from what went
+                if is_up:
+                    break
+                continue
+            os.close(here)
+            here = below
+            if is_up:
+                levels.pop()
+            else:
+                count += 1
+                levels.append(folders_in(here))
+        return max(count, 1)
+    finally:
+        os.close(here)
+
+
 def read_link(path: Place) -> str:
     """Where a link leads, which a kernel bounds."""
     return os.readlink(os.fsdecode(path))

@@ -7,6 +7,7 @@ from typing import Callable, Container, Dict, Iterable, Iterator, List, Mapping,
 
 from zirofen_host.collect import containers, held, inside, walk
 from zirofen_host.collect.accounts import payer_of
+from zirofen_host.collect.agreement import Agreed, walk_until_agreed
 from zirofen_host.collect.bounded import Payer
 from zirofen_host.collect.further_mounts import further_mounts
 from zirofen_host.collect.looks import Looks
@@ -15,6 +16,7 @@ from zirofen_host.collect.mount import Mounts, mounts_of_folder, read_kernel_lis
 from zirofen_host.collect.notes import (ANY_MODE, Changing, FileOfNoController, LimitsOfVersion1, NamedAsFile, NoFile, Note, NoValue,
                                         OtherControllers, OtherModes, OtherPid, OtherType, OtherValue, ProcessesBeside,
                                         UnknownProcess, UnlistedProcesses, WrongName)
+from zirofen_host.collect.once import reached_in
 from zirofen_host.collect.processes import Reader, lacking_notes
 from zirofen_host.collect.tree import tree_text as text_of_tree
 from zirofen_host.fault import Fault
@@ -111,7 +113,7 @@ class Bending:
         """The further limit files that are told of: those that somebody but root reaches, and that the parent brings."""
         reached = self.reached.get(id(found.files))
         if reached is None:
-            reached = self.reached[id(found.files)] = walk.reached_in(found.files) if self.text_format.further else []
+            reached = self.reached[id(found.files)] = reached_in(found.files) if self.text_format.further else []
         if not reached or is_root(path):
             return []
         brought = [file for file in reached if FURTHER_FILES[file].is_brought_by(available)]
@@ -181,7 +183,7 @@ def about_this_host() -> About:
     return About(names.nodename, f"{names.sysname} {names.release}", time.strftime("%Y-%m-%dT%H:%M:%SZ", time.gmtime()))
 
 
-def snapshot_of(agreed: walk.Agreed, reader: Reader, options: Options, mounts: Mounts) -> Snapshot:
+def snapshot_of(agreed: Agreed, reader: Reader, options: Options, mounts: Mounts) -> Snapshot:
     """What was found of this host, as a snapshot."""
     walked, processes = agreed.walk, reader.found
     cgroups: Cgroups = walked.found
@@ -219,11 +221,11 @@ def take(options: Options, subtrees_of: SubtreesOf) -> Snapshot:
     def subtrees_in(walked: walk.Walk, changing: walk.Whys) -> Iterable[CgroupPath]:
         if not running:
             running.append(look_at_processes(options, payer, gids_in(walked.found)))
-        found = snapshot_of(walk.Agreed(walked, {}, {}), running[0], options, mounts)
+        found = snapshot_of(Agreed(walked, {}, {}), running[0], options, mounts)
         return subtrees_of(found, changing)
 
-    agreed = walk.walk_until_agreed(options.mount, options.only, subtrees_in, payer, options.text_format.further,
-                                    mounts.below(options.mount))
+    agreed = walk_until_agreed(options.mount, options.only, subtrees_in, payer, options.text_format.further,
+                               mounts.below(options.mount))
     reader = look_at_processes(options, payer, gids_in(agreed.walk.found))
     found, looks = snapshot_of(agreed, reader, options, mounts), Looks()
     look = looks.at("root-inside", lambda: inside.look(options.proc, found.cgroups, found.processes), None)

@@ -1,33 +1,31 @@
-"""Walking over a cgroup v2 mount, or over a folder of plain files that looks like one.
+"""Walking over a cgroup v2 mount, or over a folder of plain files that looks like one: what goes in is the mount, and what comes out are
+its cgroups as they were read.
 
-What changes while it is walked over, or can't be read, is told of alone: the rest of what was found stands.
+What changes during the walk, or can't be read, is told of alone: the rest of what was found stands.
 """
 import contextlib
 import errno
 import os
 import stat
 import sys
-from typing import (Callable, Collection, Dict, FrozenSet, Iterable, Iterator, List, Mapping, NamedTuple, Optional, Sequence, Set, Tuple,
-                    TypeVar)
+from typing import Collection, Dict, FrozenSet, Iterable, Iterator, List, Mapping, NamedTuple, Optional, Sequence, Set, Tuple, TypeVar
 
 from zirofen_host import progress
 from zirofen_host.collect import bounded
 from zirofen_host.collect.bounded import Payer, Spent
 from zirofen_host.collect.model import Cgroup, Entry, FilePlace
-from zirofen_host.collect.reasons import CHANGED, Changed, MountedOver, NeverAgreed, Reason, Unreadable
+from zirofen_host.collect.once import Once, Owned
+from zirofen_host.collect.reasons import CHANGED, MountedOver, Reason, Unreadable
 from zirofen_host.fault import Fault
-from zirofen_host.files import CONTROL_FILES, CONTROLLERS, FURTHER_FILES, LIMIT_FILES, may_set
+from zirofen_host.files import CONTROL_FILES, CONTROLLERS, LIMIT_FILES, may_set
 from zirofen_host.profile import LONGEST_PATH, ROOT, CgroupPath, ancestors, is_name, parent_of, shown, topmost
 
 MANAGERS_MARK, OWNERS_MARK = MARKS = ("trusted.delegate", "user.delegate")
-MOST_WALKS = 8
 # the longest path that a kernel takes; what is in a folder is read by the folder's descriptor
 LONGEST_FOLDER = 4095
 
 Of = TypeVar("Of")
 NONE: FrozenSet[str] = frozenset()
-# a uid, a gid and a mode
-Owned = Tuple[int, int, int]
 # why something is left out, by its path
 Whys = Mapping[CgroupPath, Reason]
 # what is mounted inside of a mount, by its path from there, and of what type each is
@@ -59,40 +57,6 @@ class Hold(NamedTuple):
     """The topmost cgroup of somebody's own, and whose."""
     path: CgroupPath
     uid: int
-
-
-class Once:
-    """What is equal in many cgroups, which is held once."""
-
-    def __init__(self) -> None:
-        self.entries: Dict[Owned, Entry] = {}
-        self.files: Dict[Tuple[Tuple[str, Owned], ...], Mapping[str, Entry]] = {}
-        self.texts: Dict[Tuple[Tuple[str, str], ...], Mapping[str, str]] = {}
-        # by the table that stands in `files`, which is held as long
-        self.reached: Dict[int, Tuple[str, ...]] = {}
-
-    def entry(self, owned: Owned) -> Entry:
-        if owned not in self.entries:
-            self.entries[owned] = Entry(*owned)
-        return self.entries[owned]
-
-    def files_of(self, pairs: Tuple[Tuple[str, Owned], ...]) -> Mapping[str, Entry]:
-        found = self.files.get(pairs)
-        if found is None:
-            found = self.files[pairs] = {name: self.entry(owned) for name, owned in pairs}
-        return found
-
-    def reached_in(self, files: Mapping[str, Entry]) -> Tuple[str, ...]:
-        """The further limit files of a table of `files_of` that somebody but root reaches."""
-        if id(files) not in self.reached:
-            self.reached[id(files)] = tuple(reached_in(files))
-        return self.reached[id(files)]
-
-    def texts_of(self, pairs: Tuple[Tuple[str, str], ...]) -> Mapping[str, str]:
-        found = self.texts.get(pairs)
-        if found is None:
-            found = self.texts[pairs] = dict(pairs)
-        return found
 
 
 class Walk:
@@ -300,7 +264,7 @@ class Walk:
         except OSError:
             return 1
         uid = uid or (self.hold.uid if self.hold else 0)
-        count = count_of(folder, name, max(self.cgroups.left(uid), 0) if uid else self.cgroups.budget.most)
+        count = bounded.count_folders(folder, name, max(self.cgroups.left(uid), 0) if uid else self.cgroups.budget.most)
         if not self.cgroups.take(uid, count) and self.hold and self.payer(uid) == self.hold.uid:
             raise TooMuch(self.cgroups.budget.exceeded_by(self.hold.uid))
         return count
@@ -337,13 +301,6 @@ class Walk:
     def without(self, paths: Collection[CgroupPath]) -> None:
         """Leaves out some cgroups, with what is inside, and what is inside of none."""
         self.found = whole(self.found, paths)
-
-
-class Agreed(NamedTuple):
-    """The last walk, without what changed all the time or can't be read; these, and the subtrees that they spoil, each with why."""
-    walk: Walk
-    changing: Whys
-    spoiled: Whys
 
 
 def walk_over(mount: str, tops: Optional[Iterable[CgroupPath]] = None, before: Optional[Walk] = None, payer: Payer = int,
@@ -393,11 +350,6 @@ def still_listed() -> Iterator[None]:
         raise
 
 
-def reached_in(files: Mapping[str, Entry]) -> List[str]:
-    """The further limit files of a cgroup that somebody but root reaches, in their order."""
-    return sorted(file for file, entry in files.items() if file in FURTHER_FILES and entry.is_reached)
-
-
 def owned_of(status: os.stat_result) -> Owned:
     return status.st_uid, status.st_gid, stat.S_IMODE(status.st_mode)
 
@@ -422,89 +374,3 @@ def value_of(path: bytes, file: str) -> Optional[str]:
             os.close(folder)
     except OSError:
         return None
-
-
-def folders_in(folder: int) -> List[str]:
-    try:
-        return [name for name, is_folder in bounded.list_folder(folder, bounded.NAMES).names if is_folder]
-    except OSError:
-        return []
-
-
-def count_of(folder: int, name: bytes, most: int) -> int:
-    """How many cgroups one is, with all inside, however deep: one folder is open at a time. No more than one over so many are
-    counted."""
-    count, levels, here = 0, [[os.fsdecode(name)]], os.dup(folder)
-    try:
-        while levels and count <= most:
-            is_up = not levels[-1]
-            try:
-                below = bounded.open_folder(".." if is_up else levels[-1].pop(), here)
-            except OSError:
-                # it went, and there is no way up from what went
-                if is_up:
-                    break
-                continue
-            os.close(here)
-            here = below
-            if is_up:
-                levels.pop()
-            else:
-                count += 1
-                levels.append(folders_in(here))
-        return max(count, 1)
-    finally:
-        os.close(here)
-
-
-def walk_until_agreed(mount: str, only: Optional[CgroupPath], subtrees_of: Callable[[Walk, Whys], Iterable[CgroupPath]],
-                      payer: Payer = int, further: Sequence[str] = (), below: Below = NOTHING) -> Agreed:
-    """Walks until two walks in a row agree on all that can matter for a subtree: itself, what is inside, and its ancestors.
-    Only what doesn't agree is walked over again. `subtrees_of` gives the subtrees that are asked of, by a walk and by what
-    changes; the values of some further limit files are read. What is mounted inside of the mount is told."""
-    tops = None if only is None else (only,)
-    before = walk_over(mount, tops, None, payer, (), below)
-    walk = walk_over(mount, tops, before, payer, further, below)
-    walk.holds = {**before.holds, **walk.holds}
-    if only is not None and only not in walk.found and only not in walk.unread:
-        raise Fault(f"there is no cgroup {shown(only)}")
-    changing: Whys = walk.differing(before)
-    spoiled: Whys = spoiled_by(changing, subtrees_of(walk, changing)) if changing else {}
-    for _ in range(MOST_WALKS):
-        again: Sequence[CgroupPath] = [ROOT] if ROOT in changing else [path for path, why in spoiled.items() if isinstance(why, Changed)]
-        if not again:
-            break
-        part = walk_over(mount, again, walk, payer, further, below)
-        changing = {**{path: why for path, why in changing.items() if not part.covers(path)}, **part.differing(walk)}
-        walk.take(part)
-        spoiled = spoiled_by(changing, subtrees_of(walk, changing))
-    if ROOT in changing:
-        raise Fault(f"the root cgroup: {changing[ROOT]}, through {MOST_WALKS} walks")
-    spoiled = spoiled_of(changing, subtrees_of(walk, changing) if changing else ())
-    walk.without(changing)
-    return Agreed(walk, changing, spoiled)
-
-
-def spoiled_of(changing: Whys, subtrees: Iterable[CgroupPath]) -> Dict[CgroupPath, Reason]:
-    """The subtrees that are spoiled at last; what can't be read is told of also where it is in no subtree that is known of."""
-    spoiled = {path: NeverAgreed(MOST_WALKS) if isinstance(why, Changed) else why for path, why in spoiled_by(changing, subtrees).items()}
-    for path, why in changing.items():
-        if not isinstance(why, Changed) and spoiled.keys().isdisjoint((path, *ancestors(path))):
-            spoiled[path] = why
-    return spoiled
-
-
-def spoiled_by(changing: Whys, subtrees: Iterable[CgroupPath]) -> Dict[CgroupPath, Reason]:
-    """The subtrees for which something matters that changed, each with why; what can't be read goes before what changed."""
-    inside: Dict[CgroupPath, Reason] = {}
-    for path, why in changing.items():
-        for place in (path, *ancestors(path)):
-            if inside.get(place, CHANGED) == CHANGED:
-                inside[place] = why
-    spoiled = {}
-    for subtree in subtrees:
-        of = (inside.get(subtree), *(changing.get(place) for place in ancestors(subtree)))
-        whys = {why for why in of if why is not None}
-        if whys:
-            spoiled[subtree] = min(whys - {CHANGED}, key=str, default=CHANGED)
-    return spoiled
