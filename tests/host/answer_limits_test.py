@@ -25,7 +25,7 @@ from zirofen_host.collect.mount import Mounts
 from zirofen_host.collect.processes import lacking_notes
 from zirofen_host.collect.snapshot import tree_text
 from zirofen_host.judge import check, limits
-from zirofen_host.judge.model import ABSENT
+from zirofen_host.judge.host_model import ABSENT
 from zirofen_host.judge.rules import findings_of
 from zirofen_host.show import fleet, fleet_lines, junit, metrics, page, sarif, tree_view
 from zirofen_host.show.lines import lines_of

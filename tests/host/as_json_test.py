@@ -10,7 +10,8 @@ import report_schema
 from made_up import HERE
 from shown import value_of
 from zirofen_host.judge import as_json
-from zirofen_host.judge.model import ABSENT, Comparison, Report
+from zirofen_host.judge.host_model import ABSENT
+from zirofen_host.judge.model import Comparison, Report
 
 
 def kept_reports():

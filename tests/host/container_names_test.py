@@ -16,7 +16,7 @@ from zirofen_host.collect import containers
 from zirofen_host.collect.model import Scope
 from zirofen_host.fault import Fault
 from zirofen_host.judge import baseline
-from zirofen_host.judge.model import ABSENT, NamedScope, PlaceNames
+from zirofen_host.judge.host_model import ABSENT, NamedScope, PlaceNames
 from zirofen_host.judge.rules import findings_of
 from zirofen_host.profile import path_of, text_of
 from zirofen_host.show import junit, sarif

@@ -16,7 +16,8 @@ from made_up import HERE, TOP
 from shown import made
 from zirofen_host.fault import Fault
 from zirofen_host.judge import baseline
-from zirofen_host.judge.model import FaultFinding, OpenedFinding, Owner, Told, Whom
+from zirofen_host.judge.host_model import Owner
+from zirofen_host.judge.model import FaultFinding, OpenedFinding, Told, Whom
 from zirofen_host.judge.rules import RULES, findings_of
 from zirofen_host.options import CheckOptions, Way
 from zirofen_host.show import formats, junit, metrics, sarif

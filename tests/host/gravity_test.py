@@ -16,8 +16,9 @@ from page_reader import PageReader
 from shown import made, value_of
 from zirofen_host.arguments import DESCRIPTIONS
 from zirofen_host.judge import acceptances, check, limits
-from zirofen_host.judge.model import (ABSENT, Acceptance, AnswerLimit, EntryFinding, FaultFinding, HeldBy, HeldFinding, HolderAnswer,
-                                      OpenedFinding, Owner, Report, ReportCgroup, RootInside, RunsElsewhere, Subtree, Told, Whom)
+from zirofen_host.judge.host_model import ABSENT, Owner, ReportCgroup
+from zirofen_host.judge.model import (Acceptance, AnswerLimit, EntryFinding, FaultFinding, HeldBy, HeldFinding, HolderAnswer, OpenedFinding,
+                                      Report, RootInside, RunsElsewhere, Subtree, Told, Whom)
 from zirofen_host.ask.guards import GUARD_AT
 from zirofen_host.judge.severity import STATUSES, Severity
 from zirofen_host.judge.standing import severity_of, standings

@@ -19,7 +19,7 @@ from zirofen_host.collect.model import Covered, Entry, FurtherMount, Scope
 from zirofen_host.collect.mount import Mounts
 from zirofen_host.collect.tree import read_tree
 from zirofen_host.judge import acceptances, baseline, check
-from zirofen_host.judge.model import ABSENT
+from zirofen_host.judge.host_model import ABSENT
 from zirofen_host.profile import path_of
 from zirofen_host.show import fleet, fleet_lines, junit, metrics, page, sarif, tree_view
 from zirofen_host.show.run import Run

@@ -12,7 +12,8 @@ from check_test import MANAGER, MARK, PROGRAM, HostTest, owned
 from formats_test import odd_report, run_of
 from shown import made
 from zirofen_host.judge import check, mends, settings, wanted
-from zirofen_host.judge.model import ABSENT, ReportCgroup, ReportFile, Told
+from zirofen_host.judge.host_model import ABSENT, ReportCgroup, ReportFile
+from zirofen_host.judge.model import Told
 from zirofen_host.judge.notes import LostLimit, Restart
 from zirofen_host.judge.rules import findings_of
 from zirofen_host.show import formats

@@ -10,7 +10,8 @@ from collections.abc import Mapping
 
 from made_up import TOP
 from zirofen_host.judge.as_json import fields_of
-from zirofen_host.judge.model import VERSION, Absent, Filled, Matching, Report
+from zirofen_host.judge.host_model import Absent, Filled, Matching
+from zirofen_host.judge.model import VERSION, Report
 
 FILE = f"{TOP}/host/zirofen_host/judge/report.schema.json"
 TYPES = {str: "string", int: "integer", bool: "boolean", type(None): "null"}

@@ -13,8 +13,8 @@ from check_test import HostTest, owned
 from made_up import COMMAND, TOP
 from zirofen_host import version
 from zirofen_host.judge import as_json, baseline, check
+from zirofen_host.judge.host_model import ABSENT
 from zirofen_host.judge.mends import KINDS, SHELL
-from zirofen_host.judge.model import ABSENT
 
 from zirofen_host.show import fleet, fleet_lines, fleet_metrics, fleet_page, junit, lines, mends, metrics, page, sarif, tree_view
 from zirofen_host.show.run import Run

@@ -11,8 +11,9 @@ from zirofen_host.collect import bounded
 from zirofen_host.collect.model import GROUP, OTHERS, OWNER
 from zirofen_host.collect.tree import parts_in, table_in, text_in, texts_in, toml_reader
 from zirofen_host.fault import Fault
+from zirofen_host.judge.host_model import ABSENT, Absent
 from zirofen_host.judge.severity import ACCEPTED
-from zirofen_host.judge.model import ABSENT, Absent, Acceptance, EntryFinding, OpenedFinding, Report, RootInside, Whom
+from zirofen_host.judge.model import Acceptance, EntryFinding, OpenedFinding, Report, RootInside, Whom
 from zirofen_host.judge.finding_lines import CAPABILITY, MOUNT_OPTIONS
 from zirofen_host.judge.rules import (ACCEPTABLE, HELD, OPENED, PREMISES, ROOT_INSIDE, RULES, RUNS, Finding, Rule, findings_of, of_held,
                                       of_premise, of_running)

@@ -6,7 +6,8 @@ import re
 import typing
 from typing import Annotated, Dict, Iterator, List, Mapping, Tuple, Type, TypeVar, Union, cast
 
-from zirofen_host.judge.model import ABSENT, NO_KEY, Absent, Report
+from zirofen_host.judge.host_model import ABSENT, NO_KEY, Absent
+from zirofen_host.judge.model import Report
 
 Json = Union[None, bool, int, str, List["Json"], Dict[str, "Json"]]
 Made = TypeVar("Made")

@@ -11,12 +11,13 @@ from zirofen_host.fault import Fault
 from zirofen_host.judge import as_json
 from zirofen_host.judge.finding_lines import (MOUNT_OPTIONS, above_line, differs_line, entry_line, fault_line, inside_line, opened_line,
                                               premise_line, version_1_line)
+from zirofen_host.judge.host_model import ABSENT, Absent, PlaceNames
 from zirofen_host.judge.severity import ACCEPTED as HOLDS
 from zirofen_host.judge.severity import Severity, of_answer, of_fault, worst
 from zirofen_host.judge.standing import accepted_subtrees, is_empty
 from zirofen_host.collect.notes import FAILED
-from zirofen_host.judge.model import (ABSENT, VERSION, Absent, Comparison, Difference, DiffersFinding, EntryFinding,
-                                      OpenedFinding, PlaceNames, Report, RootInside, Subtree, Whom, Within)
+from zirofen_host.judge.model import (VERSION, Comparison, Difference, DiffersFinding, EntryFinding, OpenedFinding, Report, RootInside,
+                                      Subtree, Whom, Within)
 from zirofen_host.judge.rules import Finding, of_held, of_premise, of_running
 from zirofen_host.judge.saved import LACKING
 from zirofen_host.profile import shown

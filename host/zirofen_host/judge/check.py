@@ -19,12 +19,13 @@ from zirofen_host.judge.advised import Advised, advise
 from zirofen_host.judge.checked import Checked
 from zirofen_host.judge.finding_lines import SHOWN
 from zirofen_host.judge.findings import above_findings, differs_findings, entry_findings, fault_findings, opened_findings
+from zirofen_host.judge.host_model import ABSENT, NamedScope
 from zirofen_host.judge.standing import severity_of
 from zirofen_host.judge.judged import Own, judge
 from zirofen_host.judge.limits import limits_of
 from zirofen_host.judge.lists import shown_lists
 from zirofen_host.judge.marked import marked
-from zirofen_host.judge.model import ABSENT, VERSION, HeldBy, HolderAnswer, NamedScope, Report, Subtree, Told
+from zirofen_host.judge.model import VERSION, HeldBy, HolderAnswer, Report, Subtree, Told
 from zirofen_host.judge.names import names_of
 from zirofen_host.judge.settings import Settings
 from zirofen_host.options import Options

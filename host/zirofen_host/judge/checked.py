@@ -13,8 +13,9 @@ from zirofen_host.collect.holds import Holds
 from zirofen_host.collect.looks import Looks
 from zirofen_host.collect.model import Entry, Scope, Snapshot, User
 from zirofen_host.files import Kind, kind_of
+from zirofen_host.judge.host_model import ABSENT, Absent, Wanted
 from zirofen_host.judge.judged import Judged, LetIn, Place
-from zirofen_host.judge.model import ABSENT, Absent, Wanted, Within
+from zirofen_host.judge.model import Within
 from zirofen_host.judge.names import Names
 from zirofen_host.judge.opened import find_openings
 from zirofen_host.judge.settings import CGROUP, LOOK, Agreed, Settings, agreed_at, systemctl_of

@@ -5,8 +5,9 @@ from typing import Iterable, Optional, Sequence
 
 from zirofen_host.collect.model import GROUP, OTHERS, OWNER
 from zirofen_host.collect.notes import LimitsOfVersion1
-from zirofen_host.judge.model import (AboveFinding, Absent, Acceptance, DiffersFinding, EntryFinding, FaultFinding, HeldFinding,
-                                      OpenedFinding, Owner, PremiseFinding, RootInside, RunsElsewhere, Whom)
+from zirofen_host.judge.host_model import Absent, Owner
+from zirofen_host.judge.model import (AboveFinding, Acceptance, DiffersFinding, EntryFinding, FaultFinding, HeldFinding, OpenedFinding,
+                                      PremiseFinding, RootInside, RunsElsewhere, Whom)
 from zirofen_host.profile import shown
 
 # names in a line; where there are more, it tells how many

@@ -15,9 +15,9 @@ from zirofen_host.judge.advised import Advised
 from zirofen_host.judge.checked import Checked
 from zirofen_host.judge.finding_lines import some
 from zirofen_host.collect.looks import Looks
+from zirofen_host.judge.host_model import ABSENT, Absent, Owner
 from zirofen_host.judge.judged import LetIn, LetsIn, Place
-from zirofen_host.judge.model import (ABSENT, AboveFinding, Absent, DiffersFinding, EntryFinding, Example, FaultFinding, OpenedFinding,
-                                      Owner, Whom, word_of)
+from zirofen_host.judge.model import AboveFinding, DiffersFinding, EntryFinding, Example, FaultFinding, OpenedFinding, Whom, word_of
 from zirofen_host.judge.names import Names
 from zirofen_host.judge.opened import GROUP_WRITES, OTHERS_WRITE, WHO_IS_FIRST, what_differs
 from zirofen_host.judge.shell import closing_commands

@@ -5,7 +5,8 @@ from typing import DefaultDict, Dict, Iterable, Iterator, List, NamedTuple, Sequ
 from zirofen_host.ask.held import PROCS, held_in
 from zirofen_host.collect.model import OWNER, Entry, HeldEntry, Holding
 from zirofen_host.judge.checked import Checked
-from zirofen_host.judge.model import ABSENT, HeldFinding, Owner, Subtree, Whom, Within
+from zirofen_host.judge.host_model import ABSENT, Owner
+from zirofen_host.judge.model import HeldFinding, Subtree, Whom, Within
 from zirofen_host.profile import CgroupPath, parent_of, shown, text_of
 
 

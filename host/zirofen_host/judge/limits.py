@@ -6,7 +6,8 @@ from zirofen_host.ask.in_time import NotInTime
 from zirofen_host.collect.notes import BUDGETS, LACKING, WALK, Note
 from zirofen_host.judge.checked import Checked
 from zirofen_host.judge.finding_lines import version_1_line
-from zirofen_host.judge.model import Absent, AnswerLimit, Report
+from zirofen_host.judge.host_model import Absent
+from zirofen_host.judge.model import AnswerLimit, Report
 from zirofen_host.options import Options
 from zirofen_host.profile import NEWEST, is_root, shown, text_of
 

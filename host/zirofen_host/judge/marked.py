@@ -4,7 +4,8 @@ from typing import Iterable, Iterator, Optional, Set, Tuple, Union
 
 from zirofen_host.judge.finding_lines import CAPABILITY, MOUNTED_OVER
 from zirofen_host.judge.held import is_changed_by
-from zirofen_host.judge.model import ABSENT, Absent, HeldFinding, HolderAnswer, PremiseFinding, RunsElsewhere, Subtree
+from zirofen_host.judge.host_model import ABSENT, Absent
+from zirofen_host.judge.model import HeldFinding, HolderAnswer, PremiseFinding, RunsElsewhere, Subtree
 from zirofen_host.judge.running import is_place_of
 from zirofen_host.profile import ancestors
 

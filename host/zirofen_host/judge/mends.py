@@ -15,7 +15,8 @@ from zirofen_host.collect.notes import FAILED
 from zirofen_host.collect.model import OWNER
 from zirofen_host.files import BY_NAME, COUNTING, FURTHER_FILES, HANDED_OVER, LIMIT_FILES, PERIOD, Form, is_usual, setting_of
 from zirofen_host.judge.finding_lines import whom_text
-from zirofen_host.judge.model import ABSENT, Absent, Report, ReportCgroup, Wanted
+from zirofen_host.judge.host_model import ABSENT, Absent, ReportCgroup, Wanted
+from zirofen_host.judge.model import Report
 from zirofen_host.judge.notes import Restart
 from zirofen_host.judge.rules import ACCEPTABLE, DIFFERS, NOTHING_ASKED, OPENED, OPENED_DIRECTORY, ROOT_HELD, VERSION_1, Finding
 from zirofen_host.judge.shell import place as place_of

@@ -6,7 +6,7 @@ from typing import Iterable, Mapping, Optional, Tuple
 from zirofen_host.collect.notes import BUDGETS, Note, classes
 from zirofen_host.collect.reasons import Reason
 from zirofen_host.judge.finding_lines import some
-from zirofen_host.judge.model import Wanted
+from zirofen_host.judge.host_model import Wanted
 from zirofen_host.profile import MOST_GROUPS
 
 

@@ -18,7 +18,8 @@ from zirofen_host.collect.holds import holds_of
 from zirofen_host.collect.model import Snapshot
 from zirofen_host.fault import FAULT, Fault
 from zirofen_host.judge import baseline, check, limits, settings, units
-from zirofen_host.judge.model import ABSENT, NOTHING_ASKED, AnswerLimit, Comparison, Report, Told
+from zirofen_host.judge.host_model import ABSENT
+from zirofen_host.judge.model import NOTHING_ASKED, AnswerLimit, Comparison, Report, Told
 from zirofen_host.judge.notes import NotPlanned
 from zirofen_host.options import PlanOptions
 from zirofen_host.profile import text_of

@@ -10,10 +10,11 @@ from zirofen_host.judge.finding_lines import NOTHING_ASKED as NOTHING_ASKED_LINE
 from zirofen_host.judge.finding_lines import (CAPABILITY, INSIDE_MEANS, MOUNT_OPTIONS, MOUNTED_OVER, acceptance_line, differs_line,
                                               entry_line, fault_line, held_line, inside_line, opened_line, premise_line,
                                               processes_text, runs_line, version_1_line)
+from zirofen_host.judge.host_model import ABSENT, Absent
 from zirofen_host.judge.severity import ACCEPTED, Severity, of_answer, of_fault
 from zirofen_host.judge.standing import is_empty
-from zirofen_host.judge.model import (ABSENT, Absent, DiffersFinding, EntryFinding, HeldFinding, OpenedFinding, PremiseFinding, Report,
-                                      RootInside, RunsElsewhere, Whom, Within)
+from zirofen_host.judge.model import (DiffersFinding, EntryFinding, HeldFinding, OpenedFinding, PremiseFinding, Report, RootInside,
+                                      RunsElsewhere, Whom, Within)
 
 NOTHING_ASKED, VERSION_1, DIFFERS = "nothing-asked", "version-1", "differs"
 OPENED, OPENED_DIRECTORY = "opened", "opened/dir"

@@ -5,8 +5,8 @@ from typing import Iterator, Optional, Sequence
 from zirofen_host.collect.bounded import REPORT_FILE, read_named
 from zirofen_host.fault import Fault
 from zirofen_host.judge import as_json
-from zirofen_host.judge.model import (ABSENT, VERSION, AboveFinding, Absent, Comparison, Difference, FaultFinding, HolderAnswer,
-                                      OpenedFinding, Report, ReportCgroup, ReportProcess)
+from zirofen_host.judge.host_model import ABSENT, Absent, ReportCgroup, ReportProcess
+from zirofen_host.judge.model import VERSION, AboveFinding, Comparison, Difference, FaultFinding, HolderAnswer, OpenedFinding, Report
 from zirofen_host.profile import is_root, parent_of
 
 # letters of a text that is no report, in which it is looked at whether it is a tree's

@@ -4,7 +4,8 @@ from typing import Dict, Iterable, Mapping, Tuple, Union
 
 from zirofen_host.ask.program import CONTAINED, ESCAPES, UNSETTLED, WORDS
 from zirofen_host.fault import FAULT
-from zirofen_host.judge.model import ABSENT, NOTHING_ASKED, Absent, FaultFinding
+from zirofen_host.judge.host_model import ABSENT, Absent
+from zirofen_host.judge.model import NOTHING_ASKED, FaultFinding
 
 # how an acceptance stands that holds
 ACCEPTED = "accepted"

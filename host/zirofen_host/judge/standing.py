@@ -7,9 +7,10 @@ from zirofen_host.collect.notes import FAILED, RUN
 from zirofen_host.judge import limits
 from zirofen_host.judge.finding_lines import CAPABILITY, MOUNTED_OVER
 from zirofen_host.judge.held import CONTROL
+from zirofen_host.judge.host_model import ABSENT, Absent
 from zirofen_host.judge.marked import CAPABLE, COVERED, RUNS
-from zirofen_host.judge.model import (ABSENT, Absent, EntryFinding, FaultFinding, HeldFinding, HolderAnswer, OpenedFinding, PremiseFinding,
-                                      Report, RootInside, RunsElsewhere, Subtree)
+from zirofen_host.judge.model import (EntryFinding, FaultFinding, HeldFinding, HolderAnswer, OpenedFinding, PremiseFinding, Report,
+                                      RootInside, RunsElsewhere, Subtree)
 from zirofen_host.judge.running import places_of
 from zirofen_host.judge.severity import ACCEPTED, Severity, of_answer, of_fault, of_premise, unless, worst
 from zirofen_host.profile import ancestors, is_inside, parent_of, path_of, tree_order

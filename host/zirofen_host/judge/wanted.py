@@ -4,7 +4,7 @@ from typing import Callable, Dict, Iterator, Mapping, Optional, Tuple, Union
 
 from zirofen_host.ask.questions import is_slice, unit_of
 from zirofen_host.files import BY_NAME, KINDS, LIMITS, PAGE, PERIOD, Form, LimitFile, is_usual
-from zirofen_host.judge.model import Wanted
+from zirofen_host.judge.host_model import Wanted
 from zirofen_host.judge.shell import echoed, place
 from zirofen_host.profile import CgroupPath, path_of, text_of
 

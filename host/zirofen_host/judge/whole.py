@@ -9,7 +9,7 @@ from zirofen_host.files import CONTROL_FILES, WITHOUT_VALUE, is_other_limit
 from zirofen_host.judge.checked import Checked
 from zirofen_host.judge.findings import owner_of
 from zirofen_host.collect.looks import Looks
-from zirofen_host.judge.model import ABSENT, FileValue, ReportCgroup, ReportFile, ReportGroup, ReportProcess, ReportUser
+from zirofen_host.judge.host_model import ABSENT, FileValue, ReportCgroup, ReportFile, ReportGroup, ReportProcess, ReportUser
 from zirofen_host.profile import CgroupPath, shown, text_of
 
 

@@ -14,7 +14,8 @@ from zirofen_host.collect import turns
 from zirofen_host.collect.looks import Looks, why_of
 from zirofen_host.installed import NAME
 from zirofen_host.judge import acceptances, baseline, check, ended, settings
-from zirofen_host.judge.model import Absent, Report
+from zirofen_host.judge.host_model import Absent
+from zirofen_host.judge.model import Report
 from zirofen_host.options import CheckOptions, Way
 from zirofen_host.profile import shown
 from zirofen_host.show import formats

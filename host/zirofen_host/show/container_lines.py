@@ -2,7 +2,8 @@
 from typing import Dict, Hashable, List, Sequence, Set
 
 from zirofen_host.judge.finding_lines import inside_count, inside_line, inside_text, some
-from zirofen_host.judge.model import ABSENT, Report, RootInside
+from zirofen_host.judge.host_model import ABSENT
+from zirofen_host.judge.model import Report, RootInside
 from zirofen_host.profile import ancestors
 
 OWN = "its own cgroup"

@@ -15,9 +15,10 @@ from zirofen_host.fault import FAULT, Fault
 from zirofen_host.judge import limits, saved
 from zirofen_host.judge.finding_lines import (differs_line, entry_line, fault_line, held_line, inside_line, opened_line,
                                               premise_line, runs_line)
+from zirofen_host.judge.host_model import Absent
 from zirofen_host.judge.severity import OF_STATUS, worst
-from zirofen_host.judge.model import (Absent, DiffersFinding, EntryFinding, FaultFinding, HeldFinding, OpenedFinding,
-                                      PremiseFinding, Report, RootInside, RunsElsewhere)
+from zirofen_host.judge.model import (DiffersFinding, EntryFinding, FaultFinding, HeldFinding, OpenedFinding, PremiseFinding, Report,
+                                      RootInside, RunsElsewhere)
 from zirofen_host.profile import shown
 from zirofen_host.show.view import Grouped, Host, accepted_of, host_of, place_of
 from zirofen_host.show.words import STANDINGS

@@ -8,8 +8,9 @@ from xml.etree import ElementTree
 from zirofen_host.collect.model import OWNER
 from zirofen_host.fault import plain
 from zirofen_host.judge import limits
+from zirofen_host.judge.host_model import Absent
 from zirofen_host.judge.severity import Severity, of_answer
-from zirofen_host.judge.model import Absent, HolderAnswer, Subtree
+from zirofen_host.judge.model import HolderAnswer, Subtree
 from zirofen_host.judge.notes import Outside
 from zirofen_host.judge.finding_lines import CAPABILITY, MOUNT_OPTIONS, MOUNTED_OVER
 from zirofen_host.judge.rules import (DIFFERS, HELD, NOTHING_ASKED, OPENED, OPENED_DIRECTORY, ROOT_HELD, ROOT_INSIDE, RUNS, VERSION_1,

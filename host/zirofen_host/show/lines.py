@@ -10,10 +10,10 @@ from zirofen_host.judge.baseline import KINDS
 from zirofen_host.judge.finding_lines import (INSIDE_MEANS, NOTHING_ASKED, PREMISES_MEAN, SHOWN, above_line, acceptance_line, differs_line,
                                               entry_line, fault_line, held_line, opened_line, premise_line,
                                               processes_text, runs_line, whom_text, why_command)
+from zirofen_host.judge.host_model import ABSENT, Absent, NamedScope
 from zirofen_host.judge.marked import marks_text
-from zirofen_host.judge.model import (ABSENT, AboveFinding, Absent, Comparison, Difference, DiffersFinding, EntryFinding, HeldFinding,
-                                      HolderAnswer, NamedScope, OpenedFinding, PremiseFinding, Report, RootInside, RunsElsewhere,
-                                      Subtree, Told)
+from zirofen_host.judge.model import (AboveFinding, Comparison, Difference, DiffersFinding, EntryFinding, HeldFinding, HolderAnswer,
+                                      OpenedFinding, PremiseFinding, Report, RootInside, RunsElsewhere, Subtree, Told)
 from zirofen_host.judge.notes import JOINED, JoinedNote
 from zirofen_host.judge.severity import Severity
 from zirofen_host.judge.standing import cause_of, is_empty, standings, status_text

@@ -6,8 +6,8 @@ from typing import Dict, Iterator, Mapping, NamedTuple, Tuple
 from zirofen_host import version
 from zirofen_host.fault import plain
 from zirofen_host.judge import limits
+from zirofen_host.judge.host_model import ABSENT, Absent
 from zirofen_host.judge.severity import Severity
-from zirofen_host.judge.model import ABSENT, Absent
 from zirofen_host.judge.rules import RULES, Rule
 from zirofen_host.judge.standing import standings
 from zirofen_host.show.run import Run

@@ -7,7 +7,8 @@ from typing import Dict, List, NamedTuple, Sequence, Tuple
 
 from zirofen_host import output
 from zirofen_host.judge import limits
-from zirofen_host.judge.model import Absent, Difference, Report, RootInside
+from zirofen_host.judge.host_model import Absent
+from zirofen_host.judge.model import Difference, Report, RootInside
 from zirofen_host.judge.notes import MEANINGS as WHAT_NO_ANSWER_SEES
 from zirofen_host.show import against, chart, groups, insides, words
 from zirofen_host.show.branches import Branches

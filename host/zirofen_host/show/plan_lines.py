@@ -3,7 +3,8 @@ from typing import Iterator
 
 from zirofen_host import fault
 from zirofen_host.judge import as_json
-from zirofen_host.judge.model import Absent, Comparison, Report
+from zirofen_host.judge.host_model import Absent
+from zirofen_host.judge.model import Comparison, Report
 from zirofen_host.judge.notes import NotPlanned
 from zirofen_host.judge.plan import AS_IT_IS, status_of
 from zirofen_host.show.lines import asked_line, by_kind, difference_lines, made_lines

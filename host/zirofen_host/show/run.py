@@ -3,7 +3,8 @@ from dataclasses import dataclass, replace
 from functools import cached_property
 from typing import Mapping, Optional, Tuple
 
-from zirofen_host.judge.model import Absent, Comparison, Report
+from zirofen_host.judge.host_model import Absent
+from zirofen_host.judge.model import Comparison, Report
 from zirofen_host.judge.rules import Finding, findings_of
 
 

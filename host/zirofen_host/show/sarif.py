@@ -11,8 +11,9 @@ from zirofen_host.collect.bounded import read_file
 from zirofen_host.collect.tree import toml_reader
 from zirofen_host.fault import FAULT, plain
 from zirofen_host.judge import limits
+from zirofen_host.judge.host_model import Absent
 from zirofen_host.judge.severity import Severity
-from zirofen_host.judge.model import Absent, Report
+from zirofen_host.judge.model import Report
 from zirofen_host.judge.notes import Outside
 from zirofen_host.judge.rules import RULES, Finding, Rule
 from zirofen_host.profile import LONGEST_TEXT

@@ -8,9 +8,9 @@ from typing import Callable, Dict, Iterable, Iterator, List, Mapping, Optional, 
 from zirofen_host.collect.model import Value
 from zirofen_host.collect.walk import OWNERS_MARK
 from zirofen_host.files import CONTROL_FILES, FURTHER_FILES, HANDED_OVER, LIMIT_FILES, is_usual
-from zirofen_host.judge.model import (Absent, DiffersFinding, EntryFinding, FaultFinding, HeldBy, HeldFinding, NamedScope, OpenedFinding,
-                                      Owner, PremiseFinding, Report, ReportCgroup, ReportFile, ReportProcess, ReportUser, RootInside,
-                                      RunsElsewhere, Subtree, Whom)
+from zirofen_host.judge.host_model import Absent, NamedScope, Owner, ReportCgroup, ReportFile, ReportProcess, ReportUser
+from zirofen_host.judge.model import (DiffersFinding, EntryFinding, FaultFinding, HeldBy, HeldFinding, OpenedFinding, PremiseFinding,
+                                      Report, RootInside, RunsElsewhere, Subtree, Whom)
 from zirofen_host.judge.severity import Severity, of_answer, of_fault, of_premise
 from zirofen_host.judge.standing import delegations, severity_of, standings
 from zirofen_host.profile import ancestors, parent_of

@@ -5,7 +5,8 @@ from zirofen_host.ask.guards import GUARDS
 from zirofen_host.collect.model import Value
 from zirofen_host.files import OF_BYTES
 from zirofen_host.judge import limits
-from zirofen_host.judge.model import Absent, Report, Whom
+from zirofen_host.judge.host_model import Absent
+from zirofen_host.judge.model import Report, Whom
 from zirofen_host.judge.severity import Severity
 from zirofen_host.profile import parent_of
 
