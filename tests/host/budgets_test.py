@@ -70,20 +70,20 @@ class ThreeTest(HostTest):
 
 class SpentTest(unittest.TestCase):
     def test_a_subordinate_uid_is_its_owners_and_root_pays_for_nobody(self):
-        payer = Accounts(AccountLists(subordinate_uids=(Range("1000", 100000, 10), Range("0", 200000, 10)))).payer
-        spent = Spent(Budget("things", 2), payer)
-        self.assertEqual([payer(uid) for uid in (0, 1000, 1001, 100003, 200003)], [0, 1000, 1001, 1000, 200003])
+        charged_user = Accounts(AccountLists(subordinate_uids=(Range("1000", 100000, 10), Range("0", 200000, 10)))).charged_user
+        spent = Spent(Budget("things", 2), charged_user)
+        self.assertEqual([charged_user(uid) for uid in (0, 1000, 1001, 100003, 200003)], [0, 1000, 1001, 1000, 200003])
         self.assertEqual([spent.take(0), spent.take(1000), spent.take(100001), spent.take(1001), spent.take(100002)],
                          [True, True, True, True, False])
         self.assertEqual((spent.over(), spent.is_over(100009), spent.is_over(1001), spent.left(1001)), ([1000], True, False, 1))
 
     def test_what_root_handed_over_is_nobodys_making(self):
-        payer, rows = accounts_with(uids=(Range("1000", 100000, 10),)).payer, {}
+        charged_user, rows = accounts_with(uids=(Range("1000", 100000, 10),)).charged_user, {}
         for path, uid, mode in (("/", 0, 0o755), ("/a", 1000, 0o755), ("/a/in", 100001, 0o755), ("/a/in/roots", 0, 0o755),
                                 ("/a/bobs", 1001, 0o755), ("/tmp", 0, 0o777), ("/tmp/x", 1001, 0o755)):
             rows[path_of(path)] = mock.Mock(directory=mock.Mock(uid=uid, mode=mode))
         rows[path_of("/a/m.service")] = rows[path_of("/a/in")]
-        holds = Holds(rows, payer, {path_of("/a/m.service")})
+        holds = Holds(rows, charged_user, {path_of("/a/m.service")})
         self.assertEqual([holds.within(path_of(path)) for path in (*rows, "/a/in/gone", "/gone")],
                          [None, None, 1000, 1000, None, None, 1001, None, 1000, None])
 
@@ -548,7 +548,7 @@ class LooksTest(ThreeTest):
                     self.assertEqual(found["status"], 3)
 
     def test_what_is_collected_stands_alone(self):
-        row, process = snapshot.Bending.row, processes.Reader.process
+        row, process = snapshot.Conversion.row, processes.Reader.process
 
         def odd_row(of, path, found):
             return {}["memory.max"] if path == path_of("/alice/in") else row(of, path, found)
@@ -558,7 +558,7 @@ class LooksTest(ThreeTest):
         self.host.process(8, uid=1000)
         for place in ("/alice/in", "/alice/in/deep"):
             self.host.cgroup(place, owners=owned(1000))
-        for module, name, what, odd in ((snapshot.Bending, "row", "cgroups: KeyError('memory.max')", odd_row),
+        for module, name, what, odd in ((snapshot.Conversion, "row", "cgroups: KeyError('memory.max')", odd_row),
                                         (processes.Reader, "process", "processes: KeyError('Uid')", odd_process),
                                         (snapshot, "lacking_notes", "", None), (check, "accounts_of", "accounts: OSError('no')", None)):
             with self.subTest(name), mock.patch.object(module, name, odd or mock.Mock(side_effect=OSError("no"))):

@@ -34,15 +34,15 @@ class Runs:
 def bounded_plan(questions: Questions, plan: Plan, runs: Runs) -> Tuple[Plan, Dict[CgroupPath, Reason]]:
     """A plan with no more uids of one person's than are asked of, and no more questions for what one person made: of what is over
     these budgets nothing is asked, and it is told of which subtrees, each with why."""
-    payer = questions.accounts.payer
-    users = Spent(bounded.USERS, payer)
+    charged_user = questions.accounts.charged_user
+    users = Spent(bounded.USERS, charged_user)
     uids = {user.uid for each in plan.questions for user in each.users}
-    left_out = {uid for uid in sorted(uids, key=lambda uid: (payer(uid) != uid, uid)) if not users.take(uid)}
+    left_out = {uid for uid in sorted(uids, key=lambda uid: (charged_user(uid) != uid, uid)) if not users.take(uid)}
     asked, over = runs.affordable(plan.questions)
     kept = [Question(tuple(user for user in each.users if user.uid not in left_out), each.subtrees) for each in asked]
-    lost = {payer(uid) for uid in left_out}
+    lost = {charged_user(uid) for uid in left_out}
     over.update({path: bounded.USERS.exceeded_by(person) for path in questions.subtrees for person in lost
-                 if any(payer(uid) == person for uid in questions.holders[path].uids)} if lost else {})
+                 if any(charged_user(uid) == person for uid in questions.holders[path].uids)} if lost else {})
     return replace(plan, questions=tuple(each for each in kept if each.users)), over
 
 

@@ -3,7 +3,7 @@ from dataclasses import replace
 from typing import Iterable, Mapping, Optional, TypeVar
 
 from zirofen_host.collect import containers, walk
-from zirofen_host.collect.accounts import accounts_here, payer_of
+from zirofen_host.collect.accounts import accounts_here, charged_user_of
 from zirofen_host.collect.model import Cgroup, Scope, Snapshot
 from zirofen_host.fault import Fault
 from zirofen_host.options import Options
@@ -27,7 +27,7 @@ def with_only(options: Some) -> Some:
     text = None if options.only is None else text_of(options.only)
     if text is None or not is_word(text) or options.tree:
         return options
-    cgroups: Mapping[CgroupPath, Cgroup] = walk.walk_over(options.mount, None, None, payer_of(options.accounts)).found
+    cgroups: Mapping[CgroupPath, Cgroup] = walk.walk_over(options.mount, None, None, charged_user_of(options.accounts)).found
     return replace(options, only=path_of(place_among(text, containers.scopes(cgroups), options)))
 
 

@@ -109,7 +109,7 @@ class Questions:
 
     def person_of(self, path: CgroupPath) -> int:
         """The person by whom a subtree is held, the first of several."""
-        return min((self.accounts.payer(uid) for uid in self.holders[path].uids), default=0)
+        return min((self.accounts.charged_user(uid) for uid in self.holders[path].uids), default=0)
 
     def is_asked_as_holder(self, user: User, path: CgroupPath) -> bool:
         """Whether a user holds a subtree and isn't above it, or nobody holds it who isn't."""
@@ -183,7 +183,7 @@ class Questions:
     @cached_property
     def makers(self) -> Holds:
         """Whose making each cgroup is."""
-        return Holds(self.tree.rows, self.accounts.payer, handed_in(self.marks))
+        return Holds(self.tree.rows, self.accounts.charged_user, handed_in(self.marks))
 
     @cached_property
     def below(self) -> Mapping[CgroupPath, Tuple[int, int]]:

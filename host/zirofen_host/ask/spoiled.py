@@ -32,7 +32,7 @@ def maker_of(snapshot: Snapshot, accounts: Accounts, place: CgroupPath) -> int:
     """Who made a cgroup, as far as it is known, or else whose the nearest one above it is."""
     rows = snapshot.tree.rows
     uids = (rows[above].directory.uid for above in ancestors(place) if above in rows)
-    return snapshot.makers.get(place) or accounts.payer(next((uid for uid in uids if uid), 0))
+    return snapshot.makers.get(place) or accounts.charged_user(next((uid for uid in uids if uid), 0))
 
 
 def spoiled(snapshot: Snapshot, questions: Questions) -> Dict[CgroupPath, Reason]:
@@ -52,4 +52,4 @@ def is_spared(snapshot: Snapshot, accounts: Accounts, changed: Changed, holders:
     if not changed.places.isdisjoint((path, *ancestors(path))):
         return False
     inside = changed.inside.get(path, set())
-    return bool(inside) and inside.isdisjoint({0, *map(accounts.payer, holders.uids)})
+    return bool(inside) and inside.isdisjoint({0, *map(accounts.charged_user, holders.uids)})

@@ -9,7 +9,7 @@ from itertools import accumulate
 from typing import DefaultDict, Dict, FrozenSet, Iterable, List, Mapping, Optional, Sequence, Set, Tuple
 
 from zirofen_host.collect import bounded
-from zirofen_host.collect.bounded import Payer
+from zirofen_host.collect.bounded import ChargedUser
 from zirofen_host.collect.model import Account, AccountLists, Group, Process, Range, Snapshot, User, group_list, set_of_groups
 from zirofen_host.fault import Fault
 from zirofen_host.profile import LARGEST_ID
@@ -104,7 +104,7 @@ class Accounts:
         self.lists = lists
         self.running = {user for user in users if user.uid != 0}
         self._persons: Dict[int, Set[int]] = {}
-        self._payers: Dict[int, int] = {}
+        self._charged_users: Dict[int, int] = {}
 
     @cached_property
     def owners_of_uids(self) -> Counted:
@@ -177,11 +177,11 @@ class Accounts:
         """Whoever has a uid that is no account's among their subordinate ones, or that uid itself."""
         return {uid} if uid in self.names else self.persons(uid) - {uid} or {uid}
 
-    def payer(self, uid: int) -> int:
+    def charged_user(self, uid: int) -> int:
         """To whom is charged what a uid made: to themselves, or to whose subordinate uid it is. Root pays for nobody."""
-        if uid not in self._payers:
-            self._payers[uid] = min(self.roots(uid) - {0}, default=uid)
-        return self._payers[uid]
+        if uid not in self._charged_users:
+            self._charged_users[uid] = min(self.roots(uid) - {0}, default=uid)
+        return self._charged_users[uid]
 
     def subordinate_to(self, uid: int) -> Sequence[Range]:
         """The ranges of subordinate uids of an account."""
@@ -209,10 +209,10 @@ def accounts_here(folder: Optional[str], processes: Iterable[Process]) -> Accoun
     return Accounts(read_folder(folder) if folder else read_host(users), users)
 
 
-def payer_of(folder: Optional[str]) -> Payer:
+def charged_user_of(folder: Optional[str]) -> ChargedUser:
     """By whom uids are paid for, as the accounts of a folder or of this host have it; each for itself where these can't be read."""
     try:
-        return Accounts(read_folder(folder) if folder else read_host(())).payer
+        return Accounts(read_folder(folder) if folder else read_host(())).charged_user
     except (Fault, OSError):
         return int
 

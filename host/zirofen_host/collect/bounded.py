@@ -102,14 +102,14 @@ ADVICE = 64
 REPLAYS = 16
 
 # by whom a uid's budgets are spent
-Payer = Callable[[int], int]
+ChargedUser = Callable[[int], int]
 
 
 class Spent:
     """What was spent on each person so far, against one budget. What is root's is charged to nobody."""
 
-    def __init__(self, budget: Budget, payer: Payer) -> None:
-        self.budget, self.payer = budget, payer
+    def __init__(self, budget: Budget, charged_user: ChargedUser) -> None:
+        self.budget, self.charged_user = budget, charged_user
         self.by: Dict[int, int] = Counter()
 
     def take(self, uid: int, amount: int = 1) -> bool:
@@ -117,18 +117,18 @@ class Spent:
         if not uid:
             turns.turn_to(turns.HOST)
             return True
-        person = self.payer(uid)
+        person = self.charged_user(uid)
         turns.turn_to(person)
         self.by[person] += amount
         return self.by[person] <= self.budget.most
 
     def is_over(self, uid: int) -> bool:
         """Whether somebody has more than is looked at."""
-        return bool(uid) and self.by.get(self.payer(uid), 0) > self.budget.most
+        return bool(uid) and self.by.get(self.charged_user(uid), 0) > self.budget.most
 
     def left(self, uid: int) -> int:
         """What may still be spent on a uid."""
-        return self.budget.most - self.by.get(self.payer(uid), 0)
+        return self.budget.most - self.by.get(self.charged_user(uid), 0)
 
     def over(self) -> List[int]:
         """The persons who have more."""

@@ -22,7 +22,7 @@ MARK = "#= "
 # the version of this form
 VERSION = 2
 # of a text that tells where threads run and what processes hold
-HOLDS = "threads and descriptors"
+DESCRIPTORS = "threads and descriptors"
 _ENTRY = re.compile(r"([0-9]{1,10}):([0-9]{1,10}):([0-7]{3,4})\Z")
 
 Of = TypeVar("Of")

@@ -7,7 +7,7 @@ import os
 from typing import Dict, Iterable, Iterator, List, Mapping, NamedTuple, Optional, Sequence, Tuple
 
 from zirofen_host.collect import bounded, rings
-from zirofen_host.collect.bounded import Budget, Payer, Spent
+from zirofen_host.collect.bounded import Budget, ChargedUser, Spent
 from zirofen_host.collect.model import Holding, Process
 from zirofen_host.collect.mount_kinds import Kinds, MountKinds, mount_of, number_in
 from zirofen_host.collect.processes import names_in, status_fields
@@ -58,12 +58,12 @@ class Hierarchy(NamedTuple):
 class Descriptors:
     """What processes hold, charged to whose they are, and what of it isn't looked at."""
 
-    def __init__(self, proc: str, payer: Payer, hierarchy: Hierarchy, roots: Iterable[int] = (), release: str = "") -> None:
+    def __init__(self, proc: str, charged_user: ChargedUser, hierarchy: Hierarchy, roots: Iterable[int] = (), release: str = "") -> None:
         self.proc, self.hierarchy = proc, hierarchy
         self.links, self.infos, self.long, self.threads, self.rings, self.ring_bytes = (
-            Spent(budget, payer) for budget in (bounded.LINKS, bounded.DESCRIPTORS, bounded.LONG_DESCRIPTORS, bounded.TABLE_THREADS,
-                                                bounded.RINGS, bounded.RING_BYTES))
-        self.mounts = MountKinds(proc, payer, roots)
+            Spent(budget, charged_user) for budget in (bounded.LINKS, bounded.DESCRIPTORS, bounded.LONG_DESCRIPTORS,
+                                                       bounded.TABLE_THREADS, bounded.RINGS, bounded.RING_BYTES))
+        self.mounts = MountKinds(proc, charged_user, roots)
         self.tables = Tables(proc)
         self.unlooked: List[Unlooked] = []
         self.has_paths = rings.lists_paths(release)

@@ -80,7 +80,7 @@ def carried_by(found: Records) -> Carried:
     lists = AccountLists(tuple(found.all(carrying.ACCOUNT)), tuple(found.all(carrying.GROUP)), tuple(found.all(carrying.SUBUID)),
                          tuple(found.all(carrying.SUBGID)))
     values = {(each.path, name): value for each in found.all(carrying.CGROUP) for name, value in each.values.items()}
-    return Carried(lists, values, carrying.HOLDS in (found.last(carrying.LOOKED) or ()), found.unknown)
+    return Carried(lists, values, carrying.DESCRIPTORS in (found.last(carrying.LOOKED) or ()), found.unknown)
 
 
 def by_cgroups(cgroups: Mapping[CgroupPath, Cgroup]) -> Tuple[Scope, ...]:
@@ -130,7 +130,7 @@ def carried(snapshot: Snapshot, accounts: Accounts) -> Iterator[str]:
     yield from map(carrying.NOTE.line, snapshot.notes)
     yield from (carrying.CGROUP.line(carried_of(snapshot, path, found)) for path, found in snapshot.cgroups.items())
     yield from map(carrying.PROCESS.line, running)
-    yield carrying.LOOKED.line((carrying.HOLDS,))
+    yield carrying.LOOKED.line((carrying.DESCRIPTORS,))
     yield from (carrying.RUNS.line(process) for process in running if process.places or process.is_headless)
     others: Tuple[Tuple[carrying.Record[Any], Iterable[Any]], ...] = (
         (carrying.HELD, snapshot.held), (carrying.UNHELD, snapshot.unheld), (carrying.INSIDE, snapshot.inside),

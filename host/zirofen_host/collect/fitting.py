@@ -78,9 +78,9 @@ def without_processes(snapshot: Snapshot, holds: Holds) -> Snapshot:
     processes: List[Placed] = list(snapshot.tree.processes)
     notes, most = list(snapshot.notes), snapshot.tree.format.most_processes
     while len(processes) > most:
-        counts = Counter(holds.payer(each.uid) if each.uid else 0 for each in processes)
+        counts = Counter(holds.charged_user(each.uid) if each.uid else 0 for each in processes)
         person = max(sorted(counts), key=lambda each: (each != 0, counts[each]))
-        processes = [each for each in processes if (holds.payer(each.uid) if each.uid else 0) != person]
+        processes = [each for each in processes if (holds.charged_user(each.uid) if each.uid else 0) != person]
         notes.append(ProcessesOverText("/", person, counts[person], most))
     return replace(snapshot, tree=replace(snapshot.tree, processes=processes), notes=tuple(notes))
 

@@ -2,7 +2,7 @@
 open what it likes, and isn't looked at."""
 from typing import Iterable, List, Optional, Tuple
 
-from zirofen_host.collect.bounded import Payer
+from zirofen_host.collect.bounded import ChargedUser
 from zirofen_host.collect.descriptors import Descriptors, Held, Hierarchy, inodes_of
 from zirofen_host.collect.inside import Look
 from zirofen_host.collect.model import HeldEntry, Process, Snapshot, Unheld
@@ -12,12 +12,12 @@ from zirofen_host.collect.processes import program_of
 Found = Tuple[Tuple[HeldEntry, ...], Tuple[Unheld, ...]]
 
 
-def look(proc: str, found: Snapshot, payer: Payer, containers: Optional[Look]) -> Found:
+def look(proc: str, found: Snapshot, charged_user: ChargedUser, containers: Optional[Look]) -> Found:
     """What is held, each once, and what of it wasn't looked at."""
     hierarchy = Hierarchy(found.mount, inodes_of(found.places))
     roots = [pid for pid, process in found.processes.items() if not process.user.uid and not process.is_kernel_thread]
     users = [(process, process.user.uid) for process in found.processes.values() if process.user.uid]
-    of_users = Descriptors(proc, payer, hierarchy, roots, found.about.kernel or "")
+    of_users = Descriptors(proc, charged_user, hierarchy, roots, found.about.kernel or "")
     held = {entry_of(proc, found.processes[each.pid], each): None for each in of_users.held(users)}
     unlooked = [Unheld(each.whose, None, each.why) for each in of_users.unlooked]
     if containers:

@@ -13,16 +13,17 @@ def handed_in(marks: Mapping[CgroupPath, Mapping[str, bytes]]) -> FrozenSet[Cgro
     return frozenset(path for path, found in marks.items() if found.get(MANAGERS_MARK, b"0") != b"0")
 
 
-def holds_of(snapshot: Snapshot, payer: Callable[[int], int]) -> "Holds":
-    return Holds(snapshot.tree.rows, payer, handed_in({path: found.marks for path, found in snapshot.cgroups.items() if found.marks}))
+def holds_of(snapshot: Snapshot, charged_user: Callable[[int], int]) -> "Holds":
+    marks = {path: found.marks for path, found in snapshot.cgroups.items() if found.marks}
+    return Holds(snapshot.tree.rows, charged_user, handed_in(marks))
 
 
 class Holds:
     """By path to whom a cgroup is charged that somebody can have made; what root handed over is root's making, and so is what has
     the mark that root alone sets."""
 
-    def __init__(self, rows: Mapping[CgroupPath, Row], payer: Callable[[int], int], handed: Container[CgroupPath] = ()) -> None:
-        self.payer = payer
+    def __init__(self, rows: Mapping[CgroupPath, Row], charged_user: Callable[[int], int], handed: Container[CgroupPath] = ()) -> None:
+        self.charged_user = charged_user
         # whose each cgroup is, by its directory or the nearest above that isn't root's
         self.persons: Dict[CgroupPath, int] = {}
         self.makers: Dict[CgroupPath, int] = {}
@@ -30,7 +31,7 @@ class Holds:
             parent = None if is_root(path) else parent_of(path)
             above = self.persons.get(parent, 0) if parent else 0
             uid = rows[path].directory.uid
-            person = self.persons[path] = payer(uid) if uid and parent else above
+            person = self.persons[path] = charged_user(uid) if uid and parent else above
             is_made = parent and (above == person or rows[parent].directory.mode & GROUP_OR_OTHERS)
             if person and is_made and path not in handed:
                 self.makers[path] = person
@@ -43,4 +44,4 @@ class Holds:
 
     def is_all_of(self, person: int, uids: Iterable[int]) -> bool:
         """Whether some uids are all one person's."""
-        return all(self.payer(uid) == person for uid in uids)
+        return all(self.charged_user(uid) == person for uid in uids)

@@ -303,7 +303,7 @@ class Carried:
     accounts: AccountLists
     values: Mapping[Tuple[CgroupPath, str], str]
     # where threads run, and what processes hold open, was looked at
-    has_holds: bool = False
+    has_descriptors: bool = False
     # records of a later version, which aren't known here
     unknown: int = 0
 

@@ -3,7 +3,7 @@ import os
 from typing import Dict, Iterable, Optional, Set
 
 from zirofen_host.collect import bounded
-from zirofen_host.collect.bounded import Payer, Spent
+from zirofen_host.collect.bounded import ChargedUser, Spent
 from zirofen_host.collect.processes import status_fields
 from zirofen_host.collect.threads import Fields
 
@@ -16,9 +16,9 @@ Kinds = Dict[int, bool]
 class MountKinds:
     """The mounts of each namespace that processes are in; each namespace is read once."""
 
-    def __init__(self, proc: str, payer: Payer, roots: Iterable[int] = ()) -> None:
+    def __init__(self, proc: str, charged_user: ChargedUser, roots: Iterable[int] = ()) -> None:
         self.proc, self.roots = proc, roots
-        self.spent = Spent(bounded.MOUNT_BYTES, payer)
+        self.spent = Spent(bounded.MOUNT_BYTES, charged_user)
         self.namespaces: Set[str] = set()
         self.kinds: Kinds = {}
 

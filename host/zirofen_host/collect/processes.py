@@ -2,7 +2,7 @@
 from typing import Container, Dict, Iterator, List, Mapping, Optional, Tuple
 
 from zirofen_host.collect import bounded
-from zirofen_host.collect.bounded import Payer, Spent
+from zirofen_host.collect.bounded import ChargedUser, Spent
 from zirofen_host.collect.model import Process, User, group_list
 from zirofen_host.collect.notes import Failed, Lacking
 from zirofen_host.collect.reasons import Reason
@@ -33,14 +33,14 @@ def names_in(folder: str, most: int = bounded.NAMES) -> List[str]:
 class Reader:
     """Reads processes, charged to whose they are."""
 
-    def __init__(self, proc: str, payer: Payer = int, gids: Optional[Container[int]] = None) -> None:
+    def __init__(self, proc: str, charged_user: ChargedUser = int, gids: Optional[Container[int]] = None) -> None:
         self.proc = proc
         # the groups that are kept, where not all are
         self.gids = gids
         self.spent = self.groups, self.lists, self.bytes, self.count = [
-            Spent(budget, payer) for budget in (bounded.GROUPS, bounded.GROUP_LISTS, bounded.PROCESS_BYTES, bounded.PROCESSES)]
+            Spent(budget, charged_user) for budget in (bounded.GROUPS, bounded.GROUP_LISTS, bounded.PROCESS_BYTES, bounded.PROCESSES)]
         self.users: Dict[User, User] = {}
-        self.threads = ThreadReader(proc, payer, self.bytes)
+        self.threads = ThreadReader(proc, charged_user, self.bytes)
         self.found: Dict[int, Process] = {}
         # of which what is told isn't known
         self.unknown: List[int] = []

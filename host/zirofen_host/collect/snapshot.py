@@ -6,9 +6,9 @@ from dataclasses import replace
 from typing import Callable, Container, Dict, Iterable, Iterator, List, Mapping, Optional, Sequence, Set, Tuple
 
 from zirofen_host.collect import containers, held, inside, walk
-from zirofen_host.collect.accounts import payer_of
+from zirofen_host.collect.accounts import charged_user_of
 from zirofen_host.collect.agreement import Agreed, walk_until_agreed
-from zirofen_host.collect.bounded import Payer
+from zirofen_host.collect.bounded import ChargedUser
 from zirofen_host.collect.further_mounts import further_mounts
 from zirofen_host.collect.looks import Looks
 from zirofen_host.collect.model import About, Cgroup, Covered, Entry, Inside, Placed, Process, Row, Scope, Snapshot, Tree, Value
@@ -67,7 +67,7 @@ def version_1_notes(mounts: Mounts) -> Iterator[Note]:
         yield LimitsOfVersion1("/", names)
 
 
-class Bending:
+class Conversion:
     """What a tree text carries of cgroups, with a note of each thing that it bends or leaves out."""
 
     def __init__(self, cgroups: Cgroups, text_format: TextFormat, covered: Container[Tuple[CgroupPath, str]] = ()) -> None:
@@ -189,22 +189,22 @@ def snapshot_of(agreed: Agreed, reader: Reader, options: Options, mounts: Mounts
     cgroups: Cgroups = walked.found
     root = cgroups[ROOT]
     text_format = options.text_format
-    bending = Bending(cgroups, text_format, walked.covered)
-    bending.notes += [*changing_notes(agreed.changing), *name_notes(walked), *controller_notes(cgroups, text_format),
-                      *process_notes(reader)]
+    conversion = Conversion(cgroups, text_format, walked.covered)
+    conversion.notes += [*changing_notes(agreed.changing), *name_notes(walked), *controller_notes(cgroups, text_format),
+                         *process_notes(reader)]
     looks = Looks()
-    rows = {row.path: row for row in looks.each("cgroups", cgroups, lambda path: bending.row(path, cgroups[path]))}
+    rows = {row.path: row for row in looks.each("cgroups", cgroups, lambda path: conversion.row(path, cgroups[path]))}
     kept = walk.whole(rows)
     rows = kept if len(kept) < len(rows) else rows
     cgroups = {path: cgroups[path] for path in rows}
-    placed, threads = bending.placed(rows, processes)
+    placed, threads = conversion.placed(rows, processes)
     tree = Tree(tuple(name for name in text_format.controllers if name in root.available), rows, placed, text_format)
     lacking = () if options.plain_folder else looks.all("capabilities", lambda: lacking_notes(PROC))
     kernel_list = looks.at("delegate", lambda: read_kernel_list(None if options.plain_folder else KERNEL_LIST), read_kernel_list(None))
     return Snapshot(about=about_this_host(), mount=options.mount, mount_options=tuple(mounts.options(options.mount)), cgroups=cgroups,
                     tree=tree, processes=processes, kernel_threads=threads, places=walked.places,
                     kernel_list=kernel_list,
-                    notes=(*bending.notes, *version_1_notes(mounts), *lacking, *reader.failed, *looks.failed), changing=agreed.changing,
+                    notes=(*conversion.notes, *version_1_notes(mounts), *lacking, *reader.failed, *looks.failed), changing=agreed.changing,
                     spoiled=agreed.spoiled,
                     version_1=mounts.limits_of_version_1(),
                     makers={path: walked.holds[path].uid for path in agreed.changing if path in walked.holds},
@@ -215,22 +215,22 @@ def snapshot_of(agreed: Agreed, reader: Reader, options: Options, mounts: Mounts
 def take(options: Options, subtrees_of: SubtreesOf) -> Snapshot:
     """A snapshot of this host."""
     mounts = mounts_of_folder(options.proc) if options.plain_folder else refuse_what_is_no_host(options.mount)
-    payer = payer_of(options.accounts)
+    charged_user = charged_user_of(options.accounts)
     running: List[Reader] = []
 
     def subtrees_in(walked: walk.Walk, changing: walk.Whys) -> Iterable[CgroupPath]:
         if not running:
-            running.append(look_at_processes(options, payer, gids_in(walked.found)))
+            running.append(look_at_processes(options, charged_user, gids_in(walked.found)))
         found = snapshot_of(Agreed(walked, {}, {}), running[0], options, mounts)
         return subtrees_of(found, changing)
 
-    agreed = walk_until_agreed(options.mount, options.only, subtrees_in, payer, options.text_format.further,
+    agreed = walk_until_agreed(options.mount, options.only, subtrees_in, charged_user, options.text_format.further,
                                mounts.below(options.mount))
-    reader = look_at_processes(options, payer, gids_in(agreed.walk.found))
+    reader = look_at_processes(options, charged_user, gids_in(agreed.walk.found))
     found, looks = snapshot_of(agreed, reader, options, mounts), Looks()
     look = looks.at("root-inside", lambda: inside.look(options.proc, found.cgroups, found.processes), None)
     insides = looks.all("root-inside", look.found) if look else ()
-    entries, unheld = looks.at("descriptors", lambda: held.look(options.proc, found, payer, look), NOTHING_HELD)
+    entries, unheld = looks.at("descriptors", lambda: held.look(options.proc, found, charged_user, look), NOTHING_HELD)
     scopes = () if options.plain_folder else looks.all("containers", lambda: containers.scopes(found.cgroups))
     further = looks.all("mounts", lambda: further_mounts(mounts, options.mount))
     # of a part what is above it is there for the answers, and isn't told of by itself
@@ -254,9 +254,9 @@ def gids_in(cgroups: Cgroups) -> Set[int]:
     return gids.union(found.directory.gid for found in cgroups.values())
 
 
-def look_at_processes(options: Options, payer: Payer, gids: Container[int]) -> Reader:
+def look_at_processes(options: Options, charged_user: ChargedUser, gids: Container[int]) -> Reader:
     """Processes, as far as they can be read, each with those of its groups that matter."""
-    looks, reader = Looks(), Reader(options.proc, payer, gids)
+    looks, reader = Looks(), Reader(options.proc, charged_user, gids)
     looks.at("processes", reader.look, reader)
     reader.failed += looks.failed
     return reader

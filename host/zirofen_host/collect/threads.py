@@ -3,7 +3,7 @@ import re
 from typing import Iterable, List, Mapping, NamedTuple, Optional, Sequence, Tuple
 
 from zirofen_host.collect import bounded
-from zirofen_host.collect.bounded import Payer, Spent
+from zirofen_host.collect.bounded import ChargedUser, Spent
 from zirofen_host.profile import CgroupPath
 
 # the states of what has ended
@@ -41,10 +41,10 @@ class Told(NamedTuple):
 class ThreadReader:
     """Reads the threads of processes, charged to whose they are."""
 
-    def __init__(self, proc: str, payer: Payer, read: Spent) -> None:
+    def __init__(self, proc: str, charged_user: ChargedUser, read: Spent) -> None:
         self.proc, self.read = proc, read
         # those of processes whose first thread has ended have a budget of their own, so that nobody hides one behind many others
-        self.spent, self.spent_headless = (Spent(bounded.THREADS, payer) for _ in range(2))
+        self.spent, self.spent_headless = (Spent(bounded.THREADS, charged_user) for _ in range(2))
 
     def look(self, pid: int, fields: Fields) -> Threads:
         """The threads of a process, by its status."""

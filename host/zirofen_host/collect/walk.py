@@ -12,7 +12,7 @@ from typing import Collection, Dict, FrozenSet, Iterable, Iterator, List, Mappin
 
 from zirofen_host import progress
 from zirofen_host.collect import bounded
-from zirofen_host.collect.bounded import Payer, Spent
+from zirofen_host.collect.bounded import ChargedUser, Spent
 from zirofen_host.collect.model import Cgroup, Entry, FilePlace
 from zirofen_host.collect.once import Once, Owned
 from zirofen_host.collect.reasons import CHANGED, MountedOver, Reason, Unreadable
@@ -65,16 +65,17 @@ class Walk:
     the owner of a cgroup, and of root's own inside of somebody's to whose that is. Of some further limit files values are read, where
     somebody but root reaches them. What is mounted inside of the mount is no cgroup's, nor what is of another device."""
 
-    def __init__(self, mount: str, tops: Optional[Iterable[CgroupPath]] = None, payer: Payer = int, further: Sequence[str] = (),
-                 below: Below = NOTHING) -> None:
+    def __init__(self, mount: str, tops: Optional[Iterable[CgroupPath]] = None, charged_user: ChargedUser = int,
+                 further: Sequence[str] = (), below: Below = NOTHING) -> None:
         self.mount = os.fsencode(mount)
         self.below = below
         # the mount's device, and the files over which something is mounted, with of what type that is
         self.device: Optional[int] = None
         self.covered: Dict[Tuple[CgroupPath, str], str] = {}
-        self.payer = payer
+        self.charged_user = charged_user
         self.further = frozenset(further)
-        self.cgroups, self.bytes, self.levels = (Spent(budget, payer) for budget in (bounded.CGROUPS, bounded.CGROUP_BYTES, bounded.LEVELS))
+        self.cgroups, self.bytes, self.levels = (
+            Spent(budget, charged_user) for budget in (bounded.CGROUPS, bounded.CGROUP_BYTES, bounded.LEVELS))
         self.tops: Optional[FrozenSet[CgroupPath]] = None if tops is None else topmost(tops)
         self.on_the_way = {place for top in self.tops or () for place in ancestors(top)}
         self.found: Dict[CgroupPath, Cgroup] = {}
@@ -116,7 +117,7 @@ class Walk:
 
     def hold_at(self, path: CgroupPath, uid: int) -> None:
         """Whose a cgroup is, by the owner of its directory."""
-        person = self.payer(uid) if uid else 0
+        person = self.charged_user(uid) if uid else 0
         if path != ROOT and person and (self.hold is None or self.hold.uid != person):
             self.hold = Hold(path, person)
 
@@ -265,7 +266,7 @@ class Walk:
             return 1
         uid = uid or (self.hold.uid if self.hold else 0)
         count = bounded.count_folders(folder, name, max(self.cgroups.left(uid), 0) if uid else self.cgroups.budget.most)
-        if not self.cgroups.take(uid, count) and self.hold and self.payer(uid) == self.hold.uid:
+        if not self.cgroups.take(uid, count) and self.hold and self.charged_user(uid) == self.hold.uid:
             raise TooMuch(self.cgroups.budget.exceeded_by(self.hold.uid))
         return count
 
@@ -303,11 +304,11 @@ class Walk:
         self.found = whole(self.found, paths)
 
 
-def walk_over(mount: str, tops: Optional[Iterable[CgroupPath]] = None, before: Optional[Walk] = None, payer: Payer = int,
+def walk_over(mount: str, tops: Optional[Iterable[CgroupPath]] = None, before: Optional[Walk] = None, charged_user: ChargedUser = int,
               further: Sequence[str] = (), below: Below = NOTHING) -> Walk:
     """A walk; what is equal to what one before found is held once. The first reads no further limit file, since nothing that two have
     to agree on is in one."""
-    walk = Walk(mount, tops, payer, further if before else (), below)
+    walk = Walk(mount, tops, charged_user, further if before else (), below)
     if before:
         walk.once = before.once
     walk.walk()

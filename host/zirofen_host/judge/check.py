@@ -50,7 +50,7 @@ def ask(snapshot: Snapshot, options: Options, folder: str, settings: Settings) -
     for user in sorted({user for users, _ in (*answers.plan.questions, *answers.further) for user in users}):
         asked[user.uid].append(user)
     return Checked(snapshot, options, names_of(accounts), found.questions, answers, found.programs,
-                   judge(found.questions, answers), asked, asked_of, holds_of(snapshot, accounts.payer),
+                   judge(found.questions, answers), asked, asked_of, holds_of(snapshot, accounts.charged_user),
                    settings)
 
 

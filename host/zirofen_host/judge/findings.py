@@ -164,7 +164,7 @@ def faults_of_budgets(checked: Checked) -> Iterable[FaultFinding]:
 def held_by(checked: Checked, person: int, paths: Iterable[CgroupPath]) -> List[CgroupPath]:
     """Those of some subtrees that a person holds, by whichever of their uids."""
     holders = checked.questions.holders
-    return [path for path in paths if any(checked.holds.payer(uid) == person for uid in holders[path].uids)]
+    return [path for path in paths if any(checked.holds.charged_user(uid) == person for uid in holders[path].uids)]
 
 
 def fault_of_budget(checked: Checked, person: int, why: str, paths: Iterable[CgroupPath]) -> FaultFinding:
@@ -247,4 +247,4 @@ def differs_findings(checked: Checked, opened: Iterable[Place]) -> Iterable[Diff
 def above_findings(checked: Checked) -> Iterable[AboveFinding]:
     for (uid, handed), subtrees in sorted(checked.judged.above.items()):
         yield AboveFinding(checked.names.user(uid), uid, text_of(handed), texts_of(in_order(topmost(subtrees))),
-                           checked.holds.payer(uid))
+                           checked.holds.charged_user(uid))

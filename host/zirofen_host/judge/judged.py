@@ -70,7 +70,7 @@ class Judged:
 
 
 def judge(questions: Questions, answers: Answers) -> Judged:
-    found, spent = uncontained(questions, answers), Spent(bounded.ENTRIES, questions.accounts.payer)
+    found, spent = uncontained(questions, answers), Spent(bounded.ENTRIES, questions.accounts.charged_user)
     let_in = [each for each in found if each.answer.status != FAULT and not each.handed and is_told(questions, each.pair, spent)]
     return Judged(entries_of(questions, let_in), faults_of(found), above_of(questions, answers, found), own_of(questions, found),
                   [each.pair for each in let_in], spent)

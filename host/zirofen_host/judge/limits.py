@@ -59,7 +59,7 @@ def of_text(checked: Checked) -> Iterator[AnswerLimit]:
         return
     if source.carried is None and checked.options.accounts is None:
         yield AnswerLimit(ACCOUNTS, "it was asked by number: who is in which group, and whose ids are subordinate, isn't known")
-    if source.carried is None or not source.carried.has_holds:
+    if source.carried is None or not source.carried.has_descriptors:
         yield AnswerLimit(PREMISES, "the text doesn't tell where threads run and what processes hold open")
     if source.carried is not None and source.carried.unknown:
         yield AnswerLimit(LATER, f"the text is of a later version of this helper, and {source.carried.unknown} of its records aren't known")

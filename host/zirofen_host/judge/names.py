@@ -17,13 +17,13 @@ class Names:
     users: Mapping[int, str]
     groups: Mapping[int, str]
     # whose a subordinate uid is, or else that uid
-    payer: Callable[[int], int] = int
+    charged_user: Callable[[int], int] = int
     # ranges of owners who have no account, as those that engines take uids from
     ranges: Sequence[Range] = ()
 
     def range_of(self, uid: int) -> Optional[str]:
         """What range a uid is of that has no account."""
-        owner = self.payer(uid)
+        owner = self.charged_user(uid)
         if uid in self.users:
             return None
         if owner != uid:
@@ -59,4 +59,4 @@ class Names:
 
 def names_of(accounts: Accounts) -> Names:
     ranges = [each for each in accounts.lists.subordinate_uids if each.owner not in set(accounts.names.values())]
-    return Names(accounts.names, {group.gid: group.name for group in accounts.lists.groups if group.name}, accounts.payer, ranges)
+    return Names(accounts.names, {group.gid: group.name for group in accounts.lists.groups if group.name}, accounts.charged_user, ranges)

@@ -288,13 +288,13 @@ class OfText(Note):
     kind = "elsewhere"
     is_carried: bool
     # it carries where threads run and what processes hold
-    has_holds: bool
+    has_descriptors: bool
     has_accounts: bool
 
     @property
     def text(self) -> str:
         if self.is_carried:
-            untold = "" if self.has_holds else "where threads run, open descriptors and "
+            untold = "" if self.has_descriptors else "where threads run, open descriptors and "
             return f"this is judged by a text: {untold}the settings of units aren't told by it"
         by_number = "" if self.has_accounts else (
             ", and so it is judged by number: names, who is in which group and whose ids are subordinate aren't known, which "

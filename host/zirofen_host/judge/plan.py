@@ -57,7 +57,7 @@ def carried(of: Snapshot, folder: Optional[str]) -> Iterator[str]:
 def text_of_host(options: PlanOptions) -> str:
     """The text of this host with all that a check elsewhere takes."""
     taken = snapshot.take(options, subtrees_by(options))
-    holds = holds_of(taken, accounts_of(options.accounts, taken).payer)
+    holds = holds_of(taken, accounts_of(options.accounts, taken).charged_user)
     return elsewhere.fitting_text(taken, holds, lambda of: carried(of, options.accounts), not options.no_processes)[1]
 
 

@@ -23,7 +23,7 @@ from zirofen_host.profile import ANYBODY, CgroupPath, ancestors, is_inside, path
 
 def of_user(checked: Checked, uid: int, note: Note) -> Told:
     """A note of a user, charged to whose uid it is."""
-    return Told.of(note, checked.holds.payer(uid))
+    return Told.of(note, checked.holds.charged_user(uid))
 
 
 def of_cgroup(checked: Checked, path: CgroupPath, note: Note) -> Told:
@@ -52,17 +52,17 @@ def descriptors(checked: Checked) -> Iterator[Told]:
 def makers_above(checked: Checked) -> Iterator[Told]:
     """Who makes cgroups further above a subtree of another's than a guard stands: a threaded one there makes the subtree's cgroup
     invalid, and no process can be moved into it."""
-    delegations, payer = checked.questions.delegations, checked.holds.payer
+    delegations, charged_user = checked.questions.delegations, checked.holds.charged_user
     below: DefaultDict[Tuple[CgroupPath, FrozenSet[int]], List[CgroupPath]] = defaultdict(list)
     for subtree in checked.questions.subtrees:
-        holders = frozenset(map(payer, checked.questions.holders[subtree].uids))
+        holders = frozenset(map(charged_user, checked.questions.holders[subtree].uids))
         for place in [*ancestors(subtree)][1:-1]:
             if delegations.entry(place, "dir").is_reached:
                 below[place, holders].append(subtree)
     found: DefaultDict[Tuple[int, CgroupPath], List[CgroupPath]] = defaultdict(list)
     for (place, holders), subtrees in below.items():
         for uid in {user.uid for user in delegations.users_at(delegations.entry(place, "dir"))} - {0}:
-            if payer(uid) not in holders:
+            if charged_user(uid) not in holders:
                 found[uid, place] += subtrees
     for (uid, place), subtrees in sorted(found.items()):
         yield of_user(checked, uid, MakesAbove(checked.names.user(uid), text_of(place), texts_of(subtrees)))
@@ -117,7 +117,7 @@ def capabilities(checked: Checked) -> Iterator[Told]:
     for process in checked.snapshot.processes.values():
         left[process.uid] += process.threads_left
     for uid, count in sorted((uid, count) for uid, count in left.items() if count):
-        over = checked.snapshot.over.get(checked.holds.payer(uid))
+        over = checked.snapshot.over.get(checked.holds.charged_user(uid))
         yield of_user(checked, uid, UnlookedThreads(checked.names.user(uid), count, bounded.THREADS.most, over))
 
 
@@ -177,14 +177,15 @@ def about_the_mount(checked: Checked) -> Iterator[Told]:
     """What is different about a text, and about how the hierarchy is mounted."""
     if checked.snapshot.source.file is not None:
         carried = checked.snapshot.source.carried
-        yield Told.of(OfText("", carried is not None, carried is not None and carried.has_holds, checked.options.accounts is not None))
+        has_descriptors = carried is not None and carried.has_descriptors
+        yield Told.of(OfText("", carried is not None, has_descriptors, checked.options.accounts is not None))
     for mount in checked.snapshot.mounts:
         yield Told.of(MountedElsewhere(text_of(mount.top), shown(mount.place), hierarchy.reached_by(checked, mount)))
 
 
 def processes(checked: Checked) -> Iterator[Told]:
     """Users of whom not all processes were looked at, where no answer of theirs hangs on it: they hold nothing."""
-    holders = {checked.holds.payer(uid) for uid in checked.held}
+    holders = {checked.holds.charged_user(uid) for uid in checked.held}
     for person, why in sorted(checked.snapshot.over.items()):
         if person not in holders:
             yield of_user(checked, person, UnlookedProcesses(checked.names.user(person), why))
