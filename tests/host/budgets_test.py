@@ -23,7 +23,7 @@ from zirofen_host.collect import bounded, descriptors, mount_kinds, processes, s
 from zirofen_host.collect.notes import FAILED
 from zirofen_host.collect.accounts import Accounts
 from zirofen_host.collect.bounded import Budget, Spent
-from zirofen_host.collect.holds import Holds
+from zirofen_host.collect.makers import Makers
 from zirofen_host.collect.model import AccountLists, Process, Range, User, group_list
 from zirofen_host.judge import check, findings, held, saved, unseen, whole
 from zirofen_host.profile import ROOT, path_of
@@ -83,7 +83,7 @@ class SpentTest(unittest.TestCase):
                                 ("/a/bobs", 1001, 0o755), ("/tmp", 0, 0o777), ("/tmp/x", 1001, 0o755)):
             rows[path_of(path)] = mock.Mock(directory=mock.Mock(uid=uid, mode=mode))
         rows[path_of("/a/m.service")] = rows[path_of("/a/in")]
-        holds = Holds(rows, charged_user, {path_of("/a/m.service")})
+        holds = Makers(rows, charged_user, {path_of("/a/m.service")})
         self.assertEqual([holds.within(path_of(path)) for path in (*rows, "/a/in/gone", "/gone")],
                          [None, None, 1000, 1000, None, None, 1001, None, 1000, None])
 

@@ -8,7 +8,7 @@ from zirofen_host.ask.model import Plan, Question
 from zirofen_host.ask.questions import Questions
 from zirofen_host.collect import bounded
 from zirofen_host.collect.bounded import Spent
-from zirofen_host.collect.holds import Holds
+from zirofen_host.collect.makers import Makers
 from zirofen_host.collect.reasons import Reason
 from zirofen_host.profile import CgroupPath
 
@@ -16,7 +16,7 @@ from zirofen_host.profile import CgroupPath
 @dataclass(frozen=True)
 class Runs:
     """What the questions for what each person made have cost."""
-    makers: Holds
+    makers: Makers
     spent: Spent
 
     def affordable(self, asked: Iterable[Question]) -> Tuple[List[Question], Dict[CgroupPath, Reason]]:

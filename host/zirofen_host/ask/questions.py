@@ -11,7 +11,7 @@ from zirofen_host.ask.delegations import Delegations
 from zirofen_host.ask.model import Answer, Cut, Guarded, Holders, Pair, Plan, Question
 from zirofen_host.ask.program import ESCAPES
 from zirofen_host.collect.accounts import Accounts, accounts_of
-from zirofen_host.collect.holds import Holds, handed_in
+from zirofen_host.collect.makers import Makers, handed_in
 from zirofen_host.collect.model import CLASSES, GROUP, OTHERS, OWNER, Snapshot, Tree, User
 from zirofen_host.collect.reasons import Reason
 from zirofen_host.collect.snapshot import SubtreesOf
@@ -181,9 +181,9 @@ class Questions:
         return any(isinstance(limit, int) and count > limit for count, limit in zip(self.below[subtree], limits))
 
     @cached_property
-    def makers(self) -> Holds:
+    def makers(self) -> Makers:
         """Whose making each cgroup is."""
-        return Holds(self.tree.rows, self.accounts.charged_user, handed_in(self.marks))
+        return Makers(self.tree.rows, self.accounts.charged_user, handed_in(self.marks))
 
     @cached_property
     def below(self) -> Mapping[CgroupPath, Tuple[int, int]]:

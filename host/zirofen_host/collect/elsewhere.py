@@ -11,7 +11,7 @@ from zirofen_host.collect import containers, fitting
 from zirofen_host.collect import snapshot as snapshots
 from zirofen_host.collect.accounts import Accounts
 from zirofen_host.collect.carried import Records
-from zirofen_host.collect.holds import Holds
+from zirofen_host.collect.makers import Makers
 from zirofen_host.collect.model import (About, AccountLists, Carried, Cgroup, Entry, Process, Row, Scope, Snapshot, Source, Tree, User)
 from zirofen_host.collect.mount import read_kernel_list
 from zirofen_host.collect.notes import LimitsOfVersion1, Note, OtherType
@@ -160,18 +160,18 @@ def text_with(snapshot: Snapshot, lines: Iterable[str], with_processes: bool) ->
     return snapshots.tree_text(snapshot, with_processes) + carrying.text_of_lines(lines)
 
 
-def fitting_text(snapshot: Snapshot, holds: Holds, lines: Callable[[Snapshot], Iterable[str]],
+def fitting_text(snapshot: Snapshot, makers: Makers, lines: Callable[[Snapshot], Iterable[str]],
                  with_processes: bool) -> Tuple[Snapshot, str]:
     """One text with what it carries, and what it is of: what is inside of whoever has most is left out until it fits."""
     if not with_processes:
         snapshot = replace(snapshot, tree=replace(snapshot.tree, processes=()))
-    snapshot, most = fitting.fitted(snapshot, holds), snapshot.tree.format.longest
+    snapshot, most = fitting.fitted(snapshot, makers), snapshot.tree.format.longest
     while True:
         text = text_with(snapshot, lines(snapshot), with_processes)
         if len(text) <= most:
             return snapshot, text
-        person = fitting.heaviest(snapshot, holds, fitting.length(snapshot))
+        person = fitting.heaviest(snapshot, makers, fitting.length(snapshot))
         if person is None:
             raise Fault(f"{len(text)} bytes, and a tree text has {most} at most: --only PATH writes less, and so does a text "
                         "without --with-host, whose accounts are named by --accounts")
-        snapshot = fitting.without_inside(snapshot, holds, person, most, "bytes")
+        snapshot = fitting.without_inside(snapshot, makers, person, most, "bytes")

@@ -5,7 +5,7 @@ from dataclasses import replace
 from typing import Callable, DefaultDict, Dict, Iterator, List, Optional
 
 from zirofen_host.collect.carried import CHANGING, Changing
-from zirofen_host.collect.holds import Holds
+from zirofen_host.collect.makers import Makers
 from zirofen_host.collect.model import Placed, Snapshot
 from zirofen_host.collect.notes import ProcessesOverText, TooLarge
 from zirofen_host.collect.reasons import LeftOutToFit
@@ -16,22 +16,22 @@ from zirofen_host.profile import CgroupPath, ancestors, parent_of, path_of, text
 Weight = Callable[[CgroupPath], int]
 
 
-def fitted(snapshot: Snapshot, holds: Holds) -> Snapshot:
+def fitted(snapshot: Snapshot, makers: Makers) -> Snapshot:
     """A snapshot with no more cgroups and processes than a text takes, where those of somebody's own making can be left out."""
     most = snapshot.tree.format.most_rows
     while len(snapshot.tree.rows) > most:
-        person = heaviest(snapshot, holds, lambda _: 1)
+        person = heaviest(snapshot, makers, lambda _: 1)
         if person is None:
             return snapshot
-        snapshot = without_inside(snapshot, holds, person, most, "cgroups")
-    return without_processes(snapshot, holds)
+        snapshot = without_inside(snapshot, makers, person, most, "cgroups")
+    return without_processes(snapshot, makers)
 
 
-def heaviest(snapshot: Snapshot, holds: Holds, weight: Weight) -> Optional[int]:
+def heaviest(snapshot: Snapshot, makers: Makers, weight: Weight) -> Optional[int]:
     """Who made the most of what is there."""
     weights: Dict[int, int] = Counter()
     for path in snapshot.tree.rows:
-        maker = holds.within(path)
+        maker = makers.within(path)
         if maker is not None:
             weights[maker] += weight(path)
     return min(weights, key=lambda person: (-weights[person], person)) if weights else None
@@ -50,10 +50,10 @@ def length(snapshot: Snapshot) -> Weight:
     return of
 
 
-def without_inside(snapshot: Snapshot, holds: Holds, person: int, most: int, what: str) -> Snapshot:
+def without_inside(snapshot: Snapshot, makers: Makers, person: int, most: int, what: str) -> Snapshot:
     """A snapshot without the cgroups that somebody made, and what is inside of these, since a text has so many of something at most.
     What is told of each place where some were is told at the first of them."""
-    made = {path for path in snapshot.tree.rows if holds.within(path) == person}
+    made = {path for path in snapshot.tree.rows if makers.within(path) == person}
     lost = {path for path in snapshot.tree.rows if path in made or not made.isdisjoint(ancestors(path))}
     by_parent: DefaultDict[CgroupPath, List[CgroupPath]] = defaultdict(list)
     for path in sorted(topmost(made)):
@@ -67,20 +67,20 @@ def without_inside(snapshot: Snapshot, holds: Holds, person: int, most: int, wha
         snapshot, cgroups={path: found for path, found in snapshot.cgroups.items() if path not in lost},
         tree=replace(tree, rows={path: row for path, row in tree.rows.items() if path not in lost},
                      processes=[each for each in tree.processes if each.at not in lost]),
-        notes=(*(note for note in snapshot.notes if holds.within(path_of(note.place)) != person),
+        notes=(*(note for note in snapshot.notes if makers.within(path_of(note.place)) != person),
                *(TooLarge(text_of(parent), reason) for parent, reason in reasons.items())),
         changing={**snapshot.changing, **{by_parent[parent][0]: reason for parent, reason in reasons.items()}},
         makers={**snapshot.makers, **{paths[0]: person for paths in by_parent.values()}})
 
 
-def without_processes(snapshot: Snapshot, holds: Holds) -> Snapshot:
+def without_processes(snapshot: Snapshot, makers: Makers) -> Snapshot:
     """A snapshot with no more processes than a text takes: those of whoever has most are left out."""
     processes: List[Placed] = list(snapshot.tree.processes)
     notes, most = list(snapshot.notes), snapshot.tree.format.most_processes
     while len(processes) > most:
-        counts = Counter(holds.charged_user(each.uid) if each.uid else 0 for each in processes)
+        counts = Counter(makers.charged_user(each.uid) if each.uid else 0 for each in processes)
         person = max(sorted(counts), key=lambda each: (each != 0, counts[each]))
-        processes = [each for each in processes if (holds.charged_user(each.uid) if each.uid else 0) != person]
+        processes = [each for each in processes if (makers.charged_user(each.uid) if each.uid else 0) != person]
         notes.append(ProcessesOverText("/", person, counts[person], most))
     return replace(snapshot, tree=replace(snapshot.tree, processes=processes), notes=tuple(notes))
 

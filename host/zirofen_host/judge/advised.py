@@ -61,7 +61,7 @@ def runs_of(checked: Checked) -> List[List[Pair]]:
         of_text.setdefault(checked.programs.of[pair.subtree].tree, []).append(pair)
     by_maker: DefaultDict[int, List[List[Pair]]] = defaultdict(list)
     for pairs in of_text.values():
-        by_maker[min(checked.holds.within(pair.subtree) or 0 for pair in pairs)].append(pairs)
+        by_maker[min(checked.makers.within(pair.subtree) or 0 for pair in pairs)].append(pairs)
     in_turn = chain.from_iterable(zip_longest(*(runs for maker, runs in sorted(by_maker.items()) if maker)))
     return [*by_maker[0], *(pairs for pairs in in_turn if pairs)][:bounded.ADVICE]
 

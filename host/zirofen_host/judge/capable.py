@@ -45,4 +45,4 @@ def findings(checked: Checked) -> Iterator[PremiseFinding]:
             yield PremiseFinding(
                 CAPABILITY, text_of(each.place), " ".join(names), (Whom(OWNER, each.uid, who, ()),),
                 f"{who} has {' '.join(names)} there, and passes over owners and over these answers", pids,
-                tuple(f"kill {pid}" for pid in pids), None, checked.holds.charged_user(each.uid))
+                tuple(f"kill {pid}" for pid in pids), None, checked.makers.charged_user(each.uid))

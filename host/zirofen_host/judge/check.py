@@ -9,7 +9,7 @@ from zirofen_host.ask.model import Answer
 from zirofen_host.ask.program import CONTAINED
 from zirofen_host.ask.questions import unit_of
 from zirofen_host.collect.accounts import Accounts, accounts_of
-from zirofen_host.collect.holds import holds_of
+from zirofen_host.collect.makers import makers_in
 from zirofen_host.collect.looks import Looks
 from zirofen_host.collect.model import GROUP, OWNER, Scope, Snapshot, User
 from zirofen_host.collect.notes import Note
@@ -50,7 +50,7 @@ def ask(snapshot: Snapshot, options: Options, folder: str, settings: Settings) -
     for user in sorted({user for users, _ in (*answers.plan.questions, *answers.further) for user in users}):
         asked[user.uid].append(user)
     return Checked(snapshot, options, names_of(accounts), found.questions, answers, found.programs,
-                   judge(found.questions, answers), asked, asked_of, holds_of(snapshot, accounts.charged_user),
+                   judge(found.questions, answers), asked, asked_of, makers_in(snapshot, accounts.charged_user),
                    settings)
 
 

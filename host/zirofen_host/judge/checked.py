@@ -9,7 +9,7 @@ from zirofen_host.ask.questions import Questions
 from zirofen_host.ask.texts import Programs
 from zirofen_host.collect.causes import Found, look
 from zirofen_host.collect.containers import word_of
-from zirofen_host.collect.holds import Holds
+from zirofen_host.collect.makers import Makers
 from zirofen_host.collect.looks import Looks
 from zirofen_host.collect.model import Entry, Scope, Snapshot, User
 from zirofen_host.files import Kind, kind_of
@@ -40,7 +40,7 @@ class Checked:
     # for each subtree the lists of those who were asked of it
     asked_of: Mapping[CgroupPath, List[FrozenSet[User]]]
     # whose making each cgroup is
-    holds: Holds
+    makers: Makers
     # of units, before the host was looked at
     settings: Settings
     # of which some fail
@@ -80,7 +80,7 @@ class Checked:
 
     def causes(self, path: CgroupPath) -> Union[Tuple[str, ...], Absent]:
         """The lines that give something of a cgroup away; of what somebody made none is looked for."""
-        if self.holds.within(path) is not None or self.found_in_files is None:
+        if self.makers.within(path) is not None or self.found_in_files is None:
             return ABSENT
         return tuple(map(str, self.found_in_files.of(text_of(path), unit_at(path))))
 
@@ -90,7 +90,7 @@ class Checked:
         says that the unit is there."""
         named = {path: unit_at(path) for path in self.snapshot.cgroups} if self.settings else {}
         return {path: unit for path, unit in named.items() if unit is not None and unit in self.settings
-                and (self.holds.within(path) is None or self.settings[unit].get(CGROUP) == text_of(path))}
+                and (self.makers.within(path) is None or self.settings[unit].get(CGROUP) == text_of(path))}
 
     def is_limit_open(self, path: CgroupPath) -> bool:
         """Whether somebody but root reaches a limit of a cgroup, or what takes all of a controller's from it."""
@@ -102,7 +102,7 @@ class Checked:
 
     def within(self, path: CgroupPath) -> Within:
         """Whose own making a cgroup is."""
-        person = self.holds.within(path)
+        person = self.makers.within(path)
         return ABSENT if person is None else person
 
     def word_of(self, scope: Scope) -> Optional[str]:

@@ -71,11 +71,11 @@ def entry_finding(checked: Checked, advised: Advised, found: LetsIn, closing: Tu
 
 def is_own_affair(checked: Checked, place: Place, let_in: Iterable[LetIn], subtrees: Iterable[CgroupPath]) -> Union[bool, Absent]:
     """Whether an entry of somebody's own making lets in them alone, and to nothing that another holds."""
-    person = checked.holds.within(place.path)
+    person = checked.makers.within(place.path)
     if person is None:
         return ABSENT
     uids = {uid for each in let_in for uid in each.uids}.union(*(checked.questions.holders[path].uids for path in subtrees))
-    return checked.holds.is_all_of(person, uids)
+    return checked.makers.is_all_of(person, uids)
 
 
 def closing_of(checked: Checked, place: Place, entry: Entry, let_in: Iterable[LetIn]) -> Tuple[str, ...]:
@@ -157,14 +157,14 @@ def faults_of_budgets(checked: Checked) -> Iterable[FaultFinding]:
         if held:
             yield fault_of_budget(checked, person, f"{why}: not all were looked at", held)
     for person in spent.over():
-        made = held_by(checked, person, holders) or [path for path in checked.snapshot.cgroups if checked.holds.within(path) == person]
+        made = held_by(checked, person, holders) or [path for path in checked.snapshot.cgroups if checked.makers.within(path) == person]
         yield fault_of_budget(checked, person, f"{spent.budget.exceeded_by(person)}: not all are told", made)
 
 
 def held_by(checked: Checked, person: int, paths: Iterable[CgroupPath]) -> List[CgroupPath]:
     """Those of some subtrees that a person holds, by whichever of their uids."""
     holders = checked.questions.holders
-    return [path for path in paths if any(checked.holds.charged_user(uid) == person for uid in holders[path].uids)]
+    return [path for path in paths if any(checked.makers.charged_user(uid) == person for uid in holders[path].uids)]
 
 
 def fault_of_budget(checked: Checked, person: int, why: str, paths: Iterable[CgroupPath]) -> FaultFinding:
@@ -199,8 +199,8 @@ def makers_of(checked: Checked, below: Mapping[CgroupPath, Set[Optional[str]]], 
 def maker_of_most(checked: Checked, path: CgroupPath) -> Optional[str]:
     """Whose making most of what is inside of a subtree is that root handed over: who holds it may have made little of that."""
     tree, made = checked.snapshot.tree, Counter[int]()
-    for place in tree.rows if checked.holds.within(path) is None else ():
-        person = checked.holds.within(place) if is_inside(place, path) else None
+    for place in tree.rows if checked.makers.within(path) is None else ():
+        person = checked.makers.within(place) if is_inside(place, path) else None
         if person is not None:
             made[person] += len(row_text(tree.rows[place], tree.format))
     return checked.names.user(min(made, key=lambda person: (-made[person], person))) if made else None
@@ -247,4 +247,4 @@ def differs_findings(checked: Checked, opened: Iterable[Place]) -> Iterable[Diff
 def above_findings(checked: Checked) -> Iterable[AboveFinding]:
     for (uid, handed), subtrees in sorted(checked.judged.above.items()):
         yield AboveFinding(checked.names.user(uid), uid, text_of(handed), texts_of(in_order(topmost(subtrees))),
-                           checked.holds.charged_user(uid))
+                           checked.makers.charged_user(uid))

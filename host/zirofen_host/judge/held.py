@@ -44,7 +44,7 @@ def finding(checked: Checked, holder: Holder, entry: Entry, held: Sequence[HeldE
 
 def made_by(checked: Checked, uid: int) -> Within:
     """To whom what a process of somebody's does is charged; root's is charged to nobody."""
-    return checked.holds.charged_user(uid) if uid else ABSENT
+    return checked.makers.charged_user(uid) if uid else ABSENT
 
 
 def is_changed_by(subtree: Subtree, uids: Iterable[int], found: Iterable[HeldFinding]) -> bool:

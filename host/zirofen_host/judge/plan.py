@@ -14,7 +14,7 @@ from zirofen_host.ask.questions import subtrees_by
 from zirofen_host.collect import bounded, changes, elsewhere, fitting, snapshot, unit_files
 from zirofen_host.collect.accounts import accounts_of
 from zirofen_host.collect.elsewhere import Accepted
-from zirofen_host.collect.holds import holds_of
+from zirofen_host.collect.makers import makers_in
 from zirofen_host.collect.model import Snapshot
 from zirofen_host.fault import FAULT, Fault
 from zirofen_host.judge import baseline, check, limits, settings, units
@@ -57,8 +57,8 @@ def carried(of: Snapshot, folder: Optional[str]) -> Iterator[str]:
 def text_of_host(options: PlanOptions) -> str:
     """The text of this host with all that a check elsewhere takes."""
     taken = snapshot.take(options, subtrees_by(options))
-    holds = holds_of(taken, accounts_of(options.accounts, taken).charged_user)
-    return elsewhere.fitting_text(taken, holds, lambda of: carried(of, options.accounts), not options.no_processes)[1]
+    makers = makers_in(taken, accounts_of(options.accounts, taken).charged_user)
+    return elsewhere.fitting_text(taken, makers, lambda of: carried(of, options.accounts), not options.no_processes)[1]
 
 
 def version_of(options: PlanOptions) -> int:

@@ -23,7 +23,7 @@ from zirofen_host.profile import ANYBODY, CgroupPath, ancestors, is_inside, path
 
 def of_user(checked: Checked, uid: int, note: Note) -> Told:
     """A note of a user, charged to whose uid it is."""
-    return Told.of(note, checked.holds.charged_user(uid))
+    return Told.of(note, checked.makers.charged_user(uid))
 
 
 def of_cgroup(checked: Checked, path: CgroupPath, note: Note) -> Told:
@@ -52,7 +52,7 @@ def descriptors(checked: Checked) -> Iterator[Told]:
 def makers_above(checked: Checked) -> Iterator[Told]:
     """Who makes cgroups further above a subtree of another's than a guard stands: a threaded one there makes the subtree's cgroup
     invalid, and no process can be moved into it."""
-    delegations, charged_user = checked.questions.delegations, checked.holds.charged_user
+    delegations, charged_user = checked.questions.delegations, checked.makers.charged_user
     below: DefaultDict[Tuple[CgroupPath, FrozenSet[int]], List[CgroupPath]] = defaultdict(list)
     for subtree in checked.questions.subtrees:
         holders = frozenset(map(charged_user, checked.questions.holders[subtree].uids))
@@ -117,7 +117,7 @@ def capabilities(checked: Checked) -> Iterator[Told]:
     for process in checked.snapshot.processes.values():
         left[process.uid] += process.threads_left
     for uid, count in sorted((uid, count) for uid, count in left.items() if count):
-        over = checked.snapshot.over.get(checked.holds.charged_user(uid))
+        over = checked.snapshot.over.get(checked.makers.charged_user(uid))
         yield of_user(checked, uid, UnlookedThreads(checked.names.user(uid), count, bounded.THREADS.most, over))
 
 
@@ -185,7 +185,7 @@ def about_the_mount(checked: Checked) -> Iterator[Told]:
 
 def processes(checked: Checked) -> Iterator[Told]:
     """Users of whom not all processes were looked at, where no answer of theirs hangs on it: they hold nothing."""
-    holders = {checked.holds.charged_user(uid) for uid in checked.held}
+    holders = {checked.makers.charged_user(uid) for uid in checked.held}
     for person, why in sorted(checked.snapshot.over.items()):
         if person not in holders:
             yield of_user(checked, person, UnlookedProcesses(checked.names.user(person), why))

@@ -6,7 +6,7 @@ from zirofen_host import fault
 from zirofen_host.ask import named
 from zirofen_host.collect import elsewhere, fitting, snapshot
 from zirofen_host.collect.accounts import accounts_of, charged_user_of
-from zirofen_host.collect.holds import holds_of
+from zirofen_host.collect.makers import makers_in
 from zirofen_host.collect.model import Snapshot
 from zirofen_host.options import SnapshotOptions
 
@@ -20,8 +20,8 @@ def run(given: argparse.Namespace) -> int:
         yield from fitting.told_changing(of)
         if accounts:
             yield from elsewhere.carried(of, accounts)
-    holds = holds_of(taken, accounts.charged_user if accounts else charged_user_of(options.accounts))
-    taken, text = elsewhere.fitting_text(taken, holds, carried, not options.no_processes)
+    makers = makers_in(taken, accounts.charged_user if accounts else charged_user_of(options.accounts))
+    taken, text = elsewhere.fitting_text(taken, makers, carried, not options.no_processes)
     for line in snapshot.note_lines(taken):
         fault.warn(line)
     fault.write(text)

@@ -13,12 +13,12 @@ def handed_in(marks: Mapping[CgroupPath, Mapping[str, bytes]]) -> FrozenSet[Cgro
     return frozenset(path for path, found in marks.items() if found.get(MANAGERS_MARK, b"0") != b"0")
 
 
-def holds_of(snapshot: Snapshot, charged_user: Callable[[int], int]) -> "Holds":
+def makers_in(snapshot: Snapshot, charged_user: Callable[[int], int]) -> "Makers":
     marks = {path: found.marks for path, found in snapshot.cgroups.items() if found.marks}
-    return Holds(snapshot.tree.rows, charged_user, handed_in(marks))
+    return Makers(snapshot.tree.rows, charged_user, handed_in(marks))
 
 
-class Holds:
+class Makers:
     """By path to whom a cgroup is charged that somebody can have made; what root handed over is root's making, and so is what has
     the mark that root alone sets."""
 
