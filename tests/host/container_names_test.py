@@ -189,7 +189,7 @@ class OwnNamesTest(unittest.TestCase):
         self.addCleanup(folder.cleanup)
         self.top = folder.name
         os.chmod(self.top, 0o755)
-        self.file = f"{self.top}/home/{containers.OWN_LIST}"
+        self.file = f"{self.top}/home/.local/share/containers/storage/overlay-containers/containers.json"
         os.makedirs(os.path.dirname(self.file))
         self.names = containers.Names(self.top, lambda uid: "/home")
 
@@ -205,6 +205,14 @@ class OwnNamesTest(unittest.TestCase):
         self.assertEqual(self.write(json.dumps([{"id": "4fb0", "names": ["x" * 500]}])), "x" * 96)
         for text in ("", "{", "[1]", "[{}]", '{"id": 1}', "[" * 100000, '[{"id": "4fb0", "names": []}]'):
             self.assertIsNone(self.write(text))
+
+    def test_each_driver_of_storage_has_a_list(self):
+        """On Debian 12 a user's podman takes vfs, where nothing else was chosen."""
+        for driver in ("vfs", "btrfs", "zfs", "overlay"):
+            self.file = f"{self.top}/home/.local/share/containers/storage/{driver}-containers/containers.json"
+            os.makedirs(os.path.dirname(self.file), exist_ok=True)
+            self.assertEqual(self.write(json.dumps([{"id": "4fb0", "names": [driver]}])), driver)
+            os.remove(self.file)
 
     def test_whose_it_has_to_be(self):
         text = json.dumps([{"id": "4fb0", "names": ["app"]}])

@@ -32,7 +32,7 @@ LIMITS = ("cgroup.freeze", "cgroup.max.depth", "cgroup.max.descendants", "cpu.id
           "io.max", "io.weight", "memory.high", "memory.low", "memory.max", "memory.min", "memory.swap.max", "pids.max")
 CONTROL = "cgroup.subtree_control"
 # files by which whoever may write is told of something, and which set nothing
-MONITORED = ("cpu.pressure", "io.pressure", "memory.pressure", "irq.pressure")
+MONITORED = ("cpu.pressure", "io.pressure", "memory.pressure", "irq.pressure", "memory.peak", "memory.swap.peak")
 # without a finding; 4 is that of a host on which nobody was handed anything
 CLEAN = (0, 4)
 OTHERS, OWNER, GROUP, WHOLE = "mode", "owner", "group", "whole"

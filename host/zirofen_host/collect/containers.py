@@ -93,16 +93,18 @@ def name_in_hosts(text: str, _: str) -> Optional[str]:
     return words[-1][1]
 
 
-OWN_LIST = ".local/share/containers/storage/overlay-containers/containers.json"
-LIST = "/var/lib/containers/storage/overlay-containers/containers.json"
+# of podman, one for each driver of storage
+LISTS = tuple(f"containers/storage/{driver}-containers/containers.json" for driver in ("overlay", "vfs", "btrfs", "zfs"))
+OWN_DATA, DATA = ".local/share", "/var/lib"
+IN_LISTS: Tuple[Tuple[str, NameIn], ...] = tuple((f"{DATA}/{file}", name_in_list) for file in LISTS)
 # the files that tell a name, with what is read of each
 FILES: Mapping[str, Tuple[Tuple[str, NameIn], ...]] = {
-    PODMAN: (("/run/crun/{}/config.json", name_in_bundle), (LIST, name_in_list)),
+    PODMAN: (("/run/crun/{}/config.json", name_in_bundle), *IN_LISTS),
     DOCKER: (("/var/lib/docker/containers/{}/config.v2.json", name_in_config),),
     CONTAINERD: tuple((f"/run/containerd/io.containerd.runtime.v2.task/{space}/{{}}/config.json", name_in_bundle)
                       for space in ("k8s.io", "default", "moby")),
     CRIO: (("/run/containers/storage/overlay-containers/{}/userdata/config.json", name_in_bundle),
-           ("/run/crun/{}/config.json", name_in_bundle), (LIST, name_in_list)),
+           ("/run/crun/{}/config.json", name_in_bundle), *IN_LISTS),
     POD: (("/var/lib/kubelet/pods/{}/etc-hosts", name_in_hosts),)}
 
 
@@ -188,15 +190,19 @@ class Names:
         return mounts_of_host().types
 
     def own_names(self, holder: int) -> Mapping[str, str]:
-        """The names in a user's own list of podman's containers, which is read and parsed once."""
+        """The names in a user's own lists of podman's containers, which are read and parsed once."""
         if holder not in self.own:
             home = self.home_of(holder)
-            try:
-                found = read_theirs(f"{home}/{OWN_LIST}", holder, self.types, bounded.NAME_FILE, self.top) if home else None
-                self.own[holder] = names_in_list(found.text("utf-8", "replace")) if found and not found.is_cut else {}
-            except OSError:
-                self.own[holder] = {}
+            self.own[holder] = {identity: name for file in LISTS if home
+                                for identity, name in self.own_list(f"{home}/{OWN_DATA}/{file}", holder).items()}
         return self.own[holder]
+
+    def own_list(self, file: str, holder: int) -> Mapping[str, str]:
+        try:
+            found = read_theirs(file, holder, self.types, bounded.NAME_FILE, self.top)
+        except OSError:
+            return {}
+        return {} if found.is_cut else names_in_list(found.text("utf-8", "replace"))
 
 
 class NoFiles(Names):
