@@ -90,8 +90,8 @@ has one in each line: mkdir PATH, chown PATH ENTRY UID:GID, chmod PATH ENTRY MOD
 VALUE, process PID UID PATH, mark PATH (the manager's mark of what it hands over). They are made to the tree's text one after
 another; one that a kernel wouldn't let root make is a fault of its line. Both trees are asked as {NAME} check asks, and what is
 new, worse, changed or gone behind the changes is printed. The status is that of what is new or worse: 3 for a fault, new or
-not; else 1 for an escape or a limit that stands open; else 2 where an answer is unsettled; else 4 where nothing was found to
-ask; else 0.
+not; else 1 for an escape or a limit that stands open; else 2 where an answer is unsettled, or where what isn't told may give
+entries away, also with --print; else 4 where nothing was found to ask; else 0.
 """,
     "snapshot": f"""Writes the cgroups of this host as a tree text for zirofen, on standard output. Run it as root.
 

@@ -1,4 +1,5 @@
 """Tests of the lines of root's files that give cgroups away: one planted in each place, and what isn't read."""
+import json
 import os
 import unittest
 from dataclasses import replace
@@ -6,10 +7,12 @@ from unittest import mock
 
 from check_test import MANAGER, MARK, HostTest, owned
 from formats_test import run_of
+from page_reader import PageReader
 from shown import lines_of, made
 from zirofen_host.collect import bounded, causes
 from zirofen_host.judge import check, settings
 from zirofen_host.judge.wanted import unit_at
+from zirofen_host.show import junit, page, sarif
 from zirofen_host.show import mends as written
 
 MOUNT = "/sys/fs/cgroup"
@@ -166,6 +169,14 @@ class ReportTest(PlantedTest):
         self.assertEqual(report.entries[0].setting, f"MemoryMax=104857600 of app.service ({unit}:3: MemoryMax=100M)")
         lines = list(lines_of(report))
         self.assertIn(f"    cause: {cause}", lines)
+        # every other form has it beside the finding
+        (log,) = json.loads("".join(sarif.parts_of(run_of(report))))["runs"]
+        messages = [each["message"]["text"] for each in log["results"] if f"cause: {cause}" in each["message"]["text"]]
+        self.assertEqual(len(messages), 1)
+        self.assertIn(f"cause: {cause}", "".join(junit.parts_of(run_of(report))))
+        reader = PageReader(page.page([report]))
+        self.assertEqual(reader.faults, [])
+        self.assertIn(f"What of root's files gives it away: {cause}", reader.text())
         [told] = [line for line in lines if line.startswith("cause: ")]
         self.assertIn("nothing that was read gives away what lets somebody in at /system.slice/b.service", told)
         script = "".join(written.parts_of(run_of(report), "shell")).splitlines()

@@ -360,13 +360,13 @@ class PageTest(FleetTest):
     def test_a_report_that_is_empty_is_a_row(self):
         self.folder.put("web2", "")
         ended = self.page(example.KEPT, f"{self.folder.folder}/web2.json")
-        self.assertEqual((ended.returncode, ended.stderr.count("\n")), (3, 1))
+        self.assertEqual((ended.returncode, ended.stderr.count("\n")), (3, 2))
         reader = PageReader(ended.stdout)
         self.assertEqual(reader.faults, [])
         self.assertRegex(reader.text(), r"/web2.json ∅ no report.*web2.json: no JSON: Expecting value")
         self.assertIn("2 of 6 delegations can be broken", reader.text())
         only = self.page(f"{self.folder.folder}/web2.json", f"{self.folder.folder}/web2.json")
-        self.assertEqual((only.returncode, only.stdout, only.stderr.count("\n")), (3, "", 2))
+        self.assertEqual((only.returncode, only.stdout, only.stderr.count("\n")), (3, "", 4))
 
     def test_more_than_twenty_are_too_many(self):
         ended = self.page(*[example.KEPT] * 21)

@@ -179,18 +179,18 @@ class CommandTest(HostTest):
             "new: /new: contained, by 1001 who holds it",
             "worse: /c0: escapes, by 1000 who holds it", "    before: /c0: contained, by 1000 who holds it",
             "worse: /c1: escapes, by 1000 who holds it", "    before: /c1: contained, by 1000 who holds it",
-            f"3 asked: 3 escapes; {LIMITS}"])
+            f"1 by 1 new and 2 worse; 3 asked: 3 escapes; {LIMITS}"])
 
     def test_nothing_changes(self):
         said = self.plan("--tree", DELEGATION, ops="# nothing\n")
         self.assertEqual((without_makers(said.stdout.splitlines()), said.returncode), (
-            ["nothing is new, worse, changed or gone beside the tree as it is", f"2 asked: 2 contained [limited]; {LIMITS}"], 0))
+            ["nothing is new, worse, changed or gone beside the tree as it is", f"0; 2 asked: 2 contained [limited]; {LIMITS}"], 0))
         # what stands before counts as before
         said = self.plan("--tree", f"{TOP}/examples/delegation-ancestor-owned.toml", ops="set /c0 memory.max 9\n")
-        self.assertEqual((said.returncode, said.stdout.splitlines()[-1]), (0, f"2 asked: 2 escapes; {LIMITS}"))
+        self.assertEqual((said.returncode, said.stdout.splitlines()[-1]), (0, f"0; 2 asked: 2 escapes; {LIMITS}"))
         said = self.plan("--tree", f"{TOP}/examples/delegation-ancestor-owned.toml",
                          ops="chown / cgroup.procs 0:0\nchmod / cgroup.procs 644\n")
-        self.assertEqual((said.returncode, said.stdout.splitlines()[-1]), (0, f"2 asked: 2 contained [limited]; {LIMITS}"))
+        self.assertEqual((said.returncode, said.stdout.splitlines()[-1]), (0, f"0; 2 asked: 2 contained [limited]; {LIMITS}"))
         self.assertIn("gone: / cgroup.procs (1000:0 446): escapes", said.stdout)
 
     def test_what_no_answer_rests_on_is_said_once(self):
@@ -202,8 +202,9 @@ class CommandTest(HostTest):
             "new: /new: contained, by 1001 who holds it", "not-told: cgroup.threads memory.pressure: no answer rests on these"]))
         self.assertNotIn("isn't told: ", last)
         said = self.plan("--tree", DELEGATION, ops=f"{ops}chown /new cgroup.type 1001:1001\n")
-        self.assertEqual(said.returncode, 2)
-        self.assertTrue(said.stdout.splitlines()[-1].endswith(
+        last = said.stdout.splitlines()[-1]
+        self.assertEqual((said.returncode, last.partition(";")[0]), (2, "2 by what a plan can't tell"))
+        self.assertTrue(last.endswith(
             "; what may give entries away isn't told: cgroup.type of /new: the text has no place for it"))
 
     def test_in_place_of_answers(self):
@@ -247,7 +248,7 @@ class HostPlanTest(HostTest):
         hand_over = "".join(f"chown {unit} {name} 1001:0\n" for name in owned(0))
         lines, status = self.planned(f"mkdir {unit}\n{hand_over}mark {unit}\nprocess 99 1001 {unit}\n")
         self.assertIn(f"new: {unit}: contained, by 1001 who holds it", lines)
-        self.assertEqual((status, lines[-1]), (0, "2 asked: 2 contained"))
+        self.assertEqual((status, lines[-1]), (0, "0; 2 asked: 2 contained"))
         # without the manager's mark it is what the manager keeps
         lines, status = self.planned(f"mkdir {unit}\n{hand_over}")
         self.assertEqual(status, 1)

@@ -369,16 +369,18 @@ class CommandTest(UnitsTest):
         self.assertEqual((said.returncode, said.stderr), (2, ""))
         self.assertEqual(without_makers(said.stdout.splitlines()), [
             "new: /system.slice/a.service: contained, by 900 who holds it [limited]", f"not-told: {slices}",
-            "3 asked: 3 contained [limited]; limits of this answer: it was asked by number: who is in which group, and whose ids are "
-            "subordinate, isn't known; the text doesn't tell where threads run and what processes hold open; what may give entries away "
+            "2 by what a plan can't tell; 3 asked: 3 contained [limited]; limits of this answer: it was asked by number: who is in "
+            "which group, and whose ids are subordinate, isn't known; the text doesn't tell where threads run and what processes hold "
+            "open; what may give entries away "
             f"isn't told: {untold}"])
         lines = self.plan("--unit", file, "--print", "lines")
-        self.assertEqual((lines.stdout.splitlines()[:2], lines.stderr), ([f"# not told: {slices}", f"# not told: {untold}"], ""))
+        self.assertEqual((lines.stdout.splitlines()[:2], lines.stderr, lines.returncode),
+                         ([f"# not told: {slices}", f"# not told: {untold}"], "", 2))
         # what was printed is what can be read again
         ops = self.write("ops", lines.stdout)
         new, last = without_makers(self.plan("--ops", ops).stdout.splitlines())
-        self.assertEqual((new, last.partition(";")[0]), ("new: /system.slice/a.service: contained, by 900 who holds it",
-                                                         "3 asked: 3 contained [limited]"))
+        self.assertEqual((new, last.split("; ")[:2]), ("new: /system.slice/a.service: contained, by 900 who holds it",
+                                                       ["0", "3 asked: 3 contained [limited]"]))
         self.assertNotIn("isn't told: ", last)
 
     def test_what_root_carries_out_makes_it_no_yes(self):
@@ -388,7 +390,9 @@ class CommandTest(UnitsTest):
         said = self.plan("--unit", file)
         self.assertEqual((said.returncode, said.stderr), (2, ""))
         last = said.stdout.splitlines()[-1]
-        self.assertTrue(last.startswith("3 asked: 3 contained [limited]; limits of this answer: "))
+        self.assertTrue(last.startswith("2 by what a plan can't tell; 3 asked: 3 contained [limited]; limits of this answer: "))
+        for form in ("lines", "text"):
+            self.assertEqual(self.plan("--unit", file, "--print", form).returncode, 2)
         self.assertIn("; what may give entries away isn't told: a.service: ExecStartPost=+/bin/chown -R 1000 ", last)
         value = json.loads(self.plan("--unit", file, "--json").stdout)
         self.assertEqual((report_schema.faults_of(value), value["status"], value["baseline"]["status"]), ([], 2, 2))

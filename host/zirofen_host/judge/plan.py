@@ -165,5 +165,10 @@ def at_least_untold(status: int) -> int:
     return status if status in (ESCAPES, FAULT) else UNSETTLED
 
 
+def status_of_printed(planned: Planned) -> int:
+    """That of the changes or the text in the place of answers, by which nobody can tell what may give entries away."""
+    return UNSETTLED if planned.may_give else 0
+
+
 def status_of(comparison: Comparison, now: Report) -> int:
     return comparison.status if comparison.status or now.asked else NOTHING_ASKED

@@ -119,6 +119,11 @@ class Finding:
         return self.name or self.path
 
     @property
+    def cause_lines(self) -> Tuple[str, ...]:
+        """What of root's files gives it away."""
+        return () if isinstance(self.causes, Absent) else tuple(f"cause: {each}" for each in self.causes)
+
+    @property
     def is_counted(self) -> bool:
         """Whether it is part of the status."""
         return self.accepted is ABSENT and self.rule.severity is not Severity.CONTAINED

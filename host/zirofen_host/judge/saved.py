@@ -1,6 +1,6 @@
 """A report as zirofen-host check --json saves it, read back: what isn't one is a fault, and nothing else of it is believed."""
 import json
-from typing import Iterator, Optional, Sequence
+from typing import Iterator, Optional
 
 from zirofen_host.collect.bounded import REPORT_FILE, read_named
 from zirofen_host.fault import Fault
@@ -54,6 +54,8 @@ def check(value: as_json.Json, name: str) -> Report:
     """The report that a value is, or the fault of its first place that is none."""
     if not isinstance(value, dict) or value.get("version") != VERSION:
         raise Fault(f"{name}: a report of zirofen-host check --json of version {VERSION} is wanted, and this is none")
+    if "hosts" in value:
+        raise Fault(f"{name}: this is what zirofen-host fleet --json writes, and no report of a host")
     try:
         report = as_json.made_of(Report, value, "report", LACKING)
         for key in ("users", "groups", "cgroups", "processes"):
@@ -67,10 +69,14 @@ def check(value: as_json.Json, name: str) -> Report:
     return report
 
 
-def cure_of(text: str) -> Sequence[str]:
-    """What to do with a tree text that stands where a report should."""
-    is_tree = any(line.startswith(("format =", "controllers =", "[[cgroup]]")) for line in text[:READ_FOR_CURE].splitlines())
-    return ["  this is a tree text: zirofen-host check --tree FILE --json writes a report of it"] if is_tree else ()
+def cure_of(text: str) -> str:
+    """What to do with a text that stands where a report should, and is none of JSON."""
+    lines = text[:READ_FOR_CURE].splitlines()
+    if any(line.startswith(("format =", "controllers =", "[[cgroup]]")) for line in lines):
+        return "this is a tree text: zirofen-host check --tree FILE --json writes a report of it"
+    if any(line.startswith("UID  ") and line.endswith("  PATH") for line in lines):
+        return "this is what a check prints for people: with --json it writes the report"
+    return "a report is what zirofen-host check --json writes"
 
 
 def read(file: str) -> Report:
@@ -83,5 +89,5 @@ def read(file: str) -> Report:
     except UnicodeDecodeError as error:
         raise Fault(f"{file}: no JSON: {error}") from None
     except (ValueError, RecursionError) as error:
-        raise Fault(f"{file}: no JSON: {error}", cure_of(text)) from None
+        raise Fault(f"{file}: no JSON: {error}", [f"  {cure_of(text)}"]) from None
     return check(value, file)

@@ -11,7 +11,7 @@ from zirofen_host.judge.finding_lines import (CAPABILITY, MOUNT_OPTIONS, explain
 from zirofen_host.judge.model import (DiffersFinding, EntryFinding, FaultFinding, HeldFinding, OpenedFinding, PremiseFinding, RootInside,
                                       RunsElsewhere)
 from zirofen_host.show import picture, words
-from zirofen_host.show.lines import together
+from zirofen_host.show.lines import causes_of, together
 from zirofen_host.show.markup import capital, code, commands, filled, items, paragraph, places, sentence, text
 from zirofen_host.show.steps import OVER, Steps, steps_of
 from zirofen_host.show.view import Escape, Grouped, Host, Part, accepted_of, entry_of, place_of, subtrees_of, whom_of
@@ -187,14 +187,15 @@ class Article:
                                  if not isinstance(each, (FaultFinding, RootInside)) and each.setting)
         if isinstance(self.finding.parts[0], RootInside):
             return self.of_container(self.finding.parts[0])
-        if not changes and not settings:
+        causes = "".join(f"<p>What of root's files gives it away: {code(each)}</p>" for each in causes_of(self.finding.parts))
+        if not changes and not settings and not causes:
             is_missing = self.finding.key == "entries" and not self.host.report.has_advice
             return "<p>What to change isn't told: the program of this report has no advise.</p>" if is_missing else ""
         heading = self.at.level(4)
         effects = dict.fromkeys(each.effect for each in self.finding.parts if isinstance(each, PremiseFinding) and each.effect)
         then = "".join(f"<p>What it does beside: {text(each)}.</p>" for each in effects)
         behind = f"<p>What brings it back when the unit is started again: {text(', '.join(settings))}.</p>" if settings else ""
-        return f'<div class="change"><{heading}>What to change</{heading}>{commands(changes)}{then}{behind}</div>'
+        return f'<div class="change"><{heading}>What to change</{heading}>{commands(changes)}{then}{behind}{causes}</div>'
 
     def of_container(self, part: RootInside) -> str:
         """What holds a container: on the host, and where it is started."""

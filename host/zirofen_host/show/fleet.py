@@ -129,7 +129,7 @@ def report_in(path: str) -> Report:
     try:
         value = json.loads(read.text())
     except (ValueError, RecursionError) as error:
-        raise Fault(f"no JSON: {error}") from None
+        raise Fault(f"no JSON: {error}; {saved.cure_of(read.text(errors='replace'))}") from None
     keys = ("entries", "opened", "faults", "differs", "above", "unseen", "snapshot", "root_inside", "runs_elsewhere", "held_entries",
             "premises")
     lists = [value.get(key) for key in keys] if isinstance(value, dict) else []

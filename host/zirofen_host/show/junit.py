@@ -63,7 +63,7 @@ def told(found: Finding) -> List[str]:
     """All that is said of a finding, with what mends it."""
     accepted = [] if isinstance(found.accepted, Absent) else [f"accepted: {found.accepted}"]
     setting = [f"setting, at the next start: {found.setting}"] if found.setting else []
-    return [found.line, *found.example, *(f"change: {each}" for each in found.changes), *setting, *accepted]
+    return [found.line, *found.example, *(f"change: {each}" for each in found.changes), *setting, *found.cause_lines, *accepted]
 
 
 def severity_of(each: HolderAnswer) -> Severity:

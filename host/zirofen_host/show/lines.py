@@ -111,6 +111,12 @@ def together(commands: Iterable[str]) -> List[str]:
     return [" ".join([*key, *places]) for key, places in found.items()]
 
 
+def causes_of(found: Iterable[object]) -> Iterable[str]:
+    """What of root's files gives findings away, each once."""
+    causes = [each.causes for each in found if isinstance(each, (EntryFinding, OpenedFinding, DiffersFinding))]
+    return dict.fromkeys(cause for of in causes if not isinstance(of, Absent) for cause in of)
+
+
 def what_to_change(found: Sequence[Mended]) -> Iterator[str]:
     """What mends findings at one place, what brings their values back, and what of root's files gave them away."""
     yield from (f"    change: {command}" for command in together(command for each in found for command in each.changes))
@@ -118,8 +124,7 @@ def what_to_change(found: Sequence[Mended]) -> Iterator[str]:
     settings = dict.fromkeys(filter(None, (each.setting for each in found)))
     if settings:
         yield f"    setting, at the next start: {', '.join(settings)}"
-    causes = [each.causes for each in found if isinstance(each, (EntryFinding, OpenedFinding, DiffersFinding))]
-    yield from (f"    cause: {cause}" for cause in dict.fromkeys(cause for of in causes if not isinstance(of, Absent) for cause in of))
+    yield from (f"    cause: {cause}" for cause in causes_of(found))
 
 
 def entry_lines(entries: Sequence[EntryFinding], given: Sequence[str]) -> Iterator[str]:

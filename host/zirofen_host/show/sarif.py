@@ -96,7 +96,7 @@ def fingerprint(run: Run, found: Finding) -> str:
 
 def result(run: Run, found: Finding, number: int, rows: Mapping[str, int]) -> Object:
     setting = [f"setting, at the next start: {found.setting}"] if found.setting else []
-    mend = [*(f"change: {each}" for each in found.changes), *setting]
+    mend = [*(f"change: {each}" for each in found.changes), *setting, *found.cause_lines]
     made: Object = {"ruleId": found.rule.id, "ruleIndex": number, "level": level_of(found.rule.severity),
                     "message": message([found.line, *found.example, *mend]), "locations": [location(run, found, rows)],
                     "partialFingerprints": {FINGERPRINT: fingerprint(run, found)},
