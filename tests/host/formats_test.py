@@ -39,7 +39,7 @@ def run_of(value, **more):
 
 
 def odd_report():
-    """A report with one of each kind of finding, under names that are made to harm."""
+    """A report with one of each kind of finding, under names that are made to harm; that nothing was found to ask is told without faults."""
     found = made(example.kept())
     whom = (Whom("others", None, "everybody", ()),)
     opened = OpenedFinding(ODD, "cpu.max", Owner(0, 0, "666"), whom, (f"chmod o-w {shlex.quote(ODD)}",), None, None)
@@ -84,7 +84,8 @@ class SarifTest(unittest.TestCase):
             self.assertNotRegex(each["message"]["text"], r"(?<!\\)\[[^\]]*\]\(|(?<!\{)\{0")
 
     def test_levels_are_by_severity(self):
-        levels = {each["ruleId"]: each["level"] for each in self.results(run_of(odd_report()))}
+        reports = (odd_report(), replace(odd_report(), faults=()))
+        levels = {each["ruleId"]: each["level"] for report in reports for each in self.results(run_of(report))}
         self.assertLessEqual({"escapes/limit-file", "unsettled/common-ancestor", "opened", "fault", "fault/own", "failed", "version-1",
                               "nothing-asked"}, set(levels))
         for kind, level in levels.items():
@@ -161,7 +162,9 @@ class JunitTest(unittest.TestCase):
         told = {(subject, case): kinds for subject, case, kinds in cases}
         self.assertEqual(told["/a/b", "answered"], ["Error"])
         self.assertEqual(told["the host", "answered"], ["Error"])
-        self.assertEqual((told["the host", "something is asked"], told["the host", "no limits are v1's"]), (["Error"], ["Failure"]))
+        self.assertEqual((told["the host", "something is asked"], told["the host", "no limits are v1's"]), ([], ["Failure"]))
+        [(_, _, cases)] = self.suites([run_of(replace(odd_report(), faults=()))])
+        self.assertIn(["the host", "something is asked", ["Error"]], cases)
 
 
 class MetricsTest(unittest.TestCase):
