@@ -39,7 +39,7 @@ def run_of(value, **more):
 
 
 def odd_report():
-    """A report with one of each kind of finding, under names that are made to harm; that nothing was found to ask is told without faults."""
+    """A report with one of each kind of finding, under names that are made to harm. Without its faults nothing was found to ask."""
     found = made(example.kept())
     whom = (Whom("others", None, "everybody", ()),)
     opened = OpenedFinding(ODD, "cpu.max", Owner(0, 0, "666"), whom, (f"chmod o-w {shlex.quote(ODD)}",), None, None)

@@ -259,7 +259,8 @@ def restoring(report: Report, rows: Mapping[str, ReportCgroup], path: str, file:
 
 
 def restored_below(report: Report, rows: Mapping[str, ReportCgroup], path: str) -> Iterator[str]:
-    """What brings back the limits of the units in a cgroup whose controllers somebody could take away: the controllers first."""
+    """What brings back the limits of the units in a cgroup whose controllers somebody could take away: the controllers first, which bring
+    their files as they are where nobody has set them."""
     if path not in rows:
         return
     above = rows.get(parent_of(path) or "")
@@ -272,8 +273,9 @@ def restored_below(report: Report, rows: Mapping[str, ReportCgroup], path: str) 
         yield f"echo {' '.join('+' + name for name in lost)} >{place_of(report.mount, path, CONTROL)}"
     for each in units:
         for file in said[each]:
-            if is_in(file, rows[each]) or controller_of(file) in lost:
-                yield written(report.mount, each, file, report.wanted[each][file])
+            wanted = report.wanted[each][file]
+            if is_in(file, rows[each]) or controller_of(file) in lost and not is_usual(file, wanted.value):
+                yield written(report.mount, each, file, wanted)
 
 
 def controller_of(file: str) -> Optional[str]:
