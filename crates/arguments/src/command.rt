@@ -15,7 +15,6 @@ Where the package is installed, docs/ and examples/ are in /usr/share/doc/zirofe
 
 const MAY_HELP: &str = "\
 Status: 0 granted, 1 refused, 3 a fault
-Of a PATH that the tree doesn't have standard error names the nearest that it has, where one is near.
 `fault: usage` means that the command line isn't as it says above; a PID that is a number and no PID is `fault: pid`.
 zirofen-tree(5) and zirofen(1), or docs/FORMATS.md, have the tree's format, and every line that is written.
 
@@ -122,10 +121,10 @@ Example:
 
 const ADVISE_HELP: &str = "\
 Status: 0 contained, 1 a guard fails, 3 a fault
-`contained` means that every subtree is held whatever all these users do, in whatever order, where nobody else acts. Else each
-entry that lets one of them in has a line `fails` with the guard, where it stands, its owner, its mode and by what they reach
-it: `owner`, `group` or `others`, a line for each. Below stand the changes that mend it for all of them, and at the end those of
-limits. With all of them made every subtree is contained against every user; ask again after changes that were asked apart.
+`contained` means that every subtree is held whatever all these users do, in whatever order. Else each entry that lets one of
+them in has a line `fails` with the guard, where it stands, its owner, its mode and by what they reach it: `owner`, `group` or
+`others`, a line for each. Below stand the changes that mend it for all of them, and at the end those of limits. With all of
+them made every subtree is contained against every user; ask again after changes that were asked apart.
 With --pairs each subtree is asked about the users alone who are named with it: a line `pair UID PATH` or `pair UID:GID,GID.. PATH`
 of each pair, one at least, among the other lines that audit writes with --all; and none of --uid, --gid and --subtree beside it.
 Where audit has no pair to list its text is the one line `contained`, and so is the answer to that.

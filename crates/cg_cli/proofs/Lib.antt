@@ -27,7 +27,6 @@ mod UpgradeReports
 pub mod ReadingOf
 mod ReportLaws
 mod CourseReads
-mod MissingLaws
 mod StrangerLaws
 mod WrittenRead
 pub mod Settled

@@ -13,7 +13,6 @@ pub mod check;
 pub mod explain;
 pub mod laws;
 pub mod may;
-mod missing;
 mod named;
 mod question;
 mod reading;

@@ -3,15 +3,13 @@ ghost use Rattle.std.specs.Prelude.{◌≡◌, ◌⊎◌, ◌∷◌, ℕ, List, 
 ghost use Rattle.cg_cgroup.specs.declared.files.Vocabulary.{Vocabulary};
 ghost use Rattle.cg_format.specs.Readings.{Reading, OnText, vocabulary_in};
 ghost use Rattle.cg_cli.specs.Reports.{Reports};
-ghost use Rattle.cg_cli.specs.Missing.{IsAbsentFrom};
 ghost use Rattle.cg_cli.specs.Strangers.{IsFirstStranger};
 ghost use Rattle.cg_cli.specs.Upgrades.{Upgrades};
 ghost use Rattle.cg_faults.specs.declared.fault.CliFault.{CliFault};
 ghost use Rattle.arguments.specs.Given.{ids_of};
-ghost use Rattle.commands.specs.Beside.{IsNoted};
+ghost use Rattle.commands.specs.Beside.{IsNotedBy};
 ghost use Rattle.commands.specs.Requests.{source, name_of, may_said, check_said, SettlesAs, AdviseSays, AuditSays, ExplainSays, IsUnread, OnTreeText};
 
-use crate::both::plain;
 use crate::texts::tree_text;
 use crate::users::{all_ids, ids};
 use arguments::request::{Advise, Audit, Check, Explain, May, Upgrade};
@@ -27,6 +25,7 @@ use cg_cli::settle::settle_bytes;
 use cg_cli::upgrade::upgrade_bytes;
 use cg_faults::fault::CliFault;
 use cg_help::beside::Beside;
+use cg_help::modes::spelled_mode;
 use std::alloc::Global;
 use std::io::{Read, Write};
 use streams::files::Files;
@@ -39,9 +38,6 @@ pub(crate) trait OnTree {
     /// The users about whom it asks, where it asks what a tree says of them.
     ghost users: { Self → Option (List (ℕ × List ℕ)) };
 
-    /// The path of a cgroup that may be missing in a tree, where one is looked up.
-    ghost path: { Self → Option (List ℕ) };
-
     /// What may be answered, and written by then, on a text with some vocabulary of what it is read as.
     ghost answers: { Self → Vocabulary → Reading → Option (List ℕ) → Option (List ℕ) → Result ℕ CliFault → Type 0 };
 
@@ -49,22 +45,19 @@ pub(crate) trait OnTree {
     fn tree(&self) -> Option<&str>
         ensures { name_of result ≡ file self.now };
 
-    /// The call that answers on the text of a tree. Where that says nothing of a user who is asked about, `stranger` of `beside` is
-    /// the first such user's uid.
+    /// The call that answers on the text of a tree. Where that says nothing of a user who is asked about, `stranger` is the
+    /// first such user's uid.
     fn answer<W: Write>(
         &self,
         alloc: Global,
         tree: &[u8],
-        beside: &mut Beside,
+        stranger: &mut Option<u32>,
         out: &mut W,
     ) -> Result<u8, CliFault>
         ensures answer { OnText tree.now (λ read. answers self.now (vocabulary_in tree.now) read (W.contents out.old) (W.contents out.new) result)
             ⊎ IsUnread (W.contents out.old) (W.contents out.new) result }
-        ensures mode { beside.new.mode ≡ beside.old.mode }
-        ensures stranger { MatchOption (users self.now) (beside.new.stranger ≡ beside.old.stranger)
-            (λ given. IsFirstStranger tree.now given result beside.new.stranger) }
-        ensures missing { MatchOption (path self.now) (beside.new.missing ≡ beside.old.missing)
-            (λ to. IsAbsentFrom tree.now to result beside.new.missing) };
+        ensures stranger { MatchOption (users self.now) (stranger.new ≡ stranger.old)
+            (λ given. IsFirstStranger tree.now given result stranger.new) };
 }
 
 /// Carries out a command that is asked of one tree, whose text is read from `input` where no file is named.
@@ -79,19 +72,20 @@ pub(crate) fn on_tree<C: OnTree, F: Files, I: Read + Drop, W: Write>(
     ensures answer { OnTreeText (source (F.given files.now) (C.file asked.now) (I.remaining input))
         (λ vocabulary read. C.answers asked.now vocabulary read (W.contents out.old) (W.contents out.new) result)
         (W.contents out.old) (W.contents out.new) result }
-    ensures noted { IfOk result (λ _. IsNoted (source (F.given files.now) (C.file asked.now) (I.remaining input)) (C.users asked.now) (C.path asked.now) beside.new) }
+    ensures noted { IfOk result (λ _. IsNotedBy (source (F.given files.now) (C.file asked.now) (I.remaining input)) (C.users asked.now) beside.new) }
 {
     let tree = tree_text(alloc, files, asked.tree(), input)?;
-    *beside = plain(alloc, tree.as_slice())?;
-    asked.answer(alloc, tree.as_slice(), beside, out)
+    *beside = Beside {
+        mode: spelled_mode(tree.as_slice()),
+        stranger: None,
+    };
+    asked.answer(alloc, tree.as_slice(), &mut beside.stranger, out)
 }
 
 impl OnTree for May<'_> {
     ghost file = { λ may. name_of may.tree };
 
     ghost users = { λ _. None };
-
-    ghost path = { λ may. Some may.to.now };
 
     ghost answers = { λ may _ read old new result. Reports (may_said may read) old new result };
 
@@ -103,11 +97,10 @@ impl OnTree for May<'_> {
         &self,
         alloc: Global,
         tree: &[u8],
-        beside: &mut Beside,
+        _: &mut Option<u32>,
         out: &mut W,
     ) -> Result<u8, CliFault> {
-        let missing = &mut beside.missing;
-        may_bytes(alloc, tree, ids(&self.user), self.pid, self.to, missing, out)
+        may_bytes(alloc, tree, ids(&self.user), self.pid, self.to, out)
     }
 }
 
@@ -115,8 +108,6 @@ impl OnTree for Check<'_> {
     ghost file = { λ check. name_of check.tree };
 
     ghost users = { λ check. Some (ids_of check.user ∷ []) };
-
-    ghost path = { λ _. None };
 
     ghost answers = { λ check _ read old new result. Reports (check_said check read) old new result };
 
@@ -128,10 +119,10 @@ impl OnTree for Check<'_> {
         &self,
         alloc: Global,
         tree: &[u8],
-        beside: &mut Beside,
+        stranger: &mut Option<u32>,
         out: &mut W,
     ) -> Result<u8, CliFault> {
-        let (user, stranger) = (ids(&self.user), &mut beside.stranger);
+        let user = ids(&self.user);
         check_bytes(alloc, tree, user, self.subtree, stranger, out)
     }
 }
@@ -147,8 +138,6 @@ impl OnTree for Settling<'_, '_> {
 
     ghost users = { λ settling. Some (ids_of settling.asked.now.user ∷ []) };
 
-    ghost path = { λ _. None };
-
     ghost answers = { λ settling _ read old new result. SettlesAs settling.asked.now old new result read };
 
     fn tree(&self) -> Option<&str> {
@@ -159,10 +148,10 @@ impl OnTree for Settling<'_, '_> {
         &self,
         alloc: Global,
         tree: &[u8],
-        beside: &mut Beside,
+        stranger: &mut Option<u32>,
         out: &mut W,
     ) -> Result<u8, CliFault> {
-        let (user, stranger) = (ids(&self.asked.user), &mut beside.stranger);
+        let user = ids(&self.asked.user);
         settle_bytes(alloc, tree, user, self.asked.subtree, stranger, out)
     }
 }
@@ -171,8 +160,6 @@ impl OnTree for Audit<'_> {
     ghost file = { λ audit. name_of audit.tree };
 
     ghost users = { λ audit. Some (map ids_of audit.users.items) };
-
-    ghost path = { λ _. None };
 
     ghost answers = { λ audit _ read old new result. AuditSays audit old new result read };
 
@@ -184,12 +171,11 @@ impl OnTree for Audit<'_> {
         &self,
         alloc: Global,
         tree: &[u8],
-        beside: &mut Beside,
+        stranger: &mut Option<u32>,
         out: &mut W,
     ) -> Result<u8, CliFault> {
         let users = all_ids(alloc, self.users.as_slice())?;
         let (users, subtrees) = (users.as_slice(), self.subtrees.as_slice());
-        let stranger = &mut beside.stranger;
         match (self.settle, self.all) {
             (false, false) => audit_bytes(alloc, tree, users, subtrees, stranger, out),
             (false, true) => audit_all_bytes(alloc, tree, users, subtrees, stranger, out),
@@ -204,8 +190,6 @@ impl OnTree for Explain<'_> {
 
     ghost users = { λ explain. Some (map ids_of explain.users.items) };
 
-    ghost path = { λ _. None };
-
     ghost answers = { λ explain _ read old new result. ExplainSays explain old new result read };
 
     fn tree(&self) -> Option<&str> {
@@ -216,12 +200,11 @@ impl OnTree for Explain<'_> {
         &self,
         alloc: Global,
         tree: &[u8],
-        beside: &mut Beside,
+        stranger: &mut Option<u32>,
         out: &mut W,
     ) -> Result<u8, CliFault> {
         let users = all_ids(alloc, self.users.as_slice())?;
         let (users, subtrees) = (users.as_slice(), self.subtrees.as_slice());
-        let stranger = &mut beside.stranger;
         explain_bytes(alloc, tree, users, subtrees, stranger, out)
     }
 }
@@ -230,8 +213,6 @@ impl OnTree for Advise<'_> {
     ghost file = { λ advise. name_of advise.tree };
 
     ghost users = { λ advise. Some (map ids_of advise.users.items) };
-
-    ghost path = { λ _. None };
 
     ghost answers = { λ advise _ read old new result. AdviseSays advise old new result read };
 
@@ -243,12 +224,11 @@ impl OnTree for Advise<'_> {
         &self,
         alloc: Global,
         tree: &[u8],
-        beside: &mut Beside,
+        stranger: &mut Option<u32>,
         out: &mut W,
     ) -> Result<u8, CliFault> {
         let users = all_ids(alloc, self.users.as_slice())?;
         let (users, subtrees) = (users.as_slice(), self.subtrees.as_slice());
-        let stranger = &mut beside.stranger;
         if self.settle {
             advise_settled_bytes(alloc, tree, users, subtrees, stranger, out)
         } else {
@@ -262,8 +242,6 @@ impl OnTree for Upgrade<'_> {
 
     ghost users = { λ _. None };
 
-    ghost path = { λ _. None };
-
     ghost answers = { λ _ vocabulary read old new result. Upgrades vocabulary old new result read };
 
     fn tree(&self) -> Option<&str> {
@@ -274,7 +252,7 @@ impl OnTree for Upgrade<'_> {
         &self,
         alloc: Global,
         tree: &[u8],
-        _: &mut Beside,
+        _: &mut Option<u32>,
         out: &mut W,
     ) -> Result<u8, CliFault> {
         upgrade_bytes(alloc, tree, out)

@@ -101,13 +101,13 @@ fn answered<F: Files, I: Read + Drop, W: Write + Drop>(
                 noted,
                 report,
             );
-            (in_program(ended), written)
+            (of_call(ended), written)
         }
     }
 }
 
 /// What a call came to, to the program.
-fn in_program(ended: Result<u8, CliFault>) -> Result<u8, Fault>
+fn of_call(ended: Result<u8, CliFault>) -> Result<u8, Fault>
     ensures { result ≡ in_program ended }
 {
     match ended {

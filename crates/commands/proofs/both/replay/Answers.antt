@@ -39,22 +39,18 @@ pub returns-in_ok-tree-in-Files-clause-noted : goal.returns-in_ok-tree-in-Files-
 returns-in_ok-tree-in-Files-clause-noted g c =
     rw c.in-Files.is
     (plain_on _ c.in_ok-tree-in-Files.tree.items _ c.in_ok-tree-in-Files.ensures.text
-    (c.in_ok-plain-in-Files.ensures.mode ∙ ap spelled_mode c.as_slice.ensures.value) c.in_ok-plain-in-Files.ensures.stranger
-    c.in_ok-plain-in-Files.ensures.missing _)
+    (c.plain-noted.ensures.mode ∙ ap spelled_mode c.as_slice.ensures.value) c.plain-noted.ensures.stranger _)
 
 pub returns-in_ok-tree-in-TreeGiven-clause-noted : goal.returns-in_ok-tree-in-TreeGiven-clause-noted
 returns-in_ok-tree-in-TreeGiven-clause-noted g c =
     rw c.in-TreeGiven.is
     (plain_on _ c.in_ok-tree-in-TreeGiven.tree.items _ c.in_ok-tree-in-TreeGiven.ensures.text
-    (c.in_ok-plain-in-TreeGiven.ensures.mode ∙ ap spelled_mode c.as_slice-in-TreeGiven.ensures.value)
-    c.in_ok-plain-in-TreeGiven.ensures.stranger c.in_ok-plain-in-TreeGiven.ensures.missing _)
+    (c.plain-noted-in-TreeGiven.ensures.mode ∙ ap spelled_mode c.as_slice-in-TreeGiven.ensures.value)
+    c.plain-noted-in-TreeGiven.ensures.stranger _)
 
 pub returns-in_ok-tree-in-OtherGiven-clause-noted : goal.returns-in_ok-tree-in-OtherGiven-clause-noted
 returns-in_ok-tree-in-OtherGiven-clause-noted g c =
     rw c.in-OtherGiven.is
     (plain_on _ c.in_ok-tree-in-OtherGiven.tree.items _ c.in_ok-tree-in-OtherGiven.ensures.text
-    (c.in_ok-plain-in-OtherGiven.ensures.mode ∙ ap spelled_mode c.as_slice-in-OtherGiven.ensures.value)
-    c.in_ok-plain-in-OtherGiven.ensures.stranger c.in_ok-plain-in-OtherGiven.ensures.missing _)
-
-pub returns-in_err-plain-in-Files-clause-answer : goal.returns-in_err-plain-in-Files-clause-answer
-returns-in_err-plain-in-Files-clause-answer g c = ?
+    (c.plain-noted-in-OtherGiven.ensures.mode ∙ ap spelled_mode c.as_slice-in-OtherGiven.ensures.value)
+    c.plain-noted-in-OtherGiven.ensures.stranger _)
