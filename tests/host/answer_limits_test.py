@@ -94,12 +94,13 @@ class AnswerLimitsTest(HostTest):
         self.host.process(7, uid=1000, gid=1000)
         self.host.opens(7, number, "/b/memory.max", os.O_WRONLY)
 
-    def written(self, change=lambda text: text, is_carried=True):
-        """A text of the host."""
-        file, taken = f"{self.host.folder}/host.toml", self.host.snapshot()
-        carried = elsewhere.carried(taken, accounts_of(self.host.etc, taken)) if is_carried else ()
+    def written(self, change=lambda text: text, is_carried=True, **more):
+        """A text of the host, by some options."""
+        options = self.options(**{"plain_folder": False, **more})
+        file, taken = f"{self.host.folder}/host.toml", self.host.snapshot(only=options.only, tree_format=options.tree_format)
+        lines = [*elsewhere.narrowing(options), *(elsewhere.carried(taken, accounts_of(self.host.etc, taken)) if is_carried else ())]
         with open(file, "w", encoding="ascii") as out:
-            out.write(change(elsewhere.text_with(taken, [*carried], True) if is_carried else tree_text(taken, True)))
+            out.write(change(elsewhere.text_with(taken, lines, not options.no_processes) if lines else tree_text(taken, True)))
         return file
 
     def of_text(self, file, **more):
@@ -229,6 +230,25 @@ class AnswerLimitsTest(HostTest):
                 self.assertFalse(plain, (name, plain))
         self.assertNotIn('zirofen_subtrees{answer="contained"} 1', "".join(metrics.parts_of(self.run_of(report))))
         self.assertNotEqual([row.kind for row in self.fleet_of(report).rows], ["contained"])
+
+    @mock.patch.object(limits, "of_options", of_options)
+    def test_a_text_tells_by_which_options_less_was_looked_at(self):
+        self.anew()
+        self.assertEqual(self.of_text(self.written()).limits, ())
+        for kind, more in ((limits.ONLY, {"only": b"/a"}), (limits.NO_PROCESSES, {"no_processes": True}),
+                           (limits.TREE_FORMAT, {"tree_format": 2}), (limits.PLAIN_FOLDER, {"plain_folder": True})):
+            with self.subTest(kind):
+                report = self.of_text(self.written(**more))
+                self.assertEqual([each.kind for each in report.limits], [kind])
+                self.each_form_tells(report)
+                alone = self.of_text(self.written(is_carried=False, **more), accounts=self.host.etc)
+                self.assertEqual([each.kind for each in alone.limits], [kind, limits.PREMISES])
+        # what both the text and the run leave out is told once
+        report = self.of_text(self.written(no_processes=True), no_processes=True)
+        self.assertEqual([each.kind for each in report.limits], [limits.NO_PROCESSES])
+        for wrong in ('"tree_format":3', '"tree_format":true', '"no_processes":0', '"only":7'):
+            with self.assertRaisesRegex(fault.Fault, "what it carries isn't known"):
+                self.of_text(self.written(lambda text: re.sub(wrong.partition(":")[0] + r":[^,]*", wrong, text), only=b"/a"))
 
     def test_what_is_contained_is_marked(self):
         report = self.narrowed(only=b"/a")

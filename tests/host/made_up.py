@@ -106,6 +106,15 @@ class MadeUp:
         with open(f"{self.proc}/{pid}/stat", "w", encoding="ascii") as out:
             out.write(STAT.format(pid=pid, flags=flags))
 
+    def process_of_root(self, pid, namespaces, mounts, capabilities=(1 << 41) - 1):
+        """A process of root's with its namespaces, what it sees mounted and its bounding set."""
+        self.process(pid, namespace=4026531837)
+        with open(f"{self.proc}/{pid}/status", "a", encoding="ascii") as out:
+            out.write(f"CapBnd:\t{capabilities:016x}\n")
+        for kind, name in namespaces:
+            os.symlink(name, f"{self.proc}/{pid}/ns/{kind}")
+        self.mounts(pid, mounts)
+
     def opens(self, pid, number, path, flags, mount=3, has_inode=True, more=""):
         for folder in ("fd", "fdinfo"):
             os.makedirs(f"{self.proc}/{pid}/{folder}", exist_ok=True)

@@ -43,7 +43,7 @@ class DrawnHost:
         """The host as files, and what its helper is asked with."""
         self.host.cgroup("/", enabled="memory")
         self.host.cgroup("/init.scope", pids=(1,))
-        self.process(1, OF_FIRST, OWN_ROOT)
+        self.host.process_of_root(1, OF_FIRST, OWN_ROOT)
         without = ("nothing", "container", "held container")
         for number in range(0 if self.one in without else self.chance.choice((1, 1, 2, 4))):
             self.subtree(f"/s{number}", self.chance.choice(USERS))
@@ -107,20 +107,11 @@ class DrawnHost:
             out.write("State:\tS (made up)\n")
         self.listed(path, pid)
 
-    def process(self, pid, namespaces, mounts, capabilities=(1 << 41) - 1):
-        """A process of root's with its namespaces and what it sees mounted."""
-        self.host.process(pid, namespace=4026531837)
-        with open(f"{self.host.proc}/{pid}/status", "a", encoding="ascii") as out:
-            out.write(f"CapBnd:\t{capabilities:016x}\n")
-        for kind, name in namespaces:
-            os.symlink(name, f"{self.host.proc}/{pid}/ns/{kind}")
-        self.host.mounts(pid, mounts)
-
     def container(self, path, capabilities):
         pid = next(self.pids)
         self.host.cgroup("/system.slice")
         self.host.cgroup(path, pids=(pid,))
-        self.process(pid, NAMESPACES, IMAGE.format(path), capabilities)
+        self.host.process_of_root(pid, NAMESPACES, IMAGE.format(path), capabilities)
 
     @contextlib.contextmanager
     def seen(self):

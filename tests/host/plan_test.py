@@ -146,14 +146,14 @@ class ChangesTest(unittest.TestCase):
         changed("chown /a cgroup.procs 5:5", is_carrying=False)
 
     def test_every_entry_that_real_hand_overs_chown(self):
-        """The lists of systemd, of nspawn and of a kernel, and what watches pressure; of a subgroup all files are handed over."""
+        """The lists of systemd, of nspawn and of a kernel, and what watches pressure, with any controllers; of a subgroup all files are
+        handed over."""
         names = ("cgroup.controllers", "cgroup.events", "cgroup.procs", "cgroup.stat", "cgroup.subtree_control", "cgroup.threads",
                  "cgroup.type", "memory.oom.group", "memory.reclaim", "memory.pressure", "cpu.pressure", "memory.events")
         lines = [f"chown /a {name} 5:5" for name in ("dir", *names)]
-        text = TREE.replace('enabled = ["memory", "pids"]', 'enabled = ["cpu", "memory", "pids"]', 1)
         for is_carrying in (True, False):
-            changed(*lines, text=text, is_carrying=is_carrying)
-        _, unplaced = changes.carried_out(snapshot_of(text, False), "\n".join(lines))
+            changed(*lines, is_carrying=is_carrying)
+        _, unplaced = changes.carried_out(snapshot_of(TREE, False), "\n".join(lines))
         # one line for those on which no answer rests, and one for what a kernel doesn't list
         self.assertEqual((unplaced.idle, unplaced.others), (
             ("cgroup.controllers", "cgroup.events", "cgroup.stat", "cgroup.threads", "cpu.pressure", "memory.events", "memory.oom.group",

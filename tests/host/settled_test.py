@@ -69,6 +69,9 @@ class SettledTest(HostTest):
             self.assertEqual([each.answer for each in report.entries], ["unsettled"])
         report = check.report(snapshot, self.options(only=b"/srv"), False)
         self.assertEqual([each.answer for each in report.entries], ["unsettled"])
+        # nor of a text that was written so
+        of_part = replace(snapshot, source=replace(snapshot.source, options=self.options(only=b"/srv")))
+        self.assertEqual([each.answer for each in check.report(of_part, self.options(), False).entries], ["unsettled"])
         self.assertEqual(self.settling(), [])
 
     def test_nothing_is_settled_of_a_subtree_that_not_everybody_is_asked_of(self):

@@ -84,7 +84,7 @@ class HostTest(MadeUpTest):
         self.host.accounts(passwd="alice:x:1000:1000::/:/bin/sh\nbob:x:1001:1001::/:/bin/sh\n", group="alice:x:1000:\n")
         self.host.cgroup("/", enabled="memory")
         self.host.cgroup("/init.scope", pids=(1,))
-        self.process(1, OF_FIRST, OWN_ROOT)
+        self.host.process_of_root(1, OF_FIRST, OWN_ROOT)
         os.makedirs(f"{self.host.proc}/self")
         self.mounts(f"30 25 0:26 / {self.host.mount} rw - cgroup2 cgroup2 rw,nsdelegate,memory_recursiveprot\n")
 
@@ -92,24 +92,16 @@ class HostTest(MadeUpTest):
         with open(f"{self.host.proc}/self/mountinfo", "a", encoding="ascii") as out:
             out.write(line)
 
-    def process(self, pid, namespaces, mounts, capabilities=(1 << 41) - 1):
-        self.host.process(pid, namespace=4026531837)
-        with open(f"{self.host.proc}/{pid}/status", "a", encoding="ascii") as out:
-            out.write(f"CapBnd:\t{capabilities:016x}\n")
-        for kind, name in namespaces:
-            os.symlink(name, f"{self.host.proc}/{pid}/ns/{kind}")
-        self.host.mounts(pid, mounts)
-
     def of_host(self, command, *words):
         """A command of the helper on this host."""
         return called(command, "--plain-folder", "--mount", self.host.mount, "--proc", self.host.proc, "--accounts", self.host.etc, *words)
 
     def text(self):
-        """A text of this host with all that a check elsewhere needs."""
+        """A text of this host with all that a check elsewhere needs, as one of a mount."""
         said = self.of_host("snapshot", "--with-host")
         self.assertEqual(said.returncode, 0, said.stderr)
         with open(f"{self.host.folder}/host.toml", "w", encoding="ascii") as out:
-            out.write(said.stdout)
+            out.write(re.sub('#= {"options":.*\n', "", said.stdout))
         return out.name
 
     def put(self, name, text):
@@ -165,7 +157,7 @@ class HostTest(MadeUpTest):
         """A container of root's alone, which is held."""
         self.host.cgroup("/system.slice")
         self.host.cgroup("/system.slice/c.service", pids=(9,))
-        self.process(9, NAMESPACES, IMAGE.format("/system.slice/c.service"), CHOWN)
+        self.host.process_of_root(9, NAMESPACES, IMAGE.format("/system.slice/c.service"), CHOWN)
 
     def limited(self):
         self.contained()

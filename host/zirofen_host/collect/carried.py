@@ -16,7 +16,8 @@ from zirofen_host.collect.model import (Account, CgroupMount, Covered, Entry, Fu
 from zirofen_host.collect.notes import CarriedNote, Note
 from zirofen_host.collect.reasons import CHANGED, CarriedOfSomebody, CarriedReason, Reason
 from zirofen_host.collect.tree import number_in, parts_in, table_in, text_in, typed
-from zirofen_host.profile import CgroupPath, path_of, text_of
+from zirofen_host.options import Options
+from zirofen_host.profile import TEXT_FORMATS, CgroupPath, path_of, text_of
 
 MARK = "#= "
 # the version of this form
@@ -147,6 +148,10 @@ def process_of(pid: int, uid: int, effective: int, gids: Tuple[int, ...], name: 
     return Process(pid, uid, User(effective, gids), False, name, capabilities)
 
 
+def options_of(only: Optional[CgroupPath], no_processes: bool, tree_format: int, plain_folder: bool) -> Options:
+    return Options(only=only, no_processes=no_processes, tree_format=TEXT_FORMATS[tree_format].number, plain_folder=plain_folder)
+
+
 def perhaps(value: Value[Of]) -> Value[Optional[Of]]:
     return Value(lambda each: None if each is None else value.to_json(each), lambda each: None if each is None else value.from_json(each))
 
@@ -190,6 +195,8 @@ INSIDE = Record("inside", Inside, Field("path", PATH), Field("processes", NUMBER
                 Field("own_namespace", FLAG, "has_own_namespace"), Field("host_pids", FLAG, "has_host_pids"), Field("is_cut", FLAG))
 MOUNT = Record("mount", FurtherMount, Field("place", TEXT), Field("top", PATH), Field("folders", many(ENTRY)), Field("is_known", FLAG))
 NOTE = Record("note", note_of, Field("kind", ANY_TEXT), Field("place", ANY_TEXT), Field("text", ANY_TEXT))
+OPTIONS = Record("options", options_of, Field("only", perhaps(PATH)), Field("no_processes", FLAG),
+                 Field("tree_format", NUMBER, "text_format.number"), Field("plain_folder", FLAG))
 PROCESS = Record("process", process_of, Field("pid", NUMBER), Field("uid", NUMBER), Field("effective_uid", NUMBER, "user.uid"),
                  Field("groups", many(NUMBER), "user.gids"), Field("name", TEXT), Field("capabilities", many(TEXT)))
 RUNS = Record("runs", Runs, Field("pid", NUMBER), Field("program", TEXT), Field("threads", NUMBER), Field("is_headless", FLAG),
@@ -199,7 +206,7 @@ SCOPE = Record("scope", Scope, Field("path", PATH), Field("engine", TEXT), Field
 RANGE = Field("owner", ANY_TEXT), Field("first", ID), Field("count", COUNT)
 SUBUID, SUBGID = Record("subuid", Range, *RANGE), Record("subgid", Range, *RANGE)
 RECORDS: Tuple[Record[Any], ...] = (FORM, HOST, CGROUP, LOOKED, SHARING, ACCOUNT, CHANGING, COVERED, GROUP, HELD, INSIDE, MOUNT, NOTE,
-                                    PROCESS, RUNS, SCOPE, SUBGID, SUBUID, UNHELD)
+                                    OPTIONS, PROCESS, RUNS, SCOPE, SUBGID, SUBUID, UNHELD)
 SCHEMA = {record.key: record for record in RECORDS}
 
 

@@ -7,7 +7,7 @@ from zirofen_host.collect.accounts import is_id
 from zirofen_host.collect.model import DEFAULT_FILE, Cgroup, Entry, Placed, Row, Snapshot, Value
 from zirofen_host.collect.walk import MARKS
 from zirofen_host.fault import Fault
-from zirofen_host.files import CONTROL_FILES, FURTHER_FILES, LIMIT_FILES, Kind, accepts, is_known, kind_of, standing
+from zirofen_host.files import CONTROL_FILES, FURTHER_FILES, LIMIT_FILES, PRESSURE, Kind, accepts, is_known, kind_of, standing
 from zirofen_host.profile import (DIRECTORY_MODE, LARGEST_PID, LONGEST_PATH, CgroupPath, ancestors, is_inside, is_line, is_name, is_number,
                                   is_root, parent_of, path_of, shown, text_of)
 
@@ -122,8 +122,10 @@ class Changes:
         """The directory or a file that is there."""
         if name in ("dir", *CONTROL_FILES, *self.limit_files(path)):
             return self.rows[path].entry(name)
-        found, controller = self.cgroups[path].files.get(name), name.partition(".")[0]
-        if name not in LIMIT_FILES and (found or is_known(name) and (controller == "cgroup" or controller in self.controllers_for(path))):
+        found, controllers = self.cgroups[path].files.get(name), ("cgroup", *self.controllers_for(path))
+        # files of pressure stand whatever is enabled
+        stands = name in PRESSURE or is_known(name) and name.partition(".")[0] in controllers
+        if name not in LIMIT_FILES and (found or stands):
             return found or DEFAULT_FILE
         return refuse(f"there is no {name!a} at {shown(path)}, as far as is known")
 

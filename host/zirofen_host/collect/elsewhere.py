@@ -17,6 +17,7 @@ from zirofen_host.collect.mount import read_kernel_list
 from zirofen_host.collect.notes import LimitsOfVersion1, Note, OtherType
 from zirofen_host.fault import Fault
 from zirofen_host.files import CONTROL_FILES, DIRECTORY, LIMIT_FILES, OF_LIMITS, is_known, is_other_limit
+from zirofen_host.options import Options
 from zirofen_host.profile import CgroupPath, is_root, text_of
 
 
@@ -40,7 +41,7 @@ def read(accepted: Accepted, mount: str) -> Snapshot:
                     kernel_threads=0, places={}, notes=notes, version_1=version_1_in(notes),
                     kernel_list=frozenset(host.delegate if host else ()) or read_kernel_list(None),
                     changing={each.path: each.why for each in found.all(carrying.CHANGING)}, spoiled={},
-                    source=Source(accepted.file, carried_by(found) if host else None),
+                    source=Source(accepted.file, carried_by(found) if host else None, found.last(carrying.OPTIONS) or Options()),
                     inside=tuple(each for each in found.all(carrying.INSIDE) if each.path in rows), held=tuple(found.all(carrying.HELD)),
                     unheld=tuple(found.all(carrying.UNHELD)), mounts=tuple(found.all(carrying.MOUNT)),
                     covered=tuple(each for each in found.all(carrying.COVERED) if each.path in rows),
@@ -139,6 +140,12 @@ def carried(snapshot: Snapshot, accounts: Accounts) -> Iterator[str]:
         (carrying.SUBUID, lists.subordinate_uids), (carrying.SUBGID, lists.subordinate_gids))
     for record, found in others:
         yield from map(record.line, found)
+
+
+def narrowing(options: Options) -> Iterator[str]:
+    """By which options less of a host was looked at than there is, as a line of a text."""
+    if carrying.OPTIONS.to_json(options) != carrying.OPTIONS.to_json(Options()):
+        yield carrying.OPTIONS.line(options)
 
 
 def carried_of(snapshot: Snapshot, path: CgroupPath, found: Cgroup) -> carrying.CarriedCgroup:

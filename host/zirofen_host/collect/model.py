@@ -7,6 +7,7 @@ from typing import Collection, FrozenSet, Iterable, List, Mapping, NamedTuple, O
 from zirofen_host.collect.notes import Note
 from zirofen_host.collect.reasons import Reason
 from zirofen_host.files import FURTHER_FILES, standing
+from zirofen_host.options import Options
 from zirofen_host.profile import DIRECTORY_MODE, FILE_MODE, TEXT_FORMATS, CgroupPath, TextFormat, parent_of
 
 OWNER, GROUP, OTHERS = CLASSES = ("owner", "group", "others")
@@ -313,6 +314,8 @@ class Source:
     """Where a snapshot is from: a text's file, which the program took, and what it carries; of this host, neither."""
     file: Optional[str] = None
     carried: Optional[Carried] = None
+    # what the text was asked for, as far as that left something out
+    options: Options = Options()
 
 
 @dataclass(frozen=True)

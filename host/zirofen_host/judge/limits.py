@@ -53,10 +53,12 @@ def of_options(options: Options) -> Iterator[AnswerLimit]:
 
 
 def of_text(checked: Checked) -> Iterator[AnswerLimit]:
-    """What a text doesn't tell of its host."""
+    """What a text doesn't tell of its host, by the options that it was written with too."""
     source = checked.snapshot.source
     if source.file is None:
         return
+    asked = {each.kind for each in of_options(checked.options)}
+    yield from (each for each in of_options(source.options) if each.kind not in asked)
     if source.carried is None and checked.options.accounts is None:
         yield AnswerLimit(ACCOUNTS, "it was asked by number: who is in which group, and whose ids are subordinate, isn't known")
     if source.carried is None or not source.carried.has_descriptors:

@@ -50,6 +50,7 @@ def as_read(text: str) -> Iterator[str]:
 def carried(of: Snapshot, folder: Optional[str]) -> Iterator[str]:
     """What a text has beside its tree; one that carries nothing carries nothing behind changes either."""
     yield from fitting.told_changing(of)
+    yield from elsewhere.narrowing(of.source.options)
     if of.source.file is None or of.source.carried:
         yield from elsewhere.carried(of, accounts_of(folder, of))
 

@@ -18,6 +18,7 @@ def run(given: argparse.Namespace) -> int:
 
     def carried(of: Snapshot) -> Iterator[str]:
         yield from fitting.told_changing(of)
+        yield from elsewhere.narrowing(options)
         if accounts:
             yield from elsewhere.carried(of, accounts)
     makers = makers_in(taken, accounts.charged_user if accounts else charged_user_of(options.accounts))
