@@ -163,8 +163,10 @@ class PackageTest(unittest.TestCase):
         for tree, status, told in (("delegation-limit-writable", 1, "escapes/limit-file"), ("delegation", 0, None)):
             for left, lines in self.jobs().items():
                 with self.subTest(tree, left=left), tempfile.TemporaryDirectory() as room:
-                    with open(f"{room}/zirofen-0-linux-x86_64.tar.gz", "wb") as out:
-                        out.write(self.archive(".tar.gz"))
+                    # of several the newest is taken
+                    for version_of, content in (("0.9.0", b"none"), ("0.10.0", self.archive(".tar.gz"))):
+                        with open(f"{room}/zirofen-{version_of}-linux-x86_64.tar.gz", "wb") as out:
+                            out.write(content)
                     shutil.copy(f"{TOP}/examples/{tree}.toml", f"{room}/tree.toml")
                     ended = run("bash", "-e", "-c", lines, cwd=room, env={"PATH": "/usr/bin:/bin"})
                     self.assertEqual((ended.returncode, ended.stderr), (status, ""))
@@ -192,7 +194,7 @@ class PackageTest(unittest.TestCase):
                 out.write("web1\nweb2\n")
             [recipe] = self.fenced("sh")
             ended = self.recipe_ends(room, "delegation-limit-writable", "bash", "-c", recipe)
-            self.assertEqual(ended.stdout, "web1: 1\nweb2: 1\n")
+            self.assertEqual(ended.stdout, "web1: status 1\nweb2: status 1\n")
             with open(f"{room}/web2.json", encoding="ascii") as text:
                 self.assertEqual(json.load(text)["status"], 1)
 
