@@ -214,6 +214,19 @@ class OwnNamesTest(unittest.TestCase):
             self.assertEqual(self.write(json.dumps([{"id": "4fb0", "names": [driver]}])), driver)
             os.remove(self.file)
 
+    def test_pods_of_theirs(self):
+        """By podman's database in their home, of either kind."""
+        identity = "4fb08751" + 56 * "a"
+        known = containers.known(path_of(f"/user.slice/user-libpod_pod_{identity}.slice"))
+        for file in ("db.sql", "libpod/bolt_state.db"):
+            self.file = f"{self.top}/home/.local/share/containers/storage/{file}"
+            os.makedirs(os.path.dirname(self.file), exist_ok=True)
+            for text, owner, name in ((f'{{"id":"{identity}","name":"shop","labels"', 1000, "shop"), ("{" * 100000, 1000, None),
+                                      (f'{{"id":"{identity}","name":"shop","labels"', 1001, None)):
+                self.write(text, owner)
+                self.assertEqual(self.names.name(known, 1000), name, (file, text[:20]))
+            os.remove(self.file)
+
     def test_whose_it_has_to_be(self):
         text = json.dumps([{"id": "4fb0", "names": ["app"]}])
         self.assertIsNone(self.write(text, 1001))

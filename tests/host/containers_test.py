@@ -84,9 +84,30 @@ class NamesTest(unittest.TestCase):
             with self.subTest(path):
                 self.assertEqual(self.names(path)[path], expected)
 
+    def test_pods_of_podman(self):
+        """Its database has them in one of two kinds, or in what isn't yet in its file; what stands around a row may be any bytes."""
+        row = f'\0\x17shop{{"id":"{ID}","name":"shop","labels":{{}}\0'
+        slices = f"/machine.slice/machine-libpod_pod_{ID}.slice", f"/a.slice/a-b.slice/a-b-libpod_pod_{ID}.slice", f"/libpod_parent/{ID}"
+        for file in ("db.sql", "db.sql-wal", "libpod/bolt_state.db"):
+            place = self.write(f"var/lib/containers/storage/{file}", "")
+            for text, name in ((row, "shop"), ("", ID[:12]), (row.replace(ID, OTHER), ID[:12]), (row.replace('shop"', '"'), ID[:12]),
+                               (row.replace("shop", "../a\x1b"), ID[:12]), (row.replace('shop"', f'{"x" * 500}"'), "x" * 96)):
+                with open(place, "wb") as out:
+                    out.write(b"\xff\xfe" + text.encode("ascii") + b"\x80")
+                for path in slices:
+                    self.assertEqual(self.names(path)[path], ("pod", name), (file, text))
+            os.remove(place)
+        self.write("var/lib/containers/storage/db.sql", row)
+        self.write(STORAGE, LIST)
+        member = f"{slices[0]}/libpod-{OTHER}.scope"
+        self.assertEqual(self.names(member), {slices[0]: ("pod", "shop"), member: ("podman", "other")})
+        os.chmod(f"{self.top}/var/lib/containers/storage", 0o777)
+        self.assertEqual(self.names(slices[0])[slices[0]], ("pod", ID[:12]))
+
     def test_what_is_none(self):
         for name in ("docker.service", f"libpod-conmon-{ID}.scope", f"docker-{ID}.service", ID, f"docker-{ID[:4]}.scope",
-                     f"docker-{ID.upper()}.scope", f"docker-../{ID}.scope", f"docker-{ID}.scope.d"):
+                     f"docker-{ID.upper()}.scope", f"docker-../{ID}.scope", f"docker-{ID}.scope.d", f"machine-libpod_pod_{ID[1:]}.slice",
+                     f"machine-libpod_pod_{ID}.scope", f"libpod_pod_{ID}"):
             self.assertIsNone(known(path_of(f"/system.slice/{name}")), name)
 
     def test_without_a_file_it_has_its_short_id(self):

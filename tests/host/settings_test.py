@@ -54,6 +54,21 @@ class RestartTest(HostTest):
             "/svc.service: svc.service is started anew with its own settings alone: "
             "cgroup.max.descendants is 50, and no setting brings it; cpu.max.burst is 7, and no setting brings it"])
 
+    def test_a_share_of_processors_whoever_it_is_of(self):
+        """What somebody wrote is told as long as it stands, also once the entry is root's again: there is no line of the text for it then."""
+        line = "/svc.service: svc.service is started anew with its own settings alone: cpu.max is {}, and {}"
+        unlimited, half, never = {}, {"CPUQuotaPerSecUSec": "500ms"}, {"CPUQuotaPerSecUSec": "1ms"}
+        for value, shown, why in (
+                ("20000 100000", unlimited, "CPUQuota= isn't set"), ("max 100000", unlimited, None), ("max 20000", unlimited, None),
+                ("50000 100000", half, None), ("20000 100000", half, "CPUQuotaPerSecUSec=500ms"),
+                ("max 100000", half, "CPUQuotaPerSecUSec=500ms"),
+                ("50000 20000", {**half, "CPUQuotaPeriodUSec": "100ms"}, "CPUQuotaPerSecUSec=500ms"),
+                ("10000 20000", {**half, "CPUQuotaPeriodUSec": "20ms"}, None), ("1000 1000000", never, None)):
+            self.host.cgroup("/svc.service", owners=owned(1000), values={"pids.max": 7, "memory.high": 8192, "cpu.max": value})
+            self.assertEqual(self.restarts(svc_service=shown), [line.format(value, why)] if why else [], (value, shown))
+        os.remove(f"{self.host.mount}/svc.service/cpu.max")
+        self.assertEqual(self.restarts(svc_service=half), [])
+
     def test_settings_that_change_meanwhile_are_told_by_nobody(self):
         self.host.cgroup("/svc.service", owners=owned(1000), values={"memory.max": 40960, "memory.high": 8192, "pids.max": 9})
         self.assertEqual(self.restarts({"svc_service": {"MemoryMax": "40960"}}, svc_service={"MemoryMax": "81920"}), [

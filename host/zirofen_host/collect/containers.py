@@ -1,4 +1,4 @@
-"""Containers by their names: what files of root's say of the scopes of podman, Docker, containerd and CRI-O, and of pods.
+"""Containers by their names: what files of root's say of the scopes of podman, Docker, containerd and CRI-O, and of the slices of pods.
 
 A file counts where it and each folder on the way to it are root's, and nobody else writes them. A container below a cgroup that isn't
 root's has the name that a file of its holder's tells, which is theirs to choose: it stands behind theirs.
@@ -31,6 +31,8 @@ KINDS: Tuple[Tuple[str, Pattern[bytes], Pattern[bytes]], ...] = tuple(
         (CONTAINERD, _ID, rb"pod.*"),
         (POD, rb"kubepods.*-pod([0-9a-f]{8}(?:_[0-9a-f]{4}){3}_[0-9a-f]{12})\.slice", rb".*"),
         (POD, rb"pod([0-9a-f]{8}(?:-[0-9a-f]{4}){3}-[0-9a-f]{12})", rb".*"),
+        (POD, rb"(?:.*-)?libpod_pod_([0-9a-f]{64})\.slice", rb".*"),
+        (POD, rb"([0-9a-f]{64})", rb"libpod_parent"),
         # these have their names in the cgroup's
         (LXC, rb"lxc\.payload\.(.+)", rb".*"),
         (LIBVIRT, rb"machine-(?:lxc|qemu|xen)\\x2d[0-9]+\\x2d(.+)\.scope", rb"machine\.slice"),
@@ -43,6 +45,8 @@ _ESCAPED = re.compile(r"\\x([0-9a-f]{2})")
 ANNOTATIONS = (("io.kubernetes.cri.sandbox-namespace", "io.kubernetes.cri.sandbox-name", "io.kubernetes.cri.container-name"),
                ("io.kubernetes.pod.namespace", "io.kubernetes.pod.name", "io.kubernetes.container.name"))
 ALIASES = "# Entries added by HostAliases."
+# how what podman keeps of a pod begins; no pod has another name later, so that what stands there from before is as good
+POD_ROW = re.compile(r'\{"id":"([0-9a-f]{64})","name":"([A-Za-z0-9][A-Za-z0-9_.-]{0,95})')
 OTHERS_WRITE = 0o022
 
 # a name in what a file has, by the id that it is of
@@ -93,8 +97,22 @@ def name_in_hosts(text: str, _: str) -> Optional[str]:
     return words[-1][1]
 
 
+def pods_in_database(text: str) -> Mapping[str, str]:
+    """Of podman: all pods by their ids, as they stand in its database of either kind."""
+    return {found[1]: found[2] for found in POD_ROW.finditer(text)}
+
+
+def name_in_database(text: str, identity: str) -> Optional[str]:
+    """Of podman: a pod."""
+    at = text.find(f'{{"id":"{identity}",')
+    found = POD_ROW.match(text, at) if at >= 0 else None
+    return found and found[2]
+
+
 # of podman, one for each driver of storage
 LISTS = tuple(f"containers/storage/{driver}-containers/containers.json" for driver in ("overlay", "vfs", "btrfs", "zfs"))
+# of podman's pods: what SQLite has, also of what isn't in its file yet, and of podman before 4.8 what Bolt has
+DATABASES = tuple(f"containers/storage/{file}" for file in ("db.sql", "db.sql-wal", "libpod/bolt_state.db"))
 OWN_DATA, DATA = ".local/share", "/var/lib"
 IN_LISTS: Tuple[Tuple[str, NameIn], ...] = tuple((f"{DATA}/{file}", name_in_list) for file in LISTS)
 # the files that tell a name, with what is read of each
@@ -105,7 +123,7 @@ FILES: Mapping[str, Tuple[Tuple[str, NameIn], ...]] = {
                       for space in ("k8s.io", "default", "moby")),
     CRIO: (("/run/containers/storage/overlay-containers/{}/userdata/config.json", name_in_bundle),
            ("/run/crun/{}/config.json", name_in_bundle), *IN_LISTS),
-    POD: (("/var/lib/kubelet/pods/{}/etc-hosts", name_in_hosts),)}
+    POD: (("/var/lib/kubelet/pods/{}/etc-hosts", name_in_hosts), *((f"{DATA}/{file}", name_in_database) for file in DATABASES))}
 
 
 def known(path: CgroupPath) -> Optional[Known]:
@@ -177,7 +195,7 @@ class Names:
         if of.engine in OF_CGROUPS:
             return of.id[:LONGEST_NAME]
         if holder is not None:
-            return self.own_names(holder).get(of.id) if of.engine == PODMAN and holder > 0 else None
+            return self.own_names(holder).get(of.id) if of.engine in (PODMAN, POD) and holder > 0 else None
         for file, name_in in FILES[of.engine]:
             name = name_of(name_in, self.text(file.format(of.id)), of.id)
             if name:
@@ -190,19 +208,21 @@ class Names:
         return mounts_of_host().types
 
     def own_names(self, holder: int) -> Mapping[str, str]:
-        """The names in a user's own lists of podman's containers, which are read and parsed once."""
+        """The names in a user's own lists of podman's containers and in its databases of pods, which are read and parsed once."""
         if holder not in self.own:
             home = self.home_of(holder)
-            self.own[holder] = {identity: name for file in LISTS if home
-                                for identity, name in self.own_list(f"{home}/{OWN_DATA}/{file}", holder).items()}
+            self.own[holder] = {identity: name for files, names_in in ((LISTS, names_in_list), (DATABASES, pods_in_database))
+                                for file in files if home
+                                for identity, name in names_in(self.own_text(f"{home}/{OWN_DATA}/{file}", holder)).items()}
         return self.own[holder]
 
-    def own_list(self, file: str, holder: int) -> Mapping[str, str]:
+    def own_text(self, file: str, holder: int) -> str:
+        """What a file of a user's has; nothing where it can't be read, or has more than is read."""
         try:
             found = read_theirs(file, holder, self.types, bounded.NAME_FILE, self.top)
         except OSError:
-            return {}
-        return {} if found.is_cut else names_in_list(found.text("utf-8", "replace"))
+            return ""
+        return "" if found.is_cut else found.text("utf-8", "replace")
 
 
 class NoFiles(Names):

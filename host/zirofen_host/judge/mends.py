@@ -17,7 +17,7 @@ from zirofen_host.files import BY_NAME, COUNTING, FURTHER_FILES, HANDED_OVER, LI
 from zirofen_host.judge.finding_lines import whom_text
 from zirofen_host.judge.host_model import ABSENT, Absent, ReportCgroup, Wanted
 from zirofen_host.judge.model import Report
-from zirofen_host.judge.notes import Restart
+from zirofen_host.judge.notes import LostLimit, Restart
 from zirofen_host.judge.rules import ACCEPTABLE, DIFFERS, NOTHING_ASKED, OPENED, OPENED_DIRECTORY, ROOT_HELD, VERSION_1, Finding
 from zirofen_host.judge.shell import place as place_of
 from zirofen_host.judge.wanted import IDLE, OF_ALL, files_with, is_decided, is_same, unit_at, written
@@ -115,11 +115,15 @@ BRINGS: Dict[Form, Callable[[str, str], List[str]]] = {
 
 def settings_for(file: str, row: Optional[ReportCgroup]) -> List[str]:
     """The settings that bring what a file has now; none where nobody set it, and where it isn't known."""
-    setting, found = setting_of(file), row.files.get(file) if row else None
-    if not setting or found is None or isinstance(found.value, Absent) or is_usual(file, found.value):
+    return settings_of(file, value_in(row, file))
+
+
+def settings_of(file: str, value: Union[int, str, None]) -> List[str]:
+    setting = setting_of(file)
+    if not setting or value is None or is_usual(file, value):
         return []
     form = BY_NAME[file].form
-    return BRINGS[form](setting, " ".join(str(found.value).split())) if form in BRINGS else []
+    return BRINGS[form](setting, " ".join(str(value).split())) if form in BRINGS else []
 
 
 @dataclass(frozen=True)
@@ -149,8 +153,17 @@ class Place:
     @property
     def files(self) -> List[str]:
         """The limit files that a setting might keep: those of the findings, and those that the next start doesn't bring back."""
-        gone = (limit.file for told in self.restarts for limit in told.limits if self.row and limit.file in self.row.files)
-        return sorted({*(each.entry for each in self.found), *gone})
+        return sorted({*(each.entry for each in self.found), *self.gone})
+
+    @property
+    def gone(self) -> Mapping[str, LostLimit]:
+        """The limits that the next start doesn't bring back, by their files."""
+        return {limit.file: limit for told in self.restarts for limit in told.limits}
+
+    def value(self, file: str) -> Union[int, str, None]:
+        """What a file has; of one that is root's alone, which the report's rows don't have, what its unit's next start loses."""
+        found = value_in(self.row, file)
+        return self.gone[file].value if found is None and file in self.gone else found
 
     @property
     def owner(self) -> Optional[str]:
@@ -162,7 +175,7 @@ class Place:
     def is_brought(self, file: str) -> bool:
         """Whether the settings say what a limit has."""
         wanted = self.wanted.get(file)
-        return wanted is not None and is_decided(file, value_in(self.row, file), wanted)
+        return wanted is not None and is_decided(file, self.value(file), wanted)
 
     def changes(self) -> Tuple[str, ...]:
         """What takes the entries back, and then what writes again what root's settings say of limits that were open: somebody may write
@@ -184,7 +197,7 @@ class Place:
                 f"User= has to name, {DELEGATE} hands over the directory, cgroup.procs and cgroup.subtree_control, and no limit file"))
         for why, files in self.why_withheld():
             settings = tuple(dict.fromkeys(setting for file in files if not self.is_brought(file)
-                                           for setting in settings_for(file, self.row)))
+                                           for setting in settings_of(file, self.value(file))))
             if settings:
                 yield Withheld(self.unit, settings, why)
 
@@ -211,7 +224,7 @@ class Place:
         yield from self.told_of_settings()
         if any(setting_of(file) and not settings_for(file, self.row) and is_set(file, self.row) for file in self.files):
             yield "a setting brings a limit of a device by its name, which a cgroup doesn't tell: set it by hand in the unit"
-        if self.restarts and not any(setting_of(file) for file in self.files):
+        if self.restarts and not any(map(setting_of, self.gone)):
             yield "no setting brings these limits: what sets them has to at each start, as ExecStartPost=+"
 
     def told_of_causes(self) -> Iterator[str]:
@@ -224,7 +237,7 @@ class Place:
 
     def told_of_settings(self) -> Iterator[str]:
         """What root's settings say of the limits."""
-        limits = [file for file in self.files if setting_of(file) and is_in(file, self.row)]
+        limits = [file for file in self.files if setting_of(file) and (is_in(file, self.row) or file in self.gone)]
         own = dict.fromkeys(self.wanted[file].setting for file in limits if file in self.wanted and self.wanted[file].is_set)
         if own and self.unit:
             yield f"{' '.join(own)} of {self.unit.name} says it, and its next start brings it: no drop-in is wanted"

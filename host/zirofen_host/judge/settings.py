@@ -13,7 +13,8 @@ from zirofen_host.collect.snapshot import value_of
 from zirofen_host.fault import Fault
 from zirofen_host.files import BY_SETTING, LIMIT_FILES, PAGE, Kind, is_usual, kind_of, setting_of
 from zirofen_host.judge.notes import LostLimit, Restart
-from zirofen_host.judge.wanted import PROPERTIES, QUOTA, Shown, wanted_by
+from zirofen_host.judge.wanted import PROPERTIES, Shown, wanted_by
+from zirofen_host.judge.wanted import is_same as wanted_is_same
 from zirofen_host.options import Options
 from zirofen_host.profile import CgroupPath, shown, text_of
 
@@ -24,6 +25,8 @@ Settings = Mapping[str, Shown]
 UNIT_PATTERNS = ("*.service", "*.slice", "*.scope")
 # the cgroup that a unit has, which says that a path is its
 CGROUP = "ControlGroup"
+# the limit of which a setting says what share of a second it is, and how it begins where there is none
+SHARE, NO_SHARE = "cpu.max", "max "
 # that systemctl has, which asks the manager about unit after unit
 SECONDS = 120
 # what is told of where it fails
@@ -64,11 +67,11 @@ def agreed(before: Settings, behind: Settings) -> Settings:
 
 
 def values_of(snapshot: Snapshot, path: CgroupPath) -> Dict[str, Optional[Value]]:
-    """What the limits of a cgroup have: of the tree's at the walk, and of others now."""
+    """What the limits of a cgroup have: of the tree's at the walk, and of others now, with the share of processors whoever's it is."""
     told = snapshot.tree.rows[path].values
     values: Dict[str, Optional[Value]] = {name: told[name] for name in LIMIT_FILES if name in told}
-    others = [name for name in snapshot.cgroups[path].files if kind_of(name) is Kind.LIMIT and name not in LIMIT_FILES]
-    values.update({name: value_of(snapshot, path, name) for name in sorted(others)})
+    others = {name for name in snapshot.cgroups[path].files if kind_of(name) is Kind.LIMIT and name not in LIMIT_FILES}
+    values.update({name: value_of(snapshot, path, name) for name in sorted(others | {SHARE})})
     return values
 
 
@@ -83,9 +86,10 @@ def different(values: Mapping[str, Optional[Value]], settings: Mapping[str, str]
         value = values.get(file)
         if name in settings and value is not None and not is_same(settings[name], file, value):
             yield LostLimit(file, str(value), f"{name}={settings[name]}", wanted.get(file))
-    quota = str(values.get("cpu.max") or "")
-    if settings.get(QUOTA) == "infinity" and not is_usual("cpu.max", quota) and quota.split(" ")[0] != "max":
-        yield LostLimit("cpu.max", quota, "CPUQuota= isn't set", wanted.get("cpu.max"))
+    brought = wanted.get(SHARE)
+    quota = " ".join(str(values.get(SHARE) or "").split())
+    if brought and quota and not wanted_is_same(SHARE, quota, brought) and (brought.is_set or not quota.startswith(NO_SHARE)):
+        yield LostLimit(SHARE, quota, brought.setting if brought.is_set else "CPUQuota= isn't set", brought)
 
 
 def unsettable(values: Mapping[str, Optional[Value]]) -> Iterable[LostLimit]:

@@ -154,7 +154,8 @@ def standings(report: Report) -> Dict[str, Severity]:
             found[path].add(severity)
     for each in report.subtrees:
         found[each.path].update({Severity.ACCEPTED} if each.path in accepted else of_answers(each), premises.of(each))
-    least = Severity.LIMITED if limits.narrowing(report) else Severity.CONTAINED
+    # where nobody was asked of anything root alone holds what there is
+    least = Severity.NOT_ASKED if not report.asked else Severity.LIMITED if limits.narrowing(report) else Severity.CONTAINED
     return {path: least if worst(found[path]) is Severity.CONTAINED else worst(found[path]) for path in sorted(asked)}
 
 

@@ -20,7 +20,7 @@ from zirofen_host.judge.standing import cause_of, is_empty, standings, status_te
 from zirofen_host.profile import ancestors
 from zirofen_host.show import container_lines
 from zirofen_host.show.folded import Part, folded
-from zirofen_host.show.words import STANDINGS, listed, made_by, standing_text
+from zirofen_host.show.words import NOT_ASKED, STANDINGS, listed, made_by, standing_text
 
 # how far the table's columns are filled up; a longer word stands out
 WIDEST = (20, 24, 48)
@@ -250,8 +250,10 @@ def sum_line(report: Report) -> str:
 def asked_line(report: Report) -> str:
     """How many subtrees were asked of, and how many of them stand how; what a limited answer holds to be contained has its mark."""
     counts = Counter(each.value for each in standings(report).values())
+    roots = counts.pop(NOT_ASKED, 0)
     told = ", ".join(f"{counts[word]} {standing_text(word, report)}" for word in STANDINGS if counts[word])
-    return "; ".join(filter(None, (f"{sum(counts.values())} asked: {told or 'nothing'}", inside_sum(report), limits.line_of(report))))
+    asked = (f"{sum(counts.values())} asked: {told or 'nothing'}", f"{roots} {ROOT_ALONE}" if roots else "")
+    return "; ".join(filter(None, (*asked, inside_sum(report), limits.line_of(report))))
 
 
 def inside_sum(report: Report) -> str:

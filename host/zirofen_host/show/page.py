@@ -84,9 +84,13 @@ class HostPage:
             NOT_LOOKED_AT: f"Limits aren't looked at, and {self.contained()}.",
             STALE: f"An acceptance doesn't hold, and {self.contained()}.",
             ACCEPTED: f"{number} of {every} {stands} open by what somebody accepted, and {self.contained(False)}.",
-            NOT_ASKED: f"No delegation was found, and {words.count(len(self.host.root_inside), 'container')} of root's.",
+            NOT_ASKED: f"{self.nobodys()}, and {words.count(len(self.host.root_inside), 'container')} of root's.",
             NOTHING_ASKED: "Nothing was found to ask: no subtree and user of which containment could be asked."}
         return told.get(self.kind) or self.all_contained()
+
+    def nobodys(self) -> str:
+        """What was found where nobody but root was handed anything."""
+        return "Root alone holds every delegation that was found" if self.host.delegations else "No delegation was found"
 
     def contained(self, is_of: bool = True) -> str:
         """How many are shown to be contained, as far as was asked."""
