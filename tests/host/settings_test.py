@@ -55,7 +55,7 @@ class RestartTest(HostTest):
             "cgroup.max.descendants is 50, and no setting brings it; cpu.max.burst is 7, and no setting brings it"])
 
     def test_a_share_of_processors_whoever_it_is_of(self):
-        """What somebody wrote is told as long as it stands, also once the entry is root's again: there is no line of the text for it then."""
+        """What somebody wrote is told as long as it stands, also once the entry is root's again, of which no text tells."""
         line = "/svc.service: svc.service is started anew with its own settings alone: cpu.max is {}, and {}"
         unlimited, half, never = {}, {"CPUQuotaPerSecUSec": "500ms"}, {"CPUQuotaPerSecUSec": "1ms"}
         for value, shown, why in (

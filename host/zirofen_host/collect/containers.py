@@ -106,7 +106,7 @@ def name_in_database(text: str, identity: str) -> Optional[str]:
     """Of podman: a pod."""
     at = text.find(f'{{"id":"{identity}",')
     found = POD_ROW.match(text, at) if at >= 0 else None
-    return found and found[2]
+    return None if found is None else found[2]
 
 
 # of podman, one for each driver of storage

@@ -105,13 +105,15 @@ def is_theirs(snapshot: Snapshot, questions: Questions, user: User, place: Place
 
 def what_differs(snapshot: Snapshot, path: CgroupPath) -> Dict[str, Entry]:
     """The entries at a subtree that was meant to be handed over which differ from what a manager leaves there: a directory
-    or a file of the list that more than its owner writes, and other files that aren't root's."""
+    or a file of the list that more than its owner writes, a file of the list that is neither root's nor the directory's owner's, and
+    other files that aren't root's."""
     found, differs = snapshot.cgroups[path], {}
     for name, entry in {"dir": found.directory, **found.files}.items():
         if name in PRESSURE:
             continue
         handed = name == "dir" or name in snapshot.kernel_list
         by_group = entry.mode & GROUP_WRITES and entry.gid
-        if entry.mode & OTHERS_WRITE or by_group and (entry.uid or not handed) or entry.uid and not handed:
-            differs[name] = replace(entry, uid=0 if handed else entry.uid)
+        is_anothers = entry.uid and (not handed or entry.uid != found.directory.uid)
+        if entry.mode & OTHERS_WRITE or by_group and (entry.uid or not handed) or is_anothers:
+            differs[name] = entry if is_anothers else replace(entry, uid=0)
     return differs
