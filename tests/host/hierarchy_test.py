@@ -6,6 +6,7 @@ import os
 import re
 import tempfile
 import unittest
+from collections import Counter
 from dataclasses import replace
 from unittest import mock
 
@@ -13,9 +14,9 @@ from acceptances_test import toml
 from check_test import HostTest, owned
 from shown import comparison_lines, lines_of
 from zirofen_host.ask.questions import subtrees_by
-from zirofen_host.collect import elsewhere, walk
+from zirofen_host.collect import bounded, elsewhere, walk
 from zirofen_host.collect.accounts import Accounts
-from zirofen_host.collect.model import Covered, Entry, FurtherMount, Scope
+from zirofen_host.collect.model import Covered, Entry, FurtherMount, PrivateMount, Scope
 from zirofen_host.collect.mount import Mounts
 from zirofen_host.collect.tree import read_tree
 from zirofen_host.judge import acceptances, baseline, check
@@ -150,7 +151,7 @@ class OptionsTest(HierarchyTest):
         with open(file, "w", encoding="utf-8") as out:
             out.write(text)
         found = elsewhere.read(elsewhere.Accepted(file, text, read_tree(text)), "/none")
-        for name in ("mount_options", "in_hosts_namespace", "covered", "mounts", "scopes"):
+        for name in ("mount_options", "in_hosts_namespace", "covered", "mounts", "private", "scopes"):
             self.assertEqual(getattr(found, name), getattr(taken, name), name)
 
 
@@ -192,6 +193,59 @@ class FurtherMountsTest(HierarchyTest):
         self.assertEqual(mounts.further("/sys/fs/cgroup/"), [("/home/bob/i n", "/a")])
         self.assertEqual((mounts.below("/sys/fs/cgroup"), mounts.below("/none")), ({b"/a/memory.max": "tmpfs"}, {}))
         self.assertEqual(mounts.further("/none"), [])
+
+
+class PrivateMountsTest(HierarchyTest):
+    """What users have mounted in namespaces of their own, as /proc tells of their processes."""
+    OWN = "31 22 0:29 / /sys/fs/cgroup rw - cgroup2 c rw\n"
+    THEIRS = OWN + "41 22 0:29 /a/in /mnt rw - cgroup2 c rw\n42 22 0:29 / /home/i\\040n ro - cgroup2 c rw\n43 22 0:9 / /tmp rw - tmpfs t rw\n"
+
+    def taken(self):
+        return self.host.take(subtrees_by(self.options()))
+
+    def put(self, *processes):
+        """A host whose processes have these mounts: the PID, the uid, the namespace and what is mounted there."""
+        self.host.mounts("self", self.OWN, 1)
+        for pid, uid, namespace, text in processes:
+            self.host.process(pid, uid=uid)
+            self.host.mounts(pid, text, namespace)
+
+    def lines(self, **more):
+        return [line for line in lines_of(self.of(**more)) if line.startswith(("mount:", "search:"))]
+
+    def test_each_namespace_once_and_what_is_in_the_own_never(self):
+        self.put((7, 1000, 2, self.THEIRS), (8, 1000, 2, self.THEIRS), (9, 1001, 1, self.THEIRS), (10, 1001, 3, self.OWN),
+                 (11, 0, 4, self.THEIRS), (12, 100005, 5, "41 22 0:29 /a/in /x rw - cgroup2 c rw\n"))
+        self.assertEqual(self.taken().private, tuple(PrivateMount(1000, place, path_of(top)) for place, top in (
+            ("/home/i n", "/"), ("/mnt", "/a/in"), ("/x", "/a/in"))))
+
+    def test_so_many_of_one_person(self):
+        many = "".join(f"{number} 22 0:29 /a /m{number} rw - cgroup2 c rw\n" for number in range(100, 300))
+        self.put((7, 1000, 2, many), (8, 100001, 3, many), (9, 1001, 4, self.THEIRS))
+        counts = Counter(each.uid for each in self.taken().private)
+        self.assertEqual(counts, {1000: bounded.FURTHER_MOUNTS, 1001: 2})
+
+    def test_they_are_named_but_for_containers(self):
+        self.host.cgroup("/a/libpod-1.scope")
+        own = Scope(path_of("/a/libpod-1.scope"), "podman", "1", "app", 1000)
+        private = tuple(PrivateMount(uid, place, path_of(top)) for uid, place, top in (
+            (1000, "/mnt", "/a/in"), (1000, "/sys/fs/cgroup", "/a/libpod-1.scope/container"), (1001, "/h\x1b", "/")))
+        self.assertEqual(self.lines(private=private, scopes=(own,)), [
+            "mount: mounted in mount namespaces of theirs too, where whoever is inside goes by these: alice(1000) /a/in at /mnt; "
+            "bob(1001) / at '/h\\x1b'"])
+        self.assertEqual(self.lines(private=private[1:2], scopes=(own,)), [])
+        for name, said in self.forms_of(self.of(private=private)).items():
+            if name in ("text", "json", "page"):
+                self.assertIn("mounted in mount namespaces of theirs too", said, name)
+
+    def test_search_goes_by_them(self):
+        self.host.cgroup("/secret", modes={"dir": 0o700}, enabled="memory")
+        self.host.cgroup("/secret/in", owners=owned(1001))
+        private = PrivateMount(1001, "/mnt", path_of("/secret/in"))
+        for each, told in ((private, "and what is inside is mounted at /mnt in a mount namespace of theirs too: the answer stands"),
+                           (private._replace(uid=1000), "on this mount: by another, as of a cgroup namespace inside, the answer stands")):
+            line, = [line for line in self.lines(private=(each,)) if line.startswith("search:")]
+            self.assertTrue(line.startswith("search: bob(1001): they can't search /secret") and line.endswith(told), line)
 
 
 class MountedOverTest(HierarchyTest):

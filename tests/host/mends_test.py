@@ -14,8 +14,9 @@ from shown import made
 from zirofen_host.judge import check, mends, settings, wanted
 from zirofen_host.judge.host_model import ABSENT, ReportCgroup, ReportFile
 from zirofen_host.judge.model import Told
-from zirofen_host.judge.notes import LostLimit, Restart
+from zirofen_host.judge.notes import Restart
 from zirofen_host.judge.rules import findings_of
+from zirofen_host.judge.wanted import LostLimit
 from zirofen_host.show import formats
 from zirofen_host.show import mends as written
 

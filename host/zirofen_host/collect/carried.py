@@ -11,8 +11,8 @@ from operator import attrgetter
 from typing import Any, Callable, Dict, Generic, Iterable, Iterator, List, Mapping, NamedTuple, Optional, Sequence, Tuple, TypeVar
 
 from zirofen_host.collect.accounts import is_id
-from zirofen_host.collect.model import (Account, CgroupMount, Covered, Entry, FurtherMount, Group, HeldEntry, Holding, Inside, Process,
-                                        Range, Scope, Unheld, User)
+from zirofen_host.collect.model import (Account, CgroupMount, Covered, Entry, FurtherMount, Group, HeldEntry, Holding, Inside, PrivateMount,
+                                        Process, Range, Scope, Unheld, User)
 from zirofen_host.collect.notes import CarriedNote, Note
 from zirofen_host.collect.reasons import CHANGED, CarriedOfSomebody, CarriedReason, Reason
 from zirofen_host.collect.tree import number_in, parts_in, table_in, text_in, typed
@@ -197,6 +197,7 @@ MOUNT = Record("mount", FurtherMount, Field("place", TEXT), Field("top", PATH), 
 NOTE = Record("note", note_of, Field("kind", ANY_TEXT), Field("place", ANY_TEXT), Field("text", ANY_TEXT))
 OPTIONS = Record("options", options_of, Field("only", perhaps(PATH)), Field("no_processes", FLAG),
                  Field("tree_format", NUMBER, "text_format.number"), Field("plain_folder", FLAG))
+PRIVATE = Record("private", PrivateMount, Field("uid", ID), Field("place", TEXT), Field("top", PATH))
 PROCESS = Record("process", process_of, Field("pid", NUMBER), Field("uid", NUMBER), Field("effective_uid", NUMBER, "user.uid"),
                  Field("groups", many(NUMBER), "user.gids"), Field("name", TEXT), Field("capabilities", many(TEXT)))
 RUNS = Record("runs", Runs, Field("pid", NUMBER), Field("program", TEXT), Field("threads", NUMBER), Field("is_headless", FLAG),
@@ -206,7 +207,7 @@ SCOPE = Record("scope", Scope, Field("path", PATH), Field("engine", TEXT), Field
 RANGE = Field("owner", ANY_TEXT), Field("first", ID), Field("count", COUNT)
 SUBUID, SUBGID = Record("subuid", Range, *RANGE), Record("subgid", Range, *RANGE)
 RECORDS: Tuple[Record[Any], ...] = (FORM, HOST, CGROUP, LOOKED, SHARING, ACCOUNT, CHANGING, COVERED, GROUP, HELD, INSIDE, MOUNT, NOTE,
-                                    OPTIONS, PROCESS, RUNS, SCOPE, SUBGID, SUBUID, UNHELD)
+                                    OPTIONS, PRIVATE, PROCESS, RUNS, SCOPE, SUBGID, SUBUID, UNHELD)
 SCHEMA = {record.key: record for record in RECORDS}
 
 

@@ -44,6 +44,7 @@ def read(accepted: Accepted, mount: str) -> Snapshot:
                     source=Source(accepted.file, carried_by(found) if host else None, found.last(carrying.OPTIONS) or Options()),
                     inside=tuple(each for each in found.all(carrying.INSIDE) if each.path in rows), held=tuple(found.all(carrying.HELD)),
                     unheld=tuple(found.all(carrying.UNHELD)), mounts=tuple(found.all(carrying.MOUNT)),
+                    private=tuple(found.all(carrying.PRIVATE)),
                     covered=tuple(each for each in found.all(carrying.COVERED) if each.path in rows),
                     scopes=scopes or (by_cgroups(cgroups) if host else ()),
                     in_hosts_namespace=tuple(each for each in found.all(carrying.SHARING) if each in rows))
@@ -135,8 +136,9 @@ def carried(snapshot: Snapshot, accounts: Accounts) -> Iterator[str]:
     yield from (carrying.RUNS.line(process) for process in running if process.places or process.is_headless)
     others: Tuple[Tuple[carrying.Record[Any], Iterable[Any]], ...] = (
         (carrying.HELD, snapshot.held), (carrying.UNHELD, snapshot.unheld), (carrying.INSIDE, snapshot.inside),
-        (carrying.MOUNT, snapshot.mounts), (carrying.COVERED, snapshot.covered), (carrying.SHARING, snapshot.in_hosts_namespace),
-        (carrying.SCOPE, snapshot.scopes), (carrying.ACCOUNT, lists.accounts), (carrying.GROUP, lists.groups),
+        (carrying.MOUNT, snapshot.mounts), (carrying.PRIVATE, snapshot.private), (carrying.COVERED, snapshot.covered),
+        (carrying.SHARING, snapshot.in_hosts_namespace), (carrying.SCOPE, snapshot.scopes),
+        (carrying.ACCOUNT, lists.accounts), (carrying.GROUP, lists.groups),
         (carrying.SUBUID, lists.subordinate_uids), (carrying.SUBGID, lists.subordinate_gids))
     for record, found in others:
         yield from map(record.line, found)

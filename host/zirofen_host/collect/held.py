@@ -5,15 +5,15 @@ from typing import Iterable, List, Optional, Tuple
 from zirofen_host.collect.bounded import ChargedUser
 from zirofen_host.collect.descriptors import Descriptors, Held, Hierarchy, inodes_of
 from zirofen_host.collect.inside import Look
-from zirofen_host.collect.model import HeldEntry, Process, Snapshot, Unheld
+from zirofen_host.collect.model import HeldEntry, PrivateMount, Process, Snapshot, Unheld
 from zirofen_host.collect.processes import program_of
 
-# what is held, and what of it wasn't looked at
-Found = Tuple[Tuple[HeldEntry, ...], Tuple[Unheld, ...]]
+# what is held, what of it wasn't looked at, and the mounts of the hierarchy that users have in namespaces of their own
+Found = Tuple[Tuple[HeldEntry, ...], Tuple[Unheld, ...], Tuple[PrivateMount, ...]]
 
 
 def look(proc: str, found: Snapshot, charged_user: ChargedUser, containers: Optional[Look]) -> Found:
-    """What is held, each once, and what of it wasn't looked at."""
+    """What is held, each once, and what else the processes of users tell."""
     hierarchy = Hierarchy(found.mount, inodes_of(found.places))
     roots = [pid for pid, process in found.processes.items() if not process.user.uid and not process.is_kernel_thread]
     users = [(process, process.user.uid) for process in found.processes.values() if process.user.uid]
@@ -24,7 +24,8 @@ def look(proc: str, found: Snapshot, charged_user: ChargedUser, containers: Opti
         more, unlooked_there = look_inside(proc, found, hierarchy, roots, containers)
         held.update(dict.fromkeys(more))
         unlooked += unlooked_there
-    return tuple(sorted(held, key=lambda each: (*each[:-1], each.holding.value))), tuple(unlooked)
+    found_held = tuple(sorted(held, key=lambda each: (*each[:-1], each.holding.value)))
+    return found_held, tuple(unlooked), tuple(of_users.mounts.private())
 
 
 def look_inside(proc: str, found: Snapshot, hierarchy: Hierarchy, roots: Iterable[int],

@@ -245,6 +245,13 @@ class Scope(NamedTuple):
     holder: Optional[int]
 
 
+class PrivateMount(NamedTuple):
+    """A mount of the hierarchy in a mount namespace of somebody's processes: whose, where in there, and which cgroup is its top."""
+    uid: int
+    place: str
+    top: CgroupPath
+
+
 class FurtherMount(NamedTuple):
     """Another mount of the hierarchy: where, which cgroup is its top, and the folders on the way that don't let everybody through;
     whether all of these were looked at."""
@@ -354,6 +361,7 @@ class Snapshot:
     unheld: Tuple[Unheld, ...] = ()
     # other mounts of the hierarchy, and files of cgroups over which something is mounted
     mounts: Tuple[FurtherMount, ...] = ()
+    private: Tuple[PrivateMount, ...] = ()
     covered: Tuple[Covered, ...] = ()
     # containers of root's in the host's own cgroup namespace
     in_hosts_namespace: Tuple[CgroupPath, ...] = ()

@@ -25,7 +25,7 @@ from zirofen_host.options import PROC, Options
 from zirofen_host.profile import (LARGEST_PID, ROOT, CgroupPath, TextFormat, ancestors, is_inside, is_line, is_root, parent_of, shown,
                                   text_of, topmost)
 
-NOTHING_HELD: held.Found = (), ()
+NOTHING_HELD: held.Found = (), (), ()
 # names of files that may stand nowhere yet
 KNOWN = {name.encode() for name in (*KINDS, *FURTHER_FILES)}
 
@@ -230,12 +230,13 @@ def take(options: Options, subtrees_of: SubtreesOf) -> Snapshot:
     found, looks = snapshot_of(agreed, reader, options, mounts), Looks()
     look = looks.at("root-inside", lambda: inside.look(options.proc, found.cgroups, found.processes), None)
     insides = looks.all("root-inside", look.found) if look else ()
-    entries, unheld = looks.at("descriptors", lambda: held.look(options.proc, found, charged_user, look), NOTHING_HELD)
+    entries, unheld, private = looks.at("descriptors", lambda: held.look(options.proc, found, charged_user, look), NOTHING_HELD)
     scopes = () if options.plain_folder else looks.all("containers", lambda: containers.scopes(found.cgroups))
     further = looks.all("mounts", lambda: further_mounts(mounts, options.mount))
     # of a part what is above it is there for the answers, and isn't told of by itself
     return replace(found, inside=tuple(each for each in insides if is_inside(each.path, options.only or ROOT)), held=entries, unheld=unheld,
-                   scopes=scopes, mounts=further, in_hosts_namespace=tuple(sorted(in_hosts_namespace(look, insides, scopes))),
+                   scopes=scopes, mounts=further, private=private,
+                   in_hosts_namespace=tuple(sorted(in_hosts_namespace(look, insides, scopes))),
                    notes=(*found.notes, *looks.failed))
 
 

@@ -89,7 +89,10 @@ def searches(user: User, directory: Entry) -> bool:
     return bool(directory.mode >> {"owner": 6, "group": 3}.get(user.class_of(directory), 0) & 0o1)
 
 
-def around(checked: Checked, place: str) -> Tuple[str, ...]:
-    """Where else what is inside of a cgroup is mounted."""
+def around(checked: Checked, place: str, uid: int) -> Tuple[str, ...]:
+    """Where else what is inside of a cgroup is mounted, also by somebody themselves."""
+    person = checked.makers.charged_user(uid)
+    found = [(each.top, shown(each.place)) for each in checked.snapshot.mounts]
+    found += [(each.top, f"{shown(each.place)} in a mount namespace of theirs") for each in checked.snapshot.private if each.uid == person]
     prefix = place.rstrip("/") + "/"
-    return tuple(shown(each.place) for each in checked.snapshot.mounts if (text_of(each.top).rstrip("/") + "/").startswith(prefix))
+    return tuple(at for top, at in found if (text_of(top).rstrip("/") + "/").startswith(prefix))

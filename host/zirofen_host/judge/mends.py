@@ -17,10 +17,10 @@ from zirofen_host.files import BY_NAME, COUNTING, FURTHER_FILES, HANDED_OVER, LI
 from zirofen_host.judge.finding_lines import whom_text
 from zirofen_host.judge.host_model import ABSENT, Absent, ReportCgroup, Wanted
 from zirofen_host.judge.model import Report
-from zirofen_host.judge.notes import LostLimit, Restart
+from zirofen_host.judge.notes import Restart
 from zirofen_host.judge.rules import ACCEPTABLE, DIFFERS, NOTHING_ASKED, OPENED, OPENED_DIRECTORY, ROOT_HELD, VERSION_1, Finding
 from zirofen_host.judge.shell import place as place_of
-from zirofen_host.judge.wanted import IDLE, OF_ALL, files_with, is_decided, is_same, unit_at, written
+from zirofen_host.judge.wanted import IDLE, OF_ALL, LostLimit, files_with, is_decided, is_same, unit_at, written
 from zirofen_host.profile import is_root, parent_of, path_of, tree_order
 
 # the kinds of mends that are written

@@ -6,7 +6,7 @@ from typing import Iterable, Mapping, Optional, Tuple
 from zirofen_host.collect.notes import BUDGETS, Note, classes
 from zirofen_host.collect.reasons import Reason
 from zirofen_host.judge.finding_lines import some
-from zirofen_host.judge.host_model import Wanted
+from zirofen_host.judge.wanted import LostLimit
 from zirofen_host.profile import MOST_GROUPS
 
 
@@ -227,20 +227,6 @@ class UnknownFiles(Note):
 
 
 @dataclass(frozen=True)
-class LostLimit:
-    """A limit that isn't there behind a unit's next start, and the setting that it has then, or none."""
-    file: str
-    value: str
-    # how a setting is told, and whether nothing is set
-    why: str
-    # what the unit's settings say, where they say something
-    wanted: Optional[Wanted] = None
-
-    def __str__(self) -> str:
-        return f"{self.file} is {self.value}, and {self.why}"
-
-
-@dataclass(frozen=True)
 class Restart(Note):
     """Limits that a unit's settings don't bring."""
     kind = "restart"
@@ -343,6 +329,21 @@ class MountedElsewhere(Note):
     @property
     def text(self) -> str:
         return f"mounted at {self.mounted_at} too, which is reached by {self.reached_by}"
+
+
+@dataclass(frozen=True)
+class MountedByThem(JoinedNote):
+    """Mounts of the hierarchy that somebody has in mount namespaces of their own: the top of each, and where it is."""
+    kind = "mount"
+    mounts: Tuple[Tuple[str, str], ...]
+
+    @property
+    def fact(self) -> str:
+        return "mounted in mount namespaces of theirs too, where whoever is inside goes by these"
+
+    @property
+    def rest(self) -> str:
+        return some([f"{top} at {place}" for top, place in self.mounts])
 
 
 @dataclass(frozen=True)

@@ -12,8 +12,8 @@ from zirofen_host.collect.model import Snapshot, Value
 from zirofen_host.collect.snapshot import value_of
 from zirofen_host.fault import Fault
 from zirofen_host.files import BY_SETTING, LIMIT_FILES, PAGE, Kind, is_usual, kind_of, setting_of
-from zirofen_host.judge.notes import LostLimit, Restart
-from zirofen_host.judge.wanted import PROPERTIES, Shown, wanted_by
+from zirofen_host.judge.notes import Restart
+from zirofen_host.judge.wanted import PROPERTIES, LostLimit, Shown, wanted_by
 from zirofen_host.judge.wanted import is_same as wanted_is_same
 from zirofen_host.options import Options
 from zirofen_host.profile import CgroupPath, shown, text_of

@@ -14,9 +14,10 @@ from zirofen_host.judge.checked import Checked
 from zirofen_host.judge.finding_lines import some
 from zirofen_host.judge.findings import texts_of
 from zirofen_host.judge.model import Told
-from zirofen_host.judge.notes import (Capable, ClaimedName, Deputy, GroupClass, LeftOutGroups, MakesAbove, MountedElsewhere, NoCause,
-                                      NotAdvised, OfText, Outside, OwnersMark, OwnContainers, Subordinate, UnaskedUsers, UnknownFiles,
-                                      UnlookedDescriptors, UnlookedProcesses, UnlookedThreads, Unsearched, WithoutProcesses)
+from zirofen_host.judge.notes import (Capable, ClaimedName, Deputy, GroupClass, LeftOutGroups, MakesAbove, MountedByThem,
+                                      MountedElsewhere, NoCause, NotAdvised, OfText, Outside, OwnersMark, OwnContainers, Subordinate,
+                                      UnaskedUsers, UnknownFiles, UnlookedDescriptors, UnlookedProcesses, UnlookedThreads,
+                                      Unsearched, WithoutProcesses)
 from zirofen_host.judge.opened import unknown_files
 from zirofen_host.profile import ANYBODY, CgroupPath, ancestors, is_inside, path_of, shown, text_of
 
@@ -128,7 +129,7 @@ def search_bits(checked: Checked) -> Iterator[Told]:
             seen |= {(uid, place) for path in paths for place in ancestors(path)
                      if not hierarchy.searches(user, checked.snapshot.cgroups[place].directory)}
     for uid, place in sorted(seen):
-        yield of_user(checked, uid, Unsearched(checked.names.user(uid), text_of(place), hierarchy.around(checked, text_of(place))))
+        yield of_user(checked, uid, Unsearched(checked.names.user(uid), text_of(place), hierarchy.around(checked, text_of(place), uid)))
 
 
 def marks(checked: Checked) -> Iterator[Told]:
@@ -181,6 +182,17 @@ def about_the_mount(checked: Checked) -> Iterator[Told]:
         yield Told.of(OfText("", carried is not None, has_descriptors, checked.options.accounts is not None))
     for mount in checked.snapshot.mounts:
         yield Told.of(MountedElsewhere(text_of(mount.top), shown(mount.place), hierarchy.reached_by(checked, mount)))
+    yield from mounted_by_users(checked)
+
+
+def mounted_by_users(checked: Checked) -> Iterator[Told]:
+    """What users have mounted in namespaces of their own, but for containers, each of which has a name or a line of its own."""
+    found: DefaultDict[int, List[Tuple[str, str]]] = defaultdict(list)
+    for each in checked.snapshot.private:
+        if checked.scopes.keys().isdisjoint((each.top, *ancestors(each.top))):
+            found[each.uid].append((shown(text_of(each.top)), shown(each.place)))
+    for uid, mounts in sorted(found.items()):
+        yield of_user(checked, uid, MountedByThem(checked.names.user(uid), tuple(sorted(mounts))))
 
 
 def processes(checked: Checked) -> Iterator[Told]:

@@ -1,5 +1,6 @@
 """What root's settings say that the limits of units have: by systemctl's words the text that is written into each file."""
 import re
+from dataclasses import dataclass
 from typing import Callable, Dict, Iterator, Mapping, Optional, Tuple, Union
 
 from zirofen_host.ask.questions import is_slice, unit_of
@@ -28,6 +29,20 @@ _UNIT = re.compile(r"[A-Za-z0-9:_.@\\-]{1,255}\Z")
 Shown = Mapping[str, str]
 # the text of a file, and whether that is set
 Said = Optional[Tuple[str, bool]]
+
+
+@dataclass(frozen=True)
+class LostLimit:
+    """A limit that isn't there behind a unit's next start, and the setting that it has then, or none."""
+    file: str
+    value: str
+    # how a setting is told, and whether nothing is set
+    why: str
+    # what the unit's settings say, where they say something
+    wanted: Optional[Wanted] = None
+
+    def __str__(self) -> str:
+        return f"{self.file} is {self.value}, and {self.why}"
 
 
 def asked_by(limit: LimitFile) -> str:
