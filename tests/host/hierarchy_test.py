@@ -198,7 +198,8 @@ class FurtherMountsTest(HierarchyTest):
 class PrivateMountsTest(HierarchyTest):
     """What users have mounted in namespaces of their own, as /proc tells of their processes."""
     OWN = "31 22 0:29 / /sys/fs/cgroup rw - cgroup2 c rw\n"
-    THEIRS = OWN + "41 22 0:29 /a/in /mnt rw - cgroup2 c rw\n42 22 0:29 / /home/i\\040n ro - cgroup2 c rw\n43 22 0:9 / /tmp rw - tmpfs t rw\n"
+    THEIRS = OWN + ("41 22 0:29 /a/in /mnt rw - cgroup2 c rw\n42 22 0:29 / /home/i\\040n ro - cgroup2 c rw\n"
+                    "43 22 0:9 / /tmp rw - tmpfs t rw\n")
 
     def taken(self):
         return self.host.take(subtrees_by(self.options()))

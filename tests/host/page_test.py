@@ -22,7 +22,7 @@ from zirofen_host.fault import Fault
 PARTS = ("subtrees", "entries", "opened", "faults", "differs", "above", "unseen", "snapshot")
 # keys of a report that nothing is drawn from, or that are asked for elsewhere
 NOT_NEEDED = ("enabled", "capabilities", "value", "version", "users", "names", "marks", "files", "above[0].uid",
-              "version_1", "lists", "made_by", "why", "within", "stand", "limits", "options", "helper", "premises", "causes")
+              "version_1", "lists", "made_by", "why", "within", "stand", "limits", "options", "helper", "premises", "causes", "fact")
 REAL = sorted(name for name in os.listdir(f"{HERE}/data") if name.endswith(".json.gz"))
 HOSTILE = ("<script>alert(1)</script>", '"onload="alert(2)" x="', "'><img src=//x.y onerror=alert(3)>",
            "</title></svg></style></script>", "${title}$id&lt;&#60;", "javascript:alert(4)", "\u202egnp.exe\u2066", "x" * 250,
@@ -93,6 +93,13 @@ class PageTest(unittest.TestCase):
             self.assertEqual(len(ids_of(key)), len(report[key]), key)
             for number, part in enumerate(report[key], 1):
                 told = reader.text(f"{name}-{key}-{number}")
+                alike = [at for at, each in enumerate(report[key], 1) if part.get("fact") and (each["kind"], each.get("fact")) == (
+                    part["kind"], part["fact"])]
+                if len(alike) > 1:
+                    # what several have in common stands once, above what is of each
+                    together = reader.text(f"{name}-{key}-{alike[0]}-together")
+                    self.assertEqual((together.count(words.visible(part["fact"])), together.count(told) > 0), (1, True))
+                    told = f"{words.visible(part['fact'])}: {told.removeprefix(words.visible(part['place'])).strip()}"
                 for value in (part.get("entry"), part.get("file"), part.get("fault"), part.get("text"), part.get("handed")):
                     if value not in (None, "dir", "already-over", "unknown"):
                         self.assertIn(words.visible(value), told)

@@ -1,4 +1,5 @@
 """Tests of how long a report on a host of containers is: what is alike is told once, and what is of no use isn't told."""
+import re
 import unittest
 from dataclasses import replace
 
@@ -10,6 +11,7 @@ from zirofen_host.judge import check
 from zirofen_host.judge.finding_lines import inside_line
 from zirofen_host.judge.inside import ALL_CAPABILITIES
 from zirofen_host.profile import path_of
+from zirofen_host.show import page
 from zirofen_host.show.lines import lines_of
 
 MANAGER = "/user.slice/user-1000.slice/user@1000.service"
@@ -50,6 +52,25 @@ class ShortTest(InsideTest):
         self.host.cgroup(own, owners=owned(1000, 1000))
         self.host.cgroup(f"{own}/container", owners=owned(100000, 100000))
         return (*scopes, Scope(path_of(own), "podman", "1", "app", 1000))
+
+    def test_notes_of_one_fact_are_together_in_each_form(self):
+        """In the text and on the page, of this run and of a report that was read."""
+        scopes, fact = self.default_host(), "the service manager moves their processes, from anywhere, on request"
+        self.host.cgroup("/user.slice/user-1001.slice", enabled="memory")
+        self.host.cgroup("/user.slice/user-1001.slice/user@1001.service", owners=owned(1001, 1001), marks=("trusted.delegate",))
+        value = self.with_scopes(scopes)
+        self.assertEqual([(each["place"], each["fact"]) for each in value["unseen"] if each["kind"] == "deputy"],
+                         [("alice(1000)", fact), ("bob(1001)", fact)])
+        line = f"deputy: {fact}: alice(1000) into {MANAGER}; bob(1001) into /user.slice/user-1001.slice/user@1001.service"
+        for report in (made(value), made(dict(value))):
+            self.assertIn(line, list(lines_of(report)))
+            self.assertEqual(len(re.findall(f">{fact}: <span id=.{{,40}}><code>alice", page.page([report]))), 1)
+            self.assertEqual(page.page([report]).count(fact), 1)
+        # a text that doesn't begin so has nothing in common with others
+        for each in value["unseen"]:
+            each["text"] = f"not {each['text']}"
+        lines = list(lines_of(made(dict(value))))
+        self.assertEqual(len([each for each in lines if each.startswith("deputy: ")]), 2)
 
     def test_a_default_container_host_has_at_most_20_lines(self):
         report, lines = self.told(self.default_host())

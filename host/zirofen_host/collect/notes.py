@@ -46,6 +46,25 @@ class Note(ABC):
         return line_of(self.kind, self.place, self.text)
 
 
+@dataclass(frozen=True)
+class JoinedNote(Note):
+    """One fact of several, which a line has together: what they have in common, and what is of each."""
+
+    @property
+    @abstractmethod
+    def fact(self) -> str:
+        """What they have in common."""
+
+    @property
+    @abstractmethod
+    def rest(self) -> str:
+        """What is of this one."""
+
+    @property
+    def text(self) -> str:
+        return f"{self.fact}: {self.rest}"
+
+
 def line_of(kind: str, place: str, text: str) -> str:
     return ": ".join(word for word in (kind, place, text) if word)
 

@@ -3,7 +3,7 @@ have no key; the paths in it are texts, as they are shown."""
 from dataclasses import dataclass, field
 from typing import Annotated, FrozenSet, Mapping, Optional, Tuple, Union
 
-from zirofen_host.collect.notes import Note, line_of
+from zirofen_host.collect.notes import JoinedNote, Note, line_of
 from zirofen_host.judge.host_model import (ABSENT, NO_KEY, Absent, AllWanted, Filled, NamedScope, Owner, PlaceNames, ReportCgroup,
                                            ReportGroup, ReportProcess, ReportUser)
 
@@ -247,12 +247,14 @@ class Told:
     place: str
     text: str
     within: Within = ABSENT
+    # what several of a kind have in common, with which the text begins
+    fact: Union[str, Absent] = ABSENT
     # the note that it is made of; of a report that was read there is none
     note: Optional[Note] = field(default=None, compare=False, metadata=NO_KEY)
 
     @classmethod
     def of(cls, note: Note, within: Within = ABSENT) -> "Told":
-        return cls(note.kind, note.place, note.text, within, note)
+        return cls(note.kind, note.place, note.text, within, note.fact if isinstance(note, JoinedNote) else ABSENT, note)
 
     @property
     def line(self) -> str:

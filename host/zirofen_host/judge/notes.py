@@ -1,9 +1,8 @@
 """Notes of what no answer looks at, a class for each: who and where it is, what was seen and how many, and the text made of that."""
-from abc import abstractmethod
 from dataclasses import dataclass
 from typing import Iterable, Mapping, Optional, Tuple
 
-from zirofen_host.collect.notes import BUDGETS, Note, classes
+from zirofen_host.collect.notes import BUDGETS, JoinedNote, Note, classes
 from zirofen_host.collect.reasons import Reason
 from zirofen_host.judge.finding_lines import some
 from zirofen_host.judge.wanted import LostLimit
@@ -12,25 +11,6 @@ from zirofen_host.profile import MOST_GROUPS
 
 def numbers(found: Iterable[int]) -> str:
     return some(list(map(str, sorted(found))))
-
-
-@dataclass(frozen=True)
-class JoinedNote(Note):
-    """One fact of several, which a line has together: what they have in common, and what is of each."""
-
-    @property
-    @abstractmethod
-    def fact(self) -> str:
-        """What they have in common."""
-
-    @property
-    @abstractmethod
-    def rest(self) -> str:
-        """What is of this one."""
-
-    @property
-    def text(self) -> str:
-        return f"{self.fact}: {self.rest}"
 
 
 @dataclass(frozen=True)

@@ -14,12 +14,13 @@ from zirofen_host.judge.host_model import ABSENT, Absent, NamedScope
 from zirofen_host.judge.marked import marks_text
 from zirofen_host.judge.model import (AboveFinding, Comparison, Difference, DiffersFinding, EntryFinding, HeldFinding, HolderAnswer,
                                       OpenedFinding, PremiseFinding, Report, RootInside, RunsElsewhere, Subtree, Told)
-from zirofen_host.judge.notes import JOINED, JoinedNote
+from zirofen_host.judge.notes import JOINED
 from zirofen_host.judge.severity import Severity
 from zirofen_host.judge.standing import cause_of, is_empty, standings, status_text
 from zirofen_host.profile import ancestors
 from zirofen_host.show import container_lines
 from zirofen_host.show.folded import Part, folded
+from zirofen_host.show.joined import fact_of, joined, rest_of
 from zirofen_host.show.words import NOT_ASKED, STANDINGS, listed, made_by, standing_text
 
 # how far the table's columns are filled up; a longer word stands out
@@ -218,21 +219,14 @@ def told_lines(found: Iterable[Told], is_each: bool) -> Iterator[str]:
 
 
 def joined_lines(found: Iterable[Told]) -> Iterator[str]:
-    """What is one fact of several, in one line: of each person one, and then further ones. A report that was read has no facts."""
-    facts: Dict[Tuple[str, str], List[Told]] = {}
-    for each in found:
-        fact = each.note.fact if isinstance(each.note, JoinedNote) else each.line
-        facts.setdefault((each.kind, fact), []).append(each)
-    for (kind, fact), of in facts.items():
-        first = {each.within: each for each in reversed(of)}
-        told = [*reversed(first.values()), *(each for each in of if first[each.within] is not each)]
-        notes = [each.note for each in told if isinstance(each.note, JoinedNote)]
-        if len(notes) < 2:
-            yield from (each.line for each in told)
+    """What is one fact of several, in one line."""
+    for of in joined(found):
+        if len(of) < 2:
+            yield from (each.line for each in of)
             continue
-        parts = [" ".join(filter(None, (note.place, note.rest))) for note in notes[:SHOWN]]
-        more = [f"{len(told) - SHOWN} more"] if len(told) > SHOWN else []
-        yield f"{kind}: {fact}: {'; '.join(parts + more)}"
+        parts = [" ".join(filter(None, (each.place, rest_of(each)))) for each in of[:SHOWN]]
+        more = [f"{len(of) - SHOWN} more"] if len(of) > SHOWN else []
+        yield f"{of[0].kind}: {fact_of(of[0])}: {'; '.join(parts + more)}"
 
 
 def above_lines(found: Iterable[AboveFinding], is_each: bool) -> Iterator[str]:

@@ -8,11 +8,12 @@ from typing import Dict, List, NamedTuple, Sequence, Tuple
 from zirofen_host import output
 from zirofen_host.judge import limits
 from zirofen_host.judge.host_model import Absent
-from zirofen_host.judge.model import Difference, Report, RootInside
+from zirofen_host.judge.model import Difference, Report, RootInside, Told
 from zirofen_host.judge.notes import MEANINGS as WHAT_NO_ANSWER_SEES
 from zirofen_host.show import against, chart, groups, insides, words
 from zirofen_host.show.branches import Branches
 from zirofen_host.show.finding import Place
+from zirofen_host.show.joined import fact_of, joined, rest_of
 from zirofen_host.show.lines import by_kind
 from zirofen_host.show.markup import code, css, filled, paragraph, places, read, text
 from zirofen_host.show.table import Table
@@ -175,9 +176,12 @@ class HostPage:
         """The lines by their kind, each kind with what it means."""
         kinds: Dict[Tuple[str, str], List[str]] = {}
         told = (("unseen", self.host.report.unseen), ("snapshot", self.host.report.snapshot))
-        for key, number, each in ((key, *each) for key, found in told for each in enumerate(found, 1)):
-            place = f"{code(each.place)}: " if each.place else ""
-            kinds.setdefault((key, each.kind), []).append(f'<li id="{self.at.id}-{key}-{number}">{place}{text(each.text)}</li>')
+        for key, found in told:
+            numbers = {id(each): number for number, each in enumerate(found, 1)}
+            for of in joined(found):
+                in_order = sorted(of, key=lambda each: numbers[id(each)])
+                kinds.setdefault((key, of[0].kind), []).append(
+                    item_of([(f"{self.at.id}-{key}-{numbers[id(each)]}", each) for each in in_order]))
         if not kinds:
             return "<p>This host tells of nothing.</p>"
         heading = self.at.level(3)
@@ -194,6 +198,15 @@ class HostPage:
         return (f'<li class="{css(self.kind)}">{link} <span class="standing">{SIGNS[self.kind][0]} {self.kind}</span>'
                 f"<br>{text(self.sentence())} <br>{words.count(delegations, 'delegation')}, {contained} shown to be contained{mark}, "
                 f"{open_findings} {of_what}</li>")
+
+
+def item_of(of: Sequence[Tuple[str, Told]]) -> str:
+    """Notes with one fact, or a note alone, each with its id."""
+    (first, told), *others = of
+    if not others:
+        return f'<li id="{first}">{code(told.place) + ": " if told.place else ""}{text(told.text)}</li>'
+    parts = (f'<span id="{each}">{code(note.place) + " " if note.place else ""}{text(rest_of(note))}</span>' for each, note in of)
+    return f'<li id="{first}-together">{text(fact_of(told) or "")}: {"; ".join(parts)}</li>'
 
 
 def sum_of(inline: str) -> str:
