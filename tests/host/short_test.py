@@ -11,8 +11,9 @@ from zirofen_host.judge import check
 from zirofen_host.judge.finding_lines import inside_line
 from zirofen_host.judge.inside import ALL_CAPABILITIES
 from zirofen_host.profile import path_of
-from zirofen_host.show import page
+from zirofen_host.show import mends, page
 from zirofen_host.show.lines import lines_of
+from zirofen_host.show.run import Run
 
 MANAGER = "/user.slice/user-1000.slice/user@1000.service"
 PRIVILEGED = ADMIN | MODULE | RAWIO | SEARCH
@@ -71,6 +72,18 @@ class ShortTest(InsideTest):
             each["text"] = f"not {each['text']}"
         lines = list(lines_of(made(dict(value))))
         self.assertEqual(len([each for each in lines if each.startswith("deputy: ")]), 2)
+
+    def test_mends_have_containers_that_are_alike_together(self):
+        scopes = (*self.containers(5, bounding=PRIVILEGED), *self.containers(2, 300, bounding=MODULE), *self.containers(3, 400, way="ro"))
+        report = made(self.with_scopes(scopes))
+        script = "".join(mends.parts_of(Run(report, report.status), "shell"))
+        found = [each.splitlines() for each in script.split("\n\n")[1:] if "# root-inside " in each]
+        self.assertEqual([sum(line.startswith("# root-inside ") for line in each) for each in found], [5, 2])
+        for each, count in zip(found, (5, 2)):
+            self.assertEqual(sum(f"whatever makes these {count} scopes" in line for line in each), 1, each)
+        # nothing is left out
+        for number in (*range(100, 105), 300, 301):
+            self.assertEqual(script.count(f"# root-inside /system.slice/docker-{number:012x}.scope: not held: "), 1)
 
     def test_a_default_container_host_has_at_most_20_lines(self):
         report, lines = self.told(self.default_host())

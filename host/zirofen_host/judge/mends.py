@@ -6,7 +6,7 @@ the next: a setting that would keep such a value, or hand something over for goo
 import re
 import shlex
 from collections import defaultdict
-from dataclasses import dataclass
+from dataclasses import dataclass, replace
 from typing import Callable, DefaultDict, Dict, Iterable, Iterator, List, Mapping, Optional, Sequence, Tuple, Union
 
 from zirofen_host.arguments import MENDS
@@ -18,7 +18,8 @@ from zirofen_host.judge.finding_lines import whom_text
 from zirofen_host.judge.host_model import ABSENT, Absent, ReportCgroup, Wanted
 from zirofen_host.judge.model import Report
 from zirofen_host.judge.notes import Restart
-from zirofen_host.judge.rules import ACCEPTABLE, DIFFERS, NOTHING_ASKED, OPENED, OPENED_DIRECTORY, ROOT_HELD, VERSION_1, Finding
+from zirofen_host.judge.rules import (ACCEPTABLE, DIFFERS, NOTHING_ASKED, OPENED, OPENED_DIRECTORY, ROOT_HELD, ROOT_INSIDE, VERSION_1,
+                                      Finding)
 from zirofen_host.judge.shell import place as place_of
 from zirofen_host.judge.wanted import IDLE, OF_ALL, LostLimit, files_with, is_decided, is_same, unit_at, written
 from zirofen_host.profile import is_root, parent_of, path_of, tree_order
@@ -233,7 +234,9 @@ class Place:
         causes = dict.fromkeys(cause for of in looked for cause in of)
         yield from (f"has it: {cause}" for cause in causes)
         if not causes:
-            yield f"{NOT_FOUND if looked else NOT_LOOKED}. {where_to_look(self.path, self.unit)}"
+            paths = {each.path for each in self.found}
+            unit = self.unit if len(paths) < 2 else Unit(f"these {len(paths)} scopes")
+            yield f"{NOT_FOUND if looked else NOT_LOOKED}. {where_to_look(self.path, unit)}"
 
     def told_of_settings(self) -> Iterator[str]:
         """What root's settings say of the limits."""
@@ -336,8 +339,21 @@ def mends_of(report: Report, found: Iterable[Finding]) -> Tuple[Mend, ...]:
     # what is above first: whoever writes it takes back what was written below
     places = [Place(path, report, rows, by_path.get(path, ()), restarts.get(path, ()))
               for path in sorted({*by_path, *restarts}, key=lambda each: tree_order(path_of(each)))]
-    return (*map(mend_at, places), *(mend_of_maker(uid, each) for uid, each in sorted(made.items())),
+    return (*map(mend_at, alike_together(places)), *(mend_of_maker(uid, each) for uid, each in sorted(made.items())),
             *(Mend((each.line,), each.changes, (ELSE.get(each.rule.id, NO_ANSWER),)) for each in others))
+
+
+def alike_together(places: Iterable[Place]) -> Iterable[Place]:
+    """Containers of root's of which nothing but one thing that lets them out is found, together where they are alike."""
+    found: Dict[Tuple[object, ...], Place] = {}
+    for place in places:
+        first, scope = next(iter(place.found), None), place.unit and not place.unit.section
+        key: Tuple[object, ...] = (place.path,)
+        if first and first.rule.id == ROOT_INSIDE and scope and len(place.found) == 1 and not place.restarts:
+            key = (first.entry, first.changes, first.setting)
+        before = found.get(key)
+        found[key] = place if before is None else replace(before, found=(*before.found, *place.found))
+    return found.values()
 
 
 def mend_at(place: Place) -> Mend:
