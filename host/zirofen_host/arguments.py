@@ -106,6 +106,15 @@ report, or without one that of this host, which it looks at as {NAME} check does
 handed over stand to whom, by which entries, its limits, and its answer with a sign and a word; cgroups without a delegation
 in or above them are folded. The status is 0, or 3 for a fault; {NAME} check has the status of the answers.
 """,
+    "watch": f"""Checks this host, and asks again what a change concerns as soon as it happened. Run it as root.
+
+A helper: no part of the proved program, and only tested; each answer is the program's own, and what differs is found as
+{NAME} check --baseline finds it. A line tells what is new, worse, mended or gone, when that happened, and who did it, where the
+kernel names them. Owners and modes, cgroups that are made and removed, accounts and mounts are told by the kernel; processes and
+groups are read once a minute, and a whole check each hour finds what nothing told of. What opened and closed between two checks
+is told as that. SIGUSR1 has a report of all of it written, and SIGTERM ends it. {MANUAL} says what the lines mean. The status
+is 0 where a signal ended it, or 3 for a fault.
+""",
 }
 
 
@@ -205,6 +214,27 @@ def add_check(parser: argparse.ArgumentParser) -> None:
     parser.add_argument("--baseline-update", metavar="FILE", help="leaves the report of now as a baseline in FILE")
 
 
+def add_watch(parser: argparse.ArgumentParser) -> None:
+    parser.add_argument("--mount", metavar="FOLDER", default=MOUNT, help=f"the cgroup v2 mount ({MOUNT})")
+    parser.add_argument("--proc", metavar="FOLDER", default=PROC, help=f"where processes are told of ({PROC})")
+    parser.add_argument("--seconds", metavar="N", type=number, help="ends a check that takes longer, and tells so (600)")
+    parser.add_argument("--plain-folder", action="store_true",
+                        help="the mount is a folder of plain files: nothing is asked of root, mounts and namespaces")
+    add_accounts(parser)
+    add_program(parser)
+    parser.add_argument("--baseline", metavar="FILE", help="what stands in FILE, an earlier --json, isn't told as new; it is never written")
+    parser.add_argument("--accept", metavar="FILE", help="findings that are accepted, each by itself, for a reason and until a day")
+    parser.add_argument("--journal", action="store_true", help="lines go to the journal, with what they say in fields of their own")
+    parser.add_argument("--exec", metavar="PROGRAM", help="started without a shell for each thing that is new or worse and counts, which "
+                        "its environment tells: ZIROFEN_KIND, ZIROFEN_LINE and others")
+    parser.add_argument("--format", metavar="KIND", type=way, action="append", default=[], help=f"{', '.join(FORMATS)}, or KIND=FILE into "
+                        "a file, as check writes it: on SIGUSR1 and at the end; metrics=FILE each time that something changed, too")
+    parser.add_argument("--json", action="store_true", help="what --format json is")
+    parser.add_argument("--mends", metavar="KIND", type=way_to_mend, action="append", default=[], help="what mends the findings, also then")
+    parser.add_argument("--html", metavar="FILE", help="one page of it to look at, also then")
+    parser.add_argument("--each", action="store_true", help="of these forms each finding by itself")
+
+
 def add_commands(parser: argparse.ArgumentParser) -> None:
     parser.add_argument("--mount", metavar="FOLDER", default=MOUNT, help=f"the cgroup v2 mount ({MOUNT})")
     parser.add_argument("--proc", metavar="FOLDER", default=PROC, help=f"where processes are told of ({PROC})")
@@ -277,7 +307,7 @@ def add_tree(parser: argparse.ArgumentParser) -> None:
 ARGUMENTS: Dict[str, Callable[[argparse.ArgumentParser], None]] = {
     "ask": add_ask, "check": add_check, "commands": add_commands, "delegations": add_delegations, "fleet": add_fleet,
     "page": add_page, "plan": add_plan,
-    "snapshot": add_snapshot, "tree": add_tree}
+    "snapshot": add_snapshot, "tree": add_tree, "watch": add_watch}
 # these tell their usage where their options are wrong, and the others a line
 PARSERS: Dict[str, Type[StableParser]] = {"page": StableParser, "tree": StableParser}
 

@@ -14,6 +14,8 @@ class Options:
     mount: str = MOUNT
     # that cgroup, its ancestors and what is inside it
     only: Optional[CgroupPath] = None
+    # nothing is read inside of what these persons made or hold
+    shallow: Tuple[int, ...] = ()
     proc: str = PROC
     no_processes: bool = False
     # the format of tree texts that are made of this host; the newest where none is named
@@ -67,6 +69,14 @@ class CheckOptions(Options):
     baseline_update: Optional[str] = None
     # what somebody accepts one by one
     accept: Optional[str] = None
+
+
+@dataclass(frozen=True)
+class WatchOptions(CheckOptions):
+    # lines go to the journal, in its fields
+    journal: bool = False
+    # what is started where something is new or worse
+    exec: Optional[str] = None
 
 
 @dataclass(frozen=True)

@@ -199,6 +199,17 @@ def open_as_it_is(folder: int, name: str, there: os.stat_result) -> int:
     raise refused("it is a device, and no terminal")
 
 
+def leave(number: int, data: bytes) -> None:
+    """Writes into what is open to another process of one's own, and leaves it open."""
+    with open(number, "wb", closefd=False) as out:
+        out.write(data)
+
+
+def nowhere() -> int:
+    """A descriptor that takes all that is written to it."""
+    return os.open("/dev/null", os.O_WRONLY | os.O_CLOEXEC)
+
+
 def make_folder(path: str) -> None:
     """A folder to write into, where there is none yet."""
     above, name = os.path.split(path.rstrip("/"))

@@ -8,7 +8,7 @@ import unittest
 TOP = os.path.join(os.path.dirname(os.path.dirname(os.path.dirname(os.path.abspath(__file__)))), "host")
 PACKAGE = "zirofen_host"
 # in the order of the way that data goes
-FOLDERS = ("collect", "ask", "judge", "show", "runs")
+FOLDERS = ("collect", "ask", "judge", "show", "watch", "runs")
 # what every folder may import, each from those before it
 SHARED = ("progress", "ending", "parsing", "fault", "files", "profile", "output", "installed", "version", "options", "arguments")
 # what makes one command of all of it

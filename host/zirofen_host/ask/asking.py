@@ -38,7 +38,7 @@ def everybody(tree: Tree, plan: Plan, further: Iterable[Question]) -> List[User]
 
 def has_all_cgroups(snapshot: Snapshot, options: Options, texts: Sequence[Text]) -> bool:
     """Whether the first text has every cgroup of the host, on all of which an answer rests that isn't the guards'."""
-    is_all = options.only is None and snapshot.source.options.only is None and not snapshot.changing
+    is_all = options.only is None and not options.shallow and snapshot.source.options.only is None and not snapshot.changing
     return (is_all and bool(texts) and len(texts[0].rows) == len(snapshot.tree.rows)
             and not any(note.kind in LEFT_OUT for note in snapshot.notes))
 

@@ -166,6 +166,14 @@ def read_opened(opened: int, most: int) -> Read:
     return Read(data, False) if left else Read(data[:most], True)
 
 
+def read_ready(opened: int, most: int) -> bytes:
+    """What one read of an opened file that isn't waited for gives; nothing where there is none yet."""
+    try:
+        return os.read(opened, most)
+    except BlockingIOError:
+        return b""
+
+
 def read_file(path: Place, most: int, flags: int = NAMED, folder: Optional[int] = None) -> Read:
     """What a file has, up to so many bytes; of an opened folder, where there is one."""
     opened = os.open(path, flags, dir_fd=folder)
@@ -197,6 +205,11 @@ def owner_of(path: Place) -> int:
 def read_named(file: str, most: int) -> Read:
     """What a file of the command line has; - is standard input."""
     return read_opened(0, most) if file == STANDARD_INPUT else read_file(file, most)
+
+
+def open_named(path: Place) -> int:
+    """A descriptor of a file, which is to be closed: it is waited for what a kernel writes there."""
+    return os.open(path, NAMED)
 
 
 def open_folder(path: Place, folder: Optional[int] = None, flags: int = FOLDER) -> int:

@@ -225,7 +225,7 @@ def take(options: Options, subtrees_of: SubtreesOf) -> Snapshot:
         return subtrees_of(found, changing)
 
     agreed = walk_until_agreed(options.mount, options.only, subtrees_in, charged_user, options.text_format.further,
-                               mounts.below(options.mount))
+                               mounts.below(options.mount), options.shallow)
     reader = look_at_processes(options, charged_user, gids_in(agreed.walk.found))
     found, looks = snapshot_of(agreed, reader, options, mounts), Looks()
     look = looks.at("root-inside", lambda: inside.look(options.proc, found.cgroups, found.processes), None)

@@ -66,7 +66,9 @@ class Walk:
     somebody but root reaches them. What is mounted inside of the mount is no cgroup's, nor what is of another device."""
 
     def __init__(self, mount: str, tops: Optional[Iterable[CgroupPath]] = None, charged_user: ChargedUser = int,
-                 further: Sequence[str] = (), below: Below = NOTHING) -> None:
+                 further: Sequence[str] = (), below: Below = NOTHING, shallow: Sequence[int] = ()) -> None:
+        # persons of whose cgroups the topmost ones are read alone
+        self.shallow = frozenset(shallow)
         self.mount = os.fsencode(mount)
         self.below = below
         # the mount's device, and the files over which something is mounted, with of what type that is
@@ -245,6 +247,8 @@ class Walk:
 
     def children(self, path: CgroupPath, folder: int, names: Iterable[bytes]) -> List[CgroupPath]:
         """The paths below that are to be walked; the others are written down as left out."""
+        if self.hold and self.hold.uid in self.shallow:
+            return []
         is_on_the_way = path in self.on_the_way
         children = []
         for name in names:
@@ -305,10 +309,10 @@ class Walk:
 
 
 def walk_over(mount: str, tops: Optional[Iterable[CgroupPath]] = None, before: Optional[Walk] = None, charged_user: ChargedUser = int,
-              further: Sequence[str] = (), below: Below = NOTHING) -> Walk:
+              further: Sequence[str] = (), below: Below = NOTHING, shallow: Sequence[int] = ()) -> Walk:
     """A walk; what is equal to what one before found is held once. The first reads no further limit file, since nothing that two have
     to agree on is in one."""
-    walk = Walk(mount, tops, charged_user, further if before else (), below)
+    walk = Walk(mount, tops, charged_user, further if before else (), below, shallow)
     if before:
         walk.once = before.once
     walk.walk()

@@ -1,0 +1,64 @@
+"""What opened and closed between two checks: told from its events, since nobody could be asked of it."""
+from typing import AbstractSet, Dict, Iterator, Mapping, Tuple
+
+from zirofen_host.profile import CgroupPath, is_inside, path_of, shown, text_of
+from zirofen_host.watch.checks import ENTRIES, Guarded, Result
+from zirofen_host.watch.kernel import ATTRIB, CREATE, DELETE
+from zirofen_host.watch.lanes import DIRECTORY, Asked, Place, Touched
+from zirofen_host.watch.told import BACK, Told
+
+# cgroups of which owners and modes are kept; of more nothing is told from events alone
+MOST = 65536
+
+
+class Entries:
+    """Owners and modes as the last check of each cgroup found them."""
+
+    def __init__(self) -> None:
+        self.all: Dict[CgroupPath, Tuple[Guarded, ...]] = {}
+        self.once: Dict[Tuple[Guarded, ...], Tuple[Guarded, ...]] = {}
+
+    def take(self, made: Result) -> None:
+        """Puts those of a check in the place of what it was of."""
+        if made.part.is_whole:
+            self.once.clear()
+        part = path_of(made.part.path)
+        gone = [path for path in self.all if path not in made.entries and is_inside(path, part) and not made.part.is_left(text_of(path))]
+        for path in gone:
+            del self.all[path]
+        for path, found in made.entries.items():
+            if len(self.all) < MOST or path in self.all:
+                self.all[path] = self.once.setdefault(found, found)
+
+    def of(self, place: Place) -> Tuple[Guarded, ...]:
+        return entry_in(self.all, place)
+
+
+def entry_in(entries: Mapping[CgroupPath, Tuple[Guarded, ...]], place: Place) -> Tuple[Guarded, ...]:
+    """An entry, or nothing where it isn't there."""
+    return tuple(each for each in entries.get(place[0], ()) if each[0] == place[1])
+
+
+def backs(before: Entries, made: Result, asked: Asked, said: AbstractSet[Place]) -> Iterator[Told]:
+    """What stands as it stood, though it was changed, and cgroups that came, were changed and went."""
+    for place, touched in asked.touched.items():
+        path, entry = place
+        if place in said or not made.part.has(text_of(path)):
+            continue
+        then, now = before.of(place), entry_in(made.entries, place)
+        if touched.mask & ATTRIB and not touched.mask & (CREATE | DELETE) and entry in (*ENTRIES, DIRECTORY) and then and then == now:
+            yield told_of(place, touched, "changed and back")
+        elif entry == DIRECTORY and touched.mask & CREATE and touched.mask & DELETE and not then and not now and is_changed(path, asked):
+            yield told_of(place, touched, "made, changed and gone")
+
+
+def is_changed(path: CgroupPath, asked: Asked) -> bool:
+    """Whether owners or modes of a cgroup, or of what is in it, were changed."""
+    return any(each.mask & ATTRIB and is_inside(place, path) for (place, _), each in asked.touched.items())
+
+
+def told_of(place: Place, touched: Touched, what: str) -> Told:
+    path, entry = text_of(place[0]), place[1]
+    where = shown(path) if what.endswith("gone") else f"{shown(path)} {shown(entry)}"
+    return Told(BACK, f"{where}: {what} within {touched.last - touched.first:.1f} s; not asked", touched.last, (), touched.doers,
+                "entry", path, entry)

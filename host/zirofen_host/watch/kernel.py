@@ -1,0 +1,244 @@
+"""What a kernel tells of a hierarchy while it changes: events by fanotify, with the process, or by inotify, without it."""
+import ctypes
+import os
+from typing import Callable, Dict, List, NamedTuple, Optional, Tuple, Union
+
+from zirofen_host.collect import bounded
+from zirofen_host.profile import ROOT, CgroupPath
+
+# both interfaces have the same bits for these
+MODIFY, ATTRIB, CREATE, DELETE = 0x2, 0x4, 0x100, 0x200
+LOST, IS_FOLDER = 0x4000, 0x40000000
+WANTED = MODIFY | ATTRIB | CREATE | DELETE
+# bytes of events that are read at once
+PART = 1 << 18
+# folders that are known by what a kernel calls them
+MOST_FOLDERS = 65536
+AT_FDCWD = -100
+CLOSED_AND_NOT_WAITING = os.O_CLOEXEC | os.O_NONBLOCK
+
+# fanotify
+CLOEXEC, NONBLOCK, FOLDER_AND_NAME = 0x1, 0x2, 0xC00
+MARK_ADD, MARK_FILE_SYSTEM = 0x1, 0x100
+HEAD, RECORD, HANDLE = 24, 4, 8
+OF_FOLDER_AND_NAME, OF_FOLDER = 2, 3
+# inotify
+ONLY_FOLDERS, NO_LINKS, IGNORED, WATCH_HEAD = 0x1000000, 0x2000000, 0x8000, 16
+
+_libc = ctypes.CDLL(None, use_errno=True)
+
+
+class Event(NamedTuple):
+    """What happened to something in a cgroup's folder; of the folder itself without a name. The PID is of who did it."""
+    folder: CgroupPath
+    name: bytes
+    mask: int
+    pid: Optional[int]
+
+
+class Told(NamedTuple):
+    """Events, each of its kind once, with how many there were, and whether others were lost."""
+    counts: Dict[Event, int]
+    is_lost: bool
+
+
+def call(name: str, *words: object) -> int:
+    """A call of the system, or an OSError."""
+    found = int(getattr(_libc, name)(*words))
+    if found < 0:
+        number = ctypes.get_errno()
+        raise OSError(number, os.strerror(number))
+    return found
+
+
+def number_at(data: bytes, place: int, size: int) -> int:
+    return int.from_bytes(data[place:place + size], "little")
+
+
+def within(mount: bytes, place: bytes) -> Optional[CgroupPath]:
+    """A folder's path from the mount on, or None where it isn't in it."""
+    if place == mount:
+        return ROOT
+    return CgroupPath(place[len(mount):]) if place.startswith(mount + b"/") else None
+
+
+class Fanotify:
+    """All events of a mount's file system, with who did it. A kernel that doesn't mark it refuses that with an OSError."""
+    has_pids = True
+    is_short = False
+
+    def __init__(self, mount: str) -> None:
+        self.mount = os.path.realpath(os.fsencode(mount))
+        self.folders: Dict[bytes, Optional[CgroupPath]] = {}
+        self.top = bounded.open_folder(mount, None, bounded.FOLDER & ~os.O_NOFOLLOW)
+        self.opened = -1
+        try:
+            self.opened = call("fanotify_init", CLOEXEC | NONBLOCK | FOLDER_AND_NAME, os.O_RDONLY)
+            marks = ctypes.c_uint64(WANTED | IS_FOLDER)
+            call("fanotify_mark", self.opened, MARK_ADD | MARK_FILE_SYSTEM, marks, AT_FDCWD, os.fsencode(mount))
+        except OSError:
+            self.close()
+            raise
+
+    def fileno(self) -> int:
+        return self.opened
+
+    def close(self) -> None:
+        for number in (self.opened, self.top):
+            if number >= 0:
+                os.close(number)
+
+    def read(self) -> Told:
+        """What is there to be read now, at most one part of it."""
+        counts, is_lost = records_of(bounded.read_ready(self.opened, PART))
+        told: Dict[Event, int] = {}
+        for (handle, name, mask, pid), count in counts.items():
+            folder = self.folder_of(handle)
+            if folder is not None:
+                event = Event(folder, b"" if name == b"." else name, mask, pid)
+                told[event] = told.get(event, 0) + count
+        return Told(told, is_lost)
+
+    def folder_of(self, handle: bytes) -> Optional[CgroupPath]:
+        """The path of a folder by its handle; one that went before it was asked for has none. No cgroup is renamed."""
+        if handle in self.folders:
+            return self.folders[handle]
+        try:
+            opened = call("open_by_handle_at", self.top, handle, os.O_PATH | os.O_CLOEXEC)
+        except OSError:
+            return None
+        try:
+            place = os.fsencode(bounded.read_link(f"/proc/self/fd/{opened}"))
+        finally:
+            os.close(opened)
+        if place.endswith(b" (deleted)"):
+            return None
+        if len(self.folders) >= MOST_FOLDERS:
+            self.folders.clear()
+        self.folders[handle] = within(self.mount, place)
+        return self.folders[handle]
+
+    def watch(self, path: CgroupPath) -> bool:
+        """Nothing: all of it is watched."""
+        return False
+
+    def forget(self, path: CgroupPath) -> None:
+        """Nothing."""
+
+
+Records = Dict[Tuple[bytes, bytes, int, int], int]
+
+
+def records_of(data: bytes) -> Tuple[Records, bool]:
+    """The events of what fanotify wrote: the handle of a folder, a name, what happened and the PID, with how often."""
+    counts: Records = {}
+    place, is_lost = 0, False
+    while place + HEAD <= len(data):
+        length = number_at(data, place, 4)
+        if length < HEAD:
+            break
+        mask, pid = number_at(data, place + 8, 8), number_at(data, place + 20, 4)
+        is_lost |= bool(mask & LOST)
+        at = place + HEAD
+        if at + RECORD + HANDLE + 8 <= place + length and data[at] in (OF_FOLDER_AND_NAME, OF_FOLDER):
+            begin = at + RECORD + HANDLE
+            end = begin + 8 + number_at(data, begin, 4)
+            name = data[end:at + number_at(data, at + 2, 2)].partition(b"\0")[0] if data[at] == OF_FOLDER_AND_NAME else b""
+            key = data[begin:end], name, mask & (WANTED | IS_FOLDER), pid
+            counts[key] = counts.get(key, 0) + 1
+        place += length
+    return counts, is_lost
+
+
+class Inotify:
+    """Events of folders that are watched one by one, without who did it."""
+    has_pids = False
+
+    def __init__(self, mount: str) -> None:
+        self.mount = os.fsencode(mount).rstrip(b"/")
+        self.opened = call("inotify_init1", CLOSED_AND_NOT_WAITING)
+        self.paths: Dict[int, CgroupPath] = {}
+        self.watches: Dict[CgroupPath, int] = {}
+        # not every folder could be watched
+        self.is_short = False
+
+    def fileno(self) -> int:
+        return self.opened
+
+    def close(self) -> None:
+        os.close(self.opened)
+
+    def full(self, path: CgroupPath) -> bytes:
+        return self.mount if path == ROOT else self.mount + path
+
+    def watch(self, path: CgroupPath) -> bool:
+        """Watches one folder more, as far as there are watches; whether it wasn't watched yet."""
+        if path in self.watches:
+            return False
+        try:
+            number = call("inotify_add_watch", self.opened, self.full(path), ctypes.c_uint32(WANTED | ONLY_FOLDERS | NO_LINKS))
+        except FileNotFoundError:
+            return False
+        except OSError:
+            self.is_short = True
+            return False
+        self.paths[number], self.watches[path] = path, number
+        return True
+
+    def forget(self, path: CgroupPath) -> None:
+        """Knows no more of a folder that went; a kernel takes its watch away."""
+        self.paths.pop(self.watches.pop(path, -1), None)
+
+    def read(self) -> Told:
+        data = bounded.read_ready(self.opened, PART)
+        counts: Dict[Event, int] = {}
+        place, is_lost = 0, False
+        while place + WATCH_HEAD <= len(data):
+            number, mask = number_at(data, place, 4), number_at(data, place + 4, 4)
+            length = number_at(data, place + 12, 4)
+            name = data[place + WATCH_HEAD:place + WATCH_HEAD + length].rstrip(b"\0")
+            place += WATCH_HEAD + length
+            is_lost |= bool(mask & LOST)
+            if mask & IGNORED:
+                self.forget(self.paths.get(number, ROOT) if number in self.paths else CgroupPath(b""))
+            elif number in self.paths and mask & WANTED:
+                event = Event(self.paths[number], name, mask & (WANTED | IS_FOLDER), None)
+                counts[event] = counts.get(event, 0) + 1
+        return Told(counts, is_lost)
+
+
+class FolderWatch:
+    """Whether one of some files of a folder was written or replaced."""
+    CHANGES = 0x2 | 0x8 | 0x80 | 0x100 | 0x200
+
+    def __init__(self, folder: str, names: Tuple[bytes, ...]) -> None:
+        self.names = names
+        self.opened = call("inotify_init1", CLOSED_AND_NOT_WAITING)
+        call("inotify_add_watch", self.opened, os.fsencode(folder), ctypes.c_uint32(self.CHANGES | ONLY_FOLDERS))
+
+    def fileno(self) -> int:
+        return self.opened
+
+    def has_changed(self) -> List[bytes]:
+        """The names of the files that were changed."""
+        data, found, place = bounded.read_ready(self.opened, PART), [], 0
+        while place + WATCH_HEAD <= len(data):
+            length = number_at(data, place + 12, 4)
+            name = data[place + WATCH_HEAD:place + WATCH_HEAD + length].rstrip(b"\0")
+            place += WATCH_HEAD + length
+            if name in self.names and name not in found:
+                found.append(name)
+        return found
+
+
+Source = Union[Fanotify, Inotify]
+
+
+def source_of(mount: str, is_plain: bool, refused: Callable[[str], None]) -> Source:
+    """What tells events: fanotify, or inotify where the mark is refused; why it was is told."""
+    if not is_plain:
+        try:
+            return Fanotify(mount)
+        except (OSError, AttributeError) as error:
+            refused(error.strerror or "" if isinstance(error, OSError) else str(error))
+    return Inotify(mount)

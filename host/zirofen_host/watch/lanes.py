@@ -1,0 +1,206 @@
+"""Whose events start which checks: each person who owns folders has a lane of their own, and a tenth of a processor; root's is one more.
+
+What happens is counted for the owner of the folder in which it is, found from the mount on: what is root's inside of what somebody holds
+is theirs.
+"""
+import os
+from typing import Callable, Dict, Iterable, List, NamedTuple, Optional, Tuple
+
+from zirofen_host.collect import bounded
+from zirofen_host.collect.bounded import ChargedUser
+from zirofen_host.profile import ROOT, CgroupPath, is_inside, parent_of
+from zirofen_host.watch.doers import Doer
+from zirofen_host.watch.kernel import ATTRIB, CREATE, DELETE, IS_FOLDER, MODIFY, Event
+
+# seconds without an event after which a burst is one, and after which one that goes on is asked of
+QUIET, LONGEST_BURST = 0.2, 1.0
+# the part of a processor for one lane, and the seconds of it that may be spent at once
+SHARE, AT_ONCE = 0.1, 6.0
+# entries of a lane that are known by who changed them, and processes of one
+MOST_TOUCHED, MOST_DOERS = 512, 4
+# files that matter when they are written: which limit files there are, what of limits makes a subtree too large, and of which type it is
+WRITTEN = {b"cgroup.subtree_control", b"cgroup.max.depth", b"cgroup.max.descendants", b"cgroup.type"}
+HOST = 0
+DIRECTORY = "dir"
+
+Place = Tuple[CgroupPath, str]
+
+
+def concerned(event: Event) -> Optional[CgroupPath]:
+    """The cgroup on whose guarded entries, or inside of which, an event lies; None where it matters to no answer."""
+    child = CgroupPath((b"" if event.folder == ROOT else event.folder) + b"/" + event.name)
+    if event.mask & IS_FOLDER:
+        return child if event.name else event.folder
+    if event.mask & (ATTRIB | CREATE | DELETE):
+        return event.folder
+    return event.folder if event.mask & MODIFY and event.name in WRITTEN else None
+
+
+def place_of(event: Event) -> Place:
+    """The entry at which something happened."""
+    if event.mask & IS_FOLDER:
+        child = CgroupPath((b"" if event.folder == ROOT else event.folder) + b"/" + event.name)
+        return child if event.name else event.folder, DIRECTORY
+    return event.folder, os.fsdecode(event.name)
+
+
+def common(one: CgroupPath, other: CgroupPath) -> CgroupPath:
+    """The nearest cgroup that has both."""
+    while not is_inside(other, one):
+        one = parent_of(one) or ROOT
+    return one
+
+
+class Touched(NamedTuple):
+    """What happened to an entry since its lane was asked: what, how often, when first and last, and by whom."""
+    mask: int
+    number: int
+    first: float
+    last: float
+    doers: Tuple[Doer, ...]
+
+
+class Owners:
+    """To whom a folder is charged, as its owners are now."""
+
+    def __init__(self, mount: str, charged_user: ChargedUser) -> None:
+        self.mount, self.charged_user = os.fsencode(mount).rstrip(b"/"), charged_user
+        self.known: Dict[CgroupPath, int] = {}
+
+    def forget(self) -> None:
+        self.known.clear()
+
+    def of(self, path: CgroupPath) -> int:
+        """The last on the way to a folder who isn't root."""
+        if path not in self.known:
+            above = parent_of(path)
+            person = HOST if above is None else self.of(above)
+            try:
+                uid = bounded.owner_of(self.mount + path) if above is not None else HOST
+            except OSError:
+                uid = HOST
+            self.known[path] = self.charged_user(uid) if uid else person
+        return self.known[path]
+
+
+class Lane:
+    """What waits to be asked of one person's folders, and the time that they have for it."""
+
+    def __init__(self, person: int, now: float) -> None:
+        self.person = person
+        self.left, self.since = AT_ONCE, now
+        self.part: Optional[CgroupPath] = None
+        self.is_whole, self.why = False, ""
+        self.first, self.last = now, now
+        self.touched: Dict[Place, Touched] = {}
+        self.events = 0
+        self.is_running = False
+
+    def refill(self, now: float) -> None:
+        self.left = min(AT_ONCE, self.left + SHARE * (now - self.since))
+        self.since = now
+
+    def spend(self, seconds: float) -> None:
+        self.left -= seconds
+
+    @property
+    def is_waiting(self) -> bool:
+        """Whether more happens than is asked of."""
+        return self.left < 0
+
+    def add(self, part: CgroupPath, now: float) -> None:
+        if self.part is None:
+            self.first = now
+        self.part = part if self.part is None else common(self.part, part)
+        self.last = now
+
+    def ask_whole(self, now: float, why: str, is_whole: bool = True) -> None:
+        """Has the whole host asked, also inside of what others hold who have too much where that is said."""
+        self.add(ROOT, now)
+        self.is_whole |= is_whole
+        self.why = why
+
+    def touch(self, event: Event, count: int, now: float, doer: Optional[Doer]) -> None:
+        """Keeps who changed an entry, and when."""
+        self.events += count
+        place = place_of(event)
+        then = self.touched.get(place)
+        if then is None:
+            if len(self.touched) < MOST_TOUCHED:
+                self.touched[place] = Touched(event.mask, count, now, now, (doer,) if doer else ())
+            return
+        doers = then.doers if doer is None or len(then.doers) >= MOST_DOERS or doer in then.doers else (*then.doers, doer)
+        self.touched[place] = Touched(then.mask | event.mask, then.number + count, then.first, now, doers)
+
+    def due(self) -> Optional[float]:
+        """When it is to be asked, where something waits."""
+        if self.part is None or self.is_running:
+            return None
+        quiet = min(self.last + QUIET, self.first + LONGEST_BURST)
+        return quiet if self.left >= 0 else max(quiet, self.since - self.left / SHARE)
+
+    def take(self) -> "Asked":
+        """What is to be asked now; what comes from here on waits for the next time."""
+        taken = Asked(self.person, self.part or ROOT, self.is_whole, self.why, self.first, self.touched)
+        self.part, self.is_whole, self.why, self.touched = None, False, "", {}
+        self.is_running = True
+        return taken
+
+
+class Asked(NamedTuple):
+    """What a check is of, and what happened before it."""
+    person: int
+    part: CgroupPath
+    is_whole: bool
+    why: str
+    first: float
+    touched: Dict[Place, Touched]
+
+    def at(self, path: CgroupPath, entry: str) -> Optional[Touched]:
+        """What happened to an entry: to itself, else to its cgroup, else to one above, else to one inside."""
+        for wanted in ((path, entry), (path, DIRECTORY)):
+            if wanted in self.touched:
+                return self.touched[wanted]
+        near = [(place, each) for place, each in self.touched.items() if is_inside(path, place[0]) or is_inside(place[0], path)]
+        return max(near, key=lambda pair: (is_inside(path, pair[0][0]), len(pair[0][0])), default=(None, None))[1]
+
+
+class Lanes:
+    """All lanes, by person."""
+
+    def __init__(self, now: float) -> None:
+        self.all: Dict[int, Lane] = {HOST: Lane(HOST, now)}
+        # who has had more than is asked of, and was named
+        self.named: List[int] = []
+
+    @property
+    def host(self) -> Lane:
+        return self.all[HOST]
+
+    def of(self, person: int, now: float) -> Lane:
+        if person not in self.all:
+            self.all[person] = Lane(person, now)
+        return self.all[person]
+
+    def refill(self, now: float) -> None:
+        """Gives each their share, and forgets whoever has all of it and nothing that waits."""
+        for person, lane in list(self.all.items()):
+            lane.refill(now)
+            if person != HOST and lane.part is None and not lane.is_running and lane.left >= AT_ONCE:
+                del self.all[person]
+
+    def shallow(self, person: int) -> Tuple[int, ...]:
+        """The others who have more than is asked of: inside of theirs nothing is read for anybody else."""
+        return tuple(sorted(each for each, lane in self.all.items() if each not in (HOST, person) and (lane.is_waiting or lane.is_running)))
+
+    def newly_waiting(self) -> Iterable[int]:
+        """Whoever has more than is asked of now, each once."""
+        for person, lane in self.all.items():
+            if lane.is_waiting and person not in self.named:
+                self.named.append(person)
+                yield person
+
+    def next(self, is_free: Callable[[Lane], bool]) -> Optional[Lane]:
+        """The lane that is to be asked first."""
+        due = [(when, person) for person, lane in self.all.items() for when in [lane.due()] if when is not None and is_free(lane)]
+        return self.all[min(due)[1]] if due else None

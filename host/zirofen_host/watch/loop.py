@@ -1,0 +1,384 @@
+"""The watch itself: what a kernel tells is read, what it concerns is asked again, and what differs is told."""
+import functools
+import os
+import select
+import signal
+import socket
+import time
+from typing import Callable, Dict, List, NamedTuple, Optional, Set, Union
+
+from zirofen_host import fault
+from zirofen_host.collect import bounded
+from zirofen_host.collect.accounts import charged_user_of
+from zirofen_host.collect.looks import why_of
+from zirofen_host.judge.model import Report
+from zirofen_host.options import WatchOptions
+from zirofen_host.profile import ROOT, CgroupPath, path_of, shown, text_of
+from zirofen_host.watch import checks, known, lanes
+from zirofen_host.watch.checks import Child, Failed, Result
+from zirofen_host.watch.doers import Doer, doer_of
+from zirofen_host.watch.findings import Findings
+from zirofen_host.watch.kernel import CREATE, IS_FOLDER, FolderWatch, source_of
+from zirofen_host.watch.lanes import Asked, Lane, Lanes
+from zirofen_host.watch.numbers import Numbers
+from zirofen_host.watch.told import LIMIT, WATCH, Told
+
+# seconds from one reading of processes, and from one check of the whole host, to the next
+MINUTE, HOUR = 60.0, 3600.0
+# seconds from one read of events to the next, so that alike ones are one; and parts that are read at once
+BETWEEN_READS, PARTS = 0.05, 16
+# seconds until a container that was made is looked at once more
+SETTLING = 1.0
+# processes that are looked up after one read, and checks that run beside root's
+LOOKED_UP, BESIDE = 32, 4
+# seconds that a check may take
+SECONDS = 600
+ACCOUNTS = (b"passwd", b"group", b"subuid", b"subgid")
+ENDING = (signal.SIGTERM, signal.SIGINT, signal.SIGHUP)
+
+# writes a report in the ways that were asked for
+Write = Callable[[Report, float], None]
+
+
+class Outside(NamedTuple):
+    """Where a watch tells of what it found, and of how it goes."""
+    tell: Callable[[Told], None]
+    # the forms of a report, for who asks for them by a signal, and at the end
+    write: Write
+    is_written_at_end: bool
+    is_full: bool
+    # the numbers, behind those of the last check of the whole host
+    leave_numbers: Optional[Callable[[str, Numbers], None]]
+    # words for the service manager, and the seconds within which it wants to hear
+    manager: Callable[..., None]
+    within: Optional[float]
+    go_on: Callable[[], None]
+
+
+class Running(NamedTuple):
+    child: "Child[Result]"
+    asked: Asked
+    lane: Lane
+    is_written: bool
+
+
+class Loop:
+    """A watch of one host."""
+
+    def __init__(self, options: WatchOptions, outside: Outside, baseline: Optional[known.Items]) -> None:
+        self.options, self.outside = options, outside
+        self.findings = Findings(outside.tell, baseline)
+        self.poll = select.poll()
+        self.lanes = Lanes(time.monotonic())
+        self.owners = lanes.Owners(options.mount, charged_user_of(options.accounts))
+        self.running: Dict[int, Running] = {}
+        self.reading: Optional["Child[str]"] = None
+        self.processes, self.mounts = "", checks.mounts_told(options)
+        self.has_begun = self.is_ending = self.is_asked_for_forms = self.is_listening = False
+        now = time.monotonic()
+        self.next_read, self.next_minute, self.next_hour = now, now + MINUTE, now + HOUR
+        self.next_lost, self.next_word = now, now
+        self.limits: Set[str] = set()
+        self.began, self.last_event, self.last_check, self.lost = time.time(), 0.0, 0.0, 0
+        self.metrics = ""
+        self.source = source_of(options.mount, options.plain_folder, self.without_pids)
+        self.accounts = FolderWatch(options.accounts or "/etc", ACCOUNTS)
+        self.mountinfo = -1 if options.plain_folder else bounded.open_named("/proc/self/mountinfo")
+        self.woken, self.waker = socket.socketpair()
+        self.register()
+
+    def register(self) -> None:
+        for each in (self.woken, self.waker):
+            each.setblocking(False)
+        signal.set_wakeup_fd(self.waker.fileno(), warn_on_full_buffer=False)
+        for number in ENDING:
+            signal.signal(number, lambda *_: setattr(self, "is_ending", True))
+        signal.signal(signal.SIGUSR1, lambda *_: setattr(self, "is_asked_for_forms", True))
+        for opened in (self.accounts.fileno(), self.woken.fileno()):
+            self.poll.register(opened, select.POLLIN)
+        if self.mountinfo >= 0:
+            self.poll.register(self.mountinfo, select.POLLPRI)
+
+    # what is told
+
+    def say(self, kind: str, line: str) -> None:
+        self.outside.tell(Told(kind, line, time.time()))
+
+    def limit(self, what: str, line: str) -> None:
+        """What narrows the answers, once in an hour."""
+        if what not in self.limits:
+            self.limits.add(what)
+            self.say(LIMIT, line)
+
+    def without_pids(self, why: str) -> None:
+        self.limit("pids", f"events don't name who did it: fanotify refuses the hierarchy here ({why}), and inotify tells of it")
+
+    # the loop
+
+    def run(self) -> None:
+        """Watches until a signal ends it."""
+        self.source.watch(ROOT)
+        self.lanes.host.ask_whole(time.monotonic(), "the first check")
+        self.lanes.host.first -= lanes.LONGEST_BURST
+        while not self.is_ending:
+            self.turn()
+        self.end()
+
+    def turn(self) -> None:
+        """Waits for what comes next, and does it."""
+        for opened, happened in self.poll.poll(self.milliseconds()):
+            self.ready(opened)
+        now = time.monotonic()
+        if now >= self.next_read:
+            self.read_events(now)
+        self.by_the_clock(now)
+        self.lanes.refill(now)
+        self.name_who_waits()
+        self.start_checks(now)
+        self.outside.go_on()
+        if now >= self.next_word and self.has_begun:
+            self.next_word = now + (self.outside.within or MINUTE)
+            self.outside.manager("WATCHDOG=1")
+
+    def milliseconds(self) -> float:
+        """How long nothing is to be done."""
+        now = time.monotonic()
+        due = (lane.due() for lane in self.lanes.all.values())
+        whens = [self.next_minute, self.next_hour, self.next_word, *(when for when in due if when is not None)]
+        if self.next_read > now:
+            whens.append(self.next_read)
+            self.listen(False)
+        else:
+            self.listen(True)
+        return max(min(whens) - now, 0.0) * 1000 + 1
+
+    def listen(self, is_listening: bool) -> None:
+        """Waits for events, or lets them gather."""
+        if self.is_listening == is_listening:
+            return
+        self.is_listening = is_listening
+        if is_listening:
+            self.poll.register(self.source.fileno(), select.POLLIN)
+        else:
+            self.poll.unregister(self.source.fileno())
+
+    def ready(self, opened: int) -> None:
+        if opened == self.woken.fileno():
+            bounded.read_ready(opened, 4096)
+        elif opened == self.accounts.fileno():
+            if self.accounts.has_changed():
+                self.owners.charged_user = charged_user_of(self.options.accounts)
+                self.ask_whole("accounts or groups changed")
+        elif opened == self.mountinfo:
+            self.look_at_mounts()
+        elif opened in self.running:
+            self.ended(opened)
+        elif self.reading and opened == self.reading.fileno():
+            self.has_read()
+
+    def ask_whole(self, why: str, is_whole: bool = False) -> None:
+        self.lanes.host.ask_whole(time.monotonic(), why, is_whole)
+
+    def look_at_mounts(self) -> None:
+        found = checks.mounts_told(self.options)
+        if found != self.mounts:
+            self.mounts = found
+            self.ask_whole("mounts changed")
+
+    # events
+
+    def read_events(self, now: float) -> None:
+        """Reads what there is of events, each of which goes to the lane of whose folder it is in."""
+        self.owners.forget()
+        doers: Dict[int, Optional[Doer]] = {}
+        for _ in range(PARTS):
+            read = self.source.read()
+            if read.counts or read.is_lost:
+                self.next_read = now + BETWEEN_READS
+            if read.is_lost:
+                self.events_were_lost(now)
+            if not read.counts:
+                return
+            for event, count in read.counts.items():
+                part = lanes.concerned(event)
+                if part is None:
+                    continue
+                self.last_event = time.time()
+                lane = self.lanes.of(self.owners.of(event.folder), now)
+                lane.add(part, now)
+                lane.touch(event, count, self.last_event, self.doer(event.pid, doers))
+                if event.mask & CREATE and event.mask & IS_FOLDER:
+                    self.source.watch(part)
+
+    def doer(self, pid: Optional[int], doers: Dict[int, Optional[Doer]]) -> Optional[Doer]:
+        """Who did something, looked up once for each read."""
+        if not pid:
+            return None
+        if pid not in doers:
+            doers[pid] = doer_of(self.options.proc, pid) if len(doers) < LOOKED_UP else Doer(pid)
+        return doers[pid]
+
+    def events_were_lost(self, now: float) -> None:
+        """Has all of it asked again, at most once in a minute."""
+        self.lost += 1
+        self.limit("lost", "events were lost, since more happened than a kernel keeps: all is asked again, at most once in a minute")
+        if now >= self.next_lost:
+            self.next_lost = now + MINUTE
+            self.ask_whole("events were lost")
+
+    # what is asked
+
+    def by_the_clock(self, now: float) -> None:
+        if now >= self.next_minute:
+            self.next_minute = now + MINUTE
+            if self.reading is None:
+                options = self.options
+                self.reading = Child(lambda: checks.sum_of_processes(options), SECONDS)
+                self.poll.register(self.reading.fileno(), select.POLLIN)
+            self.count()
+        if now >= self.next_hour:
+            self.next_hour = now + HOUR
+            self.limits.clear()
+            self.lanes.named.clear()
+            self.findings.begin_hour()
+            self.ask_whole("the hourly check", True)
+        if self.is_asked_for_forms and not any(each.is_written for each in self.running.values()) and not self.lanes.host.is_running:
+            self.is_asked_for_forms = False
+            self.ask_whole("a signal asked for all of it", True)
+            self.lanes.host.first -= lanes.LONGEST_BURST
+            self.start(self.lanes.host, self.outside.write)
+
+    def name_who_waits(self) -> None:
+        for person in self.lanes.newly_waiting():
+            whose = f"uid {person} changes" if person else "root changes"
+            self.say(LIMIT, f"{whose} more than is asked of at once: answers about what they hold wait for a tenth of a processor")
+
+    def start_checks(self, now: float) -> None:
+        """Starts each check that is due."""
+        beside = sum(each.lane.person != lanes.HOST for each in self.running.values())
+        while True:
+            lane = self.lanes.next(lambda each: each.person == lanes.HOST or beside < BESIDE)
+            due = lane.due() if lane else None
+            if lane is None or due is None or due > now:
+                return
+            beside += lane.person != lanes.HOST
+            self.start(lane)
+
+    def start(self, lane: Lane, write: Optional[Write] = None) -> None:
+        asked = lane.take()
+        shallow = () if asked.is_whole else self.lanes.shallow(lane.person)
+        part = asked.part if self.is_there(asked.part) else self.nearest(asked.part)
+        asked = asked._replace(part=part)
+        look = functools.partial(checks.look, self.options, part, shallow, write, write is not None and self.outside.is_full)
+        child: "Child[Result]" = Child(look, self.options.seconds or SECONDS)
+        self.running[child.fileno()] = Running(child, asked, lane, write is not None)
+        self.poll.register(child.fileno(), select.POLLIN)
+
+    def is_there(self, path: CgroupPath) -> bool:
+        return path == ROOT or os.path.isdir(os.fsencode(self.options.mount) + path)
+
+    def nearest(self, path: CgroupPath) -> CgroupPath:
+        """A cgroup that went is asked of by the nearest one above it that is there."""
+        while not self.is_there(path):
+            path = CgroupPath(path.rpartition(b"/")[0]) or ROOT
+        return path
+
+    # what was found
+
+    def ended(self, opened: int) -> None:
+        """Takes what a check found."""
+        run = self.running.pop(opened)
+        self.poll.unregister(opened)
+        made = run.child.made()
+        run.lane.is_running = False
+        run.lane.spend(0.0 if run.asked.is_whole else run.child.seconds)
+        if isinstance(made, Failed):
+            self.failed(run, made)
+            return
+        self.last_check = time.time()
+        self.metrics = made.metrics or self.metrics
+        self.compare(run, made)
+        self.watch_all(run, made)
+        if made.has_containers and any(each.mask & CREATE for each in run.asked.touched.values()):
+            # what runs in one comes behind its cgroup
+            run.lane.add(run.asked.part, time.monotonic() + SETTLING - lanes.QUIET)
+        self.count()
+        if not self.has_begun:
+            self.begin(made)
+
+    def begin(self, made: Result) -> None:
+        self.has_begun = True
+        self.say(WATCH, f"{len(made.part.there)} cgroups of {shown(self.options.mount)} are watched"
+                        f"{'' if self.source.has_pids else ', without who does it'}; {made.told}")
+        self.outside.manager("READY=1", "STATUS=the first check is done")
+
+    def failed(self, run: Running, failed: Failed) -> None:
+        """A check that found nothing is told, and all is asked once more; the first has to find something."""
+        if not self.has_begun:
+            raise fault.Fault(failed.why)
+        if not self.is_there(run.asked.part):
+            run.lane.add(self.nearest(run.asked.part), time.monotonic())
+            return
+        self.limit(f"check {failed.why}", f"a check of {shown(text_of(run.asked.part))} found nothing: {failed.why}")
+        run.lane.add(ROOT, time.monotonic() + MINUTE)
+
+    def compare(self, run: Running, made: Result) -> None:
+        """Has what differs told, and asks more where that takes it."""
+        then = self.findings.take(run.asked, made, not self.has_begun)
+        if then.needs_whole:
+            run.lane.ask_whole(time.monotonic(), "a check of the whole host")
+        elif then.has_told and not made.part.is_whole and self.outside.leave_numbers:
+            run.lane.ask_whole(time.monotonic(), "a check that counts what stands", False)
+
+    def watch_all(self, run: Running, made: Result) -> None:
+        """Watches what was found, where each folder is watched by itself; what wasn't yet is asked of once more."""
+        if self.source.has_pids:
+            return
+        fresh = [path for path in map(path_of, made.part.there) if self.source.watch(path)]
+        if self.source.is_short:
+            self.limit("watches", "not every cgroup is watched: inotify has no more watches (fs.inotify.max_user_watches)")
+        if fresh and self.has_begun:
+            run.lane.add(run.asked.part, time.monotonic())
+
+    def has_read(self) -> None:
+        """Has all of it asked where processes act as somebody else than a minute ago, or groups have others."""
+        if self.reading is None:
+            return
+        self.poll.unregister(self.reading.fileno())
+        made, self.reading = self.reading.made(), None
+        if isinstance(made, Failed):
+            self.limit("processes", f"processes weren't read: {made.why}")
+        elif made != self.processes:
+            if self.processes:
+                self.ask_whole("a minute's reading of processes and groups")
+            self.processes = made
+
+    # numbers, and the end
+
+    def count(self) -> None:
+        if self.outside.leave_numbers and self.metrics:
+            waiting = sum(lane.is_waiting for lane in self.lanes.all.values())
+            numbers = Numbers(self.findings.counts, len(known.standing(self.findings.known)), self.last_event, self.last_check, self.began,
+                              self.source.has_pids, self.lost, waiting)
+            try:
+                self.outside.leave_numbers(self.metrics, numbers)
+            except (fault.Fault, OSError) as error:
+                self.limit("metrics", why_of(error))
+
+    def end(self) -> None:
+        """Ends what runs, and writes what was asked for, of a last check."""
+        self.outside.manager("STOPPING=1")
+        left: List[Union["Child[Result]", "Child[str]"]] = [each.child for each in self.running.values()]
+        for child in (*left, *([self.reading] if self.reading else [])):
+            child.ask_to_end()
+            child.made()
+        self.running.clear()
+        if self.outside.is_written_at_end and self.has_begun:
+            lane = Lane(lanes.HOST, time.monotonic())
+            lane.ask_whole(time.monotonic(), "the last check")
+            self.start(lane, self.outside.write)
+            (run,) = self.running.values()
+            made = run.child.made()
+            if isinstance(made, Failed):
+                raise fault.Fault(made.why)
+        self.source.close()

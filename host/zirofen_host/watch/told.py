@@ -1,0 +1,102 @@
+"""What is told while a host is watched: what differs, when that happened and who did it; as lines, and as fields with names."""
+import time
+from typing import Dict, Iterable, Iterator, List, Mapping, NamedTuple, Optional, Tuple
+
+from zirofen_host.collect import bounded
+from zirofen_host.judge.host_model import Absent
+from zirofen_host.profile import path_of
+from zirofen_host.show.lines import difference_lines
+from zirofen_host.watch.doers import Doer
+from zirofen_host.watch.known import NEW, WORSE, Change, is_counted
+from zirofen_host.watch.lanes import Asked, Touched
+
+# what opened and closed between two checks, what narrows the answers, and how the watch itself goes
+BACK, LIMIT, WATCH = "back", "limit", "watch"
+# lines of a holder's own making in an hour, beside those of one check
+IN_AN_HOUR = 256
+# letters of one line
+LONGEST = 2048
+
+
+class Told(NamedTuple):
+    """One thing that is told."""
+    kind: str
+    line: str
+    when: float
+    more: Tuple[str, ...] = ()
+    doers: Tuple[Doer, ...] = ()
+    what: str = ""
+    path: str = ""
+    entry: str = ""
+    # what it would end a check with
+    status: int = 0
+    # it is new or worse, and counts
+    is_counted: bool = False
+    # what it was found by, where no event told of it
+    by: str = ""
+
+
+def stamp(when: float) -> str:
+    return time.strftime("%Y-%m-%dT%H:%M:%S", time.gmtime(when)) + f".{int(when * 1000) % 1000:03d}Z"
+
+
+def lines_of(told: Told) -> Iterator[str]:
+    """The lines that are printed."""
+    yield f"{stamp(told.when)} {told.kind}: {told.line}"[:LONGEST]
+    yield from (f"    by {doer.text}" for doer in told.doers)
+    if told.by:
+        yield f"    no event told of it: {told.by}"
+    yield from (line[:LONGEST] for line in told.more)
+
+
+def fields_of(told: Told) -> Mapping[str, str]:
+    """The same by names; of several who did it, of the first."""
+    fields = {"KIND": told.kind, "LINE": told.line[:LONGEST], "TIME": stamp(told.when), "WHAT": told.what, "CGROUP": told.path,
+              "ENTRY": told.entry, "STATUS": str(told.status), "FOUND_BY": told.by}
+    if told.doers:
+        doer = told.doers[0]
+        fields.update({"DOER_PID": str(doer.pid), "DOER_UID": "" if doer.uid is None else str(doer.uid),
+                       "DOER_PROGRAM": doer.program, "DOER_UNIT": doer.unit})
+    return {name: value for name, value in fields.items() if value}
+
+
+def of_change(change: Change, touched: Optional[Touched], when: float, by: str) -> Told:
+    """What is told of what differs; `when` it was found where no event told of it."""
+    told = change.difference
+    _, *more = difference_lines(change.kind, told)
+    return Told(change.kind, told.line, touched.last if touched else when, tuple(more), touched.doers if touched else (), told.what,
+                change.path, change.entry, told.status if change.kind in (NEW, WORSE) else 0, is_counted(change), "" if touched else by)
+
+
+class Folding:
+    """How much is told of what persons made inside of their own: so much of one check, and so much in an hour."""
+
+    def __init__(self) -> None:
+        self.told: Dict[int, int] = {}
+
+    def begin_hour(self) -> None:
+        self.told.clear()
+
+    def kept(self, changes: Iterable[Change]) -> Tuple[List[Change], Mapping[int, int]]:
+        """The changes that are told, and by person how many more there are."""
+        kept: List[Change] = []
+        here: Dict[int, int] = {}
+        more: Dict[int, int] = {}
+        for change in changes:
+            person = change.difference.within
+            if isinstance(person, Absent):
+                kept.append(change)
+                continue
+            here[person] = here.get(person, 0) + 1
+            if here[person] <= bounded.LINES.most and self.told.get(person, 0) < IN_AN_HOUR:
+                self.told[person] = self.told.get(person, 0) + 1
+                kept.append(change)
+            else:
+                more[person] = more.get(person, 0) + 1
+        return kept, more
+
+
+def touched_of(asked: Asked, change: Change) -> Optional[Touched]:
+    """What events told of where something differs."""
+    entry = change.entry.split(" ")[0] if change.entry else "dir"
+    return asked.at(path_of(change.path), entry) if change.path.startswith("/") else None
