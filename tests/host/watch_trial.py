@@ -92,6 +92,8 @@ class Ways:
         for each in HANDED:
             os.chown(self.held + each, HOLDER, HOLDER)
             os.chown(f"{self.top}/part/other{each}", OTHER, OTHER)
+        os.chown(f"{self.top}/part/other/cgroup.max.depth", 0, 61050)
+        os.chmod(f"{self.top}/part/other/cgroup.max.depth", 0o664)
 
     def remove(self):
         for place, _, _ in os.walk(self.top, topdown=False):
@@ -121,17 +123,12 @@ class Ways:
 
     def group(self):
         """Somebody gets into a group that has an entry."""
-        os.chown(f"{self.top}/part/cgroup.procs", 0, 61050)
-        os.chmod(f"{self.top}/part/cgroup.procs", 0o664)
-        time.sleep(1.5)
         shutil.copy("/etc/group", f"{self.room}/group")
         with open("/etc/group", "a", encoding="ascii") as out:
             out.write("zirofentrial:x:61050:nobody\n")
 
     def group_back(self):
         shutil.copy(f"{self.room}/group", "/etc/group")
-        os.chown(f"{self.top}/part/cgroup.procs", 0, 0)
-        os.chmod(f"{self.top}/part/cgroup.procs", 0o644)
 
 
 def do(what):

@@ -146,7 +146,10 @@ class Child(Generic[Made]):
             os.close(self.left)
         if os.waitstatus_to_exitcode(status) or found.is_cut or not found.data:
             return Failed(f"a check ended with {os.waitstatus_to_exitcode(status)}")
-        made: Union[Made, Failed] = pickle.loads(found.data)
+        try:
+            made: Union[Made, Failed] = pickle.loads(found.data)
+        except Exception as error:
+            return Failed(why_of(error))
         return made
 
 

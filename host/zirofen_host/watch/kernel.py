@@ -88,7 +88,7 @@ class Fanotify:
             if number >= 0:
                 os.close(number)
 
-    def read(self) -> Told:
+    def take(self) -> Told:
         """What is there to be read now, at most one part of it."""
         counts, is_lost = records_of(bounded.read_ready(self.opened, PART))
         told: Dict[Event, int] = {}
@@ -189,7 +189,7 @@ class Inotify:
         """Knows no more of a folder that went; a kernel takes its watch away."""
         self.paths.pop(self.watches.pop(path, -1), None)
 
-    def read(self) -> Told:
+    def take(self) -> Told:
         data = bounded.read_ready(self.opened, PART)
         counts: Dict[Event, int] = {}
         place, is_lost = 0, False

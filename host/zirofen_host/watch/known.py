@@ -3,6 +3,7 @@ from typing import Dict, FrozenSet, Iterable, List, NamedTuple, Optional, Set, T
 
 from zirofen_host.judge.baseline import Found, Key, difference, found_by_path, kind_of
 from zirofen_host.judge.model import Difference, Report
+from zirofen_host.judge.notes import MountedElsewhere
 from zirofen_host.judge.severity import Severity
 from zirofen_host.profile import is_inside, is_root
 
@@ -53,11 +54,17 @@ class Compared(NamedTuple):
 def items_of(report: Report) -> Items:
     """All that a report tells of: in a container with a name, by that."""
     names = report.names
-    found = found_by_path(report)
+    found = {**found_by_path(report), **mounted_elsewhere(report)}
     if not names.words:
         return {key: Item(each, key[1]) for key, each in found.items()}
     return {(what, names.of(path) or path, of): Item(each._replace(named=names.line(each.line, path)), path)
             for (what, path, of), each in found.items()}
+
+
+def mounted_elsewhere(report: Report) -> Dict[Key, Found]:
+    """The hierarchy's other mounts, of which no answer speaks: one that comes is told."""
+    return {(each.kind, each.place, each.text): Found(Severity.CONTAINED, each.line) for each in report.unseen
+            if each.kind == MountedElsewhere.kind}
 
 
 def subtrees_in(found: Found) -> Iterable[str]:
@@ -79,7 +86,7 @@ def kind_within(now: Optional[Item], then: Optional[Item], part: Part) -> Option
     kind = kind_of(now.found if now else None, then.found if then else None)
     if kind == "gone" and then:
         return MENDED if then.path in part.there else GONE
-    if kind == "changed" and now and then:
+    if kind not in (NEW, WORSE) and now and then:
         return MENDED if now.found.severity.rank > then.found.severity.rank else None
     return kind
 

@@ -132,6 +132,13 @@ class Lane:
         doers = then.doers if doer is None or len(then.doers) >= MOST_DOERS or doer in then.doers else (*then.doers, doer)
         self.touched[place] = Touched(then.mask | event.mask, then.number + count, then.first, now, doers)
 
+    def give_back(self, asked: "Asked") -> None:
+        """Keeps what happened before a check that couldn't say all of it for the one behind it."""
+        for place, each in asked.touched.items():
+            later = self.touched.get(place)
+            if later is not None or len(self.touched) < MOST_TOUCHED:
+                self.touched[place] = each if later is None else later._replace(first=each.first, mask=each.mask | later.mask)
+
     def due(self) -> Optional[float]:
         """When it is to be asked, where something waits."""
         if self.part is None or self.is_running:

@@ -192,7 +192,7 @@ class Loop:
         self.owners.forget()
         doers: Dict[int, Optional[Doer]] = {}
         for _ in range(PARTS):
-            read = self.source.read()
+            read = self.source.take()
             if read.counts or read.is_lost:
                 self.next_read = now + BETWEEN_READS
             if read.is_lost:
@@ -326,6 +326,7 @@ class Loop:
         """Has what differs told, and asks more where that takes it."""
         then = self.findings.take(run.asked, made, not self.has_begun)
         if then.needs_whole:
+            run.lane.give_back(run.asked)
             run.lane.ask_whole(time.monotonic(), "a check of the whole host")
         elif then.has_told and not made.part.is_whole and self.outside.leave_numbers:
             run.lane.ask_whole(time.monotonic(), "a check that counts what stands", False)

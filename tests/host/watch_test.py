@@ -1,0 +1,395 @@
+"""Tests of a watch: what events concern, who is asked when, what differs, and where it is told. A kernel's part is played."""
+import os
+import socket
+import struct
+import tempfile
+import time
+import unittest
+from collections import Counter
+from unittest import mock
+
+from check_test import HostTest, owned
+from zirofen_host.collect.model import User
+from zirofen_host.judge import check
+from zirofen_host.judge.baseline import Found
+from zirofen_host.judge.severity import Severity
+from zirofen_host.options import WatchOptions
+from zirofen_host.collect.snapshot import take
+from zirofen_host.ask.questions import subtrees_by
+from zirofen_host.watch import backs, checks, hooks, journal, kernel, known, lanes, numbers, told
+from zirofen_host.watch.doers import Doer, doer_of
+from zirofen_host.watch.kernel import ATTRIB, CREATE, DELETE, IS_FOLDER, LOST, MODIFY, Event
+
+
+def record(mask, pid, handle, name):
+    """An event as fanotify writes it."""
+    file = struct.pack("<Ii", len(handle), 1) + handle + name + b"\0"
+    info = struct.pack("<BBH", 2, 0, 4 + 8 + len(file)) + b"\0" * 8 + file
+    return struct.pack("<IBBHQii", 24 + len(info), 3, 0, 24, mask, -1, pid) + info
+
+
+def watched(number, mask, name=b""):
+    """An event as inotify writes it."""
+    padded = name + b"\0" * (-len(name) % 16) if name else b""
+    return struct.pack("<iIII", number, mask, 0, len(padded)) + padded
+
+
+class KernelTest(unittest.TestCase):
+    def test_records_of_fanotify(self):
+        """Alike ones are one, with how many there were; what was lost is told."""
+        one = record(CREATE | IS_FOLDER, 7, b"handle", b"name")
+        data = one + one + record(ATTRIB, 8, b"handle", b"cgroup.procs") + struct.pack("<IBBHQii", 24, 3, 0, 24, LOST, -1, 0)
+        counts, is_lost = kernel.records_of(data)
+        handle = struct.pack("<Ii", 6, 1) + b"handle"
+        self.assertEqual((counts, is_lost), ({(handle, b"name", CREATE | IS_FOLDER, 7): 2, (handle, b"cgroup.procs", ATTRIB, 8): 1}, True))
+
+    def test_broken_records_end(self):
+        for data in (b"", b"\0" * 24, record(ATTRIB, 1, b"h", b"n")[:-1], struct.pack("<IBBHQii", 3, 3, 0, 24, 0, -1, 0)):
+            with self.subTest(data):
+                self.assertLessEqual(len(kernel.records_of(data)[0]), 1)
+
+    def test_inotify_tells_of_folders(self):
+        """Of real ones: owners and modes, what is made and removed, and what was removed is forgotten."""
+        with tempfile.TemporaryDirectory() as room:
+            source = kernel.Inotify(room)
+            self.addCleanup(source.close)
+            self.assertTrue(source.watch(b"/"))
+            self.assertFalse(source.watch(b"/"))
+            os.mkdir(f"{room}/a")
+            self.assertTrue(source.watch(b"/a"))
+            os.chmod(f"{room}/a", 0o700)
+            os.rmdir(f"{room}/a")
+            masks = {}
+            for event in source.take().counts:
+                masks[event.folder, event.name] = masks.get((event.folder, event.name), 0) | event.mask
+            self.assertEqual(masks[b"/", b"a"], CREATE | ATTRIB | DELETE | IS_FOLDER)
+            self.assertNotIn(b"/a", source.watches)
+            self.assertFalse(source.watch(b"/none"))
+            self.assertFalse(source.is_short)
+
+    def test_where_no_watch_is_left(self):
+        with tempfile.TemporaryDirectory() as room:
+            source = kernel.Inotify(room)
+            self.addCleanup(source.close)
+            with mock.patch.object(kernel, "call", side_effect=OSError(28, "No space left on device")):
+                self.assertFalse(source.watch(b"/"))
+            self.assertTrue(source.is_short)
+
+    def test_lost_events_of_inotify(self):
+        with tempfile.TemporaryDirectory() as room:
+            source = kernel.Inotify(room)
+            self.addCleanup(source.close)
+            source.watch(b"/")
+            (number,) = source.paths
+            with mock.patch.object(kernel.bounded, "read_ready", return_value=watched(-1, LOST) + watched(number, MODIFY, b"file")):
+                found = source.take()
+            self.assertEqual(found, kernel.Told({Event(b"/", b"file", MODIFY, None): 1}, True))
+
+    def test_a_mark_that_is_refused(self):
+        whys = []
+        with mock.patch.object(kernel, "Fanotify", side_effect=OSError(19, "No such device")):
+            source = kernel.source_of("/", False, whys.append)
+        self.addCleanup(source.close)
+        self.assertEqual((whys, source.has_pids), (["No such device"], False))
+
+    def test_accounts(self):
+        with tempfile.TemporaryDirectory() as room:
+            watch = kernel.FolderWatch(room, (b"passwd", b"group"))
+            self.addCleanup(os.close, watch.fileno())
+            for name in ("group", "other"):
+                with open(f"{room}/{name}", "w", encoding="ascii"):
+                    pass
+            os.rename(f"{room}/other", f"{room}/passwd")
+            self.assertEqual((sorted(watch.has_changed()), watch.has_changed()), ([b"group", b"passwd"], []))
+
+
+class ConcernedTest(unittest.TestCase):
+    def test_which_cgroup(self):
+        for event, part in ((Event(b"/a", b"b", CREATE | IS_FOLDER, 1), b"/a/b"), (Event(b"/", b"b", DELETE | IS_FOLDER, 1), b"/b"),
+                            (Event(b"/a", b"", ATTRIB | IS_FOLDER, 1), b"/a"), (Event(b"/a", b"cgroup.procs", ATTRIB, 1), b"/a"),
+                            (Event(b"/a", b"cgroup.subtree_control", MODIFY, 1), b"/a"), (Event(b"/a", b"cgroup.procs", MODIFY, 1), None),
+                            (Event(b"/a", b"memory.max", MODIFY, 1), None), (Event(b"/", b"cgroup.procs", ATTRIB, 1), b"/")):
+            self.assertEqual(lanes.concerned(event), part, event)
+
+    def test_nearest_in_common(self):
+        for one, other, both in ((b"/a/b", b"/a/c", b"/a"), (b"/a", b"/a/b", b"/a"), (b"/ab", b"/a", b"/"), (b"/", b"/x", b"/")):
+            self.assertEqual((lanes.common(one, other), lanes.common(other, one)), (both, both))
+
+    def test_whose_a_folder_is(self):
+        """The last on the way who isn't root, and of subordinate ids their owner."""
+        uids = {b"/m": 0, b"/m/a": 1000, b"/m/a/b": 0, b"/m/a/c": 100001, b"/m/d": 0}
+        with mock.patch.object(lanes.bounded, "owner_of", side_effect=lambda place: uids[place]):
+            owners = lanes.Owners("/m", lambda uid: 1000 if uid >= 100000 else uid)
+            self.assertEqual([owners.of(path) for path in (b"/", b"/a", b"/a/b", b"/a/c", b"/d")], [0, 1000, 1000, 1000, 0])
+
+
+class LanesTest(unittest.TestCase):
+    def test_a_burst_is_one(self):
+        lane = lanes.Lane(0, 100.0)
+        self.assertIsNone(lane.due())
+        for number in range(4):
+            lane.add(b"/a/b", 100.0 + number * 0.1)
+        self.assertAlmostEqual(lane.due(), 100.5)
+        for number in range(40):
+            lane.add(b"/a/c", 100.4 + number * 0.1)
+        self.assertAlmostEqual(lane.due(), 101.0)
+        taken = lane.take()
+        self.assertEqual((taken.part, lane.due()), (b"/a", None))
+        lane.is_running = False
+        self.assertIsNone(lane.due())
+
+    def test_a_tenth_of_a_processor(self):
+        """Whoever spent what they had waits until as much was given again, and others don't."""
+        all_lanes = lanes.Lanes(0.0)
+        mine, other = all_lanes.of(1000, 0.0), all_lanes.of(1001, 0.0)
+        mine.spend(lanes.AT_ONCE + 2.0)
+        mine.add(b"/a", 0.0)
+        other.add(b"/b", 1.0)
+        self.assertEqual((mine.due(), other.due()), (20.0, 1.2))
+        self.assertIs(all_lanes.next(lambda lane: True), other)
+        self.assertEqual((list(all_lanes.newly_waiting()), list(all_lanes.newly_waiting())), ([1000], []))
+        self.assertEqual((all_lanes.shallow(0), all_lanes.shallow(1000)), ((1000,), ()))
+        all_lanes.refill(30.0)
+        self.assertFalse(mine.is_waiting)
+
+    def test_lanes_are_forgotten(self):
+        all_lanes = lanes.Lanes(0.0)
+        for person in range(1, 100):
+            all_lanes.of(person, 0.0)
+        all_lanes.refill(1.0)
+        self.assertEqual(list(all_lanes.all), [lanes.HOST])
+
+    def test_who_did_it(self):
+        lane, chmod, chown = lanes.Lane(0, 0.0), Doer(7, 0, "/bin/chmod"), Doer(8)
+        lane.touch(Event(b"/", b"cgroup.procs", ATTRIB, 7), 2, 1.0, chmod)
+        lane.touch(Event(b"/", b"cgroup.procs", ATTRIB, 8), 1, 2.0, chown)
+        lane.touch(Event(b"/a", b"", ATTRIB | IS_FOLDER, 8), 1, 3.0, chown)
+        asked = lane.take()
+        self.assertEqual(asked.at(b"/", "cgroup.procs"), lanes.Touched(ATTRIB, 3, 1.0, 2.0, (chmod, chown)))
+        self.assertEqual(asked.at(b"/a", "memory.max").doers, (chown,))
+        self.assertEqual(asked.at(b"/a/b", "memory.max").doers, (chown,))
+        self.assertEqual(asked.at(b"/b", "dir").doers, (chmod, chown))
+        lane.give_back(asked)
+        self.assertEqual(lane.touched, asked.touched)
+
+    def test_what_is_kept_of_a_flood(self):
+        lane = lanes.Lane(1000, 0.0)
+        for number in range(3 * lanes.MOST_TOUCHED):
+            lane.touch(Event(b"/a", b"%d" % number, CREATE | IS_FOLDER, number), 1, 1.0, Doer(number))
+        for number in range(100):
+            lane.touch(Event(b"/a", b"0", CREATE | IS_FOLDER, number), 1, 1.0, Doer(number))
+        self.assertEqual((len(lane.touched), len(lane.touched[b"/a/0", "dir"].doers)), (lanes.MOST_TOUCHED, lanes.MOST_DOERS))
+
+
+def item(path, severity=Severity.ESCAPES, lets_in=(), is_accepted=False, line=""):
+    return known.Item(Found(severity, line or f"{path}: it", frozenset(lets_in), is_accepted=is_accepted), path)
+
+
+WHOLE = known.Part("/", frozenset(), frozenset({"/", "/a", "/a/b", "/c"}))
+
+
+class KnownTest(unittest.TestCase):
+    def kinds(self, then, now, part=WHOLE):
+        found = known.compared(then, now, part)
+        return [(each.kind, each.path) for each in found.changes], found.known, found.needs_whole
+
+    def test_each_once(self):
+        one = {("entry", "/a", "dir"): item("/a")}
+        kinds, kept, _ = self.kinds({}, one)
+        self.assertEqual(kinds, [("new", "/a")])
+        self.assertEqual(self.kinds(kept, one)[0], [])
+        self.assertEqual(self.kinds(kept, {})[0], [("mended", "/a")])
+        self.assertEqual(self.kinds(kept, {}, WHOLE._replace(there=frozenset({"/"})))[0], [("gone", "/a")])
+        more = {("entry", "/a", "dir"): item("/a", lets_in=[("subtree", "/a/b")])}
+        self.assertEqual(self.kinds(kept, more)[0], [("worse", "/a")])
+        self.assertEqual(self.kinds(more, one)[0], [])
+        less = {("entry", "/a", "dir"): item("/a", Severity.UNSETTLED)}
+        self.assertEqual((self.kinds(one, less)[0], self.kinds(less, one)[0]), ([("mended", "/a")], [("worse", "/a")]))
+
+    def test_what_is_accepted(self):
+        key = "entry", "/a", "dir"
+        self.assertEqual(self.kinds({}, {key: item("/a", is_accepted=True)})[0], [])
+        self.assertEqual(self.kinds({key: item("/a")}, {key: item("/a", is_accepted=True)})[0], [])
+        self.assertEqual(self.kinds({key: item("/a", is_accepted=True)}, {key: item("/a")})[0], [("new", "/a")])
+
+    def test_a_part_says_nothing_of_what_is_beside_it(self):
+        part = known.Part("/a", frozenset(), frozenset({"/", "/a"}))
+        then = {("entry", "/c", "dir"): item("/c"), ("opened", "/", "cgroup.kill"): item("/")}
+        self.assertEqual(self.kinds(then, {}, part), ([], then, False))
+
+    def test_what_stands_above_a_part(self):
+        """More of it is told, less of it takes the whole host."""
+        part = known.Part("/a", frozenset(), frozenset({"/", "/a"}))
+        key, of_a, of_c = ("entry", "/", "cgroup.procs"), ("subtree", "/a"), ("subtree", "/c")
+        then = {key: item("/", lets_in=[of_c])}
+        kinds, kept, _ = self.kinds(then, {key: item("/", lets_in=[of_a])}, part)
+        self.assertEqual((kinds, kept[key].found.lets_in), ([("worse", "/")], {of_a, of_c}))
+        self.assertEqual(self.kinds(kept, {}, part), ([], kept, True))
+
+    def test_what_is_unsettled_takes_the_whole_host(self):
+        part = known.Part("/a", frozenset(), frozenset({"/", "/a"}))
+        now = {("entry", "/a", "dir"): item("/a", Severity.UNSETTLED)}
+        self.assertEqual(self.kinds({}, now, part), ([], {}, True))
+        self.assertEqual(self.kinds({}, now)[0], [("new", "/a")])
+
+    def test_what_was_left_out(self):
+        """Inside of whoever has too much nothing was read, and nothing is told."""
+        part = known.Part("/", frozenset({"/a"}), frozenset({"/", "/a", "/c"}))
+        key = "entry", "/", "cgroup.procs"
+        then = {("entry", "/a/b", "dir"): item("/a/b"), key: item("/", lets_in=[("subtree", "/a/b")])}
+        self.assertEqual(self.kinds(then, {key: item("/")}, part), ([], then, False))
+
+    def test_rows_of_subtrees_are_told_by_what_they_rest_on(self):
+        now = {("entry", "/", "cgroup.procs"): item("/", lets_in=[("subtree", "/a")]), ("subtree", "/a", ""): item("/a"),
+               ("subtree", "/c", ""): item("/c", Severity.CONTAINED)}
+        self.assertEqual(self.kinds({}, now)[0], [("new", "/"), ("new", "/c")])
+
+
+class ReportsTest(HostTest):
+    """Of checks of a made-up host, by a program that plays its part."""
+
+    def looked(self, part=b"/", shallow=()):
+        options = WatchOptions(mount=self.host.mount, proc=self.host.proc, accounts=self.host.etc, program=self.program, plain_folder=True)
+        return checks.look(options, part, shallow, None, False)
+
+    def setUp(self):
+        super().setUp()
+        self.host.cgroup("/a", owners=owned(1000))
+        self.host.cgroup("/a/x")
+        self.host.cgroup("/b", owners=owned(1001))
+
+    def test_a_part_is_as_the_whole(self):
+        """What a check of a part tells of it is what one of the whole host tells."""
+        self.host.cgroup("/", owners={"cgroup.procs": (0, 0)}, modes={"cgroup.procs": 0o666}, enabled="memory")
+        whole, part = self.looked(), self.looked(b"/a")
+        inside = {key: each for key, each in whole.items.items() if each.path.startswith("/a")}
+        self.assertEqual({key: each for key, each in part.items.items() if each.path.startswith("/a")}, inside)
+        self.assertTrue(inside)
+        found = known.compared(whole.items, part.items, part.part)
+        self.assertEqual((found.changes, found.needs_whole), ((), False))
+
+    def test_inside_of_whoever_has_too_much_nothing_is_read(self):
+        found = self.looked(shallow=(1000,))
+        self.assertEqual((found.part.without, found.part.there), ({"/a"}, {"/", "/a", "/b"}))
+        self.assertEqual(found.metrics, "")
+        self.assertIn("zirofen_findings", self.looked().metrics)
+
+    def test_whats_back(self):
+        """An entry that stands as it stood, and was changed; a cgroup that came, was changed and went."""
+        before = backs.Entries()
+        before.take(self.looked())
+        lane = lanes.Lane(0, 0.0)
+        for event in (Event(b"/a", b"cgroup.procs", ATTRIB, 7), Event(b"/", b"n", CREATE | IS_FOLDER, 7),
+                      Event(b"/n", b"cgroup.procs", ATTRIB, 7), Event(b"/", b"n", DELETE | IS_FOLDER, 7),
+                      Event(b"/a", b"memory.stat", ATTRIB, 7)):
+            lane.touch(event, 1, 5.0, Doer(7))
+        lane.touch(Event(b"/a", b"cgroup.procs", ATTRIB, 7), 1, 5.3, Doer(7))
+        found = list(backs.backs(before, self.looked(), lane.take(), frozenset()))
+        self.assertEqual([each.line for each in found], ["/a cgroup.procs: changed and back within 0.3 s; not asked",
+                                                         "/n: made, changed and gone within 0.0 s; not asked"])
+        self.assertEqual(found[0].doers, (Doer(7),))
+
+    def test_snapshots_of_what_is_shallow_settle_nothing(self):
+        options = WatchOptions(mount=self.host.mount, proc=self.host.proc, accounts=self.host.etc, program=self.program, plain_folder=True,
+                               shallow=(1000,))
+        report = check.report(take(options, subtrees_by(options)), options, False)
+        self.assertEqual({each.path for each in report.subtrees}, {"/a", "/b"})
+
+
+class ToldTest(unittest.TestCase):
+    one = told.Told("new", "/a: it\x1b[2J", 0.25, ("    change: x",), (Doer(7, 1000, "/bin/chmod", "a.service"), Doer(8)), "entry", "/a",
+                    "dir", 1, True)
+
+    def test_lines(self):
+        self.assertEqual(list(told.lines_of(self.one)), [
+            "1970-01-01T00:00:00.250Z new: /a: it\x1b[2J", "    by pid 7 (uid 1000, /bin/chmod, a.service)",
+            "    by pid 8, which has ended", "    change: x"])
+
+    def test_the_journal(self):
+        """A field has one line, whatever is in it."""
+        for line in ("it", "it\nPRIORITY=0", "\x1b[2J", "é" * 9000):
+            data = journal.datagram(journal.entry_of(self.one._replace(line=line)))
+            rows = data.decode("ascii").splitlines()
+            self.assertTrue(all(row.split("=")[0].replace("_", "").isalpha() and row.isprintable() for row in rows))
+            self.assertEqual(sum(row.startswith("PRIORITY=") for row in rows), 1)
+            self.assertIn("ZIROFEN_DOER_PID=7", rows)
+
+    def test_datagrams(self):
+        with tempfile.TemporaryDirectory() as room, socket.socket(socket.AF_UNIX, socket.SOCK_DGRAM) as manager:
+            manager.bind(f"{room}/notify")
+            with mock.patch.dict(os.environ, NOTIFY_SOCKET=f"{room}/notify", WATCHDOG_USEC="4000000"):
+                found = journal.Manager()
+                self.assertNotIn("NOTIFY_SOCKET", os.environ)
+            found.tell("READY=1", "STATUS=it")
+            self.assertEqual((manager.recv(99), found.within), (b"READY=1\nSTATUS=it", 2.0))
+        self.assertFalse(journal.Datagrams(f"{room}/none").send(b"x"))
+        with mock.patch.dict(os.environ, clear=True):
+            self.assertIsNone(journal.Manager().within)
+
+    def test_a_program_is_told_by_its_environment(self):
+        with tempfile.TemporaryDirectory() as room:
+            with open(f"{room}/it", "w", encoding="ascii") as script:
+                script.write(f"#!/bin/sh\nenv | grep ^ZIROFEN_ > {room}/part\nmv {room}/part {room}/out\n")
+            os.chmod(f"{room}/it", 0o755)
+            found = hooks.Hooks(f"{room}/it")
+            found.add(self.one._replace(line="$(id); `id`"))
+            found.go_on()
+            until = time.monotonic() + 60
+            while not os.path.exists(f"{room}/out") and time.monotonic() < until:
+                time.sleep(0.05)
+            with open(f"{room}/out", encoding="ascii") as said:
+                lines = said.read().splitlines()
+        self.assertIn("ZIROFEN_LINE=$(id); `id`", lines)
+        self.assertIn("ZIROFEN_DOER_UNIT=a.service", lines)
+
+    def test_programs_that_cant_be_started_or_are_many(self):
+        found = hooks.Hooks("/none")
+        for _ in range(hooks.WAITING + 5):
+            found.add(self.one)
+        found.go_on()
+        self.assertEqual((found.left_out, found.waiting, found.failed), (5, [], "No such file or directory"))
+
+    def test_how_much_is_told_of_what_a_holder_made(self):
+        def change(person):
+            return mock.Mock(difference=mock.Mock(within=person))
+        folding = told.Folding()
+        made = [change(1000) for _ in range(100)]
+        kept, more = folding.kept([*made, change(told.Absent.ABSENT)])
+        self.assertEqual((len(kept), more), (17, {1000: 84}))
+        for _ in range(100):
+            kept, more = folding.kept(made)
+        self.assertEqual((kept, more), ([], {1000: 100}))
+        folding.begin_hour()
+        self.assertEqual(len(folding.kept(made)[0]), 16)
+
+    def test_metrics(self):
+        found = "".join(numbers.parts_of("whole 1\n", numbers.Numbers(Counter({"new": 5}), 2, 3.0, 4.0, 1.0, True, 0, 0)))
+        self.assertTrue(found.startswith("whole 1\n"))
+        for line in ('zirofen_watch_told{kind="new"} 5', "zirofen_watch_last_event_timestamp_seconds 3", "zirofen_watch_names_processes 1"):
+            self.assertIn(f"{line}\n", found)
+
+
+class DoersTest(HostTest):
+    def test_who(self):
+        self.host.process(7, uid=1000)
+        os.symlink("/usr/bin/it", f"{self.host.proc}/7/exe")
+        for text, unit in (("0::/system.slice/a.service\n", "a.service"), ("0::/x\n", "cgroup /x"), ("1:cpu:/\n", ""),
+                           ("0::/machine.slice/libpod-0123456789abcdef.scope/container\n", "podman:0123456789ab")):
+            with open(f"{self.host.proc}/7/cgroup", "w", encoding="ascii") as out:
+                out.write(text)
+            self.assertEqual(doer_of(self.host.proc, 7), Doer(7, 1000, "/usr/bin/it", unit))
+        self.assertEqual(doer_of(self.host.proc, 8), Doer(8))
+
+
+class ChildTest(unittest.TestCase):
+    def test_what_it_makes(self):
+        for make, made in ((lambda: {"a": User(1, (2,))}, {"a": User(1, (2,))}),
+                           (lambda: 1 // 0, checks.Failed(repr(ZeroDivisionError("integer division or modulo by zero")))),
+                           (lambda: os._exit(5), checks.Failed("a check ended with 5")),
+                           (lambda: time.sleep(60), checks.Failed("it took longer than 1 seconds, and this is no answer"))):
+            child = checks.Child(make, 1)
+            self.assertEqual(child.made(), made)
+
+
+if __name__ == "__main__":
+    unittest.main()
