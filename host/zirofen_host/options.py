@@ -6,6 +6,7 @@ from typing import NamedTuple, Optional, Tuple
 from zirofen_host.profile import NEWEST, TEXT_FORMATS, CgroupPath, TextFormat
 
 MOUNT, PROC = "/sys/fs/cgroup", "/proc"
+EVERYBODY = -1
 
 
 @dataclass(frozen=True)
@@ -14,7 +15,7 @@ class Options:
     mount: str = MOUNT
     # that cgroup, its ancestors and what is inside it
     only: Optional[CgroupPath] = None
-    # nothing is read inside of what these persons made or hold
+    # nothing is read inside of what these persons made or hold; EVERYBODY is each but root
     shallow: Tuple[int, ...] = ()
     proc: str = PROC
     no_processes: bool = False

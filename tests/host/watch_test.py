@@ -83,7 +83,7 @@ class KernelTest(unittest.TestCase):
             (number,) = source.paths
             with mock.patch.object(kernel.bounded, "read_ready", return_value=watched(-1, LOST) + watched(number, MODIFY, b"file")):
                 found = source.take()
-            self.assertEqual(found, kernel.Told({Event(b"/", b"file", MODIFY, None): 1}, True))
+            self.assertEqual(found, kernel.Told({Event(b"/", b"file", MODIFY, None): 1}, True, {}))
 
     def test_a_mark_that_is_refused(self):
         whys = []
@@ -117,10 +117,10 @@ class ConcernedTest(unittest.TestCase):
 
     def test_whose_a_folder_is(self):
         """The last on the way who isn't root, and of subordinate ids their owner."""
-        uids = {b"/m": 0, b"/m/a": 1000, b"/m/a/b": 0, b"/m/a/c": 100001, b"/m/d": 0}
-        with mock.patch.object(lanes.bounded, "owner_of", side_effect=lambda place: uids[place]):
-            owners = lanes.Owners("/m", lambda uid: 1000 if uid >= 100000 else uid)
-            self.assertEqual([owners.of(path) for path in (b"/", b"/a", b"/a/b", b"/a/c", b"/d")], [0, 1000, 1000, 1000, 0])
+        uids = {b"/a": 1000, b"/a/c": 100001}
+        owners = lanes.Owners(lambda path: uids.get(path, 0), lambda uid: 1000 if uid >= 100000 else uid)
+        self.assertEqual([owners.of(path) for path in (b"/", b"/a", b"/a/b", b"/a/c", b"/d", b"/a/new")], [0, 1000, 1000, 1000, 0, 1000])
+        self.assertEqual((owners.many([b"/a"] * lanes.MANY), owners.many([b"/a"] + [b"/d"] * lanes.MANY)), ([1000], []))
 
 
 class LanesTest(unittest.TestCase):
@@ -157,7 +157,7 @@ class LanesTest(unittest.TestCase):
         for person in range(1, 100):
             all_lanes.of(person, 0.0)
         all_lanes.refill(1.0)
-        self.assertEqual(list(all_lanes.all), [lanes.HOST])
+        self.assertEqual(list(all_lanes.all), [lanes.HOST, lanes.DEEP])
 
     def test_who_did_it(self):
         lane, chmod, chown = lanes.Lane(0, 0.0), Doer(7, 0, "/bin/chmod"), Doer(8)

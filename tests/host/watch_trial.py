@@ -7,6 +7,7 @@ hand, as root, on a machine that may be thrown away:
 With --hostile a user makes and removes cgroups and toggles modes in a loop meanwhile. The last line is 'N passed, M failed'.
 """
 import argparse
+import contextlib
 import os
 import queue
 import shutil
@@ -38,12 +39,12 @@ def run(*words):
 class Watch:
     """A watch that runs, and the lines that it says."""
 
-    def __init__(self, host, mount, *more):
+    def __init__(self, host, mount, word, *more):
         self.process = subprocess.Popen([sys.executable, f"{host}/zirofen-host", "watch", "--mount", mount, *more], text=True,
                                         stdout=subprocess.PIPE)
         self.lines = queue.Queue()
         threading.Thread(target=self.read, daemon=True).start()
-        self.said = self.wait(lambda line: " watch: " in line, 120)
+        self.said = self.wait(lambda line: " watch: " in line and word in line, 120)
 
     def read(self):
         for line in self.process.stdout:
@@ -96,8 +97,9 @@ class Ways:
         os.chmod(f"{self.top}/part/other/cgroup.max.depth", 0o664)
 
     def remove(self):
-        for place, _, _ in os.walk(self.top, topdown=False):
-            os.rmdir(place)
+        for top in (self.top, f"{self.top}-hostile"):
+            for place, _, _ in os.walk(top, topdown=False):
+                os.rmdir(place)
 
     def all(self):
         part, held = f"{self.top}/part", self.held
@@ -151,6 +153,9 @@ def hostile(mount):
         return pid
     os.setgid(HOSTILE)
     os.setuid(HOSTILE)
+    for number in range(10000):
+        with contextlib.suppress(OSError):
+            os.rmdir(f"{place}/{number}")
     while True:
         for number in range(10000):
             os.mkdir(f"{place}/{number}")
@@ -190,7 +195,7 @@ def main():
         ways = Ways(mount, room)
         ways.make()
         enemy = hostile(mount) if given.hostile else None
-        watch = Watch(given.host, mount)
+        watch = Watch(given.host, mount, "is watched" if given.hostile else "were asked of")
         try:
             for name, opened, mended in [way for _ in range(given.rounds) for way in ways.all() if given.only in way[0]]:
                 for what, kinds in ((opened, ("new", "worse")), (mended, ("mended", "gone"))):

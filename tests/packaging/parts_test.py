@@ -16,6 +16,7 @@ import manual
 
 TOP = os.path.dirname(os.path.dirname(os.path.dirname(os.path.abspath(__file__))))
 HERE = f"{TOP}/tools/packaging"
+UNITS = "zirofen-check", "zirofen-watch"
 FILES = [archive.File("usr/bin/it", 0o755, b"it"), archive.File("usr/share/it/text", 0o644, b"text\n")]
 HELP = """Says what it does
 
@@ -92,9 +93,9 @@ class InstalledTest(unittest.TestCase):
         self.addCleanup(room.cleanup)
         self.room = room.name
 
-    def unit(self):
+    def unit(self, name="zirofen-check"):
         """The settings of the service, of those that stand twice the last."""
-        with open(f"{HERE}/systemd/zirofen-check.service", encoding="ascii") as text:
+        with open(f"{HERE}/systemd/{name}.service", encoding="ascii") as text:
             return dict(line.split("=", 1) for line in text.read().splitlines() if "=" in line and line[:1] != "#")
 
     def test_the_unit_calls_the_helper_by_its_path_with_options_that_it_has(self):
@@ -109,7 +110,31 @@ class InstalledTest(unittest.TestCase):
         with open(f"{HERE}/debian/zirofen-check.default", encoding="ascii") as text:
             self.assertEqual([line for line in text.read().splitlines() if line[:1] != "#"], ["OPTIONS="])
         with open(f"{HERE}/debian/zirofen-host/conffiles", encoding="ascii") as text:
-            self.assertEqual(text.read(), f"/{self.unit()['EnvironmentFile'][2:]}\n/etc/zirofen/accept.toml\n")
+            self.assertEqual(text.read(), "".join(f"/{self.unit(name)['EnvironmentFile'][2:]}\n" for name in UNITS) + "/etc/zirofen/accept.toml\n")
+
+    def test_the_watch_begins_with_what_the_check_knows(self):
+        """And waits for no watchdog before it is ready."""
+        check, watch = self.unit()["ExecStart"].split(), self.unit("zirofen-watch")
+        words, helps = watch["ExecStart"].split(), self.host("watch", "--help").stdout
+        self.assertEqual((words[:2], words[-1], watch["Type"]), (["/usr/bin/zirofen-host", "watch"], "$OPTIONS", "notify"))
+        for option in ("--baseline", "--accept"):
+            self.assertEqual(words[words.index(option) + 1], check[check.index(option) + 1])
+        for option in words[2:-1]:
+            self.assertTrue(option[:2] != "--" or f"  {option}" in helps, option)
+        self.assertIn("WatchdogSec", watch)
+        with open(f"{HERE}/debian/zirofen-watch.default", encoding="ascii") as text:
+            self.assertEqual([line for line in text.read().splitlines() if line[:1] != "#"], ["OPTIONS="])
+
+    def test_the_watch_is_confined_as_the_check(self):
+        """By the same settings, but for the calls that tell of events."""
+        with open(f"{HERE}/systemd/zirofen-watch.service", encoding="ascii") as text:
+            filters = [line for line in text.read().splitlines() if line.startswith("SystemCallFilter=")]
+        self.assertEqual(filters, ["SystemCallFilter=@system-service", "SystemCallFilter=~@privileged @resources",
+                                   "SystemCallFilter=fanotify_init fanotify_mark open_by_handle_at"])
+        check, watch = self.unit(), self.unit("zirofen-watch")
+        others = {"Description", "Type", "EnvironmentFile", "ExecStart", "SuccessExitStatus", "TimeoutStartSec", "SystemCallFilter"}
+        self.assertEqual({name: watch.get(name) for name in check if name not in others},
+                         {name: value for name, value in check.items() if name not in others})
 
     def test_the_acceptances_that_are_installed_are_none(self):
         """And what they show behind # is one that is taken."""
@@ -133,10 +158,11 @@ class InstalledTest(unittest.TestCase):
 
     def test_the_unit_is_exposed_by_two_at_most(self):
         """And nothing in it hides what a check by hand sees."""
-        unit = f"{HERE}/systemd/zirofen-check.service"
-        said = subprocess.run(["systemd-analyze", "security", "--offline=true", "--no-pager", "--threshold=20", unit],
-                              capture_output=True, text=True)
-        self.assertEqual(said.returncode, 0, said.stdout + said.stderr)
+        for name in UNITS:
+            unit = f"{HERE}/systemd/{name}.service"
+            said = subprocess.run(["systemd-analyze", "security", "--offline=true", "--no-pager", "--threshold=20", unit],
+                                  capture_output=True, text=True)
+            self.assertEqual(said.returncode, 0, said.stdout + said.stderr)
         settings = self.unit()
         self.assertEqual(settings["CapabilityBoundingSet"], "CAP_DAC_READ_SEARCH CAP_SYS_PTRACE CAP_SYS_ADMIN")
         self.assertLessEqual({"TimeoutStartSec", "MemoryMax", "ReadOnlyPaths"}, settings.keys())

@@ -18,6 +18,7 @@ from zirofen_host.collect.once import Once, Owned
 from zirofen_host.collect.reasons import CHANGED, MountedOver, Reason, Unreadable
 from zirofen_host.fault import Fault
 from zirofen_host.files import CONTROL_FILES, CONTROLLERS, LIMIT_FILES, may_set
+from zirofen_host.options import EVERYBODY
 from zirofen_host.profile import LONGEST_PATH, ROOT, CgroupPath, ancestors, is_name, parent_of, shown, topmost
 
 MANAGERS_MARK, OWNERS_MARK = MARKS = ("trusted.delegate", "user.delegate")
@@ -247,7 +248,7 @@ class Walk:
 
     def children(self, path: CgroupPath, folder: int, names: Iterable[bytes]) -> List[CgroupPath]:
         """The paths below that are to be walked; the others are written down as left out."""
-        if self.hold and self.hold.uid in self.shallow:
+        if self.hold and not self.shallow.isdisjoint((self.hold.uid, EVERYBODY)):
             return []
         is_on_the_way = path in self.on_the_way
         children = []

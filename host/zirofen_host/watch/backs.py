@@ -1,5 +1,5 @@
 """What opened and closed between two checks: told from its events, since nobody could be asked of it."""
-from typing import AbstractSet, Dict, Iterator, Mapping, Tuple
+from typing import AbstractSet, Dict, Iterator, List, Mapping, Tuple
 
 from zirofen_host.profile import CgroupPath, is_inside, path_of, shown, text_of
 from zirofen_host.watch.checks import ENTRIES, Guarded, Result
@@ -18,8 +18,13 @@ class Entries:
         self.all: Dict[CgroupPath, Tuple[Guarded, ...]] = {}
         self.once: Dict[Tuple[Guarded, ...], Tuple[Guarded, ...]] = {}
 
-    def take(self, made: Result) -> None:
-        """Puts those of a check in the place of what it was of."""
+    def owner_of(self, path: CgroupPath) -> int:
+        """Whose a cgroup's folder is; root's, where that isn't known."""
+        found = self.all.get(path)
+        return found[0][1] if found else 0
+
+    def take(self, made: Result) -> List[CgroupPath]:
+        """Puts those of a check in the place of what it was of; the cgroups that went."""
         if made.part.is_whole:
             self.once.clear()
         part = path_of(made.part.path)
@@ -29,6 +34,7 @@ class Entries:
         for path, found in made.entries.items():
             if len(self.all) < MOST or path in self.all:
                 self.all[path] = self.once.setdefault(found, found)
+        return gone
 
     def of(self, place: Place) -> Tuple[Guarded, ...]:
         return entry_in(self.all, place)

@@ -26,7 +26,7 @@ from zirofen_host.installed import NAME
 from zirofen_host.judge import acceptances, check, settings
 from zirofen_host.judge.model import Report
 from zirofen_host.judge.standing import status_text
-from zirofen_host.options import WatchOptions
+from zirofen_host.options import EVERYBODY, WatchOptions
 from zirofen_host.profile import CgroupPath, is_root, text_of
 from zirofen_host.show import metrics
 from zirofen_host.show.run import Run
@@ -46,6 +46,7 @@ class Result(NamedTuple):
     items: Items
     part: Part
     entries: Dict[CgroupPath, Tuple[Guarded, ...]]
+    inodes: Dict[CgroupPath, int]
     has_containers: bool
     status: int
     told: str
@@ -64,13 +65,22 @@ def guarded_of(found: Cgroup) -> Tuple[Guarded, ...]:
     return ("dir", directory.uid, directory.gid, directory.mode), *files
 
 
+def inodes_of(mount: str, paths: Iterable[CgroupPath]) -> Dict[CgroupPath, int]:
+    """The numbers of folders, of those that are still there."""
+    found = {}
+    for path in paths:
+        with contextlib.suppress(OSError):
+            found[path] = os.lstat(os.fsencode(mount) + path).st_ino
+    return found
+
+
 def left_out(snapshot: Snapshot, options: WatchOptions) -> Iterable[str]:
     """The cgroups of those inside of which nothing was read."""
     if not options.shallow:
         return ()
     charged_user = charged_user_of(options.accounts)
     return (text_of(path) for path, found in snapshot.cgroups.items()
-            if found.directory.uid and charged_user(found.directory.uid) in options.shallow)
+            if found.directory.uid and {charged_user(found.directory.uid), EVERYBODY}.intersection(options.shallow))
 
 
 def report_of(options: WatchOptions, taken: Snapshot, is_full: bool, before: settings.Settings) -> Report:
@@ -96,8 +106,9 @@ def look(options: WatchOptions, part: CgroupPath, shallow: Sequence[int], write:
         write(report, seconds)
     asked = Part(text_of(part), frozenset(left_out(taken, options)), frozenset(map(text_of, taken.cgroups)))
     run = Run(report, report.status, None, None, seconds, time.time())
-    return Result(items_of(report), asked, {path: guarded_of(found) for path, found in taken.cgroups.items()}, bool(taken.scopes),
-                  report.status, status_text(report), "".join(metrics.parts_of(run)) if asked.is_whole else "")
+    return Result(items_of(report), asked, {path: guarded_of(found) for path, found in taken.cgroups.items()},
+                  inodes_of(options.mount, taken.cgroups), bool(taken.scopes), report.status, status_text(report),
+                  "".join(metrics.parts_of(run)) if asked.is_whole else "")
 
 
 def sum_of_processes(options: WatchOptions) -> str:

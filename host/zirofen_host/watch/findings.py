@@ -1,9 +1,9 @@
 """What each check found, as it is told: what differs from what was known, when that happened and by whom."""
 import time
 from collections import Counter
-from typing import Callable, NamedTuple, Optional, Set
+from typing import Callable, List, NamedTuple, Optional, Set
 
-from zirofen_host.profile import path_of
+from zirofen_host.profile import CgroupPath, path_of
 from zirofen_host.watch import known, lanes, told
 from zirofen_host.watch.backs import Entries, backs
 from zirofen_host.watch.checks import Result
@@ -12,9 +12,10 @@ from zirofen_host.watch.told import WATCH, Told
 
 
 class Then(NamedTuple):
-    """Whether it takes a check of the whole host to say more, and whether anything was told."""
+    """Whether it takes a check of the whole host to say more, whether anything was told, and which cgroups went."""
     needs_whole: bool
     has_told: bool
+    gone: List[CgroupPath]
 
 
 class Findings:
@@ -53,5 +54,4 @@ class Findings:
         if asked.person == lanes.HOST and not is_first:
             for each in backs(self.entries, made, asked, said):
                 self.tell(each)
-        self.entries.take(made)
-        return Then(compared.needs_whole, bool(kept))
+        return Then(compared.needs_whole, bool(kept), self.entries.take(made))

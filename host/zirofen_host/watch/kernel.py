@@ -1,7 +1,8 @@
 """What a kernel tells of a hierarchy while it changes: events by fanotify, with the process, or by inotify, without it."""
 import ctypes
 import os
-from typing import Callable, Dict, List, NamedTuple, Optional, Tuple, Union
+import time
+from typing import Callable, Dict, List, Mapping, NamedTuple, Optional, Tuple, Union
 
 from zirofen_host.collect import bounded
 from zirofen_host.profile import ROOT, CgroupPath
@@ -12,8 +13,9 @@ LOST, IS_FOLDER = 0x4000, 0x40000000
 WANTED = MODIFY | ATTRIB | CREATE | DELETE
 # bytes of events that are read at once
 PART = 1 << 18
-# folders that are known by what a kernel calls them
-MOST_FOLDERS = 65536
+# folders that are known by what a kernel calls them, and those that are looked up in one turn, and the seconds for that: whoever makes
+# and removes cgroups all the time has each look wait
+MOST_FOLDERS, LOOKED_UP, LOOKING = 65536, 64, 0.02
 AT_FDCWD = -100
 CLOSED_AND_NOT_WAITING = os.O_CLOEXEC | os.O_NONBLOCK
 
@@ -22,6 +24,8 @@ CLOEXEC, NONBLOCK, FOLDER_AND_NAME = 0x1, 0x2, 0xC00
 MARK_ADD, MARK_FILE_SYSTEM = 0x1, 0x100
 HEAD, RECORD, HANDLE = 24, 4, 8
 OF_FOLDER_AND_NAME, OF_FOLDER = 2, 3
+# how the handle of a cgroup begins: eight bytes of the kind that is kernfs's, which are its inode's number
+HANDLE_HEAD = b"\x08\0\0\0\xfe\0\0\0"
 # inotify
 ONLY_FOLDERS, NO_LINKS, IGNORED, WATCH_HEAD = 0x1000000, 0x2000000, 0x8000, 16
 
@@ -36,10 +40,16 @@ class Event(NamedTuple):
     pid: Optional[int]
 
 
+# the handle of a folder, a name, what happened and the PID, with how often
+Record = Tuple[bytes, bytes, int, int]
+Records = Dict[Record, int]
+
+
 class Told(NamedTuple):
-    """Events, each of its kind once, with how many there were, and whether others were lost."""
+    """Events, each of its kind once, with how many there were, and whether others were lost; and those of folders that aren't known."""
     counts: Dict[Event, int]
     is_lost: bool
+    unknown: Records
 
 
 def call(name: str, *words: object) -> int:
@@ -69,7 +79,9 @@ class Fanotify:
 
     def __init__(self, mount: str) -> None:
         self.mount = os.path.realpath(os.fsencode(mount))
-        self.folders: Dict[bytes, Optional[CgroupPath]] = {}
+        self.folders: Dict[bytes, CgroupPath] = {}
+        self.handles: Dict[CgroupPath, bytes] = {}
+        self.left, self.until = 0, 0.0
         self.top = bounded.open_folder(mount, None, bounded.FOLDER & ~os.O_NOFOLLOW)
         self.opened = -1
         try:
@@ -92,17 +104,47 @@ class Fanotify:
         """What is there to be read now, at most one part of it."""
         counts, is_lost = records_of(bounded.read_ready(self.opened, PART))
         told: Dict[Event, int] = {}
-        for (handle, name, mask, pid), count in counts.items():
-            folder = self.folder_of(handle)
-            if folder is not None:
-                event = Event(folder, b"" if name == b"." else name, mask, pid)
+        unknown: Records = {}
+        for record, count in counts.items():
+            event = self.event_of(record)
+            if event is not None:
                 told[event] = told.get(event, 0) + count
-        return Told(told, is_lost)
+            elif not self.may_look:
+                unknown[record] = count
+        return Told(told, is_lost, unknown)
 
-    def folder_of(self, handle: bytes) -> Optional[CgroupPath]:
+    def event_of(self, record: Record) -> Optional[Event]:
+        """What happened where, as far as that folder is known, or may be looked up."""
+        handle, name, mask, pid = record
+        folder = self.folders.get(handle)
+        if folder is None and self.may_look:
+            self.left -= 1
+            folder = self.looked_up(handle)
+        return None if folder is None else Event(folder, b"" if name == b"." else name, mask, pid)
+
+    def begin_turn(self) -> None:
+        """Has folders looked up again, a few."""
+        self.left, self.until = LOOKED_UP, time.monotonic() + LOOKING
+
+    def end_turn(self) -> None:
+        self.left = 0
+
+    @property
+    def may_look(self) -> bool:
+        return self.left > 0 and time.monotonic() < self.until
+
+    def know(self, inodes: Mapping[CgroupPath, int]) -> None:
+        """Knows the folders of cgroups by what their handles have."""
+        for path, inode in inodes.items():
+            self.keep(path, HANDLE_HEAD + inode.to_bytes(8, "little"))
+
+    def keep(self, path: CgroupPath, handle: bytes) -> None:
+        self.forget(path)
+        if len(self.folders) < MOST_FOLDERS:
+            self.folders[handle], self.handles[path] = path, handle
+
+    def looked_up(self, handle: bytes) -> Optional[CgroupPath]:
         """The path of a folder by its handle; one that went before it was asked for has none. No cgroup is renamed."""
-        if handle in self.folders:
-            return self.folders[handle]
         try:
             opened = call("open_by_handle_at", self.top, handle, os.O_PATH | os.O_CLOEXEC)
         except OSError:
@@ -111,26 +153,22 @@ class Fanotify:
             place = os.fsencode(bounded.read_link(f"/proc/self/fd/{opened}"))
         finally:
             os.close(opened)
-        if place.endswith(b" (deleted)"):
-            return None
-        if len(self.folders) >= MOST_FOLDERS:
-            self.folders.clear()
-        self.folders[handle] = within(self.mount, place)
-        return self.folders[handle]
+        path = None if place.endswith(b" (deleted)") else within(self.mount, place)
+        if path is not None:
+            self.keep(path, handle)
+        return path
 
     def watch(self, path: CgroupPath) -> bool:
         """Nothing: all of it is watched."""
         return False
 
     def forget(self, path: CgroupPath) -> None:
-        """Nothing."""
-
-
-Records = Dict[Tuple[bytes, bytes, int, int], int]
+        """Knows no more of a folder that went."""
+        self.folders.pop(self.handles.pop(path, b""), None)
 
 
 def records_of(data: bytes) -> Tuple[Records, bool]:
-    """The events of what fanotify wrote: the handle of a folder, a name, what happened and the PID, with how often."""
+    """The events of what fanotify wrote, and whether others were lost."""
     counts: Records = {}
     place, is_lost = 0, False
     while place + HEAD <= len(data):
@@ -204,7 +242,20 @@ class Inotify:
             elif number in self.paths and mask & WANTED:
                 event = Event(self.paths[number], name, mask & (WANTED | IS_FOLDER), None)
                 counts[event] = counts.get(event, 0) + 1
-        return Told(counts, is_lost)
+        return Told(counts, is_lost, {})
+
+    def know(self, inodes: Mapping[CgroupPath, int]) -> None:
+        """Nothing: folders are known by their watches."""
+
+    def begin_turn(self) -> None:
+        """Nothing."""
+
+    def end_turn(self) -> None:
+        """Nothing."""
+
+    def event_of(self, record: Record) -> Optional[Event]:
+        """None: no folder has a handle here."""
+        return None
 
 
 class FolderWatch:

@@ -4,9 +4,9 @@ What happens is counted for the owner of the folder in which it is, found from t
 is theirs.
 """
 import os
+from collections import Counter
 from typing import Callable, Dict, Iterable, List, NamedTuple, Optional, Tuple
 
-from zirofen_host.collect import bounded
 from zirofen_host.collect.bounded import ChargedUser
 from zirofen_host.profile import ROOT, CgroupPath, is_inside, parent_of
 from zirofen_host.watch.doers import Doer
@@ -20,7 +20,10 @@ SHARE, AT_ONCE = 0.1, 6.0
 MOST_TOUCHED, MOST_DOERS = 512, 4
 # files that matter when they are written: which limit files there are, what of limits makes a subtree too large, and of which type it is
 WRITTEN = {b"cgroup.subtree_control", b"cgroup.max.depth", b"cgroup.max.descendants", b"cgroup.type"}
-HOST = 0
+# root's lane, and that of checks of the whole host, which are nobody's
+HOST, DEEP = 0, -1
+# cgroups from which on what somebody holds is asked of in their own lane, and each hour
+MANY = 512
 DIRECTORY = "dir"
 
 Place = Tuple[CgroupPath, str]
@@ -61,25 +64,27 @@ class Touched(NamedTuple):
 
 
 class Owners:
-    """To whom a folder is charged, as its owners are now."""
+    """To whom a folder is charged, as checks found it: nobody is asked again for each event. One that no check found is of who has what
+    is above it."""
 
-    def __init__(self, mount: str, charged_user: ChargedUser) -> None:
-        self.mount, self.charged_user = os.fsencode(mount).rstrip(b"/"), charged_user
+    def __init__(self, owner_of: Callable[[CgroupPath], int], charged_user: ChargedUser) -> None:
+        self.owner_of, self.charged_user = owner_of, charged_user
         self.known: Dict[CgroupPath, int] = {}
 
     def forget(self) -> None:
         self.known.clear()
 
+    def many(self, paths: Iterable[CgroupPath]) -> List[int]:
+        """Who has many cgroups."""
+        counts = Counter(map(self.of, paths))
+        return [person for person, number in counts.items() if person != HOST and number >= MANY]
+
     def of(self, path: CgroupPath) -> int:
         """The last on the way to a folder who isn't root."""
         if path not in self.known:
             above = parent_of(path)
-            person = HOST if above is None else self.of(above)
-            try:
-                uid = bounded.owner_of(self.mount + path) if above is not None else HOST
-            except OSError:
-                uid = HOST
-            self.known[path] = self.charged_user(uid) if uid else person
+            uid = HOST if above is None else self.owner_of(path)
+            self.known[path] = self.charged_user(uid) if uid else HOST if above is None else self.of(above)
         return self.known[path]
 
 
@@ -176,13 +181,17 @@ class Lanes:
     """All lanes, by person."""
 
     def __init__(self, now: float) -> None:
-        self.all: Dict[int, Lane] = {HOST: Lane(HOST, now)}
+        self.all: Dict[int, Lane] = {HOST: Lane(HOST, now), DEEP: Lane(DEEP, now)}
         # who has had more than is asked of, and was named
         self.named: List[int] = []
 
     @property
     def host(self) -> Lane:
         return self.all[HOST]
+
+    @property
+    def deep(self) -> Lane:
+        return self.all[DEEP]
 
     def of(self, person: int, now: float) -> Lane:
         if person not in self.all:
@@ -193,12 +202,13 @@ class Lanes:
         """Gives each their share, and forgets whoever has all of it and nothing that waits."""
         for person, lane in list(self.all.items()):
             lane.refill(now)
-            if person != HOST and lane.part is None and not lane.is_running and lane.left >= AT_ONCE:
+            if person > HOST and lane.part is None and not lane.is_running and lane.left >= AT_ONCE:
                 del self.all[person]
 
     def shallow(self, person: int) -> Tuple[int, ...]:
         """The others who have more than is asked of: inside of theirs nothing is read for anybody else."""
-        return tuple(sorted(each for each, lane in self.all.items() if each not in (HOST, person) and (lane.is_waiting or lane.is_running)))
+        others = ((each, lane) for each, lane in self.all.items() if each > HOST and each != person)
+        return tuple(sorted(each for each, lane in others if lane.is_waiting or lane.is_running))
 
     def newly_waiting(self) -> Iterable[int]:
         """Whoever has more than is asked of now, each once."""

@@ -5,32 +5,32 @@ import select
 import signal
 import socket
 import time
-from typing import Callable, Dict, List, NamedTuple, Optional, Set, Union
+from typing import Callable, Dict, List, NamedTuple, Optional, Sequence, Set, Union
 
 from zirofen_host import fault
 from zirofen_host.collect import bounded
 from zirofen_host.collect.accounts import charged_user_of
 from zirofen_host.collect.looks import why_of
 from zirofen_host.judge.model import Report
-from zirofen_host.options import WatchOptions
+from zirofen_host.options import EVERYBODY, WatchOptions
 from zirofen_host.profile import ROOT, CgroupPath, path_of, shown, text_of
 from zirofen_host.watch import checks, known, lanes
 from zirofen_host.watch.checks import Child, Failed, Result
-from zirofen_host.watch.doers import Doer, doer_of
+from zirofen_host.watch.events import Events
 from zirofen_host.watch.findings import Findings
-from zirofen_host.watch.kernel import CREATE, IS_FOLDER, FolderWatch, source_of
+from zirofen_host.watch.kernel import CREATE, FolderWatch, source_of
 from zirofen_host.watch.lanes import Asked, Lane, Lanes
 from zirofen_host.watch.numbers import Numbers
 from zirofen_host.watch.told import LIMIT, WATCH, Told
 
 # seconds from one reading of processes, and from one check of the whole host, to the next
 MINUTE, HOUR = 60.0, 3600.0
-# seconds from one read of events to the next, so that alike ones are one; and parts that are read at once
-BETWEEN_READS, PARTS = 0.05, 16
+# seconds from one check of the whole host that a check of a part asked for to the next
+AFTER_DEEP = 5.0
 # seconds until a container that was made is looked at once more
 SETTLING = 1.0
-# processes that are looked up after one read, and checks that run beside root's
-LOOKED_UP, BESIDE = 32, 4
+# checks that run beside root's
+BESIDE = 4
 # seconds that a check may take
 SECONDS = 600
 ACCOUNTS = (b"passwd", b"group", b"subuid", b"subgid")
@@ -60,6 +60,7 @@ class Running(NamedTuple):
     asked: Asked
     lane: Lane
     is_written: bool
+    began: float
 
 
 class Loop:
@@ -70,18 +71,19 @@ class Loop:
         self.findings = Findings(outside.tell, baseline)
         self.poll = select.poll()
         self.lanes = Lanes(time.monotonic())
-        self.owners = lanes.Owners(options.mount, charged_user_of(options.accounts))
+        self.owners = lanes.Owners(self.findings.entries.owner_of, charged_user_of(options.accounts))
         self.running: Dict[int, Running] = {}
         self.reading: Optional["Child[str]"] = None
         self.processes, self.mounts = "", checks.mounts_told(options)
-        self.has_begun = self.is_ending = self.is_asked_for_forms = self.is_listening = False
+        self.has_begun = self.is_ending = self.is_asked_for_forms = self.is_listening = self.has_surveyed = False
         now = time.monotonic()
-        self.next_read, self.next_minute, self.next_hour = now, now + MINUTE, now + HOUR
-        self.next_lost, self.next_word = now, now
+        self.next_minute, self.next_hour = now + MINUTE, now + HOUR
+        self.next_lost, self.next_word, self.next_deep = now, now, now
         self.limits: Set[str] = set()
-        self.began, self.last_event, self.last_check, self.lost = time.time(), 0.0, 0.0, 0
+        self.began, self.last_check, self.lost = time.time(), 0.0, 0
         self.metrics = ""
-        self.source = source_of(options.mount, options.plain_folder, self.without_pids)
+        self.events = Events(source_of(options.mount, options.plain_folder, self.without_pids), options.proc, self.lanes, self.owners)
+        self.source = self.events.source
         self.accounts = FolderWatch(options.accounts or "/etc", ACCOUNTS)
         self.mountinfo = -1 if options.plain_folder else bounded.open_named("/proc/self/mountinfo")
         self.woken, self.waker = socket.socketpair()
@@ -118,8 +120,9 @@ class Loop:
     def run(self) -> None:
         """Watches until a signal ends it."""
         self.source.watch(ROOT)
-        self.lanes.host.ask_whole(time.monotonic(), "the first check")
-        self.lanes.host.first -= lanes.LONGEST_BURST
+        for lane, is_whole in ((self.lanes.host, False), (self.lanes.deep, True)):
+            lane.ask_whole(time.monotonic(), "the first check", is_whole)
+            lane.first -= lanes.LONGEST_BURST
         while not self.is_ending:
             self.turn()
         self.end()
@@ -129,14 +132,14 @@ class Loop:
         for opened, happened in self.poll.poll(self.milliseconds()):
             self.ready(opened)
         now = time.monotonic()
-        if now >= self.next_read:
-            self.read_events(now)
+        if now >= self.events.next_read and self.events.read(now):
+            self.events_were_lost(now)
         self.by_the_clock(now)
         self.lanes.refill(now)
         self.name_who_waits()
         self.start_checks(now)
         self.outside.go_on()
-        if now >= self.next_word and self.has_begun:
+        if now >= self.next_word and self.has_surveyed:
             self.next_word = now + (self.outside.within or MINUTE)
             self.outside.manager("WATCHDOG=1")
 
@@ -145,11 +148,9 @@ class Loop:
         now = time.monotonic()
         due = (lane.due() for lane in self.lanes.all.values())
         whens = [self.next_minute, self.next_hour, self.next_word, *(when for when in due if when is not None)]
-        if self.next_read > now:
-            whens.append(self.next_read)
-            self.listen(False)
-        else:
-            self.listen(True)
+        self.listen(self.events.next_read <= now)
+        if not self.is_listening:
+            whens.append(self.events.next_read)
         return max(min(whens) - now, 0.0) * 1000 + 1
 
     def listen(self, is_listening: bool) -> None:
@@ -176,8 +177,8 @@ class Loop:
         elif self.reading and opened == self.reading.fileno():
             self.has_read()
 
-    def ask_whole(self, why: str, is_whole: bool = False) -> None:
-        self.lanes.host.ask_whole(time.monotonic(), why, is_whole)
+    def ask_whole(self, why: str) -> None:
+        self.lanes.host.ask_whole(time.monotonic(), why, False)
 
     def look_at_mounts(self) -> None:
         found = checks.mounts_told(self.options)
@@ -185,38 +186,7 @@ class Loop:
             self.mounts = found
             self.ask_whole("mounts changed")
 
-    # events
-
-    def read_events(self, now: float) -> None:
-        """Reads what there is of events, each of which goes to the lane of whose folder it is in."""
-        self.owners.forget()
-        doers: Dict[int, Optional[Doer]] = {}
-        for _ in range(PARTS):
-            read = self.source.take()
-            if read.counts or read.is_lost:
-                self.next_read = now + BETWEEN_READS
-            if read.is_lost:
-                self.events_were_lost(now)
-            if not read.counts:
-                return
-            for event, count in read.counts.items():
-                part = lanes.concerned(event)
-                if part is None:
-                    continue
-                self.last_event = time.time()
-                lane = self.lanes.of(self.owners.of(event.folder), now)
-                lane.add(part, now)
-                lane.touch(event, count, self.last_event, self.doer(event.pid, doers))
-                if event.mask & CREATE and event.mask & IS_FOLDER:
-                    self.source.watch(part)
-
-    def doer(self, pid: Optional[int], doers: Dict[int, Optional[Doer]]) -> Optional[Doer]:
-        """Who did something, looked up once for each read."""
-        if not pid:
-            return None
-        if pid not in doers:
-            doers[pid] = doer_of(self.options.proc, pid) if len(doers) < LOOKED_UP else Doer(pid)
-        return doers[pid]
+    # what is asked
 
     def events_were_lost(self, now: float) -> None:
         """Has all of it asked again, at most once in a minute."""
@@ -225,8 +195,6 @@ class Loop:
         if now >= self.next_lost:
             self.next_lost = now + MINUTE
             self.ask_whole("events were lost")
-
-    # what is asked
 
     def by_the_clock(self, now: float) -> None:
         if now >= self.next_minute:
@@ -241,12 +209,11 @@ class Loop:
             self.limits.clear()
             self.lanes.named.clear()
             self.findings.begin_hour()
-            self.ask_whole("the hourly check", True)
-        if self.is_asked_for_forms and not any(each.is_written for each in self.running.values()) and not self.lanes.host.is_running:
+            self.lanes.deep.ask_whole(now, "the hourly check")
+        if self.is_asked_for_forms and not self.lanes.deep.is_running:
             self.is_asked_for_forms = False
-            self.ask_whole("a signal asked for all of it", True)
-            self.lanes.host.first -= lanes.LONGEST_BURST
-            self.start(self.lanes.host, self.outside.write)
+            self.lanes.deep.ask_whole(now, "a check of all of it that a signal asked for")
+            self.start(self.lanes.deep, self.outside.write)
 
     def name_who_waits(self) -> None:
         for person in self.lanes.newly_waiting():
@@ -255,24 +222,32 @@ class Loop:
 
     def start_checks(self, now: float) -> None:
         """Starts each check that is due."""
-        beside = sum(each.lane.person != lanes.HOST for each in self.running.values())
+        beside = sum(each.lane.person > lanes.HOST for each in self.running.values())
         while True:
-            lane = self.lanes.next(lambda each: each.person == lanes.HOST or beside < BESIDE)
+            lane = self.lanes.next(lambda each: each.person <= lanes.HOST or beside < BESIDE)
             due = lane.due() if lane else None
             if lane is None or due is None or due > now:
                 return
-            beside += lane.person != lanes.HOST
+            beside += lane.person > lanes.HOST
             self.start(lane)
 
     def start(self, lane: Lane, write: Optional[Write] = None) -> None:
         asked = lane.take()
-        shallow = () if asked.is_whole else self.lanes.shallow(lane.person)
+        shallow = () if asked.is_whole else self.shallow(lane)
         part = asked.part if self.is_there(asked.part) else self.nearest(asked.part)
         asked = asked._replace(part=part)
+        began = time.monotonic()
         look = functools.partial(checks.look, self.options, part, shallow, write, write is not None and self.outside.is_full)
         child: "Child[Result]" = Child(look, self.options.seconds or SECONDS)
-        self.running[child.fileno()] = Running(child, asked, lane, write is not None)
+        self.running[child.fileno()] = Running(child, asked, lane, write is not None, began)
         self.poll.register(child.fileno(), select.POLLIN)
+
+    def shallow(self, lane: Lane) -> Sequence[int]:
+        """Inside of whose nothing is read: at first of everybody's, and then of theirs who have much of their own, or wait for it."""
+        if not self.has_surveyed and lane.person == lanes.HOST:
+            return (EVERYBODY,)
+        many = self.owners.many(self.findings.entries.all) if lane.person == lanes.HOST else ()
+        return sorted({*self.lanes.shallow(lane.person), *many})
 
     def is_there(self, path: CgroupPath) -> bool:
         return path == ROOT or os.path.isdir(os.fsencode(self.options.mount) + path)
@@ -291,7 +266,7 @@ class Loop:
         self.poll.unregister(opened)
         made = run.child.made()
         run.lane.is_running = False
-        run.lane.spend(0.0 if run.asked.is_whole else run.child.seconds)
+        run.lane.spend(0.0 if run.lane.person == lanes.DEEP else run.child.seconds)
         if isinstance(made, Failed):
             self.failed(run, made)
             return
@@ -303,31 +278,39 @@ class Loop:
             # what runs in one comes behind its cgroup
             run.lane.add(run.asked.part, time.monotonic() + SETTLING - lanes.QUIET)
         self.count()
-        if not self.has_begun:
-            self.begin(made)
 
-    def begin(self, made: Result) -> None:
-        self.has_begun = True
-        self.say(WATCH, f"{len(made.part.there)} cgroups of {shown(self.options.mount)} are watched"
-                        f"{'' if self.source.has_pids else ', without who does it'}; {made.told}")
-        self.outside.manager("READY=1", "STATUS=the first check is done")
+    def begin(self, run: Running, made: Result) -> None:
+        """The first check of what is root's is behind it, or that of all of it."""
+        if run.lane.person == lanes.HOST:
+            self.has_surveyed = True
+            self.say(WATCH, f"{shown(self.options.mount)} is watched{'' if self.source.has_pids else ', without who does it'}")
+            self.outside.manager("READY=1", "STATUS=watching")
+        else:
+            self.has_begun = True
+            self.say(WATCH, f"{len(made.part.there)} cgroups were asked of; {made.told}")
 
     def failed(self, run: Running, failed: Failed) -> None:
-        """A check that found nothing is told, and all is asked once more; the first has to find something."""
-        if not self.has_begun:
+        """A check that found nothing is told, and its part is asked once more; the first has to find something."""
+        if not self.has_surveyed:
             raise fault.Fault(failed.why)
         if not self.is_there(run.asked.part):
             run.lane.add(self.nearest(run.asked.part), time.monotonic())
             return
         self.limit(f"check {failed.why}", f"a check of {shown(text_of(run.asked.part))} found nothing: {failed.why}")
-        run.lane.add(ROOT, time.monotonic() + MINUTE)
+        self.has_begun |= run.lane.person == lanes.DEEP
+        run.lane.add(run.asked.part, time.monotonic() + MINUTE)
 
     def compare(self, run: Running, made: Result) -> None:
         """Has what differs told, and asks more where that takes it."""
-        then = self.findings.take(run.asked, made, not self.has_begun)
-        if then.needs_whole:
-            run.lane.give_back(run.asked)
-            run.lane.ask_whole(time.monotonic(), "a check of the whole host")
+        is_first = run.lane.person == lanes.HOST and not self.has_surveyed or run.lane.person == lanes.DEEP and not self.has_begun
+        then = self.findings.take(run.asked, made, is_first)
+        self.events.know(made.inodes, then.gone, run.began)
+        if is_first:
+            self.begin(run, made)
+        elif then.needs_whole:
+            self.lanes.deep.give_back(run.asked)
+            self.lanes.deep.ask_whole(max(time.monotonic(), self.next_deep), "a check of the whole host")
+            self.next_deep = time.monotonic() + AFTER_DEEP
         elif then.has_told and not made.part.is_whole and self.outside.leave_numbers:
             run.lane.ask_whole(time.monotonic(), "a check that counts what stands", False)
 
@@ -338,7 +321,7 @@ class Loop:
         fresh = [path for path in map(path_of, made.part.there) if self.source.watch(path)]
         if self.source.is_short:
             self.limit("watches", "not every cgroup is watched: inotify has no more watches (fs.inotify.max_user_watches)")
-        if fresh and self.has_begun:
+        if fresh and self.has_surveyed:
             run.lane.add(run.asked.part, time.monotonic())
 
     def has_read(self) -> None:
@@ -359,7 +342,7 @@ class Loop:
     def count(self) -> None:
         if self.outside.leave_numbers and self.metrics:
             waiting = sum(lane.is_waiting for lane in self.lanes.all.values())
-            numbers = Numbers(self.findings.counts, len(known.standing(self.findings.known)), self.last_event, self.last_check, self.began,
+            numbers = Numbers(self.findings.counts, len(known.standing(self.findings.known)), self.events.last, self.last_check, self.began,
                               self.source.has_pids, self.lost, waiting)
             try:
                 self.outside.leave_numbers(self.metrics, numbers)
@@ -374,7 +357,7 @@ class Loop:
             child.ask_to_end()
             child.made()
         self.running.clear()
-        if self.outside.is_written_at_end and self.has_begun:
+        if self.outside.is_written_at_end and self.has_surveyed:
             lane = Lane(lanes.HOST, time.monotonic())
             lane.ask_whole(time.monotonic(), "the last check")
             self.start(lane, self.outside.write)
