@@ -120,12 +120,15 @@ class Loop:
     def run(self) -> None:
         """Watches until a signal ends it."""
         self.source.watch(ROOT)
-        for lane, is_whole in ((self.lanes.host, False), (self.lanes.deep, True)):
-            lane.ask_whole(time.monotonic(), "the first check", is_whole)
-            lane.first -= lanes.LONGEST_BURST
+        self.begin_with(self.lanes.host, False)
         while not self.is_ending:
             self.turn()
         self.end()
+
+    def begin_with(self, lane: Lane, is_whole: bool) -> None:
+        """A first check: of what is root's, so that events have somebody to go to, and then of all of it."""
+        lane.ask_whole(time.monotonic(), "the first check", is_whole)
+        lane.first -= lanes.LONGEST_BURST
 
     def turn(self) -> None:
         """Waits for what comes next, and does it."""
@@ -285,6 +288,7 @@ class Loop:
             self.has_surveyed = True
             self.say(WATCH, f"{shown(self.options.mount)} is watched{'' if self.source.has_pids else ', without who does it'}")
             self.outside.manager("READY=1", "STATUS=watching")
+            self.begin_with(self.lanes.deep, True)
         else:
             self.has_begun = True
             self.say(WATCH, f"{len(made.part.there)} cgroups were asked of; {made.told}")
