@@ -56,6 +56,12 @@ def bound_anew(seconds: int) -> Optional[int]:
     return _Clock.seconds
 
 
+def unbound() -> None:
+    """Has this process run for as long as it likes; what it starts may have a bound."""
+    signal.alarm(0)
+    _Clock.end = _Clock.end_of_asking = _Clock.seconds = None
+
+
 def seconds_left() -> Optional[float]:
     """The seconds that what is started now may take, where there is a bound."""
     return None if _Clock.end is None else max(_Clock.end - time.monotonic(), 0.0)

@@ -29,7 +29,8 @@ class RunTest(HostTest):
         """A watch that runs, once it watches all of it."""
         told = [sys.executable, COMMAND, "watch", "--plain-folder", "--mount", self.host.mount, "--proc", self.host.proc, "--accounts",
                 self.host.etc, "--zirofen", PROGRAM, *words]
-        self.process = subprocess.Popen(told, stdout=subprocess.PIPE, stderr=subprocess.STDOUT, text=True, env={**os.environ, **environment})
+        self.process = subprocess.Popen(told, stdout=subprocess.PIPE, stderr=subprocess.STDOUT, text=True,
+                                        env={**os.environ, **environment})
         self.addCleanup(self.process.stdout.close)
         self.addCleanup(self.process.wait)
         self.addCleanup(self.process.kill)

@@ -239,6 +239,12 @@ class KnownTest(unittest.TestCase):
         then = {("entry", "/a/b", "dir"): item("/a/b"), key: item("/", lets_in=[("subtree", "/a/b")])}
         self.assertEqual(self.kinds(then, {key: item("/")}, part), ([], then, False))
 
+    def test_a_check_that_took_long_knows_less_than_one_behind_it(self):
+        """Of what was asked meanwhile nothing is told by it."""
+        part = WHOLE._replace(since=(known.Asked("/a", frozenset({"/a/b"})),))
+        then = {("entry", "/a", "dir"): item("/a"), ("entry", "/a/b", "dir"): item("/a/b")}
+        self.assertEqual(self.kinds(then, {("opened", "/a", "x"): item("/a")}, part)[0], [("mended", "/a/b")])
+
     def test_rows_of_subtrees_are_told_by_what_they_rest_on(self):
         now = {("entry", "/", "cgroup.procs"): item("/", lets_in=[("subtree", "/a")]), ("subtree", "/a", ""): item("/a"),
                ("subtree", "/c", ""): item("/c", Severity.CONTAINED)}

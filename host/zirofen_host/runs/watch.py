@@ -28,7 +28,7 @@ def run(given: argparse.Namespace) -> int:
     options = WatchOptions(**vars(given))
     options = dataclasses.replace(options, program=program_at(options.program))
     # each check has a bound of its own
-    fault.bound(None)
+    fault.unbound()
     if not options.plain_folder:
         refuse_what_is_no_host(options.mount)
     ways = ways_of(options)

@@ -31,7 +31,7 @@ class Events:
         self.unknown: List[Unknown] = []
         self.next_read, self.last = 0.0, 0.0
 
-    def read(self, now: float) -> bool:
+    def take(self, now: float) -> bool:
         """Reads what there is of events, each of which goes to the lane of whose folder it is in; whether some were lost."""
         is_lost = False
         doers: Dict[int, Optional[Doer]] = {}

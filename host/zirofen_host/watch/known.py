@@ -27,21 +27,39 @@ class Change(NamedTuple):
     difference: Difference
 
 
+class Asked(NamedTuple):
+    """A cgroup with what is inside, but not inside of some others."""
+    path: str
+    without: FrozenSet[str]
+
+    def has(self, path: str) -> bool:
+        return is_inside(path, self.path) and not any(is_inside(path, top) for top in self.without)
+
+
 class Part(NamedTuple):
-    """What was asked again: a cgroup with what is inside, but not inside of some others; and the cgroups that stand there."""
+    """What was asked again, and the cgroups that stand there; and what was asked once more since then, by checks that ended before."""
     path: str
     without: FrozenSet[str]
     there: FrozenSet[str]
+    since: Tuple[Asked, ...] = ()
 
     @property
     def is_whole(self) -> bool:
-        return is_root(self.path) and not self.without
+        return is_root(self.path) and not self.without and not self.since
+
+    @property
+    def asked(self) -> Asked:
+        return Asked(self.path, self.without)
 
     def has(self, path: str) -> bool:
-        return is_inside(path, self.path) and not self.is_left(path)
+        return self.asked.has(path) and not self.is_old(path)
 
     def is_left(self, path: str) -> bool:
-        return any(is_inside(path, top) for top in self.without)
+        return not self.has(path)
+
+    def is_old(self, path: str) -> bool:
+        """Whether something newer is known of a cgroup."""
+        return any(each.has(path) for each in self.since)
 
 
 class Compared(NamedTuple):
@@ -106,6 +124,8 @@ def compared(known: Items, now: Items, part: Part) -> Compared:
     told: Set[str] = set()
     for key in sorted({*known, *now}):
         mine, then = now.get(key), known.get(key)
+        if any(each is not None and part.is_old(each.path) for each in (mine, then)):
+            continue
         is_asked = any(each is not None and part.has(each.path) for each in (mine, then))
         kind = kind_within(mine, then, part) if is_asked else kind_above(mine, then)
         if not part.is_whole and kind in (NEW, WORSE) and mine and mine.found.severity is Severity.UNSETTLED:

@@ -5,7 +5,7 @@ import select
 import signal
 import socket
 import time
-from typing import Callable, Dict, List, NamedTuple, Optional, Sequence, Set, Union
+from typing import Callable, Dict, List, NamedTuple, Optional, Sequence, Set, Tuple, Union
 
 from zirofen_host import fault
 from zirofen_host.collect import bounded
@@ -73,6 +73,8 @@ class Loop:
         self.lanes = Lanes(time.monotonic())
         self.owners = lanes.Owners(self.findings.entries.owner_of, charged_user_of(options.accounts))
         self.running: Dict[int, Running] = {}
+        # what was asked while another check runs that began before, with when
+        self.done: List[Tuple[float, known.Asked]] = []
         self.reading: Optional["Child[str]"] = None
         self.processes, self.mounts = "", checks.mounts_told(options)
         self.has_begun = self.is_ending = self.is_asked_for_forms = self.is_listening = self.has_surveyed = False
@@ -135,7 +137,7 @@ class Loop:
         for opened, happened in self.poll.poll(self.milliseconds()):
             self.ready(opened)
         now = time.monotonic()
-        if now >= self.events.next_read and self.events.read(now):
+        if now >= self.events.next_read and self.events.take(now):
             self.events_were_lost(now)
         self.by_the_clock(now)
         self.lanes.refill(now)
@@ -274,6 +276,9 @@ class Loop:
             self.failed(run, made)
             return
         self.last_check = time.time()
+        made = made._replace(part=made.part._replace(since=tuple(asked for began, asked in self.done if began > run.began)))
+        oldest = min((each.began for each in self.running.values()), default=time.monotonic())
+        self.done = [(began, asked) for began, asked in (*self.done, (run.began, made.part.asked)) if began > oldest]
         self.metrics = made.metrics or self.metrics
         self.compare(run, made)
         self.watch_all(run, made)
