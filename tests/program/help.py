@@ -366,8 +366,30 @@ def modes():
         yield Row(CHECK, None, (), edited("mode = 0o644", f"mode = {spelled}"))
     yield Row(CHECK, None, (), edited("files = {", "# mode = 400\nfiles = {"))
     yield Row(CHECK, None, [said], edited("files = {", "# mode = 500\ndir.mode = 400\nfiles = {").replace("dir = {", "#"))
+    # a path or a key in quotes may have the word, or a number sign, in it
+    for named, helps in (("'/mode=400'", ()), ('"/a-\\u0022mode=400"', ()), ("'/a#'", [said]), ('"""/a#"""', [said])):
+        yield Row(CHECK, None, helps, tree_with(named, "mode = 400" if helps else "mode = 0o755"))
     # below a fault its own help alone
     yield Row(subtree("/c9"), "subtree missing", ["the nearest is '/c0'"], tree)
+
+
+def tree_with(path, mode):
+    """The tree with a row of a path in front of those that it has, which is spelled like that, and of a mode."""
+    return TREE.replace("[[process]]", f"[[cgroup]]\npath = {path}\ndir = {{ uid = 1000, gid = 1000, {mode} }}\n[[process]]", 1)
+
+
+def missing_paths():
+    """What is said beside an answer of `may` of a cgroup that the tree doesn't have."""
+    to = MAY[:-1]
+    said = "'/c9' has to be the path of a row of the tree"
+    yield Row([*to, "/c9"], None, [f"{said}; the nearest is '/c0'"])
+    yield Row(["may", "--uid", "1001", "--pid", "11", "--to", "/c9"], None, [f"{said}; the nearest is '/c0'"])
+    yield Row([*to, "/nowhere"], None, ["'/nowhere' has to be the path of a row of the tree"])
+    yield Row([*to, "/sys/fs/cgroup/c0"], None, ["'/sys/fs/cgroup/c0' begins with the mount"])
+    yield Row([*to, "/c9"], None, [said, "mode 400 is 0o620"], edited("mode = 0o644", "mode = 400"))
+    yield Row(MAY, None, ())
+    yield Row([*to, "/"], None, ())
+    yield Row([*to, "c9"], "path", ["a path begins with /"])
 
 
 def terminals():
@@ -477,7 +499,7 @@ def operations_of_format_4():
 
 
 def rows(_):
-    yield from (*command_lines(), *arguments(), *trees(), *strangers(), *modes(), *terminals(), *slips(), *pairs(), *operations())
+    yield from (*command_lines(), *arguments(), *trees(), *strangers(), *modes(), *missing_paths(), *terminals(), *slips(), *pairs(), *operations())
 
 
 if __name__ == "__main__":

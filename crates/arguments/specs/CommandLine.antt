@@ -68,9 +68,15 @@ upgrade_command = command_with (codes "upgrade") (word_option (codes "tree") ∷
 abbrev pub program_command : Shape
 program_command = record (new_shape (codes "zirofen")) { has_version = true; subcommand_required = true }
 
-abbrev pub command_line : App
-command_line = record {
+-- with the commands that judge
+abbrev pub with_judgements : App
+with_judgements = record {
   top = record program_command { is_leaf = false };
-  subs = may_command ∷ subtree_command (codes "check") ∷ subtree_command (codes "settle") ∷ audit_command ∷ explain_command
-      ∷ advise_command ∷ replay_command ∷ upgrade_command ∷ [];
+  subs = may_command ∷ subtree_command (codes "check") ∷ subtree_command (codes "settle") ∷ audit_command ∷ [];
+}
+
+-- and with those that say why or what to do, and those that go over a text
+abbrev pub command_line : App
+command_line = record with_judgements {
+  subs = with_judgements.subs ++ explain_command ∷ advise_command ∷ replay_command ∷ upgrade_command ∷ [];
 }

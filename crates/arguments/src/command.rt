@@ -2,21 +2,25 @@
 ghost use Rattle.std.specs.Prelude.{◌≡◌, [], ◌∷◌, IfOk, codes};
 ghost use Rattle.clap.specs.Words.{app_of};
 ghost use Rattle.arguments.specs.Building.{IsOption, IsCommand};
-ghost use Rattle.arguments.specs.CommandLine.{word_option, number_option, flag, needed, program_command, command_with, of_user, may_command, subtree_command, audit_command, explain_command, advise_named, advise_command, replay_command, upgrade_command, command_line};
+ghost use Rattle.arguments.specs.CommandLine.{word_option, number_option, flag, needed, program_command, command_with, of_user, may_command, subtree_command, audit_command, explain_command, advise_named, advise_command, replay_command, upgrade_command, with_judgements, command_line};
 
 use clap::{Arg, ArgAction, Command, value_parser};
 use std::alloc::{AllocError, Global};
 
 const HELP: &str = "\
-Status: 3 where the answer is a fault, whose line comes first on standard error; else each command's --help tells.
+Status: 3 where the answer is a fault, whose line is the first on standard error that doesn't begin with a space; else each
+command's --help tells.
 `fault: usage` means that the command line isn't as --help says.
-zirofen-tree(5) and zirofen(1), or docs/FORMATS.md, have the formats of trees and operations, and every line that is written.
+zirofen-tree(5) and zirofen(1), or docs/FORMATS.md, have the formats of trees and operations, and every line of
+an answer and of a fault.
 Where the package is installed, docs/ and examples/ are in /usr/share/doc/zirofen, and zirofen-host(8) describes this host.";
 
 const MAY_HELP: &str = "\
 Status: 0 granted, 1 refused, 3 a fault
-`fault: usage` means that the command line isn't as it says above; a PID that is a number and no PID is `fault: pid`.
-zirofen-tree(5) and zirofen(1), or docs/FORMATS.md, have the tree's format, and every line that is written.
+Of a PATH that the tree doesn't have standard error names the nearest that it has, where one is near.
+`fault: usage` means that the command line isn't as it says above; a PID that is a number up to
+4294967295 and no PID is `fault: pid`.
+zirofen-tree(5) and zirofen(1), or docs/FORMATS.md, have the tree's format, and every line of an answer and of a fault.
 
 Example:
   zirofen may --tree examples/delegation.toml --uid 1000 --pid 11 --to /c0/c01
@@ -32,7 +36,7 @@ threads in the one cgroup that the text gives, and nobody holds an entry open fr
 of the user, one a line, that break it in turn; none where it is broken as it stands. `unsettled` names the first guard that
 fails and where it stands: nothing is shown, and none of the tries breaks anything.
 `fault: usage` means that the command line isn't as it says above.
-zirofen-tree(5) and zirofen(1), or docs/FORMATS.md, have the tree's format, and every line that is written.
+zirofen-tree(5) and zirofen(1), or docs/FORMATS.md, have the tree's format, and every line of an answer and of a fault.
 
 Example:
   zirofen check --tree examples/delegation-limit-writable.toml --uid 1000 --subtree /c0
@@ -49,7 +53,7 @@ a second row of guards: where others only move, fork and end processes meanwhile
 has below it operations of the user, one a line, that were planned, carried out in the tree, and break the subtree by the last;
 and else `unsettled` says what check does.
 `fault: usage` means that the command line isn't as it says above.
-zirofen-tree(5) and zirofen(1), or docs/FORMATS.md, have the tree's format, and every line that is written.
+zirofen-tree(5) and zirofen(1), or docs/FORMATS.md, have the tree's format, and every line of an answer and of a fault.
 
 Example:
   zirofen settle --tree examples/delegation-parent-directory.toml --uid 1000 --subtree /c0
@@ -71,7 +75,7 @@ planned escape; where the second row of guards holds of a subtree against all ot
 and else each whom check doesn't call contained. So a subtree is contained against all with whom it isn't listed, together.
 A user is UID or UID:GID,GID.. in decimal digits, with up to 32 gids, of which the first is the primary one.
 `fault: usage` means that the command line isn't as it says above.
-zirofen-tree(5) and zirofen(1), or docs/FORMATS.md, have the tree's format, and every line that is written.
+zirofen-tree(5) and zirofen(1), or docs/FORMATS.md, have the tree's format, and every line of an answer and of a fault.
 
 Example:
   zirofen audit --tree examples/delegation-second-user.toml --uid 1000 --uid 1001:1001 --subtree /c0 --subtree /c1
@@ -81,15 +85,16 @@ Example:
 
 const EXPLAIN_HELP: &str = "\
 Status: 0 contained, 1 escapes, 2 unsettled, 3 a fault
-Of every user and every subtree, by user and then subtree, the line `pair` names them, and below it each entry on which a guard
-stands has a line `holds` or `fails`: the guard, the cgroup, the entry with its owner and mode, and where it fails by what they
-reach it, `owner`, `group` or `others`. Where a guard fails, lines follow of what the second row of guards asks: that the subtree
-stays, what its parent enables, its limit files, and each cgroup to which a move over the edge of the subtree may lead. Then the
-two limits of the subtree have a line each with how many there are, and last stands the first line of what settle may say.
+Of every user and every subtree, by user and then subtree, the line `pair` names them, and below it each entry that is there
+and on which a guard stands, of further limit files those that the text names, has a line `holds` or `fails`: the guard, the
+cgroup, the entry with its owner and mode, and where it fails by what they reach it, `owner`, `group` or `others`. Where a
+guard fails, lines follow of what the second row of guards asks: that the subtree stays, what its parent enables, its limit
+files, and each cgroup to which a move over the edge of the subtree may lead. Then the two limits of the subtree have a line
+each with how many there are, and last stands the first line of what settle may say.
 The status is 1 where one escapes, else 2 where one is unsettled. Users and subtrees that are named again count once.
 A user is UID or UID:GID,GID.. in decimal digits, with up to 32 gids, of which the first is the primary one.
 `fault: usage` means that the command line isn't as it says above.
-docs/FORMATS.md of the repository has the tree's format, and every line that is written.
+docs/FORMATS.md of the repository has the tree's format, and every line of an answer and of a fault.
 
 Example:
   zirofen explain --tree examples/delegation.toml --uid 1000 --subtree /c0
@@ -112,7 +117,8 @@ Each operation is tried in the tree that those before it leave, up to the first 
 says `kept`, or `broken` with the step and what it broke of the subtree.
 Status: 0 where the operations came to their end, and with --subtree kept it, 1 where they broke it, 3 a fault
 `fault: usage` means that the command line isn't as it says above.
-zirofen-tree(5) and zirofen(1), or docs/FORMATS.md, have the formats of the tree and of operations, and every line that is written.
+zirofen-tree(5) and zirofen(1), or docs/FORMATS.md, have the formats of the tree and of operations, and every line
+of an answer and of a fault.
 
 Example:
   zirofen replay --tree examples/host-service-chown.toml --uid 890 --gid 890 --ops examples/host-service-chown.ops
@@ -121,21 +127,21 @@ Example:
 
 const ADVISE_HELP: &str = "\
 Status: 0 contained, 1 a guard fails, 3 a fault
-`contained` means that every subtree is held whatever all these users do, in whatever order. Else each entry that lets one of
-them in has a line `fails` with the guard, where it stands, its owner, its mode and by what they reach it: `owner`, `group` or
-`others`, a line for each. Below stand the changes that mend it for all of them, and at the end those of limits. With all of
-them made every subtree is contained against every user; ask again after changes that were asked apart.
+`contained` means that every subtree is held whatever all these users do, in whatever order, where nobody else acts. Else each
+entry that lets one of them in has a line `fails` with the guard, where it stands, its owner, its mode and by what they reach
+it: `owner`, `group` or `others`, a line for each. Below stand the changes that mend it for all of them, and at the end those of
+limits. With all of them made every subtree is contained against every user; ask again after changes that were asked apart.
 With --pairs each subtree is asked about the users alone who are named with it: a line `pair UID PATH` or `pair UID:GID,GID.. PATH`
 of each pair, one at least, among the other lines that audit writes with --all; and none of --uid, --gid and --subtree beside it.
 Where audit has no pair to list its text is the one line `contained`, and so is the answer to that.
 With --settle, which isn't for pairs, it says `contained` too where the second row of guards holds of each subtree against all
-users together: then a guard fails, and nothing has to be changed; see settle --help.
+users together: a guard fails then, and nothing has to be changed all the same; see settle --help.
 Don't follow it where a user is meant to have what is named, since it was handed to them: then the question was the wrong one.
 An owner that a service manager sets comes back with the unit: change the unit.
 A user is UID or UID:GID,GID.. in decimal digits, with up to 32 gids, of which the first is the primary one; of one user alone
 --gid names them too. Users and subtrees that are named again count once.
 `fault: usage` means that the command line isn't as it says above.
-docs/FORMATS.md of the repository has the tree's format, and every line that is written.
+docs/FORMATS.md of the repository has the tree's format, and every line of an answer and of a fault.
 
 Example:
   zirofen advise --tree examples/delegation-ancestor-group.toml --uid 1000 --gid 50 --subtree /c0
@@ -144,11 +150,11 @@ Example:
 
 const UPGRADE_HELP: &str = "\
 Status: 0 the tree is written, 3 a fault
-The tree is written in format 2, or in format 4 if it was in that, with every key: what was left out becomes visible, and two
-trees can be compared line by line. Unless it is longer than a tree's text may be, it is the same tree, and upgraded again it is
-the same text.
+The tree is written in format 2, or in format 4 if it was in that, with every key, but of further limit files those that it
+tells of alone: what else was left out becomes visible, and two trees can be compared line by line. Unless it is longer than a
+tree's text may be, it is the same tree, and upgraded again it is the same text.
 `fault: usage` means that the command line isn't as it says above.
-docs/FORMATS.md of the repository has the tree's format, and every line that is written.
+docs/FORMATS.md of the repository has the tree's format, and every line of an answer and of a fault.
 
 Example:
   zirofen upgrade --tree examples/fault-no-parent.toml
@@ -158,15 +164,22 @@ Example:
 pub(crate) fn command<'a>(alloc: Global) -> Result<Command<'a>, AllocError>
     ensures { IfOk result (λ command. app_of command ≡ command_line) }
 {
-    program_command(alloc)
-        .subcommand(may_command(alloc)?)?
-        .subcommand(subtree_command(alloc, "check", CHECK, CHECK_HELP)?)?
-        .subcommand(subtree_command(alloc, "settle", SETTLE, SETTLE_HELP)?)?
-        .subcommand(audit_command(alloc)?)?
+    with_judgements(alloc)?
         .subcommand(explain_command(alloc)?)?
         .subcommand(advise_command(alloc)?)?
         .subcommand(replay_command(alloc)?)?
         .subcommand(upgrade_command(alloc)?)
+}
+
+/// The program with the commands that judge. A longer chain of commands takes the square of its length to prove.
+fn with_judgements<'a>(alloc: Global) -> Result<Command<'a>, AllocError>
+    ensures { IfOk result (λ command. app_of command ≡ with_judgements) }
+{
+    program_command(alloc)
+        .subcommand(may_command(alloc)?)?
+        .subcommand(subtree_command(alloc, "check", CHECK, CHECK_HELP)?)?
+        .subcommand(subtree_command(alloc, "settle", SETTLE, SETTLE_HELP)?)?
+        .subcommand(audit_command(alloc)?)
 }
 
 /// The program, without its commands.

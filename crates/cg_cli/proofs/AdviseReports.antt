@@ -27,15 +27,15 @@ use Rattle.cg_advice.specs.Ways.{pair_of}
 use Rattle.cg_advice.specs.declared.pair.Pair.{Pair as PairOfBoth}
 use Rattle.cg_advice.proofs.Gathering.{one_more, flat_more}
 use Rattle.cg_format.specs.Readings.{Reading}
-use Rattle.cg_cli.specs.Advising.{lines_report, pair_with, all_pairs, advised, advice_report, named_report, advise_report}
-use Rattle.cg_cli.specs.Asking.{named_read, IsMet, IsKeptOnce}
+use Rattle.cg_cli.specs.Advising.{lines_report, pair_with, all_pairs, advised, advice_report, AdvisesPairs, named_report, advise_report}
+use Rattle.cg_cli.specs.Asking.{named_read, IsMet, IsKeptOnce, NamedReports}
 use Rattle.cg_cli.specs.Audits.{users_read, paths_read}
 use Rattle.cg_cli.specs.Containment.{in_call}
 use Rattle.cg_cli.specs.May.{tree_read}
 use Rattle.cg_cli.specs.Once.{same_user}
 use Rattle.cg_cli.specs.Reports.{Report, Reports, fault_report, report_on, takes_memory}
 use Rattle.cg_faults.specs.declared.fault.CliFault.{CliFault}
-use Rattle.cg_cli.proofs.NamedReads.{regrouped}
+use Rattle.cg_cli.proofs.NamedReads.{regrouped, by_reading}
 use Rattle.cg_cli.proofs.ReportLaws.{handed_on, call_takes, report_takes, met_reports}
 
 -- ---- pairs
@@ -140,7 +140,7 @@ module _ (st : State) (subtrees : List Names) where
           ] none
 
   -- each subtree of a pair is one of these
-  subs_of : (users : List Identity) → AllByRecursion (IsSubtree st) subtrees
+  pub subs_of : (users : List Identity) → AllByRecursion (IsSubtree st) subtrees
       → AllByRecursion (λ (pair : Pair). IsSubtree st pair.subtree) (all_pairs users subtrees)
   subs_of [] subs = tt
   subs_of (user ∷ users) subs =
@@ -229,3 +229,12 @@ pub said_of_kept : (tree : Reading) (given : List (ℕ × List ℕ)) (texts : Li
 said_of_kept tree given texts users subtrees st kept =
     said_of_read once_report once_takes tree given texts kept.all_users kept.all_subtrees st kept.is
     ∙ (λ i. advice_report st (sym kept.of_subtrees i) (all_pairs (sym kept.of_users i) (sym kept.of_subtrees i)))
+
+pub advise_said : (tree : Reading) (given : List (ℕ × List ℕ)) (texts : List (List ℕ)) (old new : Option (List ℕ))
+    (result : Result ℕ CliFault) → NamedReports AdvisesPairs tree given texts old new result
+    → Reports (advise_report tree given texts) old new result
+advise_said tree given texts =
+    by_reading AdvisesPairs tree given texts (Reports (advise_report tree given texts))
+    (λ fault met known. fault_said once_report once_takes tree given texts fault met known (Err fault) refl)
+    (λ users subtrees st kept old new result said.
+    subst (λ (r : Report). Reports r old new result) (sym (said_of_kept tree given texts users subtrees st kept)) said.0)

@@ -1,6 +1,6 @@
 -- Pairs written one after another, and what the report on them is where it ends early.
 use Rattle.std.proofs.Common.{◌≡◌, ◌≢◌, ℕ, ◌+◌, ◌<◌, ◌||◌, Bool, true, false, cond, List, [], ◌∷◌, ◌++◌, length, get_or, drop}
-use Rattle.std.proofs.Common.{drop-cons, add-one, Option, Some, None, Result, Ok, Err, IfOk, IsErrAnd, refl, sym, ap, ◌∙◌, subst}
+use Rattle.std.proofs.Common.{drop-cons, add-one, Option, Some, None, Result, Ok, Err, IfOk, refl, sym, ap, ◌∙◌, subst}
 use Rattle.std.proofs.Common.{append_assoc, append-nil, length-append, arith}
 use Rattle.std.specs.List.{list_any, flat_map}
 use Rattle.std.specs.Io.KnownBytes.{Appends}
@@ -11,8 +11,9 @@ use Rattle.cg_cgroup.specs.Paths.{Names, same_path}
 use Rattle.cg_cgroup.specs.Identity.{Identity}
 use Rattle.cg_model.specs.States.{State}
 use Rattle.cg_model.specs.Clauses.{first}
-use Rattle.cg_format.specs.Readings.{Reading}
+use Rattle.cg_format.specs.Readings.{Reading, OnText}
 use Rattle.cg_format.specs.TextOf.{IsTextOf}
+use Rattle.cg_format.proofs.ReadingLaws.{one_reading}
 use Rattle.cg_model.specs.declared.fault.CheckFault.{CheckFault}
 use Rattle.cg_model.specs.declared.fault.CheckFault.TheVariants.{RootSubtree, NoSuchSubtree, NoMemory as CheckNoMemory}
 use Rattle.cg_model.specs.Answers.{answer}
@@ -23,7 +24,7 @@ use Rattle.cg_model.specs.declared.answer.Answer.{Answer}
 use Rattle.cg_model.specs.declared.answer.Answer.TheVariants.{Contained, Escapes, Unsettled}
 use Rattle.cg_check.proofs.Checking.{checked-answer}
 use Rattle.cg_report.specs.PairLines.{pair_text, pairs_text}
-use Rattle.cg_cli.specs.Asking.{read_in_turn, named_read, read_takes_memory, IsMet, IsKeptOnce}
+use Rattle.cg_cli.specs.Asking.{read_in_turn, named_read, read_takes_memory, IsMet, IsKeptOnce, NamedReports}
 use Rattle.cg_faults.specs.Faults.{lifted_check}
 use Rattle.cg_cli.specs.Audits.{users_read, paths_read}
 use Rattle.cg_cli.specs.Containment.{in_call, answer_status}
@@ -31,12 +32,12 @@ use Rattle.cg_cli.specs.May.{tree_read}
 use Rattle.cg_model.specs.Once.{once}
 use Rattle.cg_cli.specs.Once.{same_user}
 use Rattle.streams.specs.Written.{AppendsPart}
-use Rattle.cg_cli.specs.AllPairs.{is_escape, pairs_status, worse, listing_text, WritesPairs, read_then, pairs_found, all_report, ReportsPairs, UnlistedAreContained}
+use Rattle.cg_cli.specs.AllPairs.{is_escape, pairs_status, worse, listing_text, WritesPairs, read_then, pairs_found, all_report, ReportsPairs, UnlistedAreContained, ListsUncontained}
 use Rattle.cg_faults.specs.declared.fault.CliFault.{CliFault}
 use Rattle.cg_faults.specs.declared.fault.CliFault.TheVariants.{Write, NoMemory}
-use Rattle.cg_cli.proofs.NamedReads.{regrouped}
+use Rattle.cg_cli.proofs.NamedReads.{regrouped, by_reading}
 use Rattle.cg_cli.proofs.ReplayEnds.{part_behind}
-use Rattle.cg_cli.proofs.ReportLaws.{handed_on, same_Ok, call_takes}
+use Rattle.cg_cli.proofs.ReportLaws.{same_Ok, call_takes}
 
 -- ---- statuses
 
@@ -342,25 +343,24 @@ module _ (tree : Reading) (given : List (ℕ × List ℕ)) (texts : List (List �
       (λ users subtrees st. pairs_found st (once same_user users) (once same_path subtrees)) (users_read given) (paths_read texts)
       (tree_read tree)
 
-  pub fault_reports : (fault : CliFault) → IsMet read fault → (known : Option (List ℕ)) (result : Result ℕ CliFault)
-      → IsErrAnd result (λ found. found ≡ fault) → ReportsPairs (all_report tree given texts) known known result
-  fault_reports fault met known result is =
-      handed_on (ReportsPairs (all_report tree given texts) known known) fault result is
-      (subst (λ report. ReportsPairs report known known (Err fault)) (sym by_all)
+  fault_reports : (fault : CliFault) → IsMet read fault → (known : Option (List ℕ))
+      → ReportsPairs (all_report tree given texts) known known (Err fault)
+  fault_reports fault met known =
+      subst (λ report. ReportsPairs report known known (Err fault)) (sym by_all)
       (met_pairs read next
       (λ all. call_takes
       (unless_fault (first (flat_map (subtree_faults all.2) (once same_path all.1)))
       (listed all.2 (once same_user all.0) (once same_path all.1))))
-      fault met known))
+      fault met known)
 
   module _ (users : List Identity) (subtrees : List Names) (st : State) (kept : IsKeptOnce read users subtrees st) where
-    pub listing_reports : (old new : Option (List ℕ)) (result : Result ℕ CliFault)
+    listing_reports : (old new : Option (List ℕ)) (result : Result ℕ CliFault)
         → ReportsPairs (pairs_found st users subtrees) old new result → ReportsPairs (all_report tree given texts) old new result
     listing_reports old new result =
         subst (λ report. ReportsPairs report old new result)
         (sym (by_all ∙ ap (λ found. read_then found next) kept.is ∙ sym (λ i. pairs_found st (kept.of_users i) (kept.of_subtrees i))))
 
-    pub unlisted_said : (bytes : List ℕ) → ((start : State) → IsTextOf start bytes → tree ≡ Ok start) → (result : Result ℕ CliFault)
+    unlisted_said : (bytes : List ℕ) → ((start : State) → IsTextOf start bytes → tree ≡ Ok start) → (result : Result ℕ CliFault)
         → IfOk result (λ status. UnlistedAreContained st users subtrees)
         → IfOk result
         (λ status. (start : State) (who : List Identity) (paths : List Names)
@@ -373,3 +373,25 @@ module _ (tree : Reading) (given : List (ℕ × List ℕ)) (texts : List (List �
         (sym kept.is ∙ (λ i. read_in_turn (is_who i) (are_paths i) (tree_read (means start is_start i)))))
         (subst (λ l. UnlistedAreContained st l (once same_path kept.all_subtrees)) kept.of_users
         (subst (λ l. UnlistedAreContained st users l) kept.of_subtrees said))
+
+  pub all_said : (old new : Option (List ℕ)) (result : Result ℕ CliFault) → NamedReports ListsUncontained tree given texts old new result
+      → ReportsPairs (all_report tree given texts) old new result
+  all_said =
+      by_reading ListsUncontained tree given texts (ReportsPairs (all_report tree given texts)) fault_reports
+      (λ users subtrees st kept old new result said. listing_reports users subtrees st kept old new result said.0)
+
+pub unlisted_contained : (bytes : List ℕ) (given : List (ℕ × List ℕ)) (texts : List (List ℕ)) (old new : Option (List ℕ))
+    (result : Result ℕ CliFault) → OnText bytes (λ read. NamedReports ListsUncontained read given texts old new result)
+    → IfOk result
+    (λ status. (start : State) (who : List Identity) (paths : List Names) → IsTextOf start bytes → users_read given ≡ Ok who
+    → paths_read texts ≡ Ok paths → UnlistedAreContained start (once same_user who) (once same_path paths))
+unlisted_contained bytes given texts old new result asked =
+    by_reading ListsUncontained asked.0 given texts
+    (λ old new result. IfOk result
+    (λ status. (start : State) (who : List Identity) (paths : List Names) → IsTextOf start bytes → users_read given ≡ Ok who
+    → paths_read texts ≡ Ok paths → UnlistedAreContained start (once same_user who) (once same_path paths)))
+    (λ fault met known. tt)
+    (λ users subtrees st kept old new result said.
+    unlisted_said asked.0 given texts users subtrees st kept bytes (λ start of_text. one_reading bytes asked.0 (Ok start) asked.1 of_text)
+    result said.1)
+    old new result asked.2

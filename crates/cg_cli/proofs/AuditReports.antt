@@ -1,22 +1,24 @@
 -- What an audit over bytes says, by what was read.
-use Rattle.std.proofs.Common.{◌≡◌, ◌≢◌, ℕ, true, List, [], Option, Result, Ok, Err, IsErrAnd, refl, ap, sym, subst, ◌∙◌}
+use Rattle.std.proofs.Common.{◌≡◌, ◌≢◌, ℕ, true, List, [], Option, Result, Ok, Err, refl, ap, sym, subst, ◌∙◌}
 use Rattle.cg_cgroup.specs.Paths.{Names, same_path}
 use Rattle.cg_cgroup.specs.Identity.{Identity}
 use Rattle.cg_model.specs.States.{State}
 use Rattle.cg_model.specs.Checks.{all_checked}
 use Rattle.cg_model.specs.Several.{AreContained}
-use Rattle.cg_format.specs.Readings.{Reading}
-use Rattle.cg_cli.specs.Asking.{read_in_turn, named_read, IsMet, IsKeptOnce}
-use Rattle.cg_cli.specs.Audits.{users_read, paths_read, audit_answer_report, pairs_report, audit_report}
+use Rattle.cg_format.specs.Readings.{Reading, OnText}
+use Rattle.cg_format.specs.TextOf.{IsTextOf}
+use Rattle.cg_format.proofs.ReadingLaws.{one_reading}
+use Rattle.cg_cli.specs.Asking.{read_in_turn, named_read, IsMet, IsKeptOnce, NamedReports}
+use Rattle.cg_cli.specs.Audits.{users_read, paths_read, audit_answer_report, pairs_report, AuditsPairs, audit_report}
 use Rattle.cg_cli.specs.Containment.{in_call}
 use Rattle.cg_cli.specs.May.{tree_read}
 use Rattle.cg_model.specs.Once.{once}
 use Rattle.cg_cli.specs.Once.{same_user}
-use Rattle.cg_cli.specs.Reports.{Reports, fault_report, report_on, takes_memory}
+use Rattle.cg_cli.specs.Reports.{Report, Reports, fault_report, report_on, takes_memory}
 use Rattle.cg_faults.specs.declared.fault.CliFault.{CliFault}
 use Rattle.cg_cli.proofs.AuditOnce.{said_once, contained_once, some_once, same_user-is}
-use Rattle.cg_cli.proofs.NamedReads.{regrouped}
-use Rattle.cg_cli.proofs.ReportLaws.{handed_on, same_Ok, call_takes, report_takes, met_reports}
+use Rattle.cg_cli.proofs.NamedReads.{regrouped, by_reading}
+use Rattle.cg_cli.proofs.ReportLaws.{same_Ok, call_takes, report_takes, met_reports}
 
 pub pairs_take : (st : State) (users : List Identity) (subtrees : List Names) → takes_memory (pairs_report st users subtrees).ending ≡ true
 pairs_take st users subtrees =
@@ -33,12 +35,11 @@ module _ (tree : Reading) (given : List (ℕ × List ℕ)) (texts : List (List �
       (λ users subtrees st. pairs_report st users subtrees) (users_read given) (paths_read texts) (tree_read tree)
 
   -- a fault before the tree is asked
-  pub fault_said : (fault : CliFault) → IsMet read fault → (known : Option (List ℕ)) (result : Result ℕ CliFault)
-      → IsErrAnd result (λ found. found ≡ fault) → Reports (audit_report tree given texts) known known result
-  fault_said fault met known result is =
-      handed_on (Reports (audit_report tree given texts) known known) fault result is
-      (subst (λ report. Reports report known known (Err fault)) (sym by_all)
-      (met_reports read (λ all. pairs_report all.2 all.0 all.1) (λ all. pairs_take all.2 all.0 all.1) fault met known))
+  pub fault_said : (fault : CliFault) → IsMet read fault → (known : Option (List ℕ))
+      → Reports (audit_report tree given texts) known known (Err fault)
+  fault_said fault met known =
+      subst (λ report. Reports report known known (Err fault)) (sym by_all)
+      (met_reports read (λ all. pairs_report all.2 all.0 all.1) (λ all. pairs_take all.2 all.0 all.1) fault met known)
 
   module _ (users : List Identity) (subtrees : List Names) (st : State) (kept : IsKeptOnce read users subtrees st) where
     -- of who and what is named again only the first is asked
@@ -63,3 +64,27 @@ module _ (tree : Reading) (given : List (ℕ × List ℕ)) (texts : List (List �
         (same_Ok (kept.all_users, kept.all_subtrees, st) (who, paths, start)
         (sym kept.is ∙ (λ i. read_in_turn (is_who i) (are_paths i) (tree_read (is_text i)))))
         (all_contained law)
+
+  pub audit_said : (old new : Option (List ℕ)) (result : Result ℕ CliFault) → NamedReports AuditsPairs tree given texts old new result
+      → Reports (audit_report tree given texts) old new result
+  audit_said =
+      by_reading AuditsPairs tree given texts (Reports (audit_report tree given texts)) fault_said
+      (λ users subtrees st kept old new result said.
+      subst (λ (r : Report). Reports r old new result) (sym (said_of_kept users subtrees st kept)) said.0)
+
+-- where status 0 means that all are contained against all
+pub means_contained : (answers : State → List Identity → List Names → Option (List ℕ) → Option (List ℕ) → Result ℕ CliFault → Type 0)
+    → ((st : State) (users : List Identity) (subtrees : List Names) (old new : Option (List ℕ)) (result : Result ℕ CliFault)
+    → answers st users subtrees old new result → result ≡ Ok 0 → users ≢ [] → AreContained st users subtrees)
+    → (bytes : List ℕ) (given : List (ℕ × List ℕ)) (texts : List (List ℕ)) (old new : Option (List ℕ)) (result : Result ℕ CliFault)
+    → OnText bytes (λ read. NamedReports answers read given texts old new result) → result ≡ Ok 0
+    → (st : State) (who : List Identity) (paths : List Names) → IsTextOf st bytes → users_read given ≡ Ok who → paths_read texts ≡ Ok paths
+    → who ≢ [] → AreContained st who paths
+means_contained answers law bytes given texts old new result asked zero st who paths of_text =
+    by_reading answers asked.0 given texts
+    (λ old new result. result ≡ Ok 0 → users_read given ≡ Ok who → paths_read texts ≡ Ok paths → who ≢ [] → AreContained st who paths)
+    (λ fault met known none. let never : ⊥ = cc in absurd never)
+    (λ users subtrees state kept old new result said none.
+    contained_means asked.0 given texts users subtrees state kept (law state users subtrees old new result said none) st who paths
+    (one_reading bytes asked.0 (Ok st) asked.1 of_text))
+    old new result asked.2 zero

@@ -1,6 +1,6 @@
 -- Pairs told one after another, and what the report on them is where it ends early.
 use Rattle.std.proofs.Common.{◌≡◌, ◌≢◌, ℕ, ◌+◌, ◌<◌, inl, inr, ◌||◌, Bool, true, false, cond, List, [], ◌∷◌, ◌++◌, length, get_or, take, drop, map, take_all, ◌≤◌, not}
-use Rattle.std.proofs.Common.{Option, Some, None, Result, Ok, Err, IsErrAnd, refl, sym, ap, ◌∙◌, subst, append_assoc, append-nil}
+use Rattle.std.proofs.Common.{Option, Some, None, Result, Ok, Err, refl, sym, ap, ◌∙◌, subst, append_assoc, append-nil}
 use Rattle.std.specs.List.{All, list_any, flat_map}
 use Rattle.std.specs.Io.KnownBytes.{Appends}
 use Rattle.std.proofs.KnownBytes.{Appends-nil, Appends-trans, Appends-kept, Keeps-refl}
@@ -27,7 +27,7 @@ use Rattle.cg_explain.specs.PairExplained.{pair_lines}
 use Rattle.cg_format.specs.Readings.{Reading}
 use Rattle.cg_cli.specs.Advising.{all_pairs}
 use Rattle.cg_cli.specs.AllPairs.{is_escape, worse, read_then}
-use Rattle.cg_cli.specs.Asking.{named_read, read_takes_memory, IsMet, IsKeptOnce}
+use Rattle.cg_cli.specs.Asking.{named_read, read_takes_memory, IsMet, NamedReports}
 use Rattle.cg_cli.specs.Audits.{users_read, paths_read}
 use Rattle.cg_cli.specs.Containment.{in_call, answer_status}
 use Rattle.cg_cli.specs.May.{tree_read}
@@ -38,9 +38,9 @@ use Rattle.streams.specs.Written.{AppendsPart}
 use Rattle.cg_faults.specs.Faults.{lifted_check}
 use Rattle.cg_faults.specs.declared.fault.CliFault.{CliFault}
 use Rattle.cg_faults.specs.declared.fault.CliFault.TheVariants.{Write, NoMemory}
-use Rattle.cg_cli.proofs.NamedReads.{regrouped}
+use Rattle.cg_cli.proofs.NamedReads.{regrouped, by_reading}
 use Rattle.cg_cli.proofs.ReplayEnds.{part_behind}
-use Rattle.cg_cli.proofs.ReportLaws.{handed_on, call_takes}
+use Rattle.cg_cli.proofs.ReportLaws.{call_takes}
 
 -- ---- statuses
 
@@ -248,20 +248,22 @@ module _ (tree : Reading) (given : List (ℕ × List ℕ)) (texts : List (List �
       (λ users subtrees st. pairs_asked st (once same_user users) (once same_path subtrees)) (users_read given) (paths_read texts)
       (tree_read tree)
 
-  pub fault_reports : (fault : CliFault) → IsMet read fault → (known : Option (List ℕ)) (result : Result ℕ CliFault)
-      → IsErrAnd result (λ found. found ≡ fault) → ReportsTold (explain_asked tree given texts) known known result
-  fault_reports fault met known result is =
-      handed_on (ReportsTold (explain_asked tree given texts) known known) fault result is
-      (subst (λ asked. ReportsTold asked known known (Err fault)) (sym by_all)
+  fault_reports : (fault : CliFault) → IsMet read fault → (known : Option (List ℕ))
+      → ReportsTold (explain_asked tree given texts) known known (Err fault)
+  fault_reports fault met known =
+      subst (λ asked. ReportsTold asked known known (Err fault)) (sym by_all)
       (met_asked read next
       (λ all. call_takes
       (unless_fault (first (flat_map (subtree_faults all.2) (once same_path all.1)))
       (all.2, all_pairs (once same_user all.0) (once same_path all.1))))
-      fault met known))
+      fault met known)
 
-  pub told_reports : (users : List Identity) (subtrees : List Names) (st : State) → IsKeptOnce read users subtrees st
-      → (old new : Option (List ℕ)) (result : Result ℕ CliFault)
-      → ReportsTold (pairs_asked st users subtrees) old new result → ReportsTold (explain_asked tree given texts) old new result
-  told_reports users subtrees st kept old new result =
+  pub explain_said : (old new : Option (List ℕ)) (result : Result ℕ CliFault)
+      → NamedReports (λ st users subtrees. ReportsTold (pairs_asked st users subtrees)) tree given texts old new result
+      → ReportsTold (explain_asked tree given texts) old new result
+  explain_said =
+      by_reading (λ st users subtrees. ReportsTold (pairs_asked st users subtrees)) tree given texts
+      (ReportsTold (explain_asked tree given texts)) fault_reports
+      (λ users subtrees st kept old new result.
       subst (λ asked. ReportsTold asked old new result)
-      (sym (by_all ∙ ap (λ found. read_then found next) kept.is ∙ sym (λ i. pairs_asked st (kept.of_users i) (kept.of_subtrees i))))
+      (sym (by_all ∙ ap (λ found. read_then found next) kept.is ∙ sym (λ i. pairs_asked st (kept.of_users i) (kept.of_subtrees i)))))

@@ -25,7 +25,7 @@ use Rattle.cg_advice.specs.AdviceLines.{advice_lines}
 use Rattle.cg_format.specs.Readings.{Reading, IsReading, OnText}
 use Rattle.cg_format.specs.TextOf.{IsTextOf}
 use Rattle.cg_cli.specs.Advising.{lines_report, all_pairs, advice_report}
-use Rattle.cg_cli.specs.Asking.{named_read, IsKeptOnce}
+use Rattle.cg_cli.specs.Asking.{named_read, IsKeptOnce, NamedReports}
 use Rattle.cg_cli.specs.Audits.{users_read, paths_read}
 use Rattle.cg_cli.specs.Containment.{in_call}
 use Rattle.cg_cli.specs.FurtherAdvice.{AreHeldAsNamed, AdvisesFurther}
@@ -33,8 +33,9 @@ use Rattle.cg_cli.specs.May.{tree_read}
 use Rattle.cg_cli.specs.Once.{same_user}
 use Rattle.cg_cli.specs.Reports.{Report, Reports, report_on, takes_memory}
 use Rattle.cg_cli.specs.SettledAdvice.{are_held, settled_lines, settled_advice, settled_report, advise_settled_report}
-use Rattle.cg_cli.proofs.AdviseReports.{each_passes, of_lines, said_of_read}
+use Rattle.cg_cli.proofs.AdviseReports.{each_passes, of_lines, fault_said, said_of_read}
 use Rattle.cg_cli.proofs.AuditOnce.{all_once, by_once}
+use Rattle.cg_cli.proofs.NamedReads.{by_reading}
 use Rattle.cg_cli.proofs.ReportLaws.{call_takes, report_takes}
 use Rattle.cg_faults.specs.declared.fault.CliFault.{CliFault}
 
@@ -74,6 +75,17 @@ settled_of_kept tree given texts users subtrees st kept =
     said_of_read once_settled once_settled_takes tree given texts kept.all_users kept.all_subtrees st kept.is
     ∙ (λ i. settled_report st (sym kept.of_users i) (sym kept.of_subtrees i))
 
+pub settled_said : (tree : Reading) (given : List (ℕ × List ℕ)) (texts : List (List ℕ)) (old new : Option (List ℕ))
+    (result : Result ℕ CliFault)
+    → NamedReports (λ st users subtrees. Reports (settled_report st users subtrees)) tree given texts old new result
+    → Reports (advise_settled_report tree given texts) old new result
+settled_said tree given texts =
+    by_reading (λ st users subtrees. Reports (settled_report st users subtrees)) tree given texts
+    (Reports (advise_settled_report tree given texts))
+    (λ fault met known. fault_said once_settled once_settled_takes tree given texts fault met known (Err fault) refl)
+    (λ users subtrees st kept old new result said.
+    subst (λ (r : Report). Reports r old new result) (sym (settled_of_kept tree given texts users subtrees st kept)) said)
+
 -- ---- what may be said
 
 -- where all pass, none who acts breaks a subtree
@@ -86,7 +98,7 @@ module _ (st : State) (users : List Identity) (subtrees : List Names) (formed : 
   abbrev ss : List Names
   ss = once same_path subtrees
 
-  rows_hold : All (SecondRowHolds st us) ss
+  pub rows_hold : All (SecondRowHolds st us) ss
   rows_hold =
       All-from_recursion (SecondRowHolds st us) ss
       (all-each (λ path. second_row st us path ≡ true) (SecondRowHolds st us) (λ path passes. (judged st us path).1 passes) ss

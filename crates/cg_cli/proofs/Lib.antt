@@ -27,6 +27,7 @@ mod UpgradeReports
 pub mod ReadingOf
 mod ReportLaws
 mod CourseReads
+mod MissingLaws
 mod StrangerLaws
 mod WrittenRead
 pub mod Settled

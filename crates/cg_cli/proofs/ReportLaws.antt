@@ -76,3 +76,8 @@ pub said_status : (text : List ℕ) (status : ℕ) (old new : Option (List ℕ))
     → Reports (record { text = text; ending = Ok status }) old new result → result ≡ Ok written → status ≡ written
 said_status text status old new (Ok found) written reports is = same_Ok status written (reports.0 ∙ is)
 said_status text status old new (Err fault) written reports is = let never : ⊥ = cc in absurd never
+
+-- a fault is no status
+pub no_status : (result : Result ℕ CliFault) (P : CliFault → Type 0) → IsErrAnd result P → (status : ℕ) → result ≡ Ok status → ⊥
+no_status (Ok found) P never status is = never
+no_status (Err fault) P met status is = let never : ⊥ = cc in never

@@ -31,20 +31,22 @@ use Rattle.cg_cli.specs.ListedRows.{row_of, AreListed}
 use Rattle.cg_cli.proofs.Knowing.{some_known, all-unlisted_settled}
 use Rattle.cg_report.specs.AnswerLines.{IsShown}
 use Rattle.cg_report.proofs.Shown.{answers_are_shown}
-use Rattle.cg_format.specs.Readings.{Reading}
+use Rattle.cg_format.specs.Readings.{Reading, OnText}
 use Rattle.cg_format.specs.TextOf.{IsTextOf}
+use Rattle.cg_format.proofs.ReadingLaws.{one_reading}
 use Rattle.cg_cli.specs.AllPairs.{listing_text, ReportsPairs}
-use Rattle.cg_cli.specs.Asking.{named_read, read_in_turn, read_takes_memory, IsMet, IsKeptOnce}
+use Rattle.cg_cli.specs.Asking.{named_read, read_in_turn, read_takes_memory, IsMet, IsKeptOnce, NamedReports}
 use Rattle.cg_cli.specs.Audits.{users_read, paths_read}
 use Rattle.cg_faults.specs.Faults.{lifted_check}
 use Rattle.cg_cli.specs.May.{tree_read}
 use Rattle.cg_cli.specs.Once.{same_user}
-use Rattle.cg_cli.specs.SettledPairs.{MayBeFound, MayFollow, MayReport, ReportsFound, ReportsSettled, SaysFirst, TellsUnsettled}
+use Rattle.cg_cli.specs.SettledPairs.{MayBeFound, MayFollow, MayReport, ReportsFound, ReportsSettled, SaysFirst, TellsUnsettled, ListsUnsettled}
 use Rattle.cg_cli.specs.SettledRows.{pair_found, row_pairs, rows_pairs, IsPairLine, IsRowOfLines}
 use Rattle.cg_faults.specs.declared.fault.CliFault.{CliFault}
 use Rattle.cg_faults.specs.declared.fault.CliFault.TheVariants.{Write, NoMemory}
 use Rattle.cg_cli.specs.Reports.{Report, Reports, takes_memory}
 use Rattle.cg_cli.proofs.AllPairs.{Front, fault_said, wants}
+use Rattle.cg_cli.proofs.NamedReads.{by_reading}
 use Rattle.cg_cli.proofs.ReportLaws.{handed_on, same_Ok}
 
 -- ---- one row
@@ -269,12 +271,6 @@ module _ (says : Says) (known : Option (List ℕ))
   met_settles (Err fault) NoMemory met = (Err fault, refl, of_memory (Err fault) met)
   met_settles read fault met = (Err fault, subst (λ r. MayFollow r (Err fault)) (sym met) refl, of_fault fault (λ same. cc))
 
-  met_said : (tree : Reading) (given : List (ℕ × List ℕ)) (texts : List (List ℕ)) (fault : CliFault)
-      → IsMet (named_read given texts tree) fault → (result : Result ℕ CliFault)
-      → IsErrAnd result (λ found. found ≡ fault) → ReportsSettled says tree given texts known known result
-  met_said tree given texts fault met result is =
-      handed_on (ReportsSettled says tree given texts known known) fault result is (met_settles (named_read given texts tree) fault met)
-
 -- of who and what is kept once
 module _ (says : Says) (tree : Reading) (given : List (ℕ × List ℕ)) (texts : List (List ℕ)) (users : List Identity) (subtrees : List Names)
     (st : State) (kept : IsKeptOnce (named_read given texts tree) users subtrees st) where
@@ -287,11 +283,27 @@ module _ (says : Says) (tree : Reading) (given : List (ℕ × List ℕ)) (texts 
       kept.of_users
       (subst (λ l. MayBeFound st users l (first (flat_map (subtree_faults st) l)) report) kept.of_subtrees may))
 
-  pub kept_said : (report : Result (List Listed) CliFault)
+  kept_said : (report : Result (List Listed) CliFault)
       → MayBeFound st users subtrees (first (flat_map (subtree_faults st) subtrees)) report
       → (old new : Option (List ℕ)) (result : Result ℕ CliFault) → says report old new result
       → ReportsSettled says tree given texts old new result
   kept_said report may old new result said = (report, follows_kept report may, said)
+
+-- of a call, by what is said of pairs, and so of a fault or out of memory
+settled_said : (says : Says) (answers : State → List Identity → List Names → Option (List ℕ) → Option (List ℕ) → Result ℕ CliFault → Type 0)
+    → ((known : Option (List ℕ)) (fault : CliFault) → fault ≢ Write → says (Err fault) known known (Err fault))
+    → ((known : Option (List ℕ)) (report : Result (List Listed) CliFault) → read_takes_memory report ≡ true
+    → says report known known (Err NoMemory))
+    → ((st : State) (users : List Identity) (subtrees : List Names) (old new : Option (List ℕ)) (result : Result ℕ CliFault)
+    → answers st users subtrees old new result → ReportsFound says st users subtrees old new result)
+    → (tree : Reading) (given : List (ℕ × List ℕ)) (texts : List (List ℕ)) (old new : Option (List ℕ)) (result : Result ℕ CliFault)
+    → NamedReports answers tree given texts old new result → ReportsSettled says tree given texts old new result
+settled_said says answers of_fault of_memory found tree given texts =
+    by_reading answers tree given texts (ReportsSettled says tree given texts)
+    (λ fault met known. met_settles says known (of_fault known) (of_memory known) (named_read given texts tree) fault met)
+    (λ users subtrees st kept old new result said.
+    let of = found st users subtrees old new result said in
+    kept_said says tree given texts users subtrees st kept of.0 of.1 old new result of.2)
 
 -- ---- all pairs, one after another
 
@@ -315,20 +327,15 @@ first_memory : (known : Option (List ℕ)) (report : Result (List Listed) CliFau
 first_memory known (Ok pairs) takes = (refl, Keeps-refl known)
 first_memory known (Err fault) takes = (takes, Keeps-refl known)
 
-pub first_met : (tree : Reading) (given : List (ℕ × List ℕ)) (texts : List (List ℕ)) (fault : CliFault)
-    → IsMet (named_read given texts tree) fault → (known : Option (List ℕ)) (result : Result ℕ CliFault)
-    → IsErrAnd result (λ found. found ≡ fault) → ReportsSettled ReportsFirst tree given texts known known result
-first_met tree given texts fault met known result is =
-    met_said ReportsFirst known (first_fault known) (first_memory known) tree given texts fault met result is
+pub first_said : (tree : Reading) (given : List (ℕ × List ℕ)) (texts : List (List ℕ)) (old new : Option (List ℕ))
+    (result : Result ℕ CliFault) → NamedReports (ReportsFound ReportsFirst) tree given texts old new result
+    → ReportsSettled ReportsFirst tree given texts old new result
+first_said =
+    settled_said ReportsFirst (ReportsFound ReportsFirst) first_fault first_memory (λ st users subtrees old new result found. found)
 
 module _ (st : State) (users : List Identity) (subtrees : List Names) (known : Option (List ℕ)) where
-  abbrev FirstStops : Result ℕ CliFault → Type 0
-  FirstStops result =
-      (report : Result (List Listed) CliFault)
-      × MayBeFound st users subtrees (first (flat_map (subtree_faults st) subtrees)) report × ReportsFirst report known known result
-
   first_stopped : (fault : CheckFault) → (fault ≢ CheckNoMemory → Some fault ≡ first (flat_map (subtree_faults st) subtrees))
-      → FirstStops (Err (lifted_check fault))
+      → ReportsFound ReportsFirst st users subtrees known known (Err (lifted_check fault))
   first_stopped RootSubtree is = (
     Err (lifted_check RootSubtree),
     subst (λ o. MayBeFound st users subtrees o (Err (lifted_check RootSubtree))) (is (λ same. cc)) refl,
@@ -343,65 +350,71 @@ module _ (st : State) (users : List Identity) (subtrees : List Names) (known : O
       found_wanted ReportsFirst known (first_fault known) (first_memory known) st users subtrees
       (first (flat_map (subtree_faults st) subtrees))
 
-module _ (tree : Reading) (given : List (ℕ × List ℕ)) (texts : List (List ℕ)) (users : List Identity) (subtrees : List Names) (st : State)
-    (kept : IsKeptOnce (named_read given texts tree) users subtrees st) where
+module _ (st : State) (users : List Identity) (subtrees : List Names) where
   pub first_stops : (fault : CheckFault) → (fault ≢ CheckNoMemory → Some fault ≡ first (flat_map (subtree_faults st) subtrees))
       → (known : Option (List ℕ)) (result : Result ℕ CliFault) → IsErrAnd result (λ found. found ≡ lifted_check fault)
-      → ReportsSettled ReportsFirst tree given texts known known result
+      → ReportsFound ReportsFirst st users subtrees known known result
   first_stops fault is known result handed =
-      let stops =
-      handed_on (FirstStops st users subtrees known) (lifted_check fault) result handed (first_stopped st users subtrees known fault is) in
-      kept_said ReportsFirst tree given texts users subtrees st kept stops.0 stops.1 known known result stops.2
+      handed_on (ReportsFound ReportsFirst st users subtrees known known) (lifted_check fault) result handed
+      (first_stopped st users subtrees known fault is)
 
   pub first_reports : (said : Report) → SaysFirst st users subtrees said → (old new : Option (List ℕ)) (result : Result ℕ CliFault)
-      → Reports said old new result → ReportsSettled ReportsFirst tree given texts old new result
+      → Reports said old new result → ReportsFound ReportsFirst st users subtrees old new result
   first_reports said says old new result written =
-      kept_said ReportsFirst tree given texts users subtrees st kept says.0 says.1 old new result
-      (subst (λ (report : Report). Reports report old new result) (sym says.2) written)
+      (says.0, says.1, subst (λ (report : Report). Reports report old new result) (sym says.2) written)
 
-module _ (st : State) (users : List Identity) (subtrees : List Names) where
   pub subtree_found : (fault : CheckFault) (known : Option (List ℕ)) → Some fault ≡ first (flat_map (subtree_faults st) subtrees)
-      → ReportsFound st users subtrees known known (Err (lifted_check fault))
+      → ReportsFound ReportsPairs st users subtrees known known (Err (lifted_check fault))
   subtree_found fault known is =
       let none = subst (λ o. MayBeFound st users subtrees o (Err (lifted_check fault))) is refl in
       (Err (lifted_check fault), none, fault_said (lifted_check fault) known)
 
   pub memory_wanted : (known : Option (List ℕ)) (result : Result ℕ CliFault) → IsErrAnd result (λ found. found ≡ NoMemory)
-      → ReportsFound st users subtrees known known result
+      → ReportsFound ReportsPairs st users subtrees known known result
   memory_wanted known result is =
-      handed_on (ReportsFound st users subtrees known known) NoMemory result is
+      handed_on (ReportsFound ReportsPairs st users subtrees known known) NoMemory result is
       (found_wanted ReportsPairs known (pairs_fault known) (pairs_memory known) st users subtrees
       (first (flat_map (subtree_faults st) subtrees)))
 
   pub rows_found : (rows : List (List Found)) → AreListed st users subtrees rows → first (flat_map (subtree_faults st) subtrees) ≡ None
       → (old new : Option (List ℕ)) (result : Result ℕ CliFault) → ReportsPairs (Ok (rows_pairs users subtrees rows)) old new result
-      → ReportsFound st users subtrees old new result
+      → ReportsFound ReportsPairs st users subtrees old new result
   rows_found rows are none old new result reports =
       (Ok (rows_pairs users subtrees rows), may_list st users subtrees rows are none, reports)
 
-module _ (tree : Reading) (given : List (ℕ × List ℕ)) (texts : List (List ℕ)) where
-  pub met_reports : (fault : CliFault) → IsMet (named_read given texts tree) fault → (known : Option (List ℕ)) (result : Result ℕ CliFault)
-      → IsErrAnd result (λ found. found ≡ fault) → ReportsSettled ReportsPairs tree given texts known known result
-  met_reports fault met known result is =
-      met_said ReportsPairs known (pairs_fault known) (pairs_memory known) tree given texts fault met result is
+pub all_said : (tree : Reading) (given : List (ℕ × List ℕ)) (texts : List (List ℕ)) (old new : Option (List ℕ))
+    (result : Result ℕ CliFault) → NamedReports ListsUnsettled tree given texts old new result
+    → ReportsSettled ReportsPairs tree given texts old new result
+all_said = settled_said ReportsPairs ListsUnsettled pairs_fault pairs_memory (λ st users subtrees old new result said. said.0)
 
-  module _ (users : List Identity) (subtrees : List Names) (st : State) (kept : IsKeptOnce (named_read given texts tree) users subtrees st)
-    where
-      pub found_reports : (old new : Option (List ℕ)) (result : Result ℕ CliFault) → ReportsFound st users subtrees old new result
-          → ReportsSettled ReportsPairs tree given texts old new result
-      found_reports old new result found =
-          kept_said ReportsPairs tree given texts users subtrees st kept found.0 found.1 old new result found.2
+module _ (tree : Reading) (given : List (ℕ × List ℕ)) (texts : List (List ℕ)) (users : List Identity) (subtrees : List Names) (st : State)
+    (kept : IsKeptOnce (named_read given texts tree) users subtrees st) where
+  unsettled_said : (bytes : List ℕ) → ((start : State) → IsTextOf start bytes → tree ≡ Ok start) → (result : Result ℕ CliFault)
+      → (old new : Option (List ℕ)) → IfOk result (λ status. TellsUnsettled st users subtrees old new)
+      → IfOk result
+      (λ status. (start : State) (who : List Identity) (paths : List Names)
+      → IsTextOf start bytes → users_read given ≡ Ok who → paths_read texts ≡ Ok paths
+      → TellsUnsettled start (once same_user who) (once same_path paths) old new)
+  unsettled_said bytes means (Err fault) old new said = tt
+  unsettled_said bytes means (Ok status) old new said = λ start who paths is_start is_who are_paths.
+      subst (λ (all : List Identity × List Names × State). TellsUnsettled all.2 (once same_user all.0) (once same_path all.1) old new)
+      (same_Ok (kept.all_users, kept.all_subtrees, st) (who, paths, start)
+      (sym kept.is ∙ (λ i. read_in_turn (is_who i) (are_paths i) (tree_read (means start is_start i)))))
+      (subst (λ l. TellsUnsettled st l (once same_path kept.all_subtrees) old new) kept.of_users
+      (subst (λ l. TellsUnsettled st users l old new) kept.of_subtrees said))
 
-      pub unsettled_said : (bytes : List ℕ) → ((start : State) → IsTextOf start bytes → tree ≡ Ok start) → (result : Result ℕ CliFault)
-          → (old new : Option (List ℕ)) → IfOk result (λ status. TellsUnsettled st users subtrees old new)
-          → IfOk result
-          (λ status. (start : State) (who : List Identity) (paths : List Names)
-          → IsTextOf start bytes → users_read given ≡ Ok who → paths_read texts ≡ Ok paths
-          → TellsUnsettled start (once same_user who) (once same_path paths) old new)
-      unsettled_said bytes means (Err fault) old new said = tt
-      unsettled_said bytes means (Ok status) old new said = λ start who paths is_start is_who are_paths.
-          subst (λ (all : List Identity × List Names × State). TellsUnsettled all.2 (once same_user all.0) (once same_path all.1) old new)
-          (same_Ok (kept.all_users, kept.all_subtrees, st) (who, paths, start)
-          (sym kept.is ∙ (λ i. read_in_turn (is_who i) (are_paths i) (tree_read (means start is_start i)))))
-          (subst (λ l. TellsUnsettled st l (once same_path kept.all_subtrees) old new) kept.of_users
-          (subst (λ l. TellsUnsettled st users l old new) kept.of_subtrees said))
+pub unlisted_settled : (bytes : List ℕ) (given : List (ℕ × List ℕ)) (texts : List (List ℕ)) (old new : Option (List ℕ))
+    (result : Result ℕ CliFault) → OnText bytes (λ read. NamedReports ListsUnsettled read given texts old new result)
+    → IfOk result
+    (λ status. (start : State) (who : List Identity) (paths : List Names) → IsTextOf start bytes → users_read given ≡ Ok who
+    → paths_read texts ≡ Ok paths → TellsUnsettled start (once same_user who) (once same_path paths) old new)
+unlisted_settled bytes given texts old new result asked =
+    by_reading ListsUnsettled asked.0 given texts
+    (λ old new result. IfOk result
+    (λ status. (start : State) (who : List Identity) (paths : List Names) → IsTextOf start bytes → users_read given ≡ Ok who
+    → paths_read texts ≡ Ok paths → TellsUnsettled start (once same_user who) (once same_path paths) old new))
+    (λ fault met known. tt)
+    (λ users subtrees st kept old new result said.
+    unsettled_said asked.0 given texts users subtrees st kept bytes (λ start of_text. one_reading bytes asked.0 (Ok start) asked.1 of_text)
+    result old new said.1)
+    old new result asked.2

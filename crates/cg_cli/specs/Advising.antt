@@ -1,5 +1,5 @@
 -- The report of the advice for users and subtrees. Own.
-use Rattle.std.specs.Prelude.{ℕ, List, [], ◌∷◌, map, Option, Some, None, Result, Ok, codes}
+use Rattle.std.specs.Prelude.{◌≡◌, ◌≢◌, ℕ, List, [], ◌∷◌, map, Option, Some, None, Result, Ok, codes}
 use Rattle.std.specs.List.{All, Contains, filter, flat_map}
 use Rattle.cg_cgroup.specs.Paths.{Names, same_path}
 use Rattle.cg_cgroup.specs.Identity.{Identity}
@@ -18,8 +18,9 @@ use Rattle.cg_format.specs.Readings.{Reading}
 use Rattle.cg_cli.specs.Audits.{users_read, paths_read}
 use Rattle.cg_cli.specs.May.{tree_read}
 use Rattle.cg_cli.specs.Once.{same_user}
-use Rattle.cg_cli.specs.Reports.{Report, report_on}
+use Rattle.cg_cli.specs.Reports.{Report, Reports, report_on}
 use Rattle.cg_cli.specs.Containment.{in_call}
+use Rattle.cg_faults.specs.declared.fault.CliFault.{CliFault}
 
 abbrev pub contained_line : List ℕ
 contained_line = codes "contained\n"
@@ -48,6 +49,12 @@ advised st subtrees pairs = unless_fault (first (flat_map (subtree_faults st) su
 
 abbrev pub advice_report : State → List Names → List Pair → Report
 advice_report st subtrees pairs = report_on (in_call (advised st subtrees pairs)) lines_report
+
+-- That of every user with every subtree is written, and status 0 means that all are contained against all.
+abbrev pub AdvisesPairs : State → List Identity → List Names → Option (List ℕ) → Option (List ℕ) → Result ℕ CliFault → Type 0
+AdvisesPairs st users subtrees old new result =
+    Reports (advice_report st subtrees (all_pairs users subtrees)) old new result
+    × (result ≡ Ok 0 → users ≢ [] → AreContained st users subtrees)
 
 -- What is said of users and subtrees once they, a tree's text and the subtrees are read: all users are looked at first, each with
 -- their uid before their gids; then all paths, the tree's text, and whether the subtrees are ones that can be checked.

@@ -1,5 +1,5 @@
 -- The report on all pairs of some users and subtrees that aren't contained. Own.
-use Rattle.std.specs.Prelude.{◌≡◌, ◌≢◌, ℕ, Bool, true, false, ◌||◌, cond, nat_eq, List, [], ◌∷◌, ◌++◌, Option, Result, Ok, Err, codes}
+use Rattle.std.specs.Prelude.{◌≡◌, ◌≢◌, ℕ, Bool, true, false, ◌||◌, cond, nat_eq, List, [], ◌∷◌, ◌++◌, Option, Result, Ok, Err, codes, IfOk}
 use Rattle.std.specs.List.{list_any, flat_map, All}
 use Rattle.std.specs.Io.KnownBytes.{Appends, Keeps}
 use Rattle.cg_cgroup.specs.Paths.{Names, same_path}
@@ -84,3 +84,8 @@ ReportsPairs (Err fault) old new (Err other) = (fault ≡ other) × Keeps old ne
 -- Each subtree is contained against the users with whom it isn't listed, all of them together, where there are such.
 abbrev pub UnlistedAreContained : State → List Identity → List Names → Type 0
 UnlistedAreContained st users subtrees = All (λ subtree. unlisted st users subtree ≢ [] → AreContained st (unlisted st users subtree) (subtree ∷ [])) subtrees
+
+-- They are listed, and where there is a status that holds.
+abbrev pub ListsUncontained : State → List Identity → List Names → Option (List ℕ) → Option (List ℕ) → Result ℕ CliFault → Type 0
+ListsUncontained st users subtrees old new result =
+    ReportsPairs (pairs_found st users subtrees) old new result × IfOk result (λ status. UnlistedAreContained st users subtrees)

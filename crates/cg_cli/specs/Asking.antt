@@ -1,5 +1,5 @@
 -- What calls read before they ask a tree.
-use Rattle.std.specs.Prelude.{◌≡◌, ℕ, Bool, true, List, Result, Ok, Err}
+use Rattle.std.specs.Prelude.{◌≡◌, ◌⊎◌, ℕ, Bool, true, List, Option, Result, Ok, Err}
 use Rattle.cg_cgroup.specs.Paths.{Names, same_path}
 use Rattle.cg_cgroup.specs.Identity.{Identity}
 use Rattle.cg_model.specs.States.{State}
@@ -39,3 +39,11 @@ pub record IsKeptOnce (read : Result (List Identity × List Names × State) CliF
   pub is : read ≡ Ok (all_users, all_subtrees, st)
   pub of_users : users ≡ once same_user all_users
   pub of_subtrees : subtrees ≡ once same_path all_subtrees
+
+-- What a call answers, and has written by then, that reads users, subtrees and a tree, and then answers something of these; or a
+-- fault that it meets in reading, by when nothing is written.
+abbrev pub NamedReports : (State → List Identity → List Names → Option (List ℕ) → Option (List ℕ) → Result ℕ CliFault → Type 0) → Reading → List (ℕ × List ℕ) → List (List ℕ) → Option (List ℕ) → Option (List ℕ) → Result ℕ CliFault → Type 0
+NamedReports answers tree given texts old new result =
+    ((fault : CliFault) × IsMet (named_read given texts tree) fault × (result ≡ Err fault) × (new ≡ old))
+    ⊎ ((users : List Identity) × (subtrees : List Names) × (st : State) × IsKeptOnce (named_read given texts tree) users subtrees st
+    × answers st users subtrees old new result)

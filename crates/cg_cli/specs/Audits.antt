@@ -1,9 +1,10 @@
 -- The report on whether several subtrees are contained against several users. Own.
-use Rattle.std.specs.Prelude.{ℕ, List, [], ◌∷◌, Result, Ok, Err}
+use Rattle.std.specs.Prelude.{◌≡◌, ◌≢◌, ℕ, List, [], ◌∷◌, Option, Result, Ok, Err}
 use Rattle.cg_cgroup.specs.Paths.{Names}
 use Rattle.cg_cgroup.specs.Identity.{Identity}
 use Rattle.cg_model.specs.States.{State}
 use Rattle.cg_model.specs.Checks.{all_checked}
+use Rattle.cg_model.specs.Several.{AreContained}
 use Rattle.cg_format.specs.Readings.{Reading}
 use Rattle.cg_model.specs.declared.answer.AllAnswer.{AllAnswer}
 use Rattle.cg_model.specs.declared.answer.AllAnswer.TheVariants.{Contained, Pair}
@@ -11,7 +12,7 @@ use Rattle.cg_report.specs.AuditLines.{audit_text}
 use Rattle.cg_cli.specs.Arguments.{user_read, path_read}
 use Rattle.cg_cli.specs.Containment.{in_call, answer_status}
 use Rattle.cg_cli.specs.May.{tree_read}
-use Rattle.cg_cli.specs.Reports.{Report, report_on}
+use Rattle.cg_cli.specs.Reports.{Report, Reports, report_on}
 use Rattle.cg_faults.specs.declared.fault.CliFault.{CliFault}
 
 abbrev pub read_before : {A : Type 0} → Result A CliFault → Result (List A) CliFault → Result (List A) CliFault
@@ -44,6 +45,11 @@ audit_answer_report users subtrees found =
 abbrev pub pairs_report : State → List Identity → List Names → Report
 pairs_report st users subtrees =
     report_on (in_call (all_checked st users subtrees)) (audit_answer_report users subtrees)
+
+-- That is written, and status 0 means that all are contained against all.
+abbrev pub AuditsPairs : State → List Identity → List Names → Option (List ℕ) → Option (List ℕ) → Result ℕ CliFault → Type 0
+AuditsPairs st users subtrees old new result =
+    Reports (pairs_report st users subtrees) old new result × (result ≡ Ok 0 → users ≢ [] → AreContained st users subtrees)
 
 -- All users are looked at first, each with their uid before their gids; then all paths, the tree's text, and whether the
 -- subtrees are ones that can be checked.

@@ -7,6 +7,7 @@ pub mod Reports
 pub mod Strangers
 pub mod Known
 pub mod May
+pub mod Missing
 pub mod Courses
 pub mod Replays
 pub mod Replaying

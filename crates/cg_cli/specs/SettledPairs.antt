@@ -1,5 +1,5 @@
 -- The report on all pairs of some users and subtrees that aren't settled.
-use Rattle.std.specs.Prelude.{◌≡◌, ℕ, List, Option, Some, None, Result, Ok, Err}
+use Rattle.std.specs.Prelude.{◌≡◌, ℕ, List, Option, Some, None, Result, Ok, Err, IfOk}
 use Rattle.std.specs.List.{flat_map}
 use Rattle.std.specs.Io.KnownBytes.{Appends}
 use Rattle.cg_cgroup.specs.Paths.{Names, same_path}
@@ -32,11 +32,11 @@ abbrev pub MayBeFound : State → List Identity → List Names → Option CheckF
 MayBeFound st users subtrees None report = (pairs : List Listed) × MayBeListed st users subtrees pairs × (report ≡ Ok pairs)
 MayBeFound st users subtrees (Some fault) report = report ≡ Err (lifted_check fault)
 
--- what a call answers, and has written by then, of users and subtrees in a state
-abbrev pub ReportsFound : State → List Identity → List Names → Option (List ℕ) → Option (List ℕ) → Result ℕ CliFault → Type 0
-ReportsFound st users subtrees old new result =
+-- what a call answers, and has written by then, of users and subtrees in a state, by what is said of pairs
+abbrev pub ReportsFound : (Result (List Listed) CliFault → Option (List ℕ) → Option (List ℕ) → Result ℕ CliFault → Type 0) → State → List Identity → List Names → Option (List ℕ) → Option (List ℕ) → Result ℕ CliFault → Type 0
+ReportsFound says st users subtrees old new result =
     (report : Result (List Listed) CliFault) × MayBeFound st users subtrees (first (flat_map (subtree_faults st) subtrees)) report
-    × ReportsPairs report old new result
+    × says report old new result
 
 -- what is said of the first of such pairs, where the subtrees have no fault
 abbrev pub SaysFirst : State → List Identity → List Names → Report → Type 0
@@ -64,3 +64,8 @@ abbrev pub TellsUnsettled : State → List Identity → List Names → Option (L
 TellsUnsettled st users subtrees old new =
     (found : ℕ → ℕ → Answer) × Appends old new (listing_text (listed_from found 0 users subtrees))
     × UnlistedAreSettled st users subtrees found
+
+-- They are listed, and where there is a status what is written tells that.
+abbrev pub ListsUnsettled : State → List Identity → List Names → Option (List ℕ) → Option (List ℕ) → Result ℕ CliFault → Type 0
+ListsUnsettled st users subtrees old new result =
+    ReportsFound ReportsPairs st users subtrees old new result × IfOk result (λ status. TellsUnsettled st users subtrees old new)

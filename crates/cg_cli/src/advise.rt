@@ -12,13 +12,13 @@ ghost use Rattle.cg_format.specs.Readings.{OnText};
 ghost use Rattle.cg_format.specs.TextOf.{IsTextOf};
 ghost use Rattle.cg_advice.specs.AdviceLines.{advice_lines};
 ghost use Rattle.cg_advice.specs.Ways.{pair_of};
-ghost use Rattle.cg_cli.specs.Advising.{contained_line, lines_report, pair_with, all_pairs, advised, advice_report, advise_report};
+ghost use Rattle.cg_cli.specs.Advising.{contained_line, lines_report, pair_with, all_pairs, advised, advice_report, AdvisesPairs, advise_report};
 ghost use Rattle.cg_cli.specs.Audits.{users_read, paths_read};
 ghost use Rattle.cg_cli.specs.Reports.{Reports};
 ghost use Rattle.cg_cli.specs.Strangers.{IsFirstStranger};
 
 use crate::arguments::UserIds;
-use crate::named::read_named;
+use crate::named_question::{NamedQuestion, ask_named};
 use crate::report::write_said;
 use cg_advice::pair::Pair;
 use cg_advice::text::advice_lines;
@@ -58,15 +58,27 @@ pub fn advise_bytes<W: Write>(
         → paths_read (map (λ subtree. subtree.now) subtrees.now) ≡ Ok paths → who ≢ [] → AreContained st who paths }
     ensures stranger { IsFirstStranger tree.now (map (λ user. (user.uid, user.gids.now)) users.now) result stranger.new }
 {
-    let named = read_named(alloc, tree, users, subtrees)?;
-    *stranger = named.stranger;
-    let said = advised(
-        alloc,
-        &named.tree,
-        named.users.as_slice(),
-        named.subtrees.as_slice(),
-    )?;
-    write_said(out, said)
+    ask_named(alloc, &Changes, tree, users, subtrees, stranger, out)
+}
+
+/// What to change.
+#[derive(Drop)]
+struct Changes;
+
+impl NamedQuestion for Changes {
+    ghost answers = { λ _. AdvisesPairs };
+
+    fn answer<H: Hierarchy + Drop, W: Write>(
+        &self,
+        alloc: Global,
+        tree: &H,
+        users: &[User],
+        subtrees: &[Path],
+        out: &mut W,
+    ) -> Result<u8, CliFault> {
+        let said = advised(alloc, tree, users, subtrees)?;
+        write_said(out, said)
+    }
 }
 
 /// What is said of users and subtrees, and the status.

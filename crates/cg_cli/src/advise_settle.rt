@@ -13,7 +13,7 @@ ghost use Rattle.cg_cli.specs.Strangers.{IsFirstStranger};
 
 use crate::advise::{advice, said_of};
 use crate::arguments::UserIds;
-use crate::named::read_named;
+use crate::named_question::{NamedQuestion, ask_named};
 use crate::report::write_said;
 use cg_cgroup::memory::NoMemory;
 use cg_cgroup::path::Path;
@@ -48,15 +48,27 @@ pub fn advise_settled_bytes<W: Write>(
         (W.contents out.old) (W.contents out.new) result) }
     ensures stranger { IsFirstStranger tree.now (map (λ user. (user.uid, user.gids.now)) users.now) result stranger.new }
 {
-    let named = read_named(alloc, tree, users, subtrees)?;
-    *stranger = named.stranger;
-    let said = advised(
-        alloc,
-        &named.tree,
-        named.users.as_slice(),
-        named.subtrees.as_slice(),
-    )?;
-    write_said(out, said)
+    ask_named(alloc, &SettledChanges, tree, users, subtrees, stranger, out)
+}
+
+/// What to change, where the second row of guards is asked first.
+#[derive(Drop)]
+struct SettledChanges;
+
+impl NamedQuestion for SettledChanges {
+    ghost answers = { λ _. λ st users subtrees. Reports (settled_report st users subtrees) };
+
+    fn answer<H: Hierarchy + Drop, W: Write>(
+        &self,
+        alloc: Global,
+        tree: &H,
+        users: &[User],
+        subtrees: &[Path],
+        out: &mut W,
+    ) -> Result<u8, CliFault> {
+        let said = advised(alloc, tree, users, subtrees)?;
+        write_said(out, said)
+    }
 }
 
 /// What is said of users and subtrees, and the status.

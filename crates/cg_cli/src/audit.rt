@@ -7,13 +7,13 @@ ghost use Rattle.cg_model.specs.Checks.{all_checked};
 ghost use Rattle.cg_model.specs.Several.{AreContained};
 ghost use Rattle.cg_format.specs.Readings.{OnText};
 ghost use Rattle.cg_format.specs.TextOf.{IsTextOf};
-ghost use Rattle.cg_cli.specs.Audits.{users_read, paths_read, audit_status, pairs_report, audit_report};
+ghost use Rattle.cg_cli.specs.Audits.{users_read, paths_read, audit_status, pairs_report, AuditsPairs, audit_report};
 ghost use Rattle.cg_cli.specs.Reports.{Reports};
 ghost use Rattle.cg_cli.specs.Strangers.{IsFirstStranger};
 
 use crate::arguments::UserIds;
 use crate::check::status;
-use crate::named::read_named;
+use crate::named_question::{NamedQuestion, ask_named};
 use crate::report::write_said;
 use cg_cgroup::memory::NoMemory;
 use cg_cgroup::path::Path;
@@ -52,15 +52,27 @@ pub fn audit_bytes<W: Write>(
         → paths_read (map (λ subtree. subtree.now) subtrees.now) ≡ Ok paths → who ≢ [] → AreContained st who paths }
     ensures stranger { IsFirstStranger tree.now (map (λ user. (user.uid, user.gids.now)) users.now) result stranger.new }
 {
-    let named = read_named(alloc, tree, users, subtrees)?;
-    *stranger = named.stranger;
-    let said = audited(
-        alloc,
-        &named.tree,
-        named.users.as_slice(),
-        named.subtrees.as_slice(),
-    )?;
-    write_said(out, said)
+    ask_named(alloc, &FirstPair, tree, users, subtrees, stranger, out)
+}
+
+/// Which pair is the first that isn't contained.
+#[derive(Drop)]
+struct FirstPair;
+
+impl NamedQuestion for FirstPair {
+    ghost answers = { λ _. AuditsPairs };
+
+    fn answer<H: Hierarchy + Drop, W: Write>(
+        &self,
+        alloc: Global,
+        tree: &H,
+        users: &[User],
+        subtrees: &[Path],
+        out: &mut W,
+    ) -> Result<u8, CliFault> {
+        let said = audited(alloc, tree, users, subtrees)?;
+        write_said(out, said)
+    }
 }
 
 /// What is said of users and subtrees, and the status.

@@ -13,12 +13,12 @@ ghost use Rattle.cg_format.specs.TextOf.{IsTextOf};
 ghost use Rattle.cg_cli.specs.Audits.{users_read, paths_read};
 ghost use Rattle.cg_model.specs.Once.{once};
 ghost use Rattle.cg_cli.specs.Once.{same_user};
-ghost use Rattle.cg_cli.specs.AllPairs.{worse, WritesPairs, pairs_found, all_report, ReportsPairs, UnlistedAreContained};
+ghost use Rattle.cg_cli.specs.AllPairs.{worse, WritesPairs, pairs_found, all_report, ReportsPairs, UnlistedAreContained, ListsUncontained};
 ghost use Rattle.cg_cli.specs.Strangers.{IsFirstStranger};
 
 use crate::arguments::UserIds;
 use crate::check::status;
-use crate::named::read_named;
+use crate::named_question::{NamedQuestion, ask_named};
 use cg_cgroup::path::Path;
 use cg_cgroup::user::User;
 use cg_check::{check, first_fault, from_first_unguarded};
@@ -56,14 +56,31 @@ pub fn audit_all_bytes<W: Write>(
         → paths_read (map (λ subtree. subtree.now) subtrees.now) ≡ Ok paths → UnlistedAreContained st (once same_user who) (once same_path paths)) }
     ensures stranger { IsFirstStranger tree.now (map (λ user. (user.uid, user.gids.now)) users.now) result stranger.new }
 {
-    let named = read_named(alloc, tree, users, subtrees)?;
-    *stranger = named.stranger;
-    let listing = Listing {
-        alloc,
-        tree: &named.tree,
-        subtrees: named.subtrees.as_slice(),
-    };
-    listing.write(named.users.as_slice(), out)
+    ask_named(alloc, &AllPairs, tree, users, subtrees, stranger, out)
+}
+
+/// Which pairs aren't contained.
+#[derive(Drop)]
+struct AllPairs;
+
+impl NamedQuestion for AllPairs {
+    ghost answers = { λ _. ListsUncontained };
+
+    fn answer<H: Hierarchy + Drop, W: Write>(
+        &self,
+        alloc: Global,
+        tree: &H,
+        users: &[User],
+        subtrees: &[Path],
+        out: &mut W,
+    ) -> Result<u8, CliFault> {
+        let listing = Listing {
+            alloc,
+            tree,
+            subtrees,
+        };
+        listing.write(users, out)
+    }
 }
 
 /// What a listing of pairs is asked of.

@@ -16,7 +16,7 @@ ghost use Rattle.cg_cli.specs.Once.{same_user};
 ghost use Rattle.cg_cli.specs.AllPairs.{WritesPairs, ReportsPairs};
 ghost use Rattle.cg_cli.specs.Containment.{answer_status};
 ghost use Rattle.cg_cli.specs.FurtherPairs.{first_pair_report, ReportsFirst, ReportsFurther};
-ghost use Rattle.cg_cli.specs.SettledPairs.{ReportsFound, ReportsSettled, SaysFirst, TellsUnsettled};
+ghost use Rattle.cg_cli.specs.SettledPairs.{ReportsFound, ListsUnsettled, ReportsSettled, SaysFirst, TellsUnsettled};
 ghost use Rattle.cg_cli.specs.SettledRows.{row_pairs, rows_pairs, IsPairLine, IsRowOfLines};
 ghost use Rattle.cg_cli.specs.Strangers.{IsFirstStranger};
 ghost use Rattle.cg_report.specs.AnswerLines.{answer_text, IsShown};
@@ -27,7 +27,7 @@ use crate::answers::listing::{Row, listed_rows};
 use crate::arguments::UserIds;
 use crate::audit_all::worse;
 use crate::check::status;
-use crate::named::read_named;
+use crate::named_question::{NamedQuestion, ask_named};
 use crate::report::write_said;
 use cg_cgroup::memory::NoMemory;
 use cg_cgroup::path::Path;
@@ -71,15 +71,26 @@ pub fn audit_all_settled_bytes<W: Write>(
         → TellsUnsettled st (once same_user who) (once same_path paths) (W.contents out.old) (W.contents out.new)) }
     ensures stranger { IsFirstStranger tree.now (map (λ user. (user.uid, user.gids.now)) users.now) result stranger.new }
 {
-    let named = read_named(alloc, tree, users, subtrees)?;
-    *stranger = named.stranger;
-    write_found(
-        alloc,
-        &named.tree,
-        named.users.as_slice(),
-        named.subtrees.as_slice(),
-        out,
-    )
+    ask_named(alloc, &AllPairs, tree, users, subtrees, stranger, out)
+}
+
+/// Which pairs aren't settled.
+#[derive(Drop)]
+struct AllPairs;
+
+impl NamedQuestion for AllPairs {
+    ghost answers = { λ _. ListsUnsettled };
+
+    fn answer<H: Hierarchy + Drop, W: Write>(
+        &self,
+        alloc: Global,
+        tree: &H,
+        users: &[User],
+        subtrees: &[Path],
+        out: &mut W,
+    ) -> Result<u8, CliFault> {
+        write_found(alloc, tree, users, subtrees, out)
+    }
 }
 
 /// Writes the first of these pairs alone, as `audit_bytes` writes one, with its status.
@@ -103,15 +114,27 @@ pub fn audit_settled_bytes<W: Write>(
         (W.contents out.old) (W.contents out.new) result) }
     ensures stranger { IsFirstStranger tree.now (map (λ user. (user.uid, user.gids.now)) users.now) result stranger.new }
 {
-    let named = read_named(alloc, tree, users, subtrees)?;
-    *stranger = named.stranger;
-    let said = first_said(
-        alloc,
-        &named.tree,
-        named.users.as_slice(),
-        named.subtrees.as_slice(),
-    )?;
-    write_said(out, said)
+    ask_named(alloc, &FirstPair, tree, users, subtrees, stranger, out)
+}
+
+/// Which is the first of them.
+#[derive(Drop)]
+struct FirstPair;
+
+impl NamedQuestion for FirstPair {
+    ghost answers = { λ _. ReportsFound ReportsFirst };
+
+    fn answer<H: Hierarchy + Drop, W: Write>(
+        &self,
+        alloc: Global,
+        tree: &H,
+        users: &[User],
+        subtrees: &[Path],
+        out: &mut W,
+    ) -> Result<u8, CliFault> {
+        let said = first_said(alloc, tree, users, subtrees)?;
+        write_said(out, said)
+    }
 }
 
 /// What is said of the first pair that isn't settled, and the status.
@@ -196,7 +219,7 @@ fn write_found<H: Hierarchy + Drop, W: Write>(
     subtrees: &[Path],
     out: &mut W,
 ) -> Result<u8, CliFault>
-    ensures report { ReportsFound (H.state tree.now) users.now subtrees.now (W.contents out.old) (W.contents out.new) result }
+    ensures report { ReportsFound ReportsPairs (H.state tree.now) users.now subtrees.now (W.contents out.old) (W.contents out.new) result }
     ensures unlisted { IfOk result (λ status. TellsUnsettled (H.state tree.now) users.now subtrees.now
         (W.contents out.old) (W.contents out.new)) }
 {

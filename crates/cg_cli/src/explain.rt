@@ -15,7 +15,7 @@ use crate::answers::settle::settle;
 use crate::arguments::UserIds;
 use crate::audit_all::worse;
 use crate::check::status;
-use crate::named::read_named;
+use crate::named_question::{NamedQuestion, ask_named};
 use cg_advice::pair::Pair;
 use cg_cgroup::path::Path;
 use cg_cgroup::user::User;
@@ -50,15 +50,26 @@ pub fn explain_bytes<W: Write>(
         (W.contents out.old) (W.contents out.new) result) }
     ensures stranger { IsFirstStranger tree.now (map (λ user. (user.uid, user.gids.now)) users.now) result stranger.new }
 {
-    let named = read_named(alloc, tree, users, subtrees)?;
-    *stranger = named.stranger;
-    write_told(
-        alloc,
-        &named.tree,
-        named.users.as_slice(),
-        named.subtrees.as_slice(),
-        out,
-    )
+    ask_named(alloc, &Reasons, tree, users, subtrees, stranger, out)
+}
+
+/// Why each subtree is contained, or isn't.
+#[derive(Drop)]
+struct Reasons;
+
+impl NamedQuestion for Reasons {
+    ghost answers = { λ _. λ st users subtrees. ReportsTold (pairs_asked st users subtrees) };
+
+    fn answer<H: Hierarchy + Drop, W: Write>(
+        &self,
+        alloc: Global,
+        tree: &H,
+        users: &[User],
+        subtrees: &[Path],
+        out: &mut W,
+    ) -> Result<u8, CliFault> {
+        write_told(alloc, tree, users, subtrees, out)
+    }
 }
 
 /// Writes every user with every subtree.

@@ -4,9 +4,11 @@ ghost use Rattle.cg_model.specs.Clauses.{first};
 ghost use Rattle.cg_model.specs.Bars.{bars};
 ghost use Rattle.cg_format.specs.Readings.{OnText};
 ghost use Rattle.cg_cli.specs.May.{permission, may_report};
+ghost use Rattle.cg_cli.specs.Missing.{IsAbsentFrom};
 ghost use Rattle.cg_cli.specs.Reports.{Reports};
 
 use crate::arguments::{UserIds, read_path, read_pid, read_user};
+use crate::missing::if_missing;
 use crate::reading::read_tree;
 use crate::report::write_said;
 use cg_cgroup::memory::NoMemory;
@@ -19,9 +21,10 @@ use cg_model::outcome::Outcome;
 use cg_ops::refusal;
 use std::alloc::Global;
 use std::io::Write;
+use text_places::near::Missing;
 
 /// Writes whether a user may move the process `pid` to the cgroup `to`: `granted` with status 0, or the first refusal
-/// with status 1.
+/// with status 1. Where the tree doesn't have that cgroup, `missing` is its path and the nearest that the tree has.
 ///
 /// # Errors
 /// The first that holds of `Uid`, `Gids`, `Pid`, `BadPath` and `Tree`, and then nothing is written; `Write` where a
@@ -32,16 +35,20 @@ pub fn may_bytes<W: Write>(
     user: UserIds<'_>,
     pid: u32,
     to: &str,
+    missing: &mut Option<Missing>,
     out: &mut W,
 ) -> Result<u8, CliFault>
-    ensures { OnText tree.now (λ read. Reports (may_report read user.entry.uid user.entry.gids.now pid to.now)
+    ensures report { OnText tree.now (λ read. Reports (may_report read user.entry.uid user.entry.gids.now pid to.now)
         (W.contents out.old) (W.contents out.new) result) }
+    ensures missing { IsAbsentFrom tree.now to.now result missing.new }
 {
     let user = read_user(user)?;
     let pid = read_pid(pid)?;
     let to = read_path(alloc, to)?;
     let tree = read_tree(alloc, tree)?;
+    let found = if_missing(alloc, &tree, &to)?;
     let said = permission(alloc, &tree, &user, &Op::Move { pid, to })?;
+    *missing = found;
     write_said(out, said)
 }
 

@@ -1,8 +1,10 @@
 -- What stands beside an answer. Own.
-use Rattle.std.specs.Prelude.{ℕ, List, [], ◌++◌, codes, Option}
+use Rattle.std.specs.Prelude.{◌≡◌, ℕ, List, [], ◌++◌, codes, Option, Some, None}
 use Rattle.std.specs.Fmt.{decimal}
 use Rattle.std.specs.Option.{option_map_or}
 use Rattle.text_places.specs.Shown.{indented}
+use Rattle.text_places.specs.declared.near.Missing.{Missing}
+use Rattle.cg_help.specs.Missing.{IsMissingSaid}
 use Rattle.cg_help.specs.Modes.{mode_line}
 use Rattle.cg_help.specs.declared.beside.Beside.{Beside}
 
@@ -15,5 +17,11 @@ stranger_words uid =
 abbrev pub stranger_line : Option ℕ → List ℕ
 stranger_line stranger = option_map_or (λ uid. indented (stranger_words uid)) stranger []
 
-abbrev pub beside_lines : Beside → List ℕ
-beside_lines beside = mode_line beside.mode ++ stranger_line beside.stranger
+-- of a path that a tree doesn't have
+abbrev pub IsMissingLine : Option Missing → List ℕ → Type 0
+IsMissingLine None line = line ≡ []
+IsMissingLine (Some missing) line = (said : List ℕ) × IsMissingSaid missing said × (line ≡ indented said)
+
+abbrev pub AreBesideLines : Beside → List ℕ → Type 0
+AreBesideLines beside lines =
+    (missing : List ℕ) × IsMissingLine beside.missing missing × (lines ≡ mode_line beside.mode ++ stranger_line beside.stranger ++ missing)

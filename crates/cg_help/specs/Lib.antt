@@ -1,4 +1,5 @@
 pub mod Beside
 pub mod Help
+pub mod Missing
 pub mod Modes
 pub mod Waiting

@@ -1,6 +1,9 @@
 -- Modes of a tree's text that are written in decimal where an octal number is likely to be meant. Own.
-use Rattle.std.specs.Prelude.{ℕ, Bool, false, cond, not, nat_eq, nat_le, ◌&&◌, ◌||◌, List, [], ◌∷◌, codes, Option, Some, None, option_and_then}
+use Rattle.std.specs.Prelude.{ℕ, zero, suc, Bool, true, false, cond, not, nat_eq, nat_lt, nat_le, ◌&&◌, ◌||◌, List, [], ◌∷◌, length, drop, codes, Option, Some, None, is_some, option_and_then}
 use Rattle.std.specs.Option.{option_or, option_map_or}
+use Rattle.std.specs.Str.{is_utf8}
+use Rattle.toml_parser.specs.Lexical.{first, skip_blank}
+use Rattle.toml_parser.specs.Strings.{starts_string, quoted}
 use Rattle.cg_format.specs.TreeTexts.{behind}
 use Rattle.text_places.specs.Shown.{indented}
 use Rattle.cg_help.specs.declared.modes.Spelled.{Spelled}
@@ -32,18 +35,26 @@ abbrev pub mode_at : List ℕ → Option Spelled
 mode_at text =
     option_and_then (λ rest. option_and_then (λ value. number_at (unspaced value)) (behind (codes "=") (unspaced rest))) (behind (codes "mode") text)
 
--- whether what stands behind a byte is of a comment, which a number sign begins and a newline ends
-abbrev pub is_comment_behind : Bool → ℕ → Bool
-is_comment_behind is_comment byte = not (nat_eq byte 10) && (is_comment || nat_eq byte 35)
+-- whether such a mode stands anywhere in a text
+abbrev pub is_written : List ℕ → Bool
+is_written [] = false
+is_written (byte ∷ text) = is_some (mode_at (byte ∷ text)) || is_written text
 
--- the first of these modes that stands in no comment, of a text that may begin in one
-abbrev pub spelled_from : Bool → List ℕ → Option Spelled
-spelled_from is_comment [] = None
-spelled_from is_comment (byte ∷ text) =
-    option_or (cond is_comment None (mode_at (byte ∷ text))) (spelled_from (is_comment_behind is_comment byte) text)
+-- what stands behind the string or the byte at a text's front, and behind the blanks and comments that follow it; nothing behind a
+-- string that doesn't end, and behind a byte that stands in strings and comments alone
+abbrev pub past : List ℕ → List ℕ
+past text =
+    cond (starts_string text) (option_map_or (λ read. skip_blank read.1) (quoted text) [])
+    (cond (nat_lt 0 (first text) && nat_lt (first text) 128) (skip_blank (drop 1 text)) [])
 
+-- the first mode of a text that begins in no string and no comment, of so many pieces
+abbrev pub key_mode : ℕ → List ℕ → Option Spelled
+key_mode zero text = None
+key_mode (suc more) text = option_or (mode_at text) (key_mode more (past text))
+
+-- the first of these modes that stands in no string and no comment
 abbrev pub spelled_mode : List ℕ → Option Spelled
-spelled_mode text = spelled_from false text
+spelled_mode text = cond (is_written text && is_utf8 text) (key_mode (length text) (skip_blank text)) None
 
 -- what is said of one
 abbrev pub mode_words : Spelled → List ℕ

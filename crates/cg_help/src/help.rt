@@ -6,8 +6,8 @@ ghost use Rattle.cg_help.specs.Help.{IsHelpFor, has_help, plain_help};
 use crate::files::{read_again, why_unread};
 use crate::given::{other_of, paths_of, tree_of};
 use crate::lines::line_said;
-use crate::paths::{why_missing, why_no_path};
-use crate::trees::{missing_said, tree_said, vocabulary_of};
+use crate::paths::{missing_said, why_no_path};
+use crate::trees::{first_missing_said, tree_said, vocabulary_of};
 use arguments::request::Request;
 use arguments::usage::usage_text;
 use cg_cgroup::files::Vocabulary;
@@ -17,6 +17,7 @@ use cg_format::fault::TreeFault;
 use cg_model::fault::CheckFault;
 use std::alloc::{AllocError, Global};
 use streams::files::Files;
+use text_places::near::Missing;
 use text_places::shown::{indented, quoted};
 
 const ROOT_USER: &str = "uid 0 is root's, whom no owner and no mode keeps: root isn't checked";
@@ -178,12 +179,18 @@ fn missing_path<F: Files>(
 ) -> Result<Option<String>, NoMemory> {
     let paths = paths_of(alloc, request)?;
     if let Some(tree) = tree_bytes(alloc, files, request, seen)? {
-        if let Some(why) = missing_said(alloc, tree.as_slice(), paths.as_slice())? {
+        if let Some(why) = first_missing_said(alloc, tree.as_slice(), paths.as_slice())? {
             return Ok(Some(why));
         }
     }
     match paths.as_slice() {
-        [path] => Ok(Some(why_missing(alloc, path)?)),
+        [path] => {
+            let missing = Missing {
+                name: String::from_str(alloc, path)?,
+                nearest: None,
+            };
+            Ok(Some(missing_said(alloc, &missing)?))
+        }
         _ => Ok(None),
     }
 }

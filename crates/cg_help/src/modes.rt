@@ -1,12 +1,14 @@
 //! Modes of a tree's text that are written in decimal where an octal number is likely to be meant.
-ghost use Rattle.std.specs.Prelude.{◌≡◌, ◌≤◌, length, true, false, IfOk};
-ghost use Rattle.cg_format.specs.TreeTexts.{behind};
-ghost use Rattle.cg_help.specs.Modes.{unspaced, goes_on, is_number, number_at, mode_at, is_comment_behind, spelled_from, spelled_mode, mode_words, mode_line};
+ghost use Rattle.std.specs.Prelude.{◌≡◌, ◌≤◌, length, IfOk};
+ghost use Rattle.toml_parser.specs.Lexical.{skip_blank};
+ghost use Rattle.cg_help.specs.Modes.{unspaced, goes_on, is_number, number_at, mode_at, is_written, past, key_mode, spelled_mode, mode_words, mode_line};
 
 use cg_cgroup::memory::NoMemory;
-use memchr::{memchr, memchr2};
-use std::alloc::Global;
+use memchr::memchr;
+use std::alloc::{AllocError, Global};
 use text_places::shown::indented;
+use toml_parser::text::{first, skip, skip_blank};
+use toml_parser::{ParseError, quoted, starts_string};
 
 /// A mode that is written in decimal and reads as an octal one.
 #[derive(Clone, Copy, Debug, PartialEq, Eq)]
@@ -17,51 +19,81 @@ pub enum Spelled {
     Of500,
 }
 
-/// The first such mode of a tree's text that stands in no comment.
-pub fn spelled_mode(text: &[u8]) -> Option<Spelled>
-    ensures { result ≡ spelled_mode text.now }
+/// The first such mode of a tree's text. Strings and comments are passed over as the reader of trees does.
+pub fn spelled_mode(alloc: Global, text: &[u8]) -> Result<Option<Spelled>, AllocError>
+    ensures { IfOk result (λ mode. mode ≡ spelled_mode text.now) }
 {
-    let mut left = from_mark(text);
-    while let Some((byte, rest)) = left.split_first() {
-        if let Some(mode) = mode_at(left) {
-            return Some(mode);
+    if !is_written(text) {
+        return Ok(None);
+    }
+    match std::str::from_utf8(text) {
+        Ok(text) => key_mode(alloc, text),
+        Err(_) => Ok(None),
+    }
+}
+
+/// Whether such a mode stands anywhere in a text.
+fn is_written(text: &[u8]) -> bool
+    ensures { result ≡ is_written text.now }
+{
+    let mut left = from_letter(text);
+    while let Some((_, rest)) = left.split_first() {
+        if mode_at(left).is_some() {
+            return true;
         }
-        left = from_mark(behind_byte(*byte, rest));
+        left = from_letter(rest);
     }
-    None
+    false
 }
 
-/// A text from the first byte on with which a mode or a comment may begin.
-fn from_mark(text: &[u8]) -> &[u8]
-    ensures same { spelled_from false result.now ≡ spelled_from false text.now }
+/// A text from the first letter on with which a mode may begin.
+fn from_letter(text: &[u8]) -> &[u8]
+    ensures same { is_written result.now ≡ is_written text.now }
     ensures length { length result.now ≤ length text.now }
 {
-    match memchr2(b'm', b'#', text) {
+    match memchr(b'm', text) {
         Some(at) => &text[at..],
         None => &text[text.len()..],
     }
 }
 
-/// What is left behind a byte outside comments: all, or what stands behind a comment.
-fn behind_byte(byte: u8, rest: &[u8]) -> &[u8]
-    ensures same { spelled_from false result.now ≡ spelled_from (is_comment_behind false byte) rest.now }
-    ensures length { length result.now ≤ length rest.now }
+/// What is left of a text behind its first pieces.
+#[derive(Drop)]
+struct Left<'t> {
+    text: &'t str,
+}
+
+/// The first such mode that stands outside strings and comments.
+fn key_mode(alloc: Global, text: &str) -> Result<Option<Spelled>, AllocError>
+    ensures { IfOk result (λ mode. mode ≡ key_mode (length text.now) (skip_blank text.now)) }
 {
-    if byte == b'#' {
-        from_line_end(rest)
+    let mut left = Left {
+        text: skip_blank(text, true),
+    };
+    for _done in 0..text.len() {
+        if let Some(mode) = mode_at(left.text.as_bytes()) {
+            return Ok(Some(mode));
+        }
+        left.text = past(alloc, left.text)?;
+    }
+    Ok(None)
+}
+
+/// Behind the string or the byte at a text's front, and behind the blanks and comments that follow it.
+fn past(alloc: Global, text: &str) -> Result<&str, AllocError>
+    ensures { IfOk result (λ rest. rest.now ≡ past text.now) }
+{
+    let byte = first(text);
+    if starts_string(text) {
+        match quoted(alloc, text) {
+            Ok((_, rest)) => Ok(skip_blank(rest, true)),
+            Err(ParseError::OutOfMemory) => Err(AllocError),
+            Err(ParseError::At(..)) => Ok(""),
+        }
+    } else if 0 < byte && byte < 128 {
+        Ok(skip_blank(skip(text, 1), true))
     } else {
-        rest
-    }
-}
-
-/// A text that begins in a comment, from the end of its line on.
-fn from_line_end(text: &[u8]) -> &[u8]
-    ensures same { spelled_from false result.now ≡ spelled_from true text.now }
-    ensures length { length result.now ≤ length text.now }
-{
-    match memchr(b'\n', text) {
-        Some(at) => &text[at..],
-        None => &text[text.len()..],
+        Ok("")
     }
 }
 

@@ -1,15 +1,17 @@
 //! Why a text is no path.
+ghost use Rattle.std.specs.Prelude.{◌≡◌, IfOk, option_copied, string_bytes};
+ghost use Rattle.std.specs.Option.{option_map};
+ghost use Rattle.cg_help.specs.Missing.{names_mount, why_missing, IsNearSaid, IsMissingSaid};
+
 use cg_cgroup::files::LimitFile;
 use std::alloc::{AllocError, Global};
+use text_places::near::Missing;
 use text_places::shown::quoted;
 
 /// The greatest number of bytes of a path, and of a name.
 const LONGEST_PATH: usize = 4095;
 
 const LONGEST_NAME: usize = 255;
-
-/// Where a host has its cgroups.
-pub(crate) const MOUNT: &str = "/sys/fs/cgroup";
 
 /// Why a text is no path, in words; nothing where it is one.
 pub(crate) fn why_no_path(alloc: Global, text: &str) -> Result<Option<String>, AllocError> {
@@ -75,14 +77,43 @@ fn is_reserved(name: &str) -> bool {
     is_standing || LimitFile::from_name(name).is_some()
 }
 
-/// What may be wrong with a path that no row of the tree has.
-pub(crate) fn why_missing(alloc: Global, text: &str) -> Result<String, AllocError> {
-    let shown = quoted(alloc, text)?;
-    if text.starts_with(MOUNT) {
-        format!(in alloc;
-            "'{shown}' begins with the mount: paths are below /sys/fs/cgroup, and don't name it"
-        )
+/// What may be wrong with a path that no row of the tree has, and which one is the nearest.
+pub(crate) fn missing_said(alloc: Global, missing: &Missing) -> Result<String, AllocError>
+    ensures { IfOk result (λ said. IsMissingSaid missing.now (string_bytes said)) }
+{
+    let shown = quoted(alloc, missing.name.as_str())?;
+    let why = why_missing(missing.name.as_str());
+    let near = near_said(alloc, missing.nearest.as_ref())?;
+    format!(in alloc; "'{shown}{why}{near}")
+}
+
+/// Whether a path begins with where a host has its cgroups, which no path of a tree does.
+pub(crate) fn names_mount(path: &str) -> bool
+    ensures { result ≡ names_mount path.now }
+{
+    path.as_bytes().strip_prefix(b"/sys/fs/cgroup").is_some()
+}
+
+/// What may be wrong with a path, behind its quote.
+fn why_missing(path: &str) -> &'static str
+    ensures { result.now ≡ why_missing path.now }
+{
+    if names_mount(path) {
+        "' begins with the mount: paths are below /sys/fs/cgroup, and don't name it"
     } else {
-        format!(in alloc; "'{shown}' has to be the path of a row of the tree")
+        "' has to be the path of a row of the tree"
+    }
+}
+
+/// Which path is the nearest.
+pub(crate) fn near_said(alloc: Global, nearest: Option<&String>) -> Result<String, AllocError>
+    ensures { IfOk result (λ said. IsNearSaid (option_map string_bytes (option_copied nearest.entry)) (string_bytes said)) }
+{
+    match nearest {
+        Some(near) => {
+            let shown = quoted(alloc, near.as_str())?;
+            format!(in alloc; "; the nearest is '{shown}'")
+        }
+        None => Ok(String::new(alloc)),
     }
 }

@@ -63,7 +63,7 @@ pub(crate) fn vocabulary_of(alloc: Global, bytes: &[u8]) -> Vocabulary {
 }
 
 /// The first of these paths that no row of a tree's text has, and what may be wrong with it.
-pub(crate) fn missing_said(
+pub(crate) fn first_missing_said(
     alloc: Global,
     bytes: &[u8],
     paths: &[&str],

@@ -46,12 +46,7 @@ operation_line line op is short held =
     let read : operation_at Format4 line ≡ Some op = ap (operation_at Format4) is ∙ line_again Format4 op held in
     rw (few, read) refl
 
--- one that is too long, and one that is no operation's
-pub long_line : (line : List ℕ) → 8192 < length line → is_operation_line line ≡ false
-long_line line long =
-    let many : nat_le (length line) 8192 ≡ false = grind (arith, nat_tests) in
-    rw many refl
-
+-- one that is no operation's
 pub no_operation : (line : List ℕ) → ((op : Op) → IsInRange Format4 op → line ≢ spelling op) → is_operation_line line ≡ false
 no_operation line none =
     let read : operation_at Format4 line ≡ None = nothing_read Format4 line none in
@@ -213,9 +208,6 @@ pub asked_about : (text : List ℕ) (pairs : Result (List GivenPair) CliFault) �
 asked_about text (Err fault) is said status ended = absurd (no_fault_is fault status ended)
 asked_about text (Ok []) is said status ended = inl (only_listed text (lines_read text) (sym is))
 asked_about text (Ok (pair ∷ pairs)) is said status ended = inr (pair, pairs, sym is)
-
-pub fault_met : (text : List ℕ) (fault : CliFault) → lines_read text ≡ Err fault → pairs_read text ≡ Err fault
-fault_met text fault is = ap (λ lines. read_then lines (asked_of text)) is
 
 -- the first fault of the lines is the report's, or there was no memory
 pub fault_said : (tree text : List ℕ) (fault : CliFault) → fault ≢ Write → (fault ≢ NoMemory → pairs_read text ≡ Err fault)

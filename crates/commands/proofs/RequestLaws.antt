@@ -9,8 +9,10 @@ use Rattle.cg_faults.specs.declared.fault.CliFault.{CliFault}
 use Rattle.cg_faults.specs.declared.fault.CliFault.TheVariants.{Read, NoMemory}
 use Rattle.cg_help.specs.Modes.{spelled_mode}
 use Rattle.cg_help.specs.declared.beside.Beside.{Beside}
+use Rattle.cg_cli.specs.Missing.{IsAbsentFrom}
 use Rattle.cg_cli.specs.Strangers.{IsFirstStranger}
-use Rattle.commands.specs.Beside.{IsNoted, IsPlain, IsNotedBy}
+use Rattle.text_places.specs.declared.near.Missing.{Missing}
+use Rattle.commands.specs.Beside.{IsStrangerOf, IsMissingIn, IsNoted, IsPlain}
 use Rattle.commands.specs.Requests.{IsTree, IsUnread, OnTreeText}
 
 pub Keeps-refl : (known : Option (List ℕ)) → Keeps known known
@@ -41,22 +43,27 @@ on_answer : {P : Type 0} (result : Result ℕ CliFault) → P → IfOk result (�
 on_answer (Ok status) holds = holds
 on_answer (Err fault) holds = tt
 
--- what was noted of a text where no user is asked about
+-- what was noted of a text of which neither users nor a path are asked about
 pub plain_on : (known : Option (List ℕ)) (text : List ℕ) (beside : Beside) → IsTree known text → beside.mode ≡ spelled_mode text
-    → beside.stranger ≡ None → (result : Result ℕ CliFault) → IfOk result (λ _. IsPlain known beside)
-plain_on known text beside is mode none result = on_answer {P = IsPlain known beside} result (text, is, mode, none)
+    → beside.stranger ≡ None → beside.missing ≡ None → (result : Result ℕ CliFault) → IfOk result (λ _. IsPlain known beside)
+plain_on known text beside is mode none whole result = on_answer {P = IsPlain known beside} result (text, is, mode, none, whole)
 
--- and of one on which users were asked about
-pub noted_on : (known : Option (List ℕ)) (text : List ℕ) (given : List (ℕ × List ℕ)) (beside : Beside) → IsTree known text
-    → beside.mode ≡ spelled_mode text → (result : Result ℕ CliFault) → IsFirstStranger text given result beside.stranger
-    → IfOk result (λ _. IsNoted known given beside)
-noted_on known text given beside is mode (Ok status) first = (text, is, (mode, first))
-noted_on known text given beside is mode (Err fault) first = tt
+stranger_on : (text : List ℕ) (users : Option (List (ℕ × List ℕ))) (stranger : Option ℕ) (status : ℕ)
+    → MatchOption users (stranger ≡ None) (λ given. IsFirstStranger text given (Ok status) stranger) → IsStrangerOf text users stranger
+stranger_on text None stranger status none = none
+stranger_on text (Some given) stranger status first = first
 
--- by the users about whom is asked, where that is looked at
-pub noted_by : (known : Option (List ℕ)) (text : List ℕ) (users : Option (List (ℕ × List ℕ))) (beside : Beside) → IsTree known text
-    → beside.mode ≡ spelled_mode text → (result : Result ℕ CliFault)
+missing_on : (text : List ℕ) (path : Option (List ℕ)) (missing : Option Missing) (status : ℕ)
+    → MatchOption path (missing ≡ None) (λ to. IsAbsentFrom text to (Ok status) missing) → IsMissingIn text path missing
+missing_on text None missing status none = none
+missing_on text (Some to) missing status absent = absent
+
+-- what was noted of a text by an answer on it
+pub noted_by : (known : Option (List ℕ)) (text : List ℕ) (users : Option (List (ℕ × List ℕ))) (path : Option (List ℕ)) (beside : Beside)
+    → IsTree known text → beside.mode ≡ spelled_mode text → (result : Result ℕ CliFault)
     → MatchOption users (beside.stranger ≡ None) (λ given. IsFirstStranger text given result beside.stranger)
-    → IfOk result (λ _. IsNotedBy known users beside)
-noted_by known text None beside is mode result none = plain_on known text beside is mode none result
-noted_by known text (Some given) beside is mode result first = noted_on known text given beside is mode result first
+    → MatchOption path (beside.missing ≡ None) (λ to. IsAbsentFrom text to result beside.missing)
+    → IfOk result (λ _. IsNoted known users path beside)
+noted_by known text users path beside is mode (Ok status) first absent =
+    (text, is, mode, stranger_on text users beside.stranger status first, missing_on text path beside.missing status absent)
+noted_by known text users path beside is mode (Err fault) first absent = tt

@@ -6,7 +6,7 @@ use Rattle.arguments.specs.declared.request.Request.{Request}
 use Rattle.cg_faults.specs.declared.fault.CliFault.{CliFault}
 use Rattle.cg_faults.specs.declared.fault.CliFault.TheVariants.{Write, NoMemory}
 use Rattle.streams.specs.declared.write.WriteFailed.{WriteFailed}
-use Rattle.cg_help.specs.Beside.{beside_lines}
+use Rattle.cg_help.specs.Beside.{AreBesideLines}
 use Rattle.cg_help.specs.declared.beside.Beside.{Beside}
 use Rattle.cg_help.specs.Help.{IsHelpFor}
 use Rattle.commands.specs.Faults.{call_fault, LiesThere, Prints}
@@ -76,7 +76,11 @@ abbrev pub TellsFault : Fault → Option (List ℕ) → Option (List ℕ) → Re
 TellsFault fault old new told =
     (line : Option (List ℕ)) × (printed : Result (Unit {0}) Untold) × Prints fault old line printed × HelpsBelow fault line new printed told
 
--- Beside an answer lie the lines of what was noted, and nothing else.
+-- Beside an answer lie the lines of what was noted, and nothing else; none where memory was refused for them.
+abbrev pub TellsBeside : Beside → Option (List ℕ) → Option (List ℕ) → Result (Unit {0}) Untold → Type 0
+TellsBeside beside old new (Err NoRoom) = Keeps old new
+TellsBeside beside old new told = (lines : List ℕ) × AreBesideLines beside lines × LiesThere lines old new told
+
 abbrev pub Tells : Result ℕ Fault → Beside → Option (List ℕ) → Option (List ℕ) → Result (Unit {0}) Untold → Type 0
-Tells (Ok status) beside old new told = LiesThere (beside_lines beside) old new told
+Tells (Ok status) beside old new told = TellsBeside beside old new told
 Tells (Err fault) beside old new told = TellsFault fault old new told

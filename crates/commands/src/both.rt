@@ -1,5 +1,5 @@
 //! The commands that are asked of a tree and of a text beside it: pairs, or operations.
-ghost use Rattle.std.specs.Prelude.{◌≡◌, None, IfOk};
+ghost use Rattle.std.specs.Prelude.{◌≡◌, None, IfOk, IfErr};
 ghost use Rattle.cg_format.specs.Readings.{OnText, vocabulary_in};
 ghost use Rattle.arguments.specs.Given.{tree_file, other_file};
 ghost use Rattle.cg_help.specs.Modes.{spelled_mode};
@@ -37,7 +37,7 @@ pub(crate) fn advise_pairs<F: Files, I: Read + Drop, W: Write>(
     ensures noted { IfOk result (λ _. IsPlain (source (F.given files.now) (tree_file asked.entry.sources) (I.remaining input)) noted.new.beside) }
 {
     let texts = both_texts(alloc, asked.sources, files, input)?;
-    noted.beside = plain(texts.tree.as_slice());
+    noted.beside = plain(alloc, texts.tree.as_slice())?;
     advised(
         alloc,
         texts.tree.as_slice(),
@@ -93,41 +93,24 @@ pub(crate) fn replay<F: Files, I: Read + Drop, W: Write>(
     match asked.sources {
         Sources::Files(tree, ops) => {
             let tree = file_text(alloc, files, tree)?;
-            noted.beside = plain(tree.as_slice());
+            noted.beside = plain(alloc, tree.as_slice())?;
             let line = &mut noted.line;
-            replay_file(
-                alloc,
-                tree.as_slice(),
-                Replaying { asked, line },
-                files,
-                ops,
-                out,
-            )
+            let of = Replaying { asked, line };
+            replay_file(alloc, tree.as_slice(), of, files, ops, out)
         }
         Sources::TreeGiven(ops) => {
             let tree = tree_text(alloc, files, None, input)?;
-            noted.beside = plain(tree.as_slice());
+            noted.beside = plain(alloc, tree.as_slice())?;
             let line = &mut noted.line;
-            replay_file(
-                alloc,
-                tree.as_slice(),
-                Replaying { asked, line },
-                files,
-                ops,
-                out,
-            )
+            let of = Replaying { asked, line };
+            replay_file(alloc, tree.as_slice(), of, files, ops, out)
         }
         Sources::OtherGiven(tree) => {
             let tree = file_text(alloc, files, tree)?;
-            noted.beside = plain(tree.as_slice());
+            noted.beside = plain(alloc, tree.as_slice())?;
             let line = &mut noted.line;
-            replayed(
-                alloc,
-                tree.as_slice(),
-                Replaying { asked, line },
-                input,
-                out,
-            )
+            let of = Replaying { asked, line };
+            replayed(alloc, tree.as_slice(), of, input, out)
         }
     }
 }
@@ -178,12 +161,15 @@ fn replayed<O: Read + Drop, W: Write>(
 }
 
 /// What is noted of a tree's text where no user is asked about.
-fn plain(text: &[u8]) -> Beside
-    ensures mode { result.mode ≡ spelled_mode text.now }
-    ensures stranger { result.stranger ≡ None }
+pub(crate) fn plain(alloc: Global, text: &[u8]) -> Result<Beside, CliFault>
+    ensures fault { IfErr result (λ fault. fault ≡ CliFault.NoMemory) }
+    ensures mode { IfOk result (λ beside. beside.mode ≡ spelled_mode text.now) }
+    ensures stranger { IfOk result (λ beside. beside.stranger ≡ None) }
+    ensures missing { IfOk result (λ beside. beside.missing ≡ None) }
 {
-    Beside {
-        mode: spelled_mode(text),
+    Ok(Beside {
+        mode: spelled_mode(alloc, text)?,
         stranger: None,
-    }
+        missing: None,
+    })
 }

@@ -39,6 +39,7 @@ pub(crate) fn carried_out<F: Files, I: Read + Drop, W: Write>(
     noted.beside = Beside {
         mode: None,
         stranger: None,
+        missing: None,
     };
     let beside = &mut noted.beside;
     match request {

@@ -44,7 +44,7 @@ impl Fault {
     }
 
     /// The fault of a call, where it is one's.
-    pub fn of_call(self) -> Option<CliFault>
+    pub fn call_fault(self) -> Option<CliFault>
         ensures { result ≡ call_fault self }
     {
         match self {

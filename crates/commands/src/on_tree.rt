@@ -3,13 +3,15 @@ ghost use Rattle.std.specs.Prelude.{◌≡◌, ◌⊎◌, ◌∷◌, ℕ, List, 
 ghost use Rattle.cg_cgroup.specs.declared.files.Vocabulary.{Vocabulary};
 ghost use Rattle.cg_format.specs.Readings.{Reading, OnText, vocabulary_in};
 ghost use Rattle.cg_cli.specs.Reports.{Reports};
+ghost use Rattle.cg_cli.specs.Missing.{IsAbsentFrom};
 ghost use Rattle.cg_cli.specs.Strangers.{IsFirstStranger};
 ghost use Rattle.cg_cli.specs.Upgrades.{Upgrades};
 ghost use Rattle.cg_faults.specs.declared.fault.CliFault.{CliFault};
 ghost use Rattle.arguments.specs.Given.{ids_of};
-ghost use Rattle.commands.specs.Beside.{IsNotedBy};
+ghost use Rattle.commands.specs.Beside.{IsNoted};
 ghost use Rattle.commands.specs.Requests.{source, name_of, may_said, check_said, SettlesAs, AdviseSays, AuditSays, ExplainSays, IsUnread, OnTreeText};
 
+use crate::both::plain;
 use crate::texts::tree_text;
 use crate::users::{all_ids, ids};
 use arguments::request::{Advise, Audit, Check, Explain, May, Upgrade};
@@ -25,7 +27,6 @@ use cg_cli::settle::settle_bytes;
 use cg_cli::upgrade::upgrade_bytes;
 use cg_faults::fault::CliFault;
 use cg_help::beside::Beside;
-use cg_help::modes::spelled_mode;
 use std::alloc::Global;
 use std::io::{Read, Write};
 use streams::files::Files;
@@ -38,6 +39,9 @@ pub(crate) trait OnTree {
     /// The users about whom it asks, where it asks what a tree says of them.
     ghost users: { Self → Option (List (ℕ × List ℕ)) };
 
+    /// The path of a cgroup that may be missing in a tree, where one is looked up.
+    ghost path: { Self → Option (List ℕ) };
+
     /// What may be answered, and written by then, on a text with some vocabulary of what it is read as.
     ghost answers: { Self → Vocabulary → Reading → Option (List ℕ) → Option (List ℕ) → Result ℕ CliFault → Type 0 };
 
@@ -45,19 +49,22 @@ pub(crate) trait OnTree {
     fn tree(&self) -> Option<&str>
         ensures { name_of result ≡ file self.now };
 
-    /// The call that answers on the text of a tree. Where that says nothing of a user who is asked about, `stranger` is the
-    /// first such user's uid.
+    /// The call that answers on the text of a tree. Where that says nothing of a user who is asked about, `stranger` of `beside` is
+    /// the first such user's uid.
     fn answer<W: Write>(
         &self,
         alloc: Global,
         tree: &[u8],
-        stranger: &mut Option<u32>,
+        beside: &mut Beside,
         out: &mut W,
     ) -> Result<u8, CliFault>
         ensures answer { OnText tree.now (λ read. answers self.now (vocabulary_in tree.now) read (W.contents out.old) (W.contents out.new) result)
             ⊎ IsUnread (W.contents out.old) (W.contents out.new) result }
-        ensures stranger { MatchOption (users self.now) (stranger.new ≡ stranger.old)
-            (λ given. IsFirstStranger tree.now given result stranger.new) };
+        ensures mode { beside.new.mode ≡ beside.old.mode }
+        ensures stranger { MatchOption (users self.now) (beside.new.stranger ≡ beside.old.stranger)
+            (λ given. IsFirstStranger tree.now given result beside.new.stranger) }
+        ensures missing { MatchOption (path self.now) (beside.new.missing ≡ beside.old.missing)
+            (λ to. IsAbsentFrom tree.now to result beside.new.missing) };
 }
 
 /// Carries out a command that is asked of one tree, whose text is read from `input` where no file is named.
@@ -72,20 +79,19 @@ pub(crate) fn on_tree<C: OnTree, F: Files, I: Read + Drop, W: Write>(
     ensures answer { OnTreeText (source (F.given files.now) (C.file asked.now) (I.remaining input))
         (λ vocabulary read. C.answers asked.now vocabulary read (W.contents out.old) (W.contents out.new) result)
         (W.contents out.old) (W.contents out.new) result }
-    ensures noted { IfOk result (λ _. IsNotedBy (source (F.given files.now) (C.file asked.now) (I.remaining input)) (C.users asked.now) beside.new) }
+    ensures noted { IfOk result (λ _. IsNoted (source (F.given files.now) (C.file asked.now) (I.remaining input)) (C.users asked.now) (C.path asked.now) beside.new) }
 {
     let tree = tree_text(alloc, files, asked.tree(), input)?;
-    *beside = Beside {
-        mode: spelled_mode(tree.as_slice()),
-        stranger: None,
-    };
-    asked.answer(alloc, tree.as_slice(), &mut beside.stranger, out)
+    *beside = plain(alloc, tree.as_slice())?;
+    asked.answer(alloc, tree.as_slice(), beside, out)
 }
 
 impl OnTree for May<'_> {
     ghost file = { λ may. name_of may.tree };
 
     ghost users = { λ _. None };
+
+    ghost path = { λ may. Some may.to.now };
 
     ghost answers = { λ may _ read old new result. Reports (may_said may read) old new result };
 
@@ -97,10 +103,11 @@ impl OnTree for May<'_> {
         &self,
         alloc: Global,
         tree: &[u8],
-        _: &mut Option<u32>,
+        beside: &mut Beside,
         out: &mut W,
     ) -> Result<u8, CliFault> {
-        may_bytes(alloc, tree, ids(&self.user), self.pid, self.to, out)
+        let (user, missing) = (ids(&self.user), &mut beside.missing);
+        may_bytes(alloc, tree, user, self.pid, self.to, missing, out)
     }
 }
 
@@ -108,6 +115,8 @@ impl OnTree for Check<'_> {
     ghost file = { λ check. name_of check.tree };
 
     ghost users = { λ check. Some (ids_of check.user ∷ []) };
+
+    ghost path = { λ _. None };
 
     ghost answers = { λ check _ read old new result. Reports (check_said check read) old new result };
 
@@ -119,10 +128,10 @@ impl OnTree for Check<'_> {
         &self,
         alloc: Global,
         tree: &[u8],
-        stranger: &mut Option<u32>,
+        beside: &mut Beside,
         out: &mut W,
     ) -> Result<u8, CliFault> {
-        let user = ids(&self.user);
+        let (user, stranger) = (ids(&self.user), &mut beside.stranger);
         check_bytes(alloc, tree, user, self.subtree, stranger, out)
     }
 }
@@ -138,6 +147,8 @@ impl OnTree for Settling<'_, '_> {
 
     ghost users = { λ settling. Some (ids_of settling.asked.now.user ∷ []) };
 
+    ghost path = { λ _. None };
+
     ghost answers = { λ settling _ read old new result. SettlesAs settling.asked.now old new result read };
 
     fn tree(&self) -> Option<&str> {
@@ -148,10 +159,10 @@ impl OnTree for Settling<'_, '_> {
         &self,
         alloc: Global,
         tree: &[u8],
-        stranger: &mut Option<u32>,
+        beside: &mut Beside,
         out: &mut W,
     ) -> Result<u8, CliFault> {
-        let user = ids(&self.asked.user);
+        let (user, stranger) = (ids(&self.asked.user), &mut beside.stranger);
         settle_bytes(alloc, tree, user, self.asked.subtree, stranger, out)
     }
 }
@@ -160,6 +171,8 @@ impl OnTree for Audit<'_> {
     ghost file = { λ audit. name_of audit.tree };
 
     ghost users = { λ audit. Some (map ids_of audit.users.items) };
+
+    ghost path = { λ _. None };
 
     ghost answers = { λ audit _ read old new result. AuditSays audit old new result read };
 
@@ -171,11 +184,12 @@ impl OnTree for Audit<'_> {
         &self,
         alloc: Global,
         tree: &[u8],
-        stranger: &mut Option<u32>,
+        beside: &mut Beside,
         out: &mut W,
     ) -> Result<u8, CliFault> {
         let users = all_ids(alloc, self.users.as_slice())?;
         let (users, subtrees) = (users.as_slice(), self.subtrees.as_slice());
+        let stranger = &mut beside.stranger;
         match (self.settle, self.all) {
             (false, false) => audit_bytes(alloc, tree, users, subtrees, stranger, out),
             (false, true) => audit_all_bytes(alloc, tree, users, subtrees, stranger, out),
@@ -190,6 +204,8 @@ impl OnTree for Explain<'_> {
 
     ghost users = { λ explain. Some (map ids_of explain.users.items) };
 
+    ghost path = { λ _. None };
+
     ghost answers = { λ explain _ read old new result. ExplainSays explain old new result read };
 
     fn tree(&self) -> Option<&str> {
@@ -200,11 +216,12 @@ impl OnTree for Explain<'_> {
         &self,
         alloc: Global,
         tree: &[u8],
-        stranger: &mut Option<u32>,
+        beside: &mut Beside,
         out: &mut W,
     ) -> Result<u8, CliFault> {
         let users = all_ids(alloc, self.users.as_slice())?;
         let (users, subtrees) = (users.as_slice(), self.subtrees.as_slice());
+        let stranger = &mut beside.stranger;
         explain_bytes(alloc, tree, users, subtrees, stranger, out)
     }
 }
@@ -213,6 +230,8 @@ impl OnTree for Advise<'_> {
     ghost file = { λ advise. name_of advise.tree };
 
     ghost users = { λ advise. Some (map ids_of advise.users.items) };
+
+    ghost path = { λ _. None };
 
     ghost answers = { λ advise _ read old new result. AdviseSays advise old new result read };
 
@@ -224,11 +243,12 @@ impl OnTree for Advise<'_> {
         &self,
         alloc: Global,
         tree: &[u8],
-        stranger: &mut Option<u32>,
+        beside: &mut Beside,
         out: &mut W,
     ) -> Result<u8, CliFault> {
         let users = all_ids(alloc, self.users.as_slice())?;
         let (users, subtrees) = (users.as_slice(), self.subtrees.as_slice());
+        let stranger = &mut beside.stranger;
         if self.settle {
             advise_settled_bytes(alloc, tree, users, subtrees, stranger, out)
         } else {
@@ -242,6 +262,8 @@ impl OnTree for Upgrade<'_> {
 
     ghost users = { λ _. None };
 
+    ghost path = { λ _. None };
+
     ghost answers = { λ _ vocabulary read old new result. Upgrades vocabulary old new result read };
 
     fn tree(&self) -> Option<&str> {
@@ -252,7 +274,7 @@ impl OnTree for Upgrade<'_> {
         &self,
         alloc: Global,
         tree: &[u8],
-        _: &mut Option<u32>,
+        _: &mut Beside,
         out: &mut W,
     ) -> Result<u8, CliFault> {
         upgrade_bytes(alloc, tree, out)

@@ -2,10 +2,8 @@
 ghost use Rattle.std.specs.Prelude.{◌≡◌, ◌≢◌, ◌⊎◌, ℕ, map, string_bytes, Option, Result, Err, IsErrAnd, MatchOption, MatchResult};
 ghost use Rattle.std.specs.IoError.{error_kind};
 ghost use Rattle.std.specs.Io.KnownBytes.{Keeps};
-ghost use Rattle.cg_help.specs.Beside.{beside_lines};
 ghost use Rattle.commands.specs.Beside.{IsBeside};
-ghost use Rattle.commands.specs.Faults.{LiesThere};
-ghost use Rattle.commands.specs.Runs.{exit_status, TellsFault, Tells, RunsTo};
+ghost use Rattle.commands.specs.Runs.{exit_status, TellsFault, TellsBeside, Tells, RunsTo};
 ghost use Rattle.commands.specs.declared.fault.Fault.{Fault};
 ghost use Rattle.commands.specs.declared.fault.Fault.TheVariants.{Cli, Usage as UsageFault};
 ghost use Rattle.streams.specs.declared.write.WriteFailed.{WriteFailed};
@@ -30,6 +28,14 @@ const FAULT: u8 = 3;
 const NOTHING: Beside = Beside {
     mode: None,
     stranger: None,
+    missing: None,
+};
+
+/// Where there are no words, nothing was read.
+const UNSEEN: Seen<'static, 'static, 'static> = Seen {
+    words: None,
+    input: None,
+    line: None,
 };
 
 /// How the program ended.
@@ -66,48 +72,57 @@ pub fn run_program<F: Files, I: Read + Drop, W: Write + Drop, E: Write + Drop>(
         × IsErrAnd answer (λ fault. ((fault ≡ UsageFault) × (error_kind error ≢ ErrorKind.OutOfMemory))
         ⊎ ((fault ≡ Cli MemoryFault) × (error_kind error ≡ ErrorKind.OutOfMemory))))) }
 {
-    let mut errors = Again { inner: errors };
-    let words = match words {
-        Ok(words) => words,
-        Err(error) => {
-            let unseen = Seen {
-                words: None,
-                input: None,
-                line: None,
+    match words {
+        Ok(words) => {
+            let line = CommandLine {
+                version,
+                words: words.as_slice(),
             };
-            let fault = Fault::of_words(error);
-            let (status, told) = status_told(
-                alloc,
-                files,
-                Err(fault),
-                unseen,
-                NOTHING,
-                &mut errors,
-            );
-            return Ended {
+            run_line(alloc, line, files, input, out, errors)
+        }
+        Err(error) => {
+            let mut errors = Again { inner: errors };
+            let answer = Err(Fault::of_words(error));
+            let (status, told) = status_told(alloc, files, answer, UNSEEN, &NOTHING, &mut errors);
+            Ended {
                 status,
                 out: Some(out),
                 told,
                 errors: errors.inner,
-            };
+            }
         }
-    };
+    }
+}
+
+/// Runs the program on a command line.
+fn run_line<F: Files, I: Read + Drop, W: Write + Drop, E: Write + Drop>(
+    alloc: Global,
+    line: CommandLine<'_>,
+    files: &F,
+    input: I,
+    out: W,
+    errors: E,
+) -> Ended<W, E>
+    ensures { (answer : Result ℕ Fault) × (beside : Beside) × (result.status ≡ exit_status answer)
+        × Tells answer beside (E.contents errors) (E.contents result.errors) result.told
+        × MatchOption result.out (answer ≡ Err (Cli MemoryFault)) (λ below.
+        (written : Result (Unit {0}) WriteFailed) × RunsTo (map string_bytes line.entry.words.now) (F.given files.now)
+        (I.remaining input) (W.contents out) (W.contents below) answer written
+        × IsBeside (map string_bytes line.entry.words.now) (F.given files.now) (I.remaining input) answer beside) }
+{
+    let mut errors = Again { inner: errors };
     let mut input = Kept::new(alloc, input);
     let mut noted = Noted {
         line: None,
         beside: NOTHING,
     };
-    let line = CommandLine {
-        version,
-        words: words.as_slice(),
-    };
     let ended = run(alloc, line, files, &mut input, &mut noted, out);
     let seen = Seen {
-        words: Some(words.as_slice()),
+        words: Some(line.words),
         input: input.whole(),
         line: noted.line.as_ref().map(Vec::as_slice),
     };
-    let beside = noted.beside;
+    let beside = &noted.beside;
     let (status, told) = status_told(alloc, files, ended.answer, seen, beside, &mut errors);
     Ended {
         status,
@@ -124,11 +139,11 @@ fn status_told<F: Files, E: Write>(
     files: &F,
     answer: Result<u8, Fault>,
     seen: Seen<'_, '_, '_>,
-    beside: Beside,
+    beside: &Beside,
     errors: &mut E,
 ) -> (u8, Result<(), Untold>)
     ensures status { result.0 ≡ exit_status answer }
-    ensures told { Tells answer beside (E.contents errors.old) (E.contents errors.new) result.1 }
+    ensures told { Tells answer beside.now (E.contents errors.old) (E.contents errors.new) result.1 }
 {
     match answer {
         Ok(status) => (status, tell_beside(alloc, beside, errors)),
@@ -147,7 +162,7 @@ fn tell<F: Files, E: Write>(
     ensures { TellsFault fault (E.contents errors.old) (E.contents errors.new) result }
 {
     fault.print(alloc, errors)?;
-    let of_call = fault.of_call();
+    let of_call = fault.call_fault();
     match help_text(alloc, files, of_call.as_ref(), seen) {
         Err(NoMemory) => Err(Untold::NoMemory),
         Ok(help) => written(errors, help.as_slice()),
@@ -155,8 +170,8 @@ fn tell<F: Files, E: Write>(
 }
 
 /// Writes what stands beside an answer.
-fn tell_beside<E: Write>(alloc: Global, beside: Beside, errors: &mut E) -> Result<(), Untold>
-    ensures { LiesThere (beside_lines beside) (E.contents errors.old) (E.contents errors.new) result }
+fn tell_beside<E: Write>(alloc: Global, beside: &Beside, errors: &mut E) -> Result<(), Untold>
+    ensures { TellsBeside beside.now (E.contents errors.old) (E.contents errors.new) result }
 {
     match beside_lines(alloc, beside) {
         Err(NoMemory) => Err(Untold::NoMemory),

@@ -101,13 +101,13 @@ fn answered<F: Files, I: Read + Drop, W: Write + Drop>(
                 noted,
                 report,
             );
-            (of_call(ended), written)
+            (in_program(ended), written)
         }
     }
 }
 
 /// What a call came to, to the program.
-fn of_call(ended: Result<u8, CliFault>) -> Result<u8, Fault>
+fn in_program(ended: Result<u8, CliFault>) -> Result<u8, Fault>
     ensures { result ≡ in_program ended }
 {
     match ended {

@@ -1,6 +1,6 @@
 //! The nearest of some names.
-ghost use Rattle.std.specs.Prelude.{◌≡◌, ◌+◌, ◌<◌, ◌≤◌, Bool, length, All, Contains, IfOk, IfSome, IfNone, MatchOption};
-ghost use Rattle.text_places.specs.Nearest.{is_comparable, farthest, distance};
+ghost use Rattle.std.specs.Prelude.{◌≡◌, ◌+◌, ◌<◌, ◌≤◌, Bool, length, map, string_bytes, All, Contains, IfOk, IfSome, IfNone, MatchOption};
+ghost use Rattle.text_places.specs.Nearest.{is_comparable, farthest, distance, IsMissing};
 
 use std::alloc::{AllocError, Global};
 use strsim::osa_distance;
@@ -10,6 +10,30 @@ const LONGEST: usize = 128;
 
 /// How many letters are changed, added, left out or exchanged at most: one, and two of seven letters or more.
 const FARTHEST: usize = 2;
+
+/// A name that isn't there, and the nearest of those that are.
+#[derive(Debug, Drop)]
+pub struct Missing {
+    pub name: String,
+    /// The nearest, where one is near.
+    pub nearest: Option<String>,
+}
+
+impl Missing {
+    /// A name, and the nearest of some names.
+    pub fn among(alloc: Global, name: &str, names: &[&str]) -> Result<Missing, AllocError>
+        ensures { IfOk result (λ missing. IsMissing name.now (map (λ other. other.now) names.now) missing) }
+    {
+        let nearest = match nearest_of(alloc, name, names)? {
+            Some(near) => Some(String::from_str(alloc, near)?),
+            None => None,
+        };
+        Ok(Missing {
+            name: String::from_str(alloc, name)?,
+            nearest,
+        })
+    }
+}
 
 /// The nearest of these names, and of those that are as near the first; nothing where none is near.
 pub fn nearest_of<'a>(

@@ -1,3 +1,4 @@
+mod NoneListed
 mod StatusLaws
 mod GuardedLaws
 mod ListedLaws
@@ -5,7 +6,7 @@ mod AdviceLaws
 mod PairedLaws
 mod ReplayedLaws
 mod SettledLaws
-mod NoneListed
+mod ExplainedLaws
 mod FurtherLaws
 mod MayLaws
 mod ProgramLaws

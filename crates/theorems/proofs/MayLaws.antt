@@ -1,5 +1,5 @@
 -- What is said of a migration, by what bars it.
-use Rattle.std.proofs.Common.{◌≡◌, ℕ, List, [], ◌∷◌, codes, Result, Ok, Err, refl, ap, ◌∙◌}
+use Rattle.std.proofs.Common.{◌≡◌, ℕ, List, [], ◌∷◌, codes, Result, Ok, Err, refl, ap, sym, ◌∙◌}
 use Rattle.cg_cgroup.specs.Paths.{Names}
 use Rattle.cg_cgroup.specs.Identity.{Identity}
 use Rattle.cg_model.specs.States.{State}
@@ -36,6 +36,16 @@ module _ (st : State) (uid : ℕ) (gids : List ℕ) (user : Identity) (number pi
   pub may_refused : (bar : Refusal) (others : List Refusal) → bars st user (Move pid to) ≡ bar ∷ others
       → may_report (Ok st) uid gids number word ≡ record { text = outcome_text (Move pid to) (Refused bar); ending = Ok 1 }
   may_refused bar others is = of_words ∙ ap (said_by (Move pid to)) is
+
+  pub nothing_bars : (may_report (Ok st) uid gids number word).ending ≡ Ok 0 → bars st user (Move pid to) ≡ []
+  nothing_bars is = by_bars (bars st user (Move pid to)) refl
+    where
+      by_bars : (found : List Refusal) → bars st user (Move pid to) ≡ found → bars st user (Move pid to) ≡ []
+      by_bars [] same = same
+      by_bars (bar ∷ others) same =
+          let other : ◌≡◌ {A = Result ℕ CliFault} (Ok 1) (Ok 0) =
+          ap (λ (r : Report). r.ending) (sym (may_refused bar others same)) ∙ is in
+          let never : ⊥ = cc in absurd never
 
 silent_on : {A : Type 0} (read : Result A CliFault) (next : A → Report) (fault : CliFault)
     → ((x : A) → (next x).ending ≡ Err fault → (next x).text ≡ []) → (report_on read next).ending ≡ Err fault

@@ -1,19 +1,29 @@
 -- Where no pair is listed, each subtree is held against all users together.
 use Rattle.std.proofs.Common.{◌≡◌, ◌≢◌, ℕ, zero, suc, ◌+◌, ◌<◌, Bool, true, false, cond, List, [], ◌∷◌, ◌++◌, length, get_or, refl, sym, ap, ◌∙◌, subst, arith}
-use Rattle.std.specs.List.{list_any}
+use Rattle.std.specs.List.{All, AllByRecursion, list_any}
+use Rattle.std.proofs.lemmas.List.Elements.{All-contains, All-from_recursion}
 use Rattle.cg_cgroup.specs.Paths.{Names, same_path}
 use Rattle.cg_cgroup.specs.Identity.{Identity}
 use Rattle.cg_cgroup.proofs.PathOrder.{same_path-is}
 use Rattle.cg_model.specs.States.{State}
+use Rattle.cg_model.specs.Answers.{answer}
+use Rattle.cg_model.specs.Guards.{GuardsHold, IsSubtree}
 use Rattle.cg_model.specs.Held.{IsHeld}
 use Rattle.cg_model.specs.Once.{once}
-use Rattle.cg_model.specs.Listed.{Listed, listed_unless_contained, is_contained}
+use Rattle.cg_model.specs.Listed.{Listed, listed_unless_contained, listed_of, listed, is_contained}
+use Rattle.cg_model.specs.Several.{AreContained}
+use Rattle.cg_model.specs.WellFormed.{IsWellFormed}
 use Rattle.cg_model.specs.declared.answer.Answer.{Answer}
 use Rattle.cg_model.specs.declared.answer.Answer.TheVariants.{Contained, Escapes, Unsettled}
+use Rattle.cg_second.specs.SecondRow.{AreSettled}
+use Rattle.cg_check.proofs.AllContained.{guarded-are-contained}
+use Rattle.cg_check.proofs.Checking.{answer-guarded}
+use Rattle.cg_cli.specs.Audited.{AreKnownWithEach}
 use Rattle.cg_cli.specs.AllPairs.{is_escape, pairs_status}
 use Rattle.cg_cli.specs.FurtherAdvice.{AreHeld}
 use Rattle.cg_cli.specs.FurtherPairs.{picked, not_listed, listed_with, listed_from, AreFurther, first_pair_status}
 use Rattle.cg_cli.specs.Once.{same_user}
+use Rattle.cg_cli.proofs.Knowing.{unlisted-settled}
 use Rattle.cg_cli.proofs.AuditOnce.{all_once, by_once, some_once, same_user-is}
 
 -- ---- what a status of 0 says of pairs
@@ -118,3 +128,57 @@ none_held st users subtrees found further none some deeds by =
     all_once same_path same_path-is (IsHeld st deeds) subtrees
     (held_where_none st (once same_user users) (once same_path subtrees) found further none (some_once same_user same_user-is users some)
     deeds (by_once users subtrees deeds by))
+
+-- ---- where check lists no pair
+
+both_held : (st : State) (user : Identity) (subtree : Names) (found : Answer) → answer st user subtree ≡ found
+    → listed_unless_contained user subtree found ≡ [] → GuardsHold st user subtree
+both_held st user subtree Contained is none = answer-guarded st user subtree is
+both_held st user subtree (Escapes ops) is none = let never : ⊥ = cc in absurd never
+both_held st user subtree (Unsettled failed) is none = let never : ⊥ = cc in absurd never
+
+module _ (st : State) where
+  held_by_user : (user : Identity) (subtrees : List Names) → listed_of st subtrees user ≡ [] → AllByRecursion (GuardsHold st user) subtrees
+  held_by_user user [] none = tt
+  held_by_user user (subtree ∷ subtrees) none =
+      let both = both_none (listed_unless_contained user subtree (answer st user subtree)) (listed_of st subtrees user) none in
+      (both_held st user subtree (answer st user subtree) refl both.0, held_by_user user subtrees both.1)
+
+  held_by_all : (users : List Identity) (subtrees : List Names) → listed st users subtrees ≡ []
+      → AllByRecursion (λ user. AllByRecursion (GuardsHold st user) subtrees) users
+  held_by_all [] subtrees none = tt
+  held_by_all (user ∷ users) subtrees none =
+      let both = both_none (listed_of st subtrees user) (listed st users subtrees) none in
+      (held_by_user user subtrees both.0, held_by_all users subtrees both.1)
+
+  -- all are contained against all
+  pub none_contained : (users : List Identity) (subtrees : List Names) → IsWellFormed st → All (IsSubtree st) subtrees
+      → listed st users subtrees ≡ [] → users ≢ [] → AreContained st users subtrees
+  none_contained users subtrees formed subs none =
+      guarded-are-contained st users subtrees (λ _. formed) subs
+      (λ user among.
+      All-from_recursion (GuardsHold st user) subtrees
+      (All-contains (λ one. AllByRecursion (GuardsHold st one) subtrees) users user
+      (All-from_recursion (λ one. AllByRecursion (GuardsHold st one) subtrees) users (held_by_all users subtrees none)) among))
+
+  -- where more is known, all are held against all
+  pub none_settled : (users : List Identity) (subtrees : List Names) (found : ℕ → ℕ → Answer) → IsWellFormed st
+      → All (IsSubtree st) subtrees → AreKnownWithEach st users subtrees found → listed_from found 0 users subtrees ≡ [] → users ≢ []
+      → AreSettled st users subtrees
+  none_settled users subtrees found formed subs known none some =
+      record {
+        held = λ deeds by place e within. (each place e within).held deeds by 0 (get_or subtrees place e) (omega arith);
+        still = λ deeds by place e within. (each place e within).still deeds by 0 (get_or subtrees place e) (omega arith);
+        strangers = λ deeds only place e within. (each place e within).strangers deeds only 0 (get_or subtrees place e) (omega arith);
+      }
+    where
+      all : (place : ℕ) → place < length subtrees → not_listed (λ user. found user place) users ≡ users
+      all place within =
+          picked_all (λ user. is_contained (found user place)) 0 users
+          (λ user low. from_none found 0 users subtrees none user place low within)
+
+      each : (place : ℕ) (e : Names) → place < length subtrees → AreSettled st users (get_or subtrees place e ∷ [])
+      each place e within =
+          subst (λ who. AreSettled st who (get_or subtrees place e ∷ [])) (all place within)
+          (unlisted-settled st users (get_or subtrees place e) (λ user. found user place) formed (subs place e within)
+          (known place e within) (λ empty. some (sym (all place within) ∙ empty)))

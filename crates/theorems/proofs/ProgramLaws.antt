@@ -1,24 +1,34 @@
 -- What the program's status and its writers say, by the request that its words make.
-use Rattle.std.proofs.Common.{◌≡◌, ◌≢◌, ℕ, Bool, true, false, List, [], map, take, Option, Some, Result, Ok, Err, ap, ◌∙◌, subst, inl, inr, ⊎_elim, ◌≤◌, length, refl, arith}
+use Rattle.std.proofs.Common.{◌≡◌, ◌≢◌, ℕ, Bool, true, false, List, [], map, take, Option, Some, Result, Ok, Err, ap, sym, ◌∙◌, subst, inl, inr, ⊎_elim, ◌≤◌, length, refl, arith}
 use Rattle.std.specs.Prelude.{◌⊎◌, None, IsOk, IfSome, MatchBool, codes}
 use Rattle.std.specs.Io.KnownBytes.{Keeps}
+use Rattle.std.specs.List.{All}
+use Rattle.std.specs.Option.{ok_or}
 use Rattle.std.proofs.lemmas.List.{take_all}
 use Rattle.cg_cgroup.specs.Paths.{Names, path_at, same_path}
+use Rattle.cg_cgroup.specs.Numbers.{pid_of}
 use Rattle.cg_cgroup.specs.Users.{user_of}
 use Rattle.cg_cgroup.specs.Identity.{Identity}
 use Rattle.cg_model.specs.States.{State}
+use Rattle.cg_model.specs.Bars.{bars}
+use Rattle.cg_model.specs.Guards.{IsSubtree}
 use Rattle.cg_model.specs.Held.{IsHeld, by_user, IsContained}
+use Rattle.cg_model.specs.Mends.{Pair}
 use Rattle.cg_model.specs.Answers.{answer}
 use Rattle.cg_model.specs.Once.{once}
 use Rattle.cg_model.specs.declared.answer.Answer.{Answer}
 use Rattle.cg_model.specs.declared.answer.Answer.TheVariants.{Contained, Escapes}
 use Rattle.cg_model.specs.declared.operation.Op.{Op}
+use Rattle.cg_model.specs.declared.operation.Op.TheVariants.{Move}
 use Rattle.cg_model.specs.Several.{AreContained}
 use Rattle.cg_format.specs.Readings.{Reading, IsReading}
 use Rattle.cg_format.specs.TextOf.{IsTextOf}
 use Rattle.cg_format.proofs.ReadingLaws.{one_reading}
 use Rattle.cg_cli.specs.Audited.{AreKnownWithEach}
-use Rattle.cg_cli.specs.Advising.{advise_report, advise_pairs_report}
+use Rattle.cg_second.specs.SecondRow.{AreSettled}
+use Rattle.cg_lines.specs.OperationLines.{HaveLines}
+use Rattle.cg_report.specs.AnswerLines.{op_lines}
+use Rattle.cg_cli.specs.Advising.{all_pairs, paired, advise_report, advise_pairs_report, AreContainedAsNamed}
 use Rattle.cg_cli.specs.FurtherAdvice.{AreHeld}
 use Rattle.cg_cli.specs.FurtherPairs.{listed_from, AreFurther, first_pair_report}
 use Rattle.cg_cli.specs.AllPairs.{all_report, ReportsPairs}
@@ -31,9 +41,10 @@ use Rattle.cg_cli.specs.Audits.{users_read, paths_read, audit_report}
 use Rattle.cg_cli.specs.Once.{same_user}
 use Rattle.cg_cli.specs.Replays.{closed, replay_report}
 use Rattle.cg_cli.specs.Replaying.{Reporting, Replays}
-use Rattle.cg_cli.specs.Reports.{Reports}
+use Rattle.cg_cli.specs.Reports.{Reports, report_on}
 use Rattle.cg_cli.specs.Upgrades.{Upgrades, IsNewText, upgrade_report}
 use Rattle.cg_faults.specs.declared.fault.CliFault.{CliFault}
+use Rattle.cg_faults.specs.declared.fault.CliFault.TheVariants.{Pid, BadPath}
 use Rattle.clap.specs.declared.error.Error.{Error}
 use Rattle.arguments.specs.Words.{Makes}
 use Rattle.arguments.specs.Given.{ids_of, tree_file, other_file}
@@ -55,10 +66,14 @@ use Rattle.commands.specs.declared.fault.Fault.{Fault}
 use Rattle.commands.specs.declared.fault.Fault.TheVariants.{Usage, Cli}
 use Rattle.commands.proofs.BufferedLaws.{CarriesOut-Keeps}
 use Rattle.commands.proofs.PairLaws.{asked_about}
-use Rattle.theorems.proofs.GuardedLaws.{contained_by_status}
+use Rattle.theorems.proofs.GuardedLaws.{named_read, contained_by_status}
 use Rattle.theorems.proofs.SettledLaws.{settled_as}
 use Rattle.theorems.proofs.FurtherLaws.{settled_told, all_told, first_told}
-use Rattle.theorems.proofs.StatusLaws.{all_contained_by_status}
+use Rattle.theorems.proofs.StatusLaws.{all_contained_by_status, all_contained_by_pairs, all_contained_by_advice}
+use Rattle.theorems.proofs.ExplainedLaws.{explained_contained}
+use Rattle.theorems.proofs.MayLaws.{nothing_bars}
+use Rattle.theorems.proofs.PairedLaws.{contained_as_they_are}
+use Rattle.theorems.proofs.ReplayedLaws.{replay_held}
 use Rattle.cg_cgroup.specs.declared.files.Vocabulary.{Vocabulary}
 use Rattle.cg_format.specs.Readings.{vocabulary_in}
 use Rattle.cg_format.specs.TreeTexts.{most_read}
@@ -177,10 +192,21 @@ module _ (files : Files) (given old new : Option (List ℕ)) (status : ℕ) wher
 
   module _ (text : List ℕ) (st : State) where
     pub may_ended : (may : May) → CarriesOut (request.May may) files given old new (Ok status)
-        → source files (name_of may.tree) given ≡ Some text → IsTextOf st text → Reports (may_said may (Ok st)) old new (Ok status)
+        → source files (name_of may.tree) given ≡ Some text → IsTextOf st text
+        → Reports (may_said may (Ok st)) old new (Ok status)
+        × (status ≡ 0 → (user : Identity) (pid : ℕ) (to : Names) → user_of may.user.uid may.user.gids.items ≡ Some user
+        → pid_of may.pid ≡ Some pid → path_at may.to.now ≡ Some to → bars st user (Move pid to) ≡ [])
     may_ended may carried of_known of_text =
+        let report =
         on_state (λ read. Reports (may_said may read) old new (Ok status)) (source files (name_of may.tree) given) old new status text st
-        of_known of_text carried
+        of_known of_text carried in (
+          report,
+          λ zero user pid to of_user of_pid of_path.
+              nothing_bars st may.user.uid may.user.gids.items user may.pid pid may.to.now to
+              (named_read may.user.uid may.user.gids.items user of_user)
+              (ap (λ (found : Option ℕ). ok_or found Pid) of_pid) (ap (λ (found : Option Names). ok_or found BadPath) of_path)
+              (report.0 ∙ ap Ok zero),
+        )
 
     pub check_ended : (check : Check) → CarriesOut (request.Check check) files given old new (Ok status)
         → source files (name_of check.tree) given ≡ Some text → IsTextOf st text
@@ -215,11 +241,19 @@ module _ (files : Files) (given old new : Option (List ℕ)) (status : ℕ) wher
         → CarriesOut (request.AdvisePairs advise) files given old new (Ok status)
         → source files (tree_file advise.sources) given ≡ Some text → source files (other_file advise.sources) given ≡ Some pairs
         → IsTextOf st text → length pairs ≤ 16777216 → Reports (pairs_said pairs (Ok st)) old new (Ok status) × AsksSomething pairs
+        × (status ≡ 0 → (named : List ((ℕ × List ℕ) × List ℕ)) (users : List Identity) (subtrees : List Names)
+        → pairs_read pairs ≡ Ok named → users_read (map (λ pair. pair.0) named) ≡ Ok users
+        → paths_read (map (λ pair. pair.1) named) ≡ Ok subtrees → AreContainedAsNamed st (paired users subtrees))
     advise_pairs_ended advise pairs carried of_known of_pairs of_text short =
         let said =
         on_pairs (source files (tree_file advise.sources) given) (source files (other_file advise.sources) given) old new status text pairs
-        st of_known of_pairs of_text short carried in
-        (said, asked_about pairs (pairs_read pairs) refl (λ named. advise_pairs_report (Ok st) named) status said.0)
+        st of_known of_pairs of_text short carried in (
+          said,
+          asked_about pairs (pairs_read pairs) refl (λ named. advise_pairs_report (Ok st) named) status said.0,
+          λ zero named users subtrees of_named of_users of_paths.
+              contained_as_they_are st named users subtrees of_text.says.formed of_users of_paths
+              (ap (λ read. (report_on read (λ named. advise_pairs_report (Ok st) named)).ending) (sym of_named) ∙ said.0 ∙ ap Ok zero),
+        )
 
     pub upgrade_ended : (upgrade : Upgrade) → CarriesOut (request.Upgrade upgrade) files given old new (Ok status)
         → source files (name_of upgrade.tree) given ≡ Some text → IsTextOf st text
@@ -231,17 +265,36 @@ module _ (files : Files) (given old new : Option (List ℕ)) (status : ℕ) wher
         carried in
         (upgrades.text, upgrades.written st refl (λ never. cc), upgrades.reports)
 
-    pub replay_ended : (replay : Replay) (ops : List ℕ) → CarriesOut (request.Replay replay) files given old new (Ok status)
+    replay_reported : (replay : Replay) (ops : List ℕ) → CarriesOut (request.Replay replay) files given old new (Ok status)
         → source files (tree_file replay.sources) given ≡ Some text → source files (other_file replay.sources) given ≡ Some ops
         → IsTextOf st text
         → Reports (replay_report (vocabulary_in text) (Ok st) replay.user.uid replay.user.gids.items
         (name_of replay.subtree) ops) old new (Ok status)
-    replay_ended replay ops carried of_known of_ops of_text =
+    replay_reported replay ops carried of_known of_ops of_text =
         on_operations (replay_said replay (vocabulary_in text) (Ok st)) (source files
         (other_file replay.sources) given) old new status ops of_ops
         (on_text (λ vocabulary read. ReplaysOver (source files (other_file replay.sources) given)
         (replay_said replay vocabulary read) old new (Ok status))
         (source files (tree_file replay.sources) given) old new status text st of_known of_text carried)
+
+    pub replay_ended : (replay : Replay) (ops : List ℕ) → CarriesOut (request.Replay replay) files given old new (Ok status)
+        → source files (tree_file replay.sources) given ≡ Some text → source files (other_file replay.sources) given ≡ Some ops
+        → IsTextOf st text
+        → Reports (replay_report (vocabulary_in text) (Ok st) replay.user.uid replay.user.gids.items
+        (name_of replay.subtree) ops) old new (Ok status)
+        × (status ≡ 0 → (user : Identity) (word : List ℕ) (subtree : Names) (tried : List Op)
+        → user_of replay.user.uid replay.user.gids.items ≡ Some user → name_of replay.subtree ≡ Some word → path_at word ≡ Some subtree
+        → IsSubtree st subtree → HaveLines (vocabulary_in text) tried → ops ≡ op_lines tried → IsHeld st (by_user user tried) subtree)
+    replay_ended replay ops carried of_known of_ops of_text =
+        let report = replay_reported replay ops carried of_known of_ops of_text in (
+          report,
+          λ zero user word subtree tried of_user of_word of_path sub lines are.
+              replay_held (vocabulary_in text) st replay.user.uid replay.user.gids.items user
+              (named_read replay.user.uid replay.user.gids.items user of_user) word subtree tried
+              (ap (λ (found : Option Names). ok_or found BadPath) of_path) sub lines
+              ((λ i. (replay_report (vocabulary_in text) (Ok st) replay.user.uid replay.user.gids.items (sym of_word i) (sym are i)).ending)
+              ∙ report.0 ∙ ap Ok zero),
+        )
 
     module _ (advise : Advise) (carried : CarriesOut (request.Advise advise) files given old new (Ok status))
         (of_known : source files (name_of advise.tree) given ≡ Some text) (of_text : IsTextOf st text) where
@@ -257,14 +310,22 @@ module _ (files : Files) (given old new : Option (List ℕ)) (status : ℕ) wher
           of_text carried
 
       pub advise_ended : advise.settle ≡ false → Reports (advise_report (Ok st) who paths) old new (Ok status)
-      advise_ended guards = first_alone _ _ advise.settle guards told
+          × (status ≡ 0 → (users : List Identity) (subtrees : List Names) → users_read who ≡ Ok users → paths_read paths ≡ Ok subtrees
+          → users ≢ [] → AreContained st users subtrees)
+      advise_ended guards =
+          let report = first_alone _ _ advise.settle guards told in (
+            report,
+            λ zero users subtrees of_users of_paths some.
+                all_contained_by_advice st who paths users subtrees of_text.says.formed of_users of_paths some (report.0 ∙ ap Ok zero),
+          )
 
       pub advise_settled_ended : (users : List Identity) (subtrees : List Names) → advise.settle ≡ true → users_read who ≡ Ok users
           → paths_read paths ≡ Ok subtrees → users ≢ []
           → Reports (advise_settled_report (Ok st) who paths) old new (Ok status)
           × (Reports (advise_report (Ok st) who paths) old new (Ok status)
           ⊎ Reports (record { text = codes "contained\n"; ending = Ok 0 }) old new (Ok status))
-          × (status ≡ 0 → AreHeld st users subtrees)
+          × (status ≡ 0 → AreHeld st users subtrees
+          × (AreSettled st (once same_user users) (once same_path subtrees) ⊎ AreContained st users subtrees))
       advise_settled_ended users subtrees further of_users of_paths some =
           settled_told st who paths users subtrees of_text.says.formed of_users of_paths some old new status
           (each_alone _ _ advise.settle further told)
@@ -273,9 +334,18 @@ module _ (files : Files) (given old new : Option (List ℕ)) (status : ℕ) wher
         → source files (name_of explain.tree) given ≡ Some text → IsTextOf st text
         → ReportsTold (explain_asked (Ok st) (map ids_of explain.users.items) (map (λ subtree. subtree.now) explain.subtrees.items)) old new
         (Ok status)
+        × (status ≡ 0 → (users : List Identity) (subtrees : List Names) → users_read (map ids_of explain.users.items) ≡ Ok users
+        → paths_read (map (λ subtree. subtree.now) explain.subtrees.items) ≡ Ok subtrees
+        → All (λ (pair : Pair). IsContained st pair.user pair.subtree) (all_pairs (once same_user users) (once same_path subtrees)))
     explain_ended explain carried of_known of_text =
+        let report =
         on_state (ExplainSays explain old new (Ok status)) (source files (name_of explain.tree) given) old new status text st of_known
-        of_text carried
+        of_text carried in (
+          report,
+          λ zero users subtrees of_users of_paths.
+              explained_contained st (map ids_of explain.users.items) (map (λ subtree. subtree.now) explain.subtrees.items) users subtrees
+              of_text.says.formed of_users of_paths old new status report zero,
+        )
 
     module _ (audit : Audit) (carried : CarriesOut (request.Audit audit) files given old new (Ok status))
         (of_known : source files (name_of audit.tree) given ≡ Some text) (of_text : IsTextOf st text) where
@@ -294,7 +364,14 @@ module _ (files : Files) (given old new : Option (List ℕ)) (status : ℕ) wher
       by_guards guards = first_alone _ _ audit.settle guards audited
 
       pub all_ended : audit.settle ≡ false → audit.all ≡ true → ReportsPairs (all_report (Ok st) users subtrees) old new (Ok status)
-      all_ended guards each = each_alone _ _ audit.all each (by_guards guards)
+          × (status ≡ 0 → (who : List Identity) (paths : List Names) → users_read users ≡ Ok who → paths_read subtrees ≡ Ok paths
+          → who ≢ [] → AreContained st who paths)
+      all_ended guards each =
+          let report = each_alone _ _ audit.all each (by_guards guards) in (
+            report,
+            λ zero who paths of_users of_paths some.
+                all_contained_by_pairs st users subtrees who paths of_text.says.formed of_users of_paths some old new status report zero,
+          )
 
       pub audit_ended : audit.settle ≡ false → audit.all ≡ false → Reports (audit_report (Ok st) users subtrees) old new (Ok status)
           × (status ≡ 0 → (who : List Identity) (paths : List Names) → users_read users ≡ Ok who → paths_read subtrees ≡ Ok paths
@@ -317,7 +394,7 @@ module _ (files : Files) (given old new : Option (List ℕ)) (status : ℕ) wher
             × (AreKnownWithEach st (once same_user who) (once same_path paths) found
             × AreFurther st (once same_user who) (once same_path paths) found)
             × ReportsPairs (Ok (listed_from found 0 (once same_user who) (once same_path paths))) old new (Ok status)
-            × (status ≡ 0 → who ≢ [] → AreHeld st who paths)
+            × (status ≡ 0 → who ≢ [] → AreHeld st who paths × AreSettled st (once same_user who) (once same_path paths))
         all_settled_ended each =
             all_told st users subtrees who paths of_text.says.formed of_users of_paths old new status
             (each_alone _ _ audit.all each by_more)
@@ -327,7 +404,7 @@ module _ (files : Files) (given old new : Option (List ℕ)) (status : ℕ) wher
             × (AreKnownWithEach st (once same_user who) (once same_path paths) found
             × AreFurther st (once same_user who) (once same_path paths) found)
             × Reports (first_pair_report (listed_from found 0 (once same_user who) (once same_path paths))) old new (Ok status)
-            × (status ≡ 0 → who ≢ [] → AreHeld st who paths)
+            × (status ≡ 0 → who ≢ [] → AreHeld st who paths × AreSettled st (once same_user who) (once same_path paths))
         settled_ended first =
             first_told st users subtrees who paths of_text.says.formed of_users of_paths old new status
             (first_alone _ _ audit.all first by_more)

@@ -1,15 +1,17 @@
 -- What a replay of the lines of operations says, by the operations.
-use Rattle.std.proofs.Common.{◌≡◌, ℕ, ◌+◌, ◌<◌, ◌≤◌, true, false, nat_lt, List, [], ◌∷◌, ◌++◌, All, length, Some, None, Ok, Err, refl, ap, sym, ◌∙◌, append_assoc, append-nil, length-append, arith}
+use Rattle.std.proofs.Common.{◌≡◌, ℕ, ◌+◌, ◌<◌, ◌≤◌, true, false, nat_lt, List, [], ◌∷◌, ◌++◌, All, length, Some, None, Result, Ok, Err, refl, ap, sym, ◌∙◌, append_assoc, append-nil, length-append, arith}
 use Rattle.std.specs.List.{AllByRecursion}
 use Rattle.std.proofs.lemmas.Bool.{lt-ltb, le-ltb}
 use Rattle.cg_cgroup.specs.Paths.{Names}
 use Rattle.cg_cgroup.specs.Identity.{Identity}
 use Rattle.cg_model.specs.States.{State}
 use Rattle.cg_model.specs.Steps.{after, after_all}
-use Rattle.cg_model.specs.Held.{by_user}
+use Rattle.cg_model.specs.Held.{IsHeld, by_user}
 use Rattle.cg_model.specs.Verdicts.{verdict}
 use Rattle.cg_model.specs.Guards.{IsSubtree}
 use Rattle.cg_model.specs.declared.operation.Op.{Op}
+use Rattle.cg_model.specs.declared.verdict.Verdict.{Verdict}
+use Rattle.cg_model.specs.declared.verdict.Verdict.TheVariants.{Kept, Broken}
 use Rattle.cg_lines.specs.LineReading.{operation_at}
 use Rattle.cg_lines.specs.Outcomes.{outcome_text}
 use Rattle.cg_lines.specs.declared.lines.fault.LineFault.TheVariants.{BadWord}
@@ -19,6 +21,7 @@ use Rattle.cg_cli.specs.Reports.{Report, report_on}
 use Rattle.cg_cli.specs.Arguments.{user_read, path_read}
 use Rattle.cg_cli.specs.Courses.{Course, Unwatched, state_of, on_course, verdict_status}
 use Rattle.cg_cli.specs.Replays.{is_newline, longest_line, outcome_of, operation_read, with_front, lines_said, closed, course_read, replay_report}
+use Rattle.cg_faults.specs.declared.fault.CliFault.{CliFault}
 use Rattle.cg_faults.specs.declared.fault.CliFault.TheVariants.{Line}
 use Rattle.cg_cli.proofs.ReplayReports.{report_of_line}
 use Rattle.cg_lines.specs.OperationLines.{HasLine, HaveLines}
@@ -116,3 +119,15 @@ module _ (vocabulary : Vocabulary) (st : State) (uid : ℕ) (gids : List ℕ) (u
         text = text ++ verdict_text (verdict st (by_user user ops) subtree);
         ending = Ok (verdict_status (verdict st (by_user user ops) subtree));
       }) (sym (text_is ops lines))
+
+  -- a status of 0 says that the watched subtree was held
+  pub replay_held : (word : List ℕ) (subtree : Names) (ops : List Op) → path_read word ≡ Ok subtree → IsSubtree st subtree
+      → HaveLines vocabulary ops → (replay_report vocabulary (Ok st) uid gids (Some word) (op_lines ops)).ending ≡ Ok 0
+      → IsHeld st (by_user user ops) subtree
+  replay_held word subtree ops of_path sub lines is =
+      by_verdict (verdict st (by_user user ops) subtree)
+      (ap (λ (r : Report). r.ending) (sym (replay_watched word subtree ops of_path sub lines)) ∙ is)
+    where
+      by_verdict : (found : Verdict) → ◌≡◌ {A = Result ℕ CliFault} (Ok (verdict_status found)) (Ok 0) → found ≡ Kept
+      by_verdict Kept is = refl
+      by_verdict (Broken steps clause) is = let never : ⊥ = cc in absurd never

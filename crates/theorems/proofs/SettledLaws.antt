@@ -7,6 +7,7 @@ use Rattle.cg_cgroup.specs.Identity.{Identity}
 use Rattle.cg_model.specs.States.{State}
 use Rattle.cg_model.specs.WellFormed.{IsWellFormed}
 use Rattle.cg_model.specs.Clauses.{first}
+use Rattle.cg_model.specs.Guards.{IsSubtree}
 use Rattle.cg_model.specs.Held.{IsHeld, by_user, IsContained}
 use Rattle.cg_model.specs.Answers.{answer}
 use Rattle.cg_model.specs.Checks.{subtree_faults, unless_fault}
@@ -20,7 +21,7 @@ use Rattle.cg_check.proofs.Checking.{no_fault, answer-guarded}
 use Rattle.cg_cli.specs.Arguments.{path_read}
 use Rattle.cg_cli.specs.Containment.{in_call, answer_report}
 use Rattle.cg_cli.specs.Reports.{Report, Reports}
-use Rattle.cg_cli.specs.Settled.{IsSettledFrom}
+use Rattle.cg_cli.specs.Settled.{IsSettledFrom, IsSettled}
 use Rattle.cg_cli.specs.Settling.{SaysOn, AskedSays, AskedReports, FurtherSays, IsFurther}
 use Rattle.cg_faults.specs.Faults.{lifted_check}
 use Rattle.cg_faults.specs.declared.fault.CliFault.{CliFault}
@@ -94,3 +95,11 @@ module _ (st : State) (user : Identity) (subtree : Names) where
               (λ is. contained-guarded st user subtree formed there (answer-guarded st user subtree is)) further,
           λ ops. escapes_further (answer st user subtree) says.1.0 ops (escape-broken st user subtree ops) further,
         )
+
+-- a subtree of which settle says that it is contained is
+pub settled_contained : (st : State) (user : Identity) (subtree : Names) → IsWellFormed st → IsSubtree st subtree
+    → IsSettled st user subtree Contained → IsContained st user subtree
+settled_contained st user subtree formed there is =
+    contained_further st user subtree (answer st user subtree) Contained
+    (λ guards. contained-guarded st user subtree formed there (answer-guarded st user subtree guards))
+    (goes_further st user subtree formed there (answer st user subtree) Contained is) refl

@@ -1,7 +1,7 @@
 -- What the status of a report says of what was asked.
-use Rattle.std.proofs.Common.{◌≡◌, ◌≢◌, ℕ, List, [], ◌∷◌, Option, Some, None, Ok, refl, ap, sym, ◌∙◌}
+use Rattle.std.proofs.Common.{◌≡◌, ◌≢◌, ℕ, List, [], ◌∷◌, get_or, Option, Some, None, Result, Ok, Err, refl, ap, sym, ◌∙◌}
 use Rattle.std.specs.Prelude.{unwrap_or}
-use Rattle.std.specs.List.{AllByRecursion, flat_map}
+use Rattle.std.specs.List.{All, AllByRecursion, flat_map}
 use Rattle.cg_cgroup.specs.Paths.{Names, same_path}
 use Rattle.cg_cgroup.specs.Identity.{Identity}
 use Rattle.cg_model.specs.States.{State}
@@ -9,6 +9,7 @@ use Rattle.cg_model.specs.WellFormed.{IsWellFormed}
 use Rattle.cg_model.specs.Clauses.{first}
 use Rattle.cg_model.specs.AllAnswers.{pairs_from, all_answers}
 use Rattle.cg_model.specs.Checks.{subtree_faults, all_checked}
+use Rattle.cg_model.specs.Guards.{IsSubtree}
 use Rattle.cg_model.specs.Several.{AreContained}
 use Rattle.cg_model.specs.Listed.{Listed, listed}
 use Rattle.cg_model.specs.Once.{once}
@@ -16,18 +17,27 @@ use Rattle.cg_model.specs.Mends.{Pair}
 use Rattle.cg_model.specs.declared.answer.AllAnswer.{AllAnswer}
 use Rattle.cg_model.specs.declared.answer.AllAnswer.TheVariants as all
 use Rattle.cg_check.proofs.AllContained.{are-contained}
+use Rattle.cg_check.proofs.Checking.{no_fault}
 use Rattle.cg_check.proofs.ListedLaws.{all-unlisted}
+use Rattle.cg_check.proofs.Pairs.{none-element}
 use Rattle.cg_cli.specs.Reports.{Report, report_on}
 use Rattle.cg_cli.specs.Containment.{in_call}
 use Rattle.cg_cli.specs.Audits.{users_read, paths_read, audit_status, audit_answer_report, pairs_report, audit_report}
 use Rattle.cg_cli.specs.Once.{same_user}
-use Rattle.cg_cli.specs.AllPairs.{read_then, pairs_found, all_report, UnlistedAreContained}
+use Rattle.cg_cli.specs.AllPairs.{read_then, pairs_found, all_report, ReportsPairs, UnlistedAreContained}
 use Rattle.cg_cli.specs.Advising.{lines_report, all_pairs, advised as advice_of, advice_report, advise_report}
 use Rattle.cg_advice.specs.AdviceLines.{advice_lines}
 use Rattle.cg_cli.proofs.AdviseReports.{contained-unadvised}
 use Rattle.cg_cli.proofs.AuditStatus.{IsNamed, named, status_is_contained}
 use Rattle.cg_cli.proofs.AuditOnce.{same_user-is, some_once, contained_once}
 use Rattle.cg_escapes.proofs.EscapeReplays.{report_ok, found_is, status_is, unfaulted}
+use Rattle.cg_faults.specs.declared.fault.CliFault.{CliFault}
+use Rattle.theorems.proofs.NoneListed.{all_none, none_contained}
+
+-- subtrees without a fault are there
+pub all_there : (st : State) (subtrees : List Names) → first (flat_map (subtree_faults st) subtrees) ≡ None → All (IsSubtree st) subtrees
+all_there st subtrees none k d within =
+    no_fault st (get_or subtrees k d) (sym (none-element (subtree_faults st) subtrees k d within none))
 
 -- ---- the advice for pairs
 
@@ -99,6 +109,23 @@ module _ (st : State) (given : List (ℕ × List ℕ)) (words : List (List ℕ))
       (listed st (once same_user users) (once same_path subtrees)) pairs
       (found_is _ pairs (sym listing_is ∙ is)) in
       (sym stated.1, all-unlisted st (once same_user users) (once same_path subtrees) stated.0 (λ _. formed))
+
+  -- where no pair is listed
+  pub all_contained_by_pairs : users ≢ [] → (old new : Option (List ℕ)) (status : ℕ)
+      → ReportsPairs (all_report (Ok st) given words) old new (Ok status) → status ≡ 0 → AreContained st users subtrees
+  all_contained_by_pairs some old new status reports zero = by_report (all_report (Ok st) given words) refl reports
+    where
+      by_report : (report : Result (List Listed) CliFault) → all_report (Ok st) given words ≡ report
+          → ReportsPairs report old new (Ok status) → AreContained st users subtrees
+      by_report (Err fault) is never = absurd never
+      by_report (Ok pairs) is reports =
+          let stated =
+          unfaulted (first (flat_map (subtree_faults st) (once same_path subtrees)))
+          (listed st (once same_user users) (once same_path subtrees)) pairs
+          (found_is _ pairs (sym listing_is ∙ is)) in
+          contained_once users subtrees st
+          (none_contained st (once same_user users) (once same_path subtrees) formed (all_there st (once same_path subtrees) stated.0)
+          (stated.1 ∙ all_none pairs (reports.0 ∙ zero)) (some_once same_user same_user-is users some))
 
   advice_is : advise_report (Ok st) given words
       ≡ advice_report st (once same_path subtrees) (all_pairs (once same_user users) (once same_path subtrees))

@@ -5,6 +5,7 @@
 ghost use Rattle.std.specs.Prelude.{◌≡◌, ◌≢◌, ◌↔◌, ◌⊎◌, ◌≤◌, ℕ, ◌+◌, true, false, List, [], ◌∷◌, ◌++◌, length, map, codes, Option, Some, None, Result, Ok, Err, IsOk};
 ghost use Rattle.std.specs.List.{All, Contains};
 ghost use Rattle.cg_cgroup.specs.Paths.{Names, path_at, same_path};
+ghost use Rattle.cg_cgroup.specs.Numbers.{pid_of};
 ghost use Rattle.cg_cgroup.specs.Users.{IsUser, user_of};
 ghost use Rattle.cg_cgroup.specs.Identity.{Identity};
 ghost use Rattle.cg_model.specs.States.{State};
@@ -35,6 +36,7 @@ ghost use Rattle.cg_lines.specs.LineReading.{operation_at};
 ghost use Rattle.cg_lines.specs.Outcomes.{outcome_text};
 ghost use Rattle.cg_report.specs.AnswerLines.{op_lines};
 ghost use Rattle.cg_report.specs.VerdictLines.{verdict_text};
+ghost use Rattle.cg_second.specs.SecondRow.{AreSettled};
 ghost use Rattle.cg_advice.specs.AdviceLines.{pairs_lines};
 ghost use Rattle.cg_format.specs.TreeTexts.{longest_text, document_of};
 ghost use Rattle.cg_format.specs.TextOf.{IsTextOf};
@@ -79,7 +81,7 @@ ghost use Rattle.arguments.specs.declared.request.Upgrade.{Upgrade};
 ghost use Rattle.arguments.specs.declared.request.Replay.{Replay};
 ghost use Rattle.arguments.specs.declared.request.Request.{Request};
 ghost use Rattle.arguments.specs.declared.request.Request.TheVariants as request;
-ghost use Rattle.commands.specs.PairLines.{AsksSomething};
+ghost use Rattle.commands.specs.PairLines.{pairs_read, AsksSomething};
 ghost use Rattle.commands.specs.Requests.{Files, source, name_of, may_said, check_said, pairs_said, CarriesOut};
 ghost use Rattle.commands.specs.Runs.{LeadsTo, RunsTo};
 ghost use Rattle.commands.specs.declared.fault.Fault.{Fault};
@@ -258,7 +260,9 @@ pub fn the_program()
     ensures may { (may : May) (files : Files) (given old new : Option (List ℕ)) (status : ℕ) (text : List ℕ) (st : State)
         → CarriesOut (request.May may) files given old new (Ok status)
         → source files (name_of may.tree) given ≡ Some text → IsTextOf st text
-        → Reports (may_said may (Ok st)) old new (Ok status) }
+        → Reports (may_said may (Ok st)) old new (Ok status)
+        × (status ≡ 0 → (user : Identity) (pid : ℕ) (to : Names) → user_of may.user.uid may.user.gids.items ≡ Some user
+        → pid_of may.pid ≡ Some pid → path_at may.to.now ≡ Some to → bars st user (Move pid to) ≡ []) }
     ensures check { (check : Check) (files : Files) (given old new : Option (List ℕ)) (status : ℕ) (text : List ℕ) (st : State)
         → CarriesOut (request.Check check) files given old new (Ok status)
         → source files (name_of check.tree) given ≡ Some text → IsTextOf st text
@@ -283,7 +287,9 @@ pub fn the_program()
     ensures audit_all { (audit : Audit) (files : Files) (given old new : Option (List ℕ)) (status : ℕ) (text : List ℕ) (st : State)
         → CarriesOut (request.Audit audit) files given old new (Ok status) → audit.settle ≡ false → audit.all ≡ true
         → source files (name_of audit.tree) given ≡ Some text → IsTextOf st text
-        → ReportsPairs (all_report (Ok st) (map ids_of audit.users.items) (map (λ subtree. subtree.now) audit.subtrees.items)) old new (Ok status) }
+        → ReportsPairs (all_report (Ok st) (map ids_of audit.users.items) (map (λ subtree. subtree.now) audit.subtrees.items)) old new (Ok status)
+        × (status ≡ 0 → (users : List Identity) (subtrees : List Names) → users_read (map ids_of audit.users.items) ≡ Ok users
+        → paths_read (map (λ subtree. subtree.now) audit.subtrees.items) ≡ Ok subtrees → users ≢ [] → AreContained st users subtrees) }
     ensures audit_settled { (audit : Audit) (files : Files) (given old new : Option (List ℕ)) (status : ℕ) (text : List ℕ) (st : State) (users : List Identity) (subtrees : List Names)
         → CarriesOut (request.Audit audit) files given old new (Ok status) → audit.settle ≡ true → audit.all ≡ false
         → source files (name_of audit.tree) given ≡ Some text → IsTextOf st text → users_read (map ids_of audit.users.items) ≡ Ok users
@@ -291,7 +297,8 @@ pub fn the_program()
         → (found : ℕ → ℕ → Answer) × (AreKnownWithEach st (once same_user users) (once same_path subtrees) found
         × AreFurther st (once same_user users) (once same_path subtrees) found)
         × Reports (first_pair_report (listed_from found 0 (once same_user users) (once same_path subtrees))) old new (Ok status)
-        × (status ≡ 0 → users ≢ [] → AreHeld st users subtrees) }
+        × (status ≡ 0 → users ≢ []
+        → AreHeld st users subtrees × AreSettled st (once same_user users) (once same_path subtrees)) }
     ensures audit_all_settled { (audit : Audit) (files : Files) (given old new : Option (List ℕ)) (status : ℕ) (text : List ℕ) (st : State) (users : List Identity) (subtrees : List Names)
         → CarriesOut (request.Audit audit) files given old new (Ok status) → audit.settle ≡ true → audit.all ≡ true
         → source files (name_of audit.tree) given ≡ Some text → IsTextOf st text → users_read (map ids_of audit.users.items) ≡ Ok users
@@ -299,15 +306,21 @@ pub fn the_program()
         → (found : ℕ → ℕ → Answer) × (AreKnownWithEach st (once same_user users) (once same_path subtrees) found
         × AreFurther st (once same_user users) (once same_path subtrees) found)
         × ReportsPairs (Ok (listed_from found 0 (once same_user users) (once same_path subtrees))) old new (Ok status)
-        × (status ≡ 0 → users ≢ [] → AreHeld st users subtrees) }
+        × (status ≡ 0 → users ≢ []
+        → AreHeld st users subtrees × AreSettled st (once same_user users) (once same_path subtrees)) }
     ensures explain { (explain : Explain) (files : Files) (given old new : Option (List ℕ)) (status : ℕ) (text : List ℕ) (st : State)
         → CarriesOut (request.Explain explain) files given old new (Ok status)
         → source files (name_of explain.tree) given ≡ Some text → IsTextOf st text
-        → ReportsTold (explain_asked (Ok st) (map ids_of explain.users.items) (map (λ subtree. subtree.now) explain.subtrees.items)) old new (Ok status) }
+        → ReportsTold (explain_asked (Ok st) (map ids_of explain.users.items) (map (λ subtree. subtree.now) explain.subtrees.items)) old new (Ok status)
+        × (status ≡ 0 → (users : List Identity) (subtrees : List Names) → users_read (map ids_of explain.users.items) ≡ Ok users
+        → paths_read (map (λ subtree. subtree.now) explain.subtrees.items) ≡ Ok subtrees
+        → All (λ pair. IsContained st pair.user pair.subtree) (all_pairs (once same_user users) (once same_path subtrees))) }
     ensures advise { (advise : Advise) (files : Files) (given old new : Option (List ℕ)) (status : ℕ) (text : List ℕ) (st : State)
         → CarriesOut (request.Advise advise) files given old new (Ok status) → advise.settle ≡ false
         → source files (name_of advise.tree) given ≡ Some text → IsTextOf st text
-        → Reports (advise_report (Ok st) (map ids_of advise.users.items) (map (λ subtree. subtree.now) advise.subtrees.items)) old new (Ok status) }
+        → Reports (advise_report (Ok st) (map ids_of advise.users.items) (map (λ subtree. subtree.now) advise.subtrees.items)) old new (Ok status)
+        × (status ≡ 0 → (users : List Identity) (subtrees : List Names) → users_read (map ids_of advise.users.items) ≡ Ok users
+        → paths_read (map (λ subtree. subtree.now) advise.subtrees.items) ≡ Ok subtrees → users ≢ [] → AreContained st users subtrees) }
     ensures advise_settled { (advise : Advise) (files : Files) (given old new : Option (List ℕ)) (status : ℕ) (text : List ℕ) (st : State) (users : List Identity) (subtrees : List Names)
         → CarriesOut (request.Advise advise) files given old new (Ok status) → advise.settle ≡ true
         → source files (name_of advise.tree) given ≡ Some text → IsTextOf st text → users_read (map ids_of advise.users.items) ≡ Ok users
@@ -315,11 +328,15 @@ pub fn the_program()
         → Reports (advise_settled_report (Ok st) (map ids_of advise.users.items) (map (λ subtree. subtree.now) advise.subtrees.items)) old new (Ok status)
         × (Reports (advise_report (Ok st) (map ids_of advise.users.items) (map (λ subtree. subtree.now) advise.subtrees.items)) old new (Ok status)
         ⊎ Reports (record { text = codes "contained\n"; ending = Ok 0 }) old new (Ok status))
-        × (status ≡ 0 → AreHeld st users subtrees) }
+        × (status ≡ 0 → AreHeld st users subtrees
+        × (AreSettled st (once same_user users) (once same_path subtrees) ⊎ AreContained st users subtrees)) }
     ensures advise_pairs { (advise : AdvisePairs) (files : Files) (given old new : Option (List ℕ)) (status : ℕ) (text pairs : List ℕ) (st : State)
         → CarriesOut (request.AdvisePairs advise) files given old new (Ok status)
         → source files (tree_file advise.sources) given ≡ Some text → source files (other_file advise.sources) given ≡ Some pairs
-        → IsTextOf st text → length pairs ≤ 16777216 → Reports (pairs_said pairs (Ok st)) old new (Ok status) × AsksSomething pairs }
+        → IsTextOf st text → length pairs ≤ 16777216 → Reports (pairs_said pairs (Ok st)) old new (Ok status) × AsksSomething pairs
+        × (status ≡ 0 → (named : List ((ℕ × List ℕ) × List ℕ)) (users : List Identity) (subtrees : List Names) → pairs_read pairs ≡ Ok named
+        → users_read (map (λ pair. pair.0) named) ≡ Ok users → paths_read (map (λ pair. pair.1) named) ≡ Ok subtrees
+        → AreContainedAsNamed st (paired users subtrees)) }
     ensures upgrade { (upgrade : Upgrade) (files : Files) (given old new : Option (List ℕ)) (status : ℕ) (text : List ℕ) (st : State)
         → CarriesOut (request.Upgrade upgrade) files given old new (Ok status)
         → source files (name_of upgrade.tree) given ≡ Some text → IsTextOf st text
@@ -327,5 +344,8 @@ pub fn the_program()
     ensures replay { (replay : Replay) (files : Files) (given old new : Option (List ℕ)) (status : ℕ) (text ops : List ℕ) (st : State)
         → CarriesOut (request.Replay replay) files given old new (Ok status)
         → source files (tree_file replay.sources) given ≡ Some text → source files (other_file replay.sources) given ≡ Some ops → IsTextOf st text
-        → Reports (replay_report (vocabulary_in text) (Ok st) replay.user.uid replay.user.gids.items (name_of replay.subtree) ops) old new (Ok status) }
+        → Reports (replay_report (vocabulary_in text) (Ok st) replay.user.uid replay.user.gids.items (name_of replay.subtree) ops) old new (Ok status)
+        × (status ≡ 0 → (user : Identity) (word : List ℕ) (subtree : Names) (tried : List Op)
+        → user_of replay.user.uid replay.user.gids.items ≡ Some user → name_of replay.subtree ≡ Some word → path_at word ≡ Some subtree
+        → IsSubtree st subtree → HaveLines (vocabulary_in text) tried → ops ≡ op_lines tried → IsHeld st (by_user user tried) subtree) }
 {}

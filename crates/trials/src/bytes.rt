@@ -23,88 +23,89 @@ use std::alloc::Global;
 /// Room for every report, made before the call: a writer that wants memory is another trial.
 const ROOM: usize = 65536;
 
+/// A call that asks of users and subtrees.
+#[derive(Clone, Copy)]
+enum Asked {
+    Check,
+    Settle,
+    Advise,
+    AdviseSettled,
+    Explain,
+    Audit,
+    AuditAll,
+    AuditSettled,
+    AuditAllSettled,
+}
+
+impl Asked {
+    /// The call of a name.
+    fn named(name: &str) -> Option<Asked> {
+        match name {
+            "check" => Some(Asked::Check),
+            "settle" => Some(Asked::Settle),
+            "advise" => Some(Asked::Advise),
+            "advise_settled" => Some(Asked::AdviseSettled),
+            "explain" => Some(Asked::Explain),
+            "audit" => Some(Asked::Audit),
+            "audit_all" => Some(Asked::AuditAll),
+            "audit_settled" => Some(Asked::AuditSettled),
+            "audit_all_settled" => Some(Asked::AuditAllSettled),
+            _ => None,
+        }
+    }
+}
+
+/// Users and subtrees, of which `check` and `settle` are asked the first of each.
+#[derive(Drop)]
+struct Named<'a> {
+    users: Vec<UserIds<'a>>,
+    subtrees: Vec<&'a str>,
+}
+
+impl Named<'_> {
+    fn ask(
+        &self,
+        alloc: Global,
+        asked: Asked,
+        tree: &[u8],
+        out: &mut Vec<u8>,
+    ) -> Result<u8, CliFault> {
+        let of = &mut None;
+        let (users, subtrees) = (self.users.as_slice(), self.subtrees.as_slice());
+        match asked {
+            Asked::Check => check_bytes(alloc, tree, users[0], subtrees[0], of, out),
+            Asked::Settle => settle_bytes(alloc, tree, users[0], subtrees[0], of, out),
+            Asked::Advise => advise_bytes(alloc, tree, users, subtrees, of, out),
+            Asked::AdviseSettled => advise_settled_bytes(alloc, tree, users, subtrees, of, out),
+            Asked::Explain => explain_bytes(alloc, tree, users, subtrees, of, out),
+            Asked::Audit => audit_bytes(alloc, tree, users, subtrees, of, out),
+            Asked::AuditAll => audit_all_bytes(alloc, tree, users, subtrees, of, out),
+            Asked::AuditSettled => audit_settled_bytes(alloc, tree, users, subtrees, of, out),
+            Asked::AuditAllSettled => {
+                audit_all_settled_bytes(alloc, tree, users, subtrees, of, out)
+            }
+        }
+    }
+}
+
 /// A call over bytes, but for its tree.
 #[derive(Drop)]
 enum Call<'a> {
     May(UserIds<'a>, u32, &'a str),
-    Check(UserIds<'a>, &'a str),
-    Settle(UserIds<'a>, &'a str),
-    Advise(UserIds<'a>, &'a str),
+    Named(Asked, Named<'a>),
     AdvisePairs(Vec<PairIds<'a>>),
-    AdviseSettled(UserIds<'a>, &'a str),
-    Explain(UserIds<'a>, &'a str),
     Upgrade,
-    Audit(Vec<UserIds<'a>>, Vec<&'a str>),
-    AuditAll(Vec<UserIds<'a>>, Vec<&'a str>),
-    AuditSettled(Vec<UserIds<'a>>, Vec<&'a str>),
-    AuditAllSettled(Vec<UserIds<'a>>, Vec<&'a str>),
     ReplayBytes(UserIds<'a>, Option<&'a str>, Vec<u8>),
     ReplayFrom(UserIds<'a>, Option<&'a str>, Vec<u8>),
 }
 
 impl Call<'_> {
     fn make(&self, alloc: Global, tree: &[u8], out: &mut Vec<u8>) -> Result<u8, CliFault> {
-        let stranger = &mut None;
         match self {
-            Call::May(user, pid, to) => may_bytes(alloc, tree, *user, *pid, to, out),
-            Call::Check(user, subtree) => check_bytes(alloc, tree, *user, subtree, stranger, out),
-            Call::Settle(user, subtree) => settle_bytes(alloc, tree, *user, subtree, stranger, out),
-            Call::Advise(user, subtree) => {
-                advise_bytes(alloc, tree, &[*user], &[*subtree], stranger, out)
-            }
+            Call::May(user, pid, to) => may_bytes(alloc, tree, *user, *pid, to, &mut None, out),
+            Call::Named(asked, named) => named.ask(alloc, *asked, tree, out),
             Call::AdvisePairs(pairs) => advise_pairs_bytes(alloc, tree, pairs.as_slice(), out),
-            Call::AdviseSettled(user, subtree) => {
-                advise_settled_bytes(alloc, tree, &[*user], &[*subtree], stranger, out)
-            }
-            Call::Explain(user, subtree) => explain_bytes(
-                alloc,
-                tree,
-                &[*user],
-                &[*subtree],
-                stranger,
-                out,
-            ),
             Call::Upgrade => upgrade_bytes(alloc, tree, out),
-            Call::AuditAll(users, subtrees) => {
-                audit_all_bytes(
-                    alloc,
-                    tree,
-                    users.as_slice(),
-                    subtrees.as_slice(),
-                    stranger,
-                    out,
-                )
-            }
-            Call::AuditSettled(users, subtrees) => {
-                audit_settled_bytes(
-                    alloc,
-                    tree,
-                    users.as_slice(),
-                    subtrees.as_slice(),
-                    stranger,
-                    out,
-                )
-            }
-            Call::AuditAllSettled(users, subtrees) => {
-                audit_all_settled_bytes(
-                    alloc,
-                    tree,
-                    users.as_slice(),
-                    subtrees.as_slice(),
-                    stranger,
-                    out,
-                )
-            }
-            Call::Audit(users, subtrees) => {
-                audit_bytes(
-                    alloc,
-                    tree,
-                    users.as_slice(),
-                    subtrees.as_slice(),
-                    stranger,
-                    out,
-                )
-            }
             Call::ReplayBytes(user, subtree, ops) => {
                 replay_bytes(alloc, tree, *user, *subtree, ops.as_slice(), out)
             }
@@ -142,19 +143,22 @@ fn watched(word: &str) -> Option<&str> {
     if word == "-" { None } else { Some(word) }
 }
 
-fn audited<'a>(
-    alloc: Global,
-    words: &'a [String],
-) -> Result<(Vec<UserIds<'a>>, Vec<&'a str>), Stopped> {
-    let mut users = Vec::new(alloc);
-    let mut subtrees = Vec::new(alloc);
+/// The users and the subtrees of words: numbers and paths. One of each is there.
+fn all_named<'a>(alloc: Global, words: &'a [String]) -> Result<Named<'a>, Stopped> {
+    let mut named = Named {
+        users: Vec::new(alloc),
+        subtrees: Vec::new(alloc),
+    };
     for word in words {
         match word.as_str().parse() {
-            Ok(uid) => users.push(user(uid))?,
-            Err(_) => subtrees.push(word.as_str())?,
+            Ok(uid) => named.users.push(user(uid))?,
+            Err(_) => named.subtrees.push(word.as_str())?,
         }
     }
-    Ok((users, subtrees))
+    if named.users.is_empty() || named.subtrees.is_empty() {
+        return Err(Stopped::BadWords);
+    }
+    Ok(named)
 }
 
 /// The pairs of words, a uid and a path by turns.
@@ -170,31 +174,14 @@ fn paired<'a>(alloc: Global, words: &mut Words<'a>) -> Result<Vec<PairIds<'a>>, 
 }
 
 fn call_told<'a>(alloc: Global, words: &mut Words<'a>) -> Result<Call<'a>, Stopped> {
-    match words.next()? {
+    let name = words.next()?;
+    if let Some(asked) = Asked::named(name) {
+        return Ok(Call::Named(asked, all_named(alloc, words.rest())?));
+    }
+    match name {
         "may" => Ok(Call::May(user(words.id()?), words.id()?, words.next()?)),
-        "check" => Ok(Call::Check(user(words.id()?), words.next()?)),
-        "settle" => Ok(Call::Settle(user(words.id()?), words.next()?)),
-        "advise" => Ok(Call::Advise(user(words.id()?), words.next()?)),
         "advise_pairs" => Ok(Call::AdvisePairs(paired(alloc, words)?)),
-        "advise_settled" => Ok(Call::AdviseSettled(user(words.id()?), words.next()?)),
-        "explain" => Ok(Call::Explain(user(words.id()?), words.next()?)),
         "upgrade" => Ok(Call::Upgrade),
-        "audit" => {
-            let (users, subtrees) = audited(alloc, words.rest())?;
-            Ok(Call::Audit(users, subtrees))
-        }
-        "audit_all" => {
-            let (users, subtrees) = audited(alloc, words.rest())?;
-            Ok(Call::AuditAll(users, subtrees))
-        }
-        "audit_settled" => {
-            let (users, subtrees) = audited(alloc, words.rest())?;
-            Ok(Call::AuditSettled(users, subtrees))
-        }
-        "audit_all_settled" => {
-            let (users, subtrees) = audited(alloc, words.rest())?;
-            Ok(Call::AuditAllSettled(users, subtrees))
-        }
         "replay" => {
             let user = user(words.id()?);
             let subtree = watched(words.next()?);

@@ -1,11 +1,11 @@
 //! Rows that don't go together, and texts that name nothing.
 use crate::names::{controller_names, listed, near_name};
-use crate::paths::{MOUNT, why_missing};
+use crate::paths::{missing_said, names_mount, near_said};
 use crate::trees::places::shown_value;
 use cg_cgroup::files::{Controller, Vocabulary};
 use cg_text::tree::told::{Told, paths_of};
 use std::alloc::{AllocError, Global};
-use text_places::near::nearest_of;
+use text_places::near::Missing;
 use text_places::shown::quoted;
 use toml::Table;
 
@@ -52,11 +52,12 @@ pub(super) fn again_said(alloc: Global, told: &Told<'_>) -> Result<Option<String
 
 /// That the row above isn't there.
 pub(super) fn parent_said(alloc: Global, top: &Table, parent: &str) -> Result<String, AllocError> {
-    if parent.starts_with(MOUNT) {
-        return why_missing(alloc, parent);
+    let missing = missing_among(alloc, top, parent)?;
+    if names_mount(parent) {
+        return missing_said(alloc, &missing);
     }
     let shown = quoted(alloc, parent)?;
-    let near = nearest_said(alloc, top, parent)?;
+    let near = near_said(alloc, missing.nearest.as_ref())?;
     format!(in alloc; "no row has the parent's path, '{shown}'{near}")
 }
 
@@ -105,19 +106,11 @@ pub(super) fn inner_said(alloc: Global, at: &str) -> Result<String, AllocError> 
 
 /// That no row has a path, and which one is the nearest.
 pub(super) fn nowhere_said(alloc: Global, top: &Table, path: &str) -> Result<String, AllocError> {
-    let why = why_missing(alloc, path)?;
-    let near = nearest_said(alloc, top, path)?;
-    format!(in alloc; "{why}{near}")
+    missing_said(alloc, &missing_among(alloc, top, path)?)
 }
 
-/// Which path of a row is the nearest, behind what is said of a path.
-fn nearest_said(alloc: Global, top: &Table, path: &str) -> Result<String, AllocError> {
+/// A path, and the nearest of those that rows have.
+fn missing_among(alloc: Global, top: &Table, path: &str) -> Result<Missing, AllocError> {
     let paths = paths_of(alloc, top)?;
-    match nearest_of(alloc, path, paths.as_slice())? {
-        Some(near) => {
-            let shown = quoted(alloc, near)?;
-            format!(in alloc; "; the nearest is '{shown}'")
-        }
-        None => Ok(String::new(alloc)),
-    }
+    Missing::among(alloc, path, paths.as_slice())
 }

@@ -39,7 +39,7 @@ impl Call<'_> {
     pub fn make<W: Write>(self, alloc: Global, tree: &[u8], out: &mut W) -> Result<u8, CliFault> {
         let stranger = &mut None;
         match self {
-            Call::May(user, pid, to) => may_bytes(alloc, tree, user, pid, to, out),
+            Call::May(user, pid, to) => may_bytes(alloc, tree, user, pid, to, &mut None, out),
             Call::Check(user, subtree) => check_bytes(alloc, tree, user, subtree, stranger, out),
             Call::Audit(users, subtrees) => audit_bytes(
                 alloc, tree, users, subtrees, stranger, out,

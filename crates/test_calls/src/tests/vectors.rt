@@ -45,7 +45,7 @@ pub const READ: &str = "refused no-access /a cgroup.procs";
 fn said(alloc: Global, text: &[u8], asked: Asked<'_>) -> Result<Option<Vec<u8>>, NoMemory> {
     let user = user(1000, asked.gids);
     let mut out = Vec::new(alloc);
-    let status = may_bytes(alloc, text, user, asked.pid, asked.to, &mut out);
+    let status = may_bytes(alloc, text, user, asked.pid, asked.to, &mut None, &mut out);
     match (read_tree(alloc, text), status) {
         (Ok(_), Ok(status)) => {
             let is_refused = out.as_slice() != b"granted\n".as_slice();

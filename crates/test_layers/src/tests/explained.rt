@@ -151,6 +151,12 @@ fn second_words(alloc: Global, tree: &Rows, path: &str) -> Result<String, Fail> 
     Ok(words)
 }
 
+/// So many, of a limit.
+fn of(count: u64, limit: u64) -> Counted {
+    let limit = Limit::At(limit);
+    Counted { count, limit }
+}
+
 #[test]
 fn a_delegation_is_told(rt: HostRuntime) -> Result<(), Fail> {
     let tree = read_tree(rt.alloc(), DELEGATION)?;
@@ -173,20 +179,8 @@ fn a_delegation_is_told(rt: HostRuntime) -> Result<(), Fail> {
          parent-dir / dir held\n"
     );
     let counted = counts_below(&tree, &subtree).ok_or("counts")?;
-    assert_eq!(rt;
-        counted.descendants,
-        Counted {
-            count: 2,
-            limit: Limit::At(4)
-        }
-    );
-    assert_eq!(rt;
-        counted.depth,
-        Counted {
-            count: 1,
-            limit: Limit::At(2)
-        }
-    );
+    assert_eq!(rt; counted.descendants, of(2, 4));
+    assert_eq!(rt; counted.depth, of(1, 2));
     assert_eq!(rt;
         second_words(rt.alloc(), &tree, "/c0")?.as_str(),
         "stays spared\ncpu off\nmemory on\npids off\nfiles spared\n"

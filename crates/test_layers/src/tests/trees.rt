@@ -45,6 +45,16 @@ fn enable<H: Hierarchy>(
     Ok(set_enabled(tree, &path(alloc, text)?, enabled, &user))
 }
 
+/// That a limit file has a number.
+fn at(file: LimitFile, number: u64) -> Said {
+    Said::LimitIs(file, Some(Limit::At(number)))
+}
+
+/// That a limit file has `max`.
+fn unlimited(file: LimitFile) -> Said {
+    Said::LimitIs(file, Some(Limit::Max))
+}
+
 #[test]
 fn what_is_said_of_the_delegation_example(rt: HostRuntime) -> Result<(), Fail> {
     let a = rt.alloc();
@@ -57,37 +67,22 @@ fn what_is_said_of_the_delegation_example(rt: HostRuntime) -> Result<(), Fail> {
         ("/", Said::LimitIs(LimitFile::MemoryMax, None)),
         ("/c0", Said::Counts(1, 2, 1)),
         ("/c0", Said::Enables(Some(ControllerSet::none()))),
-        (
-            "/c0",
-            Said::LimitIs(LimitFile::MaxDepth, Some(Limit::At(2))),
-        ),
-        (
-            "/c0",
-            Said::LimitIs(LimitFile::MaxDescendants, Some(Limit::At(4))),
-        ),
-        (
-            "/c0",
-            Said::LimitIs(LimitFile::MemoryMin, Some(Limit::At(0))),
-        ),
-        (
-            "/c0",
-            Said::LimitIs(LimitFile::MemoryMax, Some(Limit::At(1073741824))),
-        ),
+        ("/c0", at(LimitFile::MaxDepth, 2)),
+        ("/c0", at(LimitFile::MaxDescendants, 4)),
+        ("/c0", at(LimitFile::MemoryMin, 0)),
+        ("/c0", at(LimitFile::MemoryMax, 1073741824)),
         ("/c0", Said::LimitIs(LimitFile::PidsMax, None)),
         ("/c0/c00", Said::Counts(1, 2, 1)),
         ("/c0/c00", Said::Counts(2, 0, 0)),
         ("/c0/c00", Said::Holds(2, false, true)),
-        (
-            "/c0/c00",
-            Said::LimitIs(LimitFile::MaxDepth, Some(Limit::Max)),
-        ),
+        ("/c0/c00", unlimited(LimitFile::MaxDepth)),
         ("/c0/c01", Said::Counts(2, 0, 0)),
         ("/c0/c02", Said::Uses(Controller::Memory, None)),
         ("/c0/c02", Said::Enables(None)),
         ("/c1", Said::Counts(1, 1, 1)),
         ("/c1", Said::Holds(1, true, false)),
         ("/c1", Said::Uses(Controller::Cpu, Some(false))),
-        ("/c1", Said::LimitIs(LimitFile::MemoryMax, Some(Limit::Max))),
+        ("/c1", unlimited(LimitFile::MemoryMax)),
         ("/c1/c10", Said::Counts(0, 5, 2)),
     ];
     check(&rt, a, &delegation(&rt, a)?, &wanted)
@@ -98,6 +93,7 @@ fn what_is_said_of_it_with_an_open_root(rt: HostRuntime) -> Result<(), Fail> {
     let a = rt.alloc();
     let memory = EntryName::File(LimitFile::MemoryMax);
     let depth = EntryName::File(LimitFile::MaxDepth);
+    let control = EntryName::SubtreeControl;
     let wanted = [
         ("/", Said::Counts(0, 6, 2)),
         ("/", Said::Holds(0, true, false)),
@@ -107,10 +103,7 @@ fn what_is_said_of_it_with_an_open_root(rt: HostRuntime) -> Result<(), Fail> {
         ("/c0", Said::Counts(1, 2, 1)),
         ("/c0", Said::Holds(1, true, false)),
         ("/c0", Said::EntryIs(EntryName::Dir, entry(1000, 0o755))),
-        (
-            "/c0",
-            Said::EntryIs(EntryName::SubtreeControl, entry(1000, 0o644)),
-        ),
+        ("/c0", Said::EntryIs(control, entry(1000, 0o644))),
         ("/c0", Said::EntryIs(memory, entry(0, 0o644))),
         ("/c0/c00", Said::Holds(2, false, true)),
         ("/c0/c00", Said::EntryIs(depth, entry(1000, 0o644))),
@@ -121,14 +114,8 @@ fn what_is_said_of_it_with_an_open_root(rt: HostRuntime) -> Result<(), Fail> {
         ("/c01", Said::Holds(1, false, true)),
         ("/c01", Said::Enables(Some(ControllerSet::none()))),
         ("/c01", Said::EntryIs(EntryName::Procs, entry(1000, 0o644))),
-        (
-            "/c01",
-            Said::EntryIs(EntryName::SubtreeControl, entry(0, 0o644)),
-        ),
-        (
-            "/c01",
-            Said::LimitIs(LimitFile::MemoryMax, Some(Limit::Max)),
-        ),
+        ("/c01", Said::EntryIs(control, entry(0, 0o644))),
+        ("/c01", unlimited(LimitFile::MemoryMax)),
         ("/c1", Said::Counts(1, 1, 1)),
         ("/c1", Said::Holds(1, true, false)),
         ("/c1/c10", Said::Holds(2, false, true)),
@@ -150,19 +137,13 @@ fn what_is_said_of_two_levels_that_enable_memory(rt: HostRuntime) -> Result<(), 
         ("/p", Said::Uses(Controller::Memory, Some(false))),
         ("/p", Said::Enables(Some(MEMORY))),
         ("/p", Said::EntryIs(EntryName::Dir, entry(1000, 0o755))),
-        (
-            "/p",
-            Said::EntryIs(EntryName::SubtreeControl, entry(0, 0o644)),
-        ),
+        ("/p", Said::EntryIs(EntryName::SubtreeControl, entry(0, 0o644))),
         ("/p", Said::LimitIs(LimitFile::CpuWeight, None)),
         ("/p/s", Said::Counts(2, 0, 0)),
         ("/p/s", Said::Holds(2, false, true)),
         ("/p/s", Said::EntryIs(EntryName::Procs, entry(0, 0o644))),
         ("/p/s", Said::EntryIs(memory, entry(0, 0o644))),
-        (
-            "/p/s",
-            Said::LimitIs(LimitFile::MemoryLow, Some(Limit::At(0))),
-        ),
+        ("/p/s", at(LimitFile::MemoryLow, 0)),
     ];
     check(&rt, a, &nested(&rt, a)?, &wanted)
 }
@@ -216,10 +197,7 @@ fn sets_limits(rt: HostRuntime) -> Result<(), Fail> {
     assert!(rt; set_limit(&mut tree, &path(a, "/c1")?, file, Limit::At(7)));
     let wanted = [
         ("/c1", Said::LimitIs(file, Some(Limit::At(7)))),
-        (
-            "/c1",
-            Said::LimitIs(LimitFile::MemoryHigh, Some(Limit::Max)),
-        ),
+        ("/c1", unlimited(LimitFile::MemoryHigh)),
         ("/c0", Said::LimitIs(file, Some(Limit::At(0)))),
         ("/c1", Said::EntryIs(EntryName::File(file), entry(0, 0o644))),
     ];
@@ -235,10 +213,7 @@ fn sets_modes(rt: HostRuntime) -> Result<(), Fail> {
     let wanted = [
         ("/c1", Said::EntryIs(EntryName::Dir, entry(1000, 0o555))),
         ("/c1", Said::EntryIs(EntryName::Procs, entry(1000, 0o644))),
-        (
-            "/c1",
-            Said::EntryIs(EntryName::File(LimitFile::MemoryLow), entry(0, 0o644)),
-        ),
+        ("/c1", Said::EntryIs(EntryName::File(LimitFile::MemoryLow), entry(0, 0o644))),
         ("/c1/c10", Said::EntryIs(EntryName::Dir, entry(1000, 0o755))),
     ];
     check(&rt, a, &tree, &wanted)
@@ -359,7 +334,7 @@ fn copies_are_equal(rt: HostRuntime) -> Result<(), Fail> {
     check_controllers(&rt, &tree, ALL);
     let wanted = [(
         "/c0",
-        Said::LimitIs(LimitFile::MaxDescendants, Some(Limit::At(4))),
+        at(LimitFile::MaxDescendants, 4),
     )];
     check(&rt, a, &tree, &wanted)
 }

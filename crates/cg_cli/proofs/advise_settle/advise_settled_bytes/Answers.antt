@@ -1,72 +1,20 @@
-use Rattle.std.proofs.Common.{map, ap, sym, ◌∙◌, subst}
-use Rattle.cg_cli.specs.Advising.{lines_report}
-use Rattle.cg_cli.specs.Containment.{in_call}
-use Rattle.cg_cli.specs.Reports.{Report, Reports, report_on}
-use Rattle.cg_cli.specs.SettledAdvice.{settled_report}
-use Rattle.cg_cli.proofs.AdviseReports.{fault_said}
-use Rattle.cg_cli.proofs.FurtherAdvice.{once_settled, once_settled_takes, settled_takes, settled_of_kept, further_on}
-use Rattle.cg_cli.proofs.NamedReads.{kept_as}
-use Rattle.cg_cli.proofs.StrangerLaws.{stranger_said}
-use Rattle.cg_cli.proofs.ReadingOf.{on_text}
-use Rattle.cg_cli.proofs.ReportLaws.{subtree_fault}
+use Rattle.std.proofs.Common.{map}
+use Rattle.cg_cli.proofs.FurtherAdvice.{settled_said, further_on}
 use Rattle.cg_cli.proofs.advise_settle.advise_settled_bytes.Goals as goal
 
-pub returns-in_err-named-clause-report : goal.returns-in_err-named-clause-report
-returns-in_err-named-clause-report g c = on_text c.args.tree.now (λ read is.
-    fault_said once_settled once_settled_takes read (map (λ user. (user.uid, user.gids.now)) c.args.users.now)
-    (map (λ subtree. subtree.now) c.args.subtrees.now)
-    c.in_err-named.field-0.0 (c.in_err-named.ensures.named read is) (g.W.Write.contents c.args.out.now)
-    c.from_residual.result c.from_residual.ensures.1)
-
-pub returns-in_err-named-clause-further : goal.returns-in_err-named-clause-further
-returns-in_err-named-clause-further g c =
-    further_on c.args.tree.now (map (λ user. (user.uid, user.gids.now)) c.args.users.now)
-    (map (λ subtree. subtree.now) c.args.subtrees.now)
-    (g.W.Write.contents c.args.out.now) (g.W.Write.contents c.args.out.now) c.from_residual.result
-    (returns-in_err-named-clause-report g c)
-
-pub returns-in_err-said-clause-report : goal.returns-in_err-said-clause-report
-returns-in_err-said-clause-report g c =
-    let users = c.as_slice.result.now in
-    let subtrees = c.as_slice-2.result.now in
-    let st = c.in_ok-named.named.tree in
-    let known = g.W.Write.contents c.args.out.now in
-    on_text c.args.tree.now (λ read is.
-    subst (λ (r : Report). Reports r known known c.from_residual-in_err-said.result)
-    (sym (settled_of_kept read (map (λ user. (user.uid, user.gids.now)) c.args.users.now)
-    (map (λ subtree. subtree.now) c.args.subtrees.now)
-    users subtrees st (kept_as (c.in_ok-named.ensures.named read is) c.as_slice.ensures.value c.as_slice-2.ensures.value)))
-    (subtree_fault (settled_report st users subtrees) (settled_takes st users subtrees)
-    c.in_err-said.field-0.0
-    (λ other. ap (λ found. report_on (in_call found) lines_report) (c.in_err-said.ensures other))
-    known c.from_residual-in_err-said.result c.from_residual-in_err-said.ensures.1))
-
-pub returns-in_err-said-clause-further : goal.returns-in_err-said-clause-further
-returns-in_err-said-clause-further g c =
-    further_on c.args.tree.now (map (λ user. (user.uid, user.gids.now)) c.args.users.now)
-    (map (λ subtree. subtree.now) c.args.subtrees.now)
-    (g.W.Write.contents c.args.out.now) (g.W.Write.contents c.args.out.now) c.from_residual-in_err-said.result
-    (returns-in_err-said-clause-report g c)
-
 pub returns-clause-report : goal.returns-clause-report
-returns-clause-report g c = on_text c.args.tree.now (λ read is.
-    subst (λ (r : Report). Reports r (g.W.Write.contents c.args.out.now) (g.W.Write.contents c.write_said.new.out) c.write_said.result)
-    (sym (settled_of_kept read (map (λ user. (user.uid, user.gids.now)) c.args.users.now)
-    (map (λ subtree. subtree.now) c.args.subtrees.now)
-    c.as_slice.result.now c.as_slice-2.result.now c.in_ok-named.named.tree
-    (kept_as (c.in_ok-named.ensures.named read is) c.as_slice.ensures.value c.as_slice-2.ensures.value) ∙ c.in_ok-said.ensures))
-    c.write_said.ensures)
+returns-clause-report g c =
+    let asked = c.ask_named.ensures.report in (
+      asked.0,
+      asked.1,
+      settled_said asked.0 (map (λ user. (user.uid, user.gids.now)) c.args.users.now)
+          (map (λ subtree. subtree.now) c.args.subtrees.now)
+          (g.W.Write.contents c.args.out.now) (g.W.Write.contents c.ask_named.new.out) c.ask_named.result asked.2,
+    )
 
 pub returns-clause-further : goal.returns-clause-further
 returns-clause-further g c =
     further_on c.args.tree.now (map (λ user. (user.uid, user.gids.now)) c.args.users.now)
     (map (λ subtree. subtree.now) c.args.subtrees.now)
-    (g.W.Write.contents c.args.out.now) (g.W.Write.contents c.write_said.new.out) c.write_said.result
+    (g.W.Write.contents c.args.out.now) (g.W.Write.contents c.ask_named.new.out) c.ask_named.result
     (returns-clause-report g c)
-
-pub returns-clause-stranger : goal.returns-clause-stranger
-returns-clause-stranger g c =
-    stranger_said c.args.tree.now (map (λ user. (user.uid, user.gids.now)) c.args.users.now)
-    (map (λ subtree. subtree.now) c.args.subtrees.now)
-    c.in_ok-named.named.users.items c.in_ok-named.named.subtrees.items c.in_ok-named.named.tree c.in_ok-named.ensures.named
-    c.in_ok-named.named.stranger c.in_ok-named.ensures.stranger _

@@ -1,4 +1,5 @@
 use Rattle.std.proofs.Common.{Err, refl, sym, subst, ◌∙◌}
+use Rattle.cg_cli.specs.AllPairs.{ReportsPairs}
 use Rattle.cg_cli.specs.SettledPairs.{ReportsFound}
 use Rattle.cg_faults.specs.declared.fault.CliFault.{CliFault}
 use Rattle.cg_cli.proofs.SettledPairs.{subtree_found, memory_wanted, rows_found, listed_as, rows_all, rows_lines, tells}
@@ -8,7 +9,8 @@ pub returns-in-Some-clause-report : goal.returns-in-Some-clause-report
 returns-in-Some-clause-report g c =
     let st = g.H.Hierarchy.state c.args.tree.now in
     let known = g.W.Write.contents c.args.out.now in
-    subst (λ (fault : CliFault). ReportsFound st c.args.users.now c.args.subtrees.now known known (Err fault)) (sym c.from.ensures)
+    subst (λ (fault : CliFault). ReportsFound ReportsPairs st c.args.users.now c.args.subtrees.now known known (Err fault))
+    (sym c.from.ensures)
     (subtree_found st c.args.users.now c.args.subtrees.now c.in-Some.fault known (sym c.in-Some.is ∙ c.first_fault.ensures.fault))
 
 pub returns-in_err-rows-clause-report : goal.returns-in_err-rows-clause-report

@@ -6,4 +6,4 @@ use Rattle.commands.proofs.both.advise_pairs.Goals as goal
 pub returns-clause-noted : goal.returns-clause-noted
 returns-clause-noted g c =
     plain_on _ c.in_ok-texts.texts.tree.items _ c.in_ok-texts.ensures.tree
-    (c.plain-noted.ensures.mode ∙ ap spelled_mode c.as_slice.ensures.value) c.plain-noted.ensures.stranger _
+    (c.in_ok-noted.ensures.mode ∙ ap spelled_mode c.as_slice.ensures.value) c.in_ok-noted.ensures.stranger c.in_ok-noted.ensures.missing _

@@ -48,7 +48,7 @@ fn fault_line(
     to: &str,
 ) -> Result<Option<Vec<u8>>, Fail> {
     let mut out = Vec::new(alloc);
-    match may_bytes(alloc, tree, user, pid, to, &mut out) {
+    match may_bytes(alloc, tree, user, pid, to, &mut None, &mut out) {
         Err(fault) if out.is_empty() => Ok(Some(fault_text(alloc, &fault)?)),
         _ => Ok(None),
     }

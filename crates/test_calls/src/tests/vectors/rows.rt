@@ -172,45 +172,48 @@ files.'cpu.weight'.value = 7
 files.'pids.max'.value = 9
 ";
 
+/// What stands behind the rows of all nine controllers, and what is said of it.
+const BEHIND_NINE: [(&str, &str); 11] = [
+    ("", READ),
+    ("[[cgroup]]\npath = '/in/io'\nenabled = ['dmem']", READ),
+    ("[[cgroup]]\npath = '/io.max'", READ),
+    (
+        "[[cgroup]]\npath = '/in/io'\nenabled = ['io']",
+        "fault: tree top-down cgroup 4",
+    ),
+    (
+        "[[cgroup]]\npath = '/in/io'\nfiles.'memory.max'.value = 5",
+        "fault: tree no-such-file cgroup 4",
+    ),
+    (
+        "[[cgroup]]\npath = '/in/io'\nfiles.'io.max'.uid = 5",
+        "fault: tree no-such-file cgroup 4",
+    ),
+    (
+        "[[cgroup]]\npath = '/in/io'\nfiles.'io.maximum'.uid = 5",
+        "fault: tree shape cgroup 4",
+    ),
+    (
+        "[[cgroup]]\npath = '/in/io'\nfiles.'cgroup.freeze'.value = ['0', '0']",
+        READ,
+    ),
+    (
+        "[[cgroup]]\npath = '/in/io'\nfiles.'cgroup.freeze'.value = '0  0'",
+        "fault: tree bad-value cgroup 4",
+    ),
+    (
+        "[[cgroup]]\npath = '/memory.max'",
+        "fault: tree bad-path cgroup 4",
+    ),
+    (
+        "[[process]]\npid = 1\nuid = 0\nat = '/in'",
+        "fault: tree internal-process process 1",
+    ),
+];
+
 #[test]
 fn all_nine_controllers(rt: HostRuntime) -> Result<(), Fail> {
-    for (rest, line) in [
-        ("", READ),
-        ("[[cgroup]]\npath = '/in/io'\nenabled = ['dmem']", READ),
-        ("[[cgroup]]\npath = '/io.max'", READ),
-        (
-            "[[cgroup]]\npath = '/in/io'\nenabled = ['io']",
-            "fault: tree top-down cgroup 4",
-        ),
-        (
-            "[[cgroup]]\npath = '/in/io'\nfiles.'memory.max'.value = 5",
-            "fault: tree no-such-file cgroup 4",
-        ),
-        (
-            "[[cgroup]]\npath = '/in/io'\nfiles.'io.max'.uid = 5",
-            "fault: tree no-such-file cgroup 4",
-        ),
-        (
-            "[[cgroup]]\npath = '/in/io'\nfiles.'io.maximum'.uid = 5",
-            "fault: tree shape cgroup 4",
-        ),
-        (
-            "[[cgroup]]\npath = '/in/io'\nfiles.'cgroup.freeze'.value = ['0', '0']",
-            READ,
-        ),
-        (
-            "[[cgroup]]\npath = '/in/io'\nfiles.'cgroup.freeze'.value = '0  0'",
-            "fault: tree bad-value cgroup 4",
-        ),
-        (
-            "[[cgroup]]\npath = '/memory.max'",
-            "fault: tree bad-path cgroup 4",
-        ),
-        (
-            "[[process]]\npid = 1\nuid = 0\nat = '/in'",
-            "fault: tree internal-process process 1",
-        ),
-    ] {
+    for (rest, line) in BEHIND_NINE {
         let text = format!(in rt.alloc(); "{NINE}{rest}\n")?;
         expect_line(&rt, rt.alloc(), text.as_bytes(), TO_A, line)?;
     }
