@@ -137,7 +137,10 @@ fn what_is_said_of_two_levels_that_enable_memory(rt: HostRuntime) -> Result<(), 
         ("/p", Said::Uses(Controller::Memory, Some(false))),
         ("/p", Said::Enables(Some(MEMORY))),
         ("/p", Said::EntryIs(EntryName::Dir, entry(1000, 0o755))),
-        ("/p", Said::EntryIs(EntryName::SubtreeControl, entry(0, 0o644))),
+        (
+            "/p",
+            Said::EntryIs(EntryName::SubtreeControl, entry(0, 0o644)),
+        ),
         ("/p", Said::LimitIs(LimitFile::CpuWeight, None)),
         ("/p/s", Said::Counts(2, 0, 0)),
         ("/p/s", Said::Holds(2, false, true)),
@@ -213,7 +216,10 @@ fn sets_modes(rt: HostRuntime) -> Result<(), Fail> {
     let wanted = [
         ("/c1", Said::EntryIs(EntryName::Dir, entry(1000, 0o555))),
         ("/c1", Said::EntryIs(EntryName::Procs, entry(1000, 0o644))),
-        ("/c1", Said::EntryIs(EntryName::File(LimitFile::MemoryLow), entry(0, 0o644))),
+        (
+            "/c1",
+            Said::EntryIs(EntryName::File(LimitFile::MemoryLow), entry(0, 0o644)),
+        ),
         ("/c1/c10", Said::EntryIs(EntryName::Dir, entry(1000, 0o755))),
     ];
     check(&rt, a, &tree, &wanted)
@@ -332,10 +338,7 @@ fn copies_are_equal(rt: HostRuntime) -> Result<(), Fail> {
     let paths = " / /c0 /c0/c00 /c0/c01 /c1 /c1/c10";
     check_lists(&rt, a, &tree, paths, &[10, 11])?;
     check_controllers(&rt, &tree, ALL);
-    let wanted = [(
-        "/c0",
-        at(LimitFile::MaxDescendants, 4),
-    )];
+    let wanted = [("/c0", at(LimitFile::MaxDescendants, 4))];
     check(&rt, a, &tree, &wanted)
 }
 
