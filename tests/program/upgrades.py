@@ -7,7 +7,8 @@ and nothing else, the cgroups and processes in their order, in the format of the
 the same tree from both; written anew it is the same bytes, also with the number of format 4 in place of 2; and every command says
 the same of it in format 4, byte by byte: those at the head of an example, those that other tables here have for it, and in every
 tree what some users are told of some cgroups and processes. What is written of a large tree is a large text, which is read again, and
-no more with anything in front of it. Of each text with a fault the program says that fault and writes nothing. The last line is
+no more with anything in front of it. Of some trees every byte is as tests/program/upgrade_bytes.py spells it. Of each text with a fault the
+program says that fault and writes nothing. The last line is
 'N passed, M failed'.
 """
 import collections
@@ -24,6 +25,7 @@ from case import TOP  # noqa: E402
 
 sys.path.insert(0, f"{TOP}/host")
 from device_rows import named as operation_files  # noqa: E402
+from upgrade_bytes import WRITTEN  # noqa: E402
 from upgrade_rows import (BEFORE_LARGE, LARGE_BEGINNING, LARGE_MOVE, OPS, Asked, asked_of, asked_of_all, edge_trees,  # noqa: E402
                           large_text)
 from zirofen_host.files import CONTROL_FILES, CONTROLLERS, FURTHER_FILES, LIMIT_FILES  # noqa: E402
@@ -155,6 +157,11 @@ def faults_of(program, case):
     return found, len(of_it)
 
 
+def faults_of_bytes(program, text, written):
+    """What is wrong with the bytes that are written of a tree."""
+    return ([] if run(program, ["upgrade"], text.encode("ascii")) == (0, written.encode("ascii"), b"") else ["it is spelled otherwise"]), 1
+
+
 def faults_of_large(program):
     """What is wrong with the upgrade of a large tree, and how many commands were asked of what was written."""
     status, written, said = run(program, ["upgrade"], large_text().encode("ascii"))
@@ -187,6 +194,7 @@ def main():
         # the longest first
         tried = {"a large tree": pool.submit(faults_of_large, program)}
         tried |= {case.name: pool.submit(faults_of, program, case) for case in cases}
+        tried |= {name: pool.submit(faults_of_bytes, program, *texts) for name, texts in WRITTEN.items()}
         passed, failed, commands = 0, 0, 0
         for name, (found, asked) in ((name, each.result()) for name, each in tried.items()):
             for fault in found[:MOST_FAULTS]:
