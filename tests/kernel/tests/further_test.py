@@ -1,7 +1,9 @@
 """Tests of what is tried of further limit files; they need no machine, and read what a kernel said before."""
+import contextlib
 import errno
 import functools
 import gzip
+import io
 import json
 import os
 import random
@@ -54,7 +56,12 @@ class ShownTest(unittest.TestCase):
                 ("io.weight", "500", "default 500"), ("io.weight", "default 0", None), ("misc.max", "max", None), ("rdma.max", "max", None),
                 ("io.max", "max", None), ("io.max", f"{DISC} max", None), ("io.max", f"{DISC} rbps=0", None), ("io.max", DISC, None),
                 ("io.max", f"{DISC} rbps=1", None), ("io.max", "8:0 rbps=9", None), ("io.max", DISC + MAXES, ""),
-                ("io.max", f"{DISC} rbps=2", f"{DISC} rbps=2 wbps=max riops=max wiops=max"), ("memory.zswap.max", "max", None)]:
+                ("io.max", f"{DISC} rbps=2", f"{DISC} rbps=2 wbps=max riops=max wiops=max"), ("memory.zswap.max", "5000", "4096"),
+                ("memory.zswap.writeback", "0", "0"), ("memory.zswap.writeback", "2", None), ("cpu.uclamp.max", "50", "50.00"),
+                ("cpu.uclamp.min", "12.345", "12.35"), ("cpu.uclamp.min", "0", "0.00"), ("cpu.uclamp.max", "100", "max"),
+                ("cpu.uclamp.max", "99.95", "99.95"), ("cpu.uclamp.max", "99.96", "max"), ("cpu.uclamp.max", "max", "max"),
+                ("cpu.uclamp.max", "100.01", None), ("cpu.uclamp.max", "-5", None), ("cpu.uclamp.min", "0-3,5", "0.00"),
+                ("cpu.uclamp.min", "max max", None), ("io.latency", "max", None)]:
             self.assertEqual(self.turned(file, text), kept, (file, text))
 
     def test_a_write_of_one_disc_leaves_the_others(self):
@@ -177,10 +184,20 @@ class FurtherTest(unittest.TestCase):
                 (("set", path, "cpu.weight", 5), errno.EINVAL, {}, None), (("set", path, "cpu.idle", "5"), errno.EINVAL, idle, any_value),
                 (("chmod", path, "cpu.uclamp.max", 0o600), errno.ENOENT, {}, unknown),
                 (("set", path, "cpu.uclamp.max", "max"), errno.ENOENT, {}, unknown), (("set", path, "cgroup.freeze", "0"), errno.ENOENT, {}, None),
+                (("set", (), "cpu.uclamp.max", "max"), errno.EACCES, {}, None),
                 (("set", (), "cgroup.freeze", "0"), errno.ENOENT, {}, unknown), (("fork", 7, 9), 255, {"cgroup.freeze": "0"}, None),
                 (("fork", 7, 9), 255, {"cgroup.freeze": "1"}, effects), (("move", 7, ()), errno.ENOSPC, {shown.PARTITION: "root"}, effects),
                 (("move", 7, ()), errno.ENOSPC, {shown.PARTITION: "root invalid (x)"}, None)]:
             self.assertEqual(self.outcome(step, "ok", number, values), kind, (step, number))
+
+    def test_a_file_that_the_root_has_there_is_explained(self):
+        file = "memory.zswap.writeback"
+        said, elsewhere = f"refused no-such-file / {file}", f"refused no-such-file /a {file}"
+        for step, told, number, kind in [
+                (("set", (), file, "1"), said, errno.EACCES, "unknown file"), (("chmod", (), file, 0o600), said, errno.EPERM, "unknown file"),
+                (("set", (), file, "1"), said, 0, None), (("chmod", (), file, 0o600), said, errno.EACCES, None),
+                (("set", ("a",), file, "1"), elsewhere, errno.EACCES, None)]:
+            self.assertEqual(self.outcome(step, told, number), kind, (step, number))
 
     def test_weights_are_explained_by_what_turns_them(self):
         for kept, now, kind in [(0, {"cpu.idle": "1"}, True), (1, {"cpu.idle": "1"}, True), (33, {"cpu.weight.nice": "5"}, True),
@@ -222,6 +239,23 @@ class ScriptTest(unittest.TestCase):
         cgroup = script.cgroup_of(words.split(" "))
         self.assertEqual(cgroup.values, {"cpu.weight": 5, "io.max": "259:0 rbps=2\n%"})
         self.assertEqual((cgroup.entries["io.max"], cgroup.entries["cpuset.cpus"]), (rules.Entry(7, 8, 0o600), rules.Entry()))
+
+    def test_a_file_that_the_root_has_there_is_in_no_text(self):
+        row = "- 0:0:755 0:0:644 0:0:644 cgroup.max.depth=0:0:644:max cgroup.max.descendants=0:0:644:max"
+        state = script.state_of([f"c / {row} memory.zswap.writeback=0:0:644:1", f"c /a {row} cgroup.freeze=0:0:644:0"], [])
+        self.assertEqual(sorted(state.cgroups[()].entries), sorted([*rules.STANDING, rules.DESCENDANTS, rules.DEPTH]))
+        self.assertEqual(state.cgroups[("a",)].values["cgroup.freeze"], "0")
+        self.assertEqual(texts.tree_of(advice.text_of_state(state).encode()).cgroups.keys(), state.cgroups.keys())
+
+    def test_a_case_without_an_answer_fails_and_ends_nothing(self):
+        def no_report(*_):
+            raise asking.NoReport("fault: tree no-such-file cgroup 1")
+        with unittest.mock.patch.object(asking, "replay", no_report), tempfile.TemporaryDirectory() as room:
+            counted = tally.Tally("6", None, room)
+            with contextlib.redirect_stdout(io.StringIO()) as said:
+                counted.take(self.case(), "1", script.Record())
+        self.assertEqual(counted.failures, 1)
+        self.assertIn("no-such-file cgroup 1", said.getvalue())
 
     def test_the_files_that_a_kernel_has_are_told(self):
         said = played.Kernel().run(script.standing_script())

@@ -23,11 +23,15 @@ def program_of_sources():
     return found.path
 
 
+class NoReport(RuntimeError):
+    """The program has no answer to what it was asked."""
+
+
 def report_of(program, text, *words):
     """The lines of a report on a tree."""
     said = subprocess.run([program, *words], input=text.encode(), capture_output=True)
     if said.returncode not in (0, 1, 2):
-        raise RuntimeError(f"{' '.join(words)}: status {said.returncode}, {said.stderr.decode(errors='replace')}")
+        raise NoReport(f"{' '.join(words)}: status {said.returncode}, {said.stderr.decode(errors='replace')}")
     return said.stdout.decode().splitlines()
 
 
@@ -67,7 +71,7 @@ def has_settle(program):
     """Whether a program settles what check leaves unsettled."""
     try:
         return bool(report_of(program, "", "settle", "--help"))
-    except RuntimeError:
+    except NoReport:
         return False
 
 

@@ -95,12 +95,14 @@ def weight_of_the_idle(outcome):
 
 
 def file_is_unknown(outcome):
-    """A further limit file that the kernel doesn't have anywhere, or at its root."""
-    if outcome.step[0] not in ("set", "chmod") or outcome.step[2] not in FURTHER_FILES or outcome.number != errno.ENOENT:
+    """A further limit file that the kernel doesn't have anywhere, or at its root; or one that it has there too, which is root's."""
+    if outcome.step[0] not in ("set", "chmod") or outcome.step[2] not in FURTHER_FILES:
         return False
     _, path, file, _ = outcome.step
+    if not path and outcome.said.startswith("refused no-such-file"):
+        return outcome.number == (errno.EACCES if outcome.step[0] == "set" else errno.EPERM)
     there = outcome.there.cgroups
-    return path in there and (not path or not any(file in cgroup.entries for cgroup in there.values()))
+    return outcome.number == errno.ENOENT and path in there and (not path or not any(file in cgroup.entries for cgroup in there.values()))
 
 
 def value_kept(file, written, kept, _now):

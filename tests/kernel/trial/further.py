@@ -28,11 +28,12 @@ TOLD = {
     "cpu.max.burst": ["1", "0", "1000"], "cpu.weight.nice": ["5", "-20", "-19", "0"], "cpuset.cpus": ["0", "0-1", "1"],
     "cpuset.cpus.exclusive": ["0", "0-1"], "cpuset.cpus.partition": ["root", "member"], "cpuset.mems": ["0", "0-1"],
     "io.max": [LINES[0], LINES, LINES[:1]], "io.weight": ["default 100", "default 10000", "default 9999"],
-    **{file: ["0", "max", "1073741824"] for file in FURTHER_FILES if file.startswith(("hugetlb.", "memory.swap."))},
+    **{file: ["0", "max", "1073741824"] for file in FURTHER_FILES if file.startswith(("hugetlb.", "memory.swap.", "memory.zswap.max"))},
+    "cpu.uclamp.max": ["50.00", "max"], "cpu.uclamp.min": ["0.00", "max", "12.50"], shown.WRITEBACK: ["0", "1"],
 }
 # what else is written to a file, beside what the program prints of it
 WRITTEN = {"cpu.max": ["max", "30000"], "cpuset.cpus": ["0,1"], "cpuset.mems": ["0,1"], "io.weight": ["500"],
-           "memory.swap.max": ["5000"], "io.max": [*LINES, OF_DISC, f"{DISC} wiops=7"], "hugetlb.2MB.max": ["2097153"]}
+           "memory.swap.max": ["5000"], "memory.zswap.max": ["5000"], "io.max": [*LINES, OF_DISC, f"{DISC} wiops=7"], "hugetlb.2MB.max": ["2097153"]}
 
 
 def some_text(rng, file):

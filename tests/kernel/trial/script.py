@@ -159,14 +159,16 @@ def misplaced(lines, state):
 
 
 def state_of(lines, controllers):
-    """A kernel's state in the model's terms; values that are no numbers stay texts."""
+    """A kernel's state in the model's terms; values that are no numbers stay texts. A further limit file that the root has there has no
+    place in a tree, and is left out."""
     cgroups, live = {}, {}
     for line in lines:
         kind, *words = line.split(" ")
         if kind == "p":
             live[int(words[0])] = (int(words[1]), rules.path_of(words[2]))
         else:
-            cgroups[rules.path_of(words[0])] = cgroup_of(words[1:])
+            path = rules.path_of(words[0])
+            cgroups[path] = cgroup_of(words[1:] if path else [word for word in words[1:] if word.partition("=")[0] not in FURTHER_FILES])
     return rules.State(frozenset(controllers), cgroups, live, frozenset(live), 4)
 
 

@@ -1,19 +1,23 @@
 """What a kernel shows of the further limit files after a write, in the wide machine of machine.py: of two CPUs, two memory nodes and
 two discs. A file doesn't always show what was written, and a write of one file can turn another one."""
+import re
+
 from second.further import FURTHER_FILES
 
 PAGE, MAX = 4096, "max"
 DISCS = ("259:0", "259:1")
 KEYS = ("rbps", "wbps", "riops", "wiops")
 MOST = {"rbps": 2 ** 64 - 1, "wbps": 2 ** 64 - 1, "riops": 2 ** 32 - 1, "wiops": 2 ** 32 - 1}
-SIZES = {"hugetlb.2MB": 2 ** 21, "hugetlb.1GB": 2 ** 30, "memory.swap": PAGE}
+SIZES = {"hugetlb.2MB": 2 ** 21, "hugetlb.1GB": 2 ** 30, "memory.swap": PAGE, "memory.zswap": PAGE}
+UCLAMP, WRITEBACK = ("cpu.uclamp.min", "cpu.uclamp.max"), "memory.zswap.writeback"
 IDLE, NICE, WEIGHT = "cpu.idle", "cpu.weight.nice", "cpu.weight"
 # what an idle cgroup refuses
 OF_WEIGHT = (WEIGHT, NICE)
 PARTITION = "cpuset.cpus.partition"
 # what a file shows where nothing was written to it, and the others show nothing
 FIRST = {"cgroup.freeze": "0", IDLE: "0", "cpu.max": "max 100000", "cpu.max.burst": "0", NICE: "0", PARTITION: "member",
-         "io.weight": "default 100", **{file: MAX for file in FURTHER_FILES if file.startswith(("hugetlb.", "memory.swap."))}}
+         "cpu.uclamp.min": "0.00", "cpu.uclamp.max": MAX, WRITEBACK: "1", "io.weight": "default 100",
+         **{file: MAX for file in FURTHER_FILES if file.startswith(("hugetlb.", "memory.swap.", "memory.zswap.max"))}}
 # of each nice value from -20 on the weight that the scheduler gives it, which shows as a hundred of 1024
 WEIGHTS = (88761, 71755, 56483, 46273, 36291, 29154, 23254, 18705, 14949, 11916, 9548, 7620, 6100, 4904, 3906, 3121, 2501, 1991, 1586,
            1277, 1024, 820, 655, 526, 423, 335, 272, 215, 172, 137, 110, 87, 70, 56, 45, 36, 29, 23, 18, 15)
@@ -48,6 +52,19 @@ def burst(text, now):
 def nice(text, now):
     number = number_of(text, -20, 19)
     return None if number is None or now.get(IDLE) == "1" else str(number)
+
+
+def percent(text, _now):
+    """A share of 100 in two decimals, of which the whole is shown as `max`; what stands behind a number is passed over."""
+    found = re.match(r"\+?([0-9]+)(?:\.([0-9]+))?", text)
+    if text == MAX or not found:
+        return MAX if text == MAX else None
+    part = found[2] or "0"
+    hundredths = int(found[1]) * 100 + (int(part) * 200 + 10 ** len(part)) // (2 * 10 ** len(part))
+    if hundredths > 10000:
+        return None
+    # it is kept in parts of 1024
+    return MAX if (hundredths * 1024 + 5000) // 10000 == 1024 else f"{hundredths // 100}.{hundredths % 100:02}"
 
 
 def listed(text, _now):
@@ -103,7 +120,7 @@ def refused(_text, _now):
 TAKERS = {
     "cgroup.freeze": flag, IDLE: flag, "cpu.max": bandwidth, "cpu.max.burst": burst, NICE: nice, "cpuset.cpus": listed,
     "cpuset.cpus.exclusive": listed, "cpuset.mems": listed, PARTITION: partition, "io.max": of_discs, "io.weight": default_weight,
-    "misc.max": refused, "rdma.max": refused,
+    **dict.fromkeys(UCLAMP, percent), WRITEBACK: flag, "misc.max": refused, "rdma.max": refused,
     **{f"{name}{end}": in_whole(size) for name, size in SIZES.items() for end in (".max", ".rsvd.max", ".high")},
 }
 

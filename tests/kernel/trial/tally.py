@@ -35,7 +35,10 @@ class Tally:
     def take(self, case, name, record):
         self.counts[f"{case.kind} cases"] += 1
         self.counts[f"{case.kind} of format 4"] += case.state.form == 4
-        self.takers[case.kind](case, name, record)
+        try:
+            self.takers[case.kind](case, name, record)
+        except asking.NoReport as what:
+            self.fail(case, name, str(what))
 
     def take_refusals(self, runs):
         """Takes the two runs of what a kernel was asked to refuse."""
