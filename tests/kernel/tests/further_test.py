@@ -194,7 +194,8 @@ class FurtherTest(unittest.TestCase):
         file = "memory.zswap.writeback"
         said, elsewhere = f"refused no-such-file / {file}", f"refused no-such-file /a {file}"
         for step, told, number, kind in [
-                (("set", (), file, "1"), said, errno.EACCES, "unknown file"), (("chmod", (), file, 0o600), said, errno.EPERM, "unknown file"),
+                (("set", (), file, "1"), said, errno.EACCES, "unknown file"),
+                (("chmod", (), file, 0o600), said, errno.EPERM, "unknown file"),
                 (("set", (), file, "1"), said, 0, None), (("chmod", (), file, 0o600), said, errno.EACCES, None),
                 (("set", ("a",), file, "1"), elsewhere, errno.EACCES, None)]:
             self.assertEqual(self.outcome(step, told, number), kind, (step, number))

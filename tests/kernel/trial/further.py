@@ -33,7 +33,8 @@ TOLD = {
 }
 # what else is written to a file, beside what the program prints of it
 WRITTEN = {"cpu.max": ["max", "30000"], "cpuset.cpus": ["0,1"], "cpuset.mems": ["0,1"], "io.weight": ["500"],
-           "memory.swap.max": ["5000"], "memory.zswap.max": ["5000"], "io.max": [*LINES, OF_DISC, f"{DISC} wiops=7"], "hugetlb.2MB.max": ["2097153"]}
+           "memory.swap.max": ["5000"], "memory.zswap.max": ["5000"], "io.max": [*LINES, OF_DISC, f"{DISC} wiops=7"],
+           "hugetlb.2MB.max": ["2097153"]}
 
 
 def some_text(rng, file):
