@@ -49,7 +49,7 @@ class RunTest(unittest.TestCase):
                          "- Ways of threads and descriptors, as the list says in so many of 3 turns: dead first thread 3, exec 3, ",
                          "- Operations: 7 cases", "- Contained: 2 cases", "- Settled, escapes: 2 lists",
                          "- Settled, contained: 2 pairs", "- Controllers: cpuset, cpu, io, memory, hugetlb, pids, rdma, misc.",
-                         "- Of format 4: operations ", "one controller 16", "- Further limit files: the kernel has 19 of the 43",
+                         "- Of format 4: operations ", "one controller 16", "- Further limit files: the kernel has 23 of the 43",
                          "- Further limit files, operations: 2 cases", "- Unexplained: 0."):
                 self.assertIn(part, report)
             self.assertTrue(all(name in report.replace("\n  ", " ") for name in tally.WRONG))
