@@ -20,6 +20,7 @@ ALLOWED = {
     "collect.unit_files.kind": TEXT_OF_FILE, "collect.unit_files.stem": TEXT_OF_FILE,
     "judge.finding_lines.inside_text": "of what holds a container one is the mount option's own word",
     "show.markup.capital": "a sentence begins with a capital where a word of these begins it, and with a name as it is",
+    "show.joined.fact_of": "a report that was read may have a text that doesn't begin with the fact it names, and then nothing is cut off",
     "show.groups.part_in_common": "a report that was read has nothing but the fault's sentence, of which names are cut out"}
 
 
