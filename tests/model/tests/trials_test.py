@@ -10,10 +10,15 @@ import unittest
 
 sys.path.insert(0, os.path.dirname(os.path.dirname(os.path.abspath(__file__))))
 from second import commands, rules
-from trials import cases, format_4, labels, programs, spelling, trees, mutants
+from trials import cases, directed, format_4, labels, programs, spelling, trees, mutants
 
 OLDER = frozenset([*commands.OPTIONS, "audit --all", "advise --pairs", "audit --settle", "advise --settle"])
 ALL = OLDER | {format_4.FORMAT_4}
+# which random cases seldom notice, and those of a turn of the directed ones do
+SELDOM = ["tries the removal before controls", "tells of others before the group", "cpu.weight may be 10001",
+          "a name may be cgroup.controllers", "a name may be two dots", "the root's cgroup.max.depth bars no mkdir",
+          "cpu.max.burst comes before cpu.max", "cgroup.freeze of a cgroup that they made is root's behind a control above it",
+          "dmem.min comes first of the three", "what is reserved of huge pages comes behind all else of them", "cpu.idle is turned by 0"]
 EXAMPLES = os.path.join(os.path.dirname(os.path.abspath(__file__)), "../../../examples")
 
 
@@ -83,6 +88,22 @@ class TrialsTest(unittest.TestCase):
             case = cases.random_case("seed", number, ALL)
             self.assertEqual(case, cases.random_case("seed", number, ALL))
             self.assertEqual(case, cases.Case.of_record(json.loads(json.dumps(case.as_record()))))
+
+    def test_each_row_of_directed_cases_comes_up_in_turn(self):
+        numbers = [number for number in range(5 * len(directed.ROWS)) if cases.directed_row(number) is not None]
+        self.assertEqual([cases.directed_row(number) for number in numbers], list(range(len(directed.ROWS))))
+        rows = [directed.row_of(number) for number in range(len(directed.ROWS))]
+        self.assertEqual(sorted(map(str, rows)), sorted(map(str, directed.ROWS)))
+
+    def test_a_turn_of_directed_cases_notices_what_random_ones_seldom_do(self):
+        for seed in range(2):
+            missing = set(SELDOM)
+            for number in range(cases.ONE_DIRECTED_OF - 1, cases.ONE_DIRECTED_OF * len(directed.ROWS), cases.ONE_DIRECTED_OF):
+                case = cases.random_case(seed, number, ALL)
+                expected, wide = programs.expected_of(case), cases.is_wide(seed, number, ALL)
+                missing -= {name for name in missing if mutants.shows(name, case, wide)
+                            and programs.expected_of(case, mutants.respond_of(name)) != expected}
+            self.assertEqual(missing, set(), seed)
 
     def test_cases_of_other_formats_are_those_of_a_program_without_format_4(self):
         wide = [cases.is_wide("seed", number, ALL) for number in range(60)]

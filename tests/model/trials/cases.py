@@ -5,11 +5,13 @@ from dataclasses import dataclass, field
 from second import commands, documents, rules, texts
 from second.controllers import controllers_in
 from second.rules import text_of
-from trials import faults, format_4, further, small, spelling, trees
+from trials import directed, faults, format_4, further, small, spelling, trees
 
 TREE, OPS, PAIRS = "tree.toml", "list.ops", "list.pairs"
 # the first case of format 4 that may be of a large text, or of many rows: by then most mutants are told apart, which are asked of it
 FIRST_HEAVY, ONE_LARGE_OF = 400, 30
+# the last of so many cases is a directed one
+ONE_DIRECTED_OF = 5
 
 
 @dataclass
@@ -40,17 +42,43 @@ class Case:
 def is_wide(seed, number, known):
     """Whether a case is mostly of format 4, where the program reads that; by a number of its own, so that all other cases are those of a
     program that doesn't."""
+    row = directed_row(number)
+    if row is not None:
+        return format_4.FORMAT_4 in known and directed.is_wide(row)
+    return is_wide_draw(seed, number - number // ONE_DIRECTED_OF, known)
+
+
+def is_wide_draw(seed, number, known):
     return format_4.FORMAT_4 in known and (is_large(number) or random.Random(f"format {seed} {number}").random() < 0.3)
 
 
 def is_large(number):
-    """Whether a case is of a text of about as many bytes as may be: every so many, each of another kind."""
+    """Whether a drawn case is of a text of about as many bytes as may be: every so many, each of another kind."""
     return number >= FIRST_HEAVY and number % ONE_LARGE_OF == 0
 
 
+def directed_row(number):
+    """The row of a directed case, or None of one that is drawn."""
+    return number // ONE_DIRECTED_OF if number % ONE_DIRECTED_OF == ONE_DIRECTED_OF - 1 else None
+
+
 def random_case(seed, number, known):
-    """The case of a seed and a number, of the commands that the program has."""
-    rng, wide = random.Random(f"{seed} {number}"), is_wide(seed, number, known)
+    """The case of a seed and a number, of the commands that the program has: a directed one where the program has what it asks."""
+    row = directed_row(number)
+    if row is None:
+        return drawn_case(seed, number - number // ONE_DIRECTED_OF, known)
+    rng = random.Random(f"directed {seed} {row}")
+    tree, words, lines = directed.drawn(rng, row)
+    if words[0] not in known or directed.is_wide(row) and format_4.FORMAT_4 not in known:
+        return drawn_case(f"{seed} directed", row, known)
+    case = Case([*words, "--ops", OPS], files={OPS: b"".join(line + b"\n" for line in lines)}) if lines else Case(words)
+    give_tree(rng, case, spelling.document(rng, tree.document(rng)))
+    return case
+
+
+def drawn_case(seed, number, known):
+    """A case that is drawn at random."""
+    rng, wide = random.Random(f"{seed} {number}"), is_wide_draw(seed, number, known)
     large = wide and is_large(number)
     tree = trees.random_tree(rng)
     data = text_of_tree(rng, tree, wide)

@@ -13,6 +13,10 @@ USERS = "return list(itertools.product(dict.fromkeys(call.users), dict.fromkeys(
 MEMBER = 'return "group" if entry.gid in user[1] else "others"'
 LIVE_ITEMS = "for other, process in state.live.items() if other != pid}"
 PID_BOUND = "if call.pid is not None and not 1 <= call.pid <= rules.LAST_PID"
+CONTROLS = """    for controller, sign in itertools.product(controllers_of(state), "-+"):
+        yield [("control", top[:-1], ((sign, controller),))]
+"""
+REMOVAL = '    yield [("rmdir", top)]\n'
 HAS_CHILDREN = '    if children(state, path):\n        found.append(f"has-children {text_of(path)}")\n'
 HAS_PROCESSES = '    if lives_at(state, path):\n        found.append(f"has-processes {text_of(path)}")\n'
 SHAPES = ['    first("shape cgroup", rows, lambda row: not cgroup_form(form)(row))\n',
@@ -84,6 +88,7 @@ OF_RULES = {
     "tries to disable all before it enables": (
         'controller, sign in itertools.product(controllers_of(state), "-+")',
         'sign, controller in itertools.product("-+", controllers_of(state))'),
+    "tries the removal before controls": (CONTROLS + REMOVAL, REMOVAL + CONTROLS),
     "tries processes inside alone": ("if inside(path, top) != is_in)", "if is_in and not inside(path, top))"),
     "tries the first 4 processes": ("return sorted(state.live)", "return sorted(state.live)[:4]"),
     "tries paths in the order of their texts": (
@@ -104,8 +109,15 @@ OF_RULES = {
     "advises for the last user's class alone": ("        mode &= ~", "        mode = entry.mode & ~"),
     "advises a chown for the first user alone": (
         "if any(owns(user, entry) for user in users):", "if any(owns(user, entry) for user in users[:1]):"),
+    "tells of others before the group": (
+        '("owner", "group", "others") if name in classes', '("owner", "others", "group") if name in classes'),
     "advises the limits of the first subtree alone": (
         "for top in dict.fromkeys(top for _, top in pairs):", "for top in [top for _, top in pairs][:1]:"),
+    "the root's cgroup.max.depth bars no mkdir": (
+        "if values[DEPTH] != MAX and len(parent)", "if top and values[DEPTH] != MAX and len(parent)"),
+    "cpu.weight may be 10001": ("1, 10000, False)", "1, 10001, False)"),
+    "a name may be cgroup.controllers": ('RESERVED = {"cgroup.controllers", PROCS', "RESERVED = {PROCS"),
+    "a name may be two dots": ('name not in (".", "..")', 'name != "."'),
     "a name of 255 bytes is none": ("1 <= len(name) <= LONGEST_NAME", "1 <= len(name) < LONGEST_NAME"),
     "a path of 4095 bytes is none": ("len(text) > LONGEST_PATH", "len(text) >= LONGEST_PATH"),
 }
@@ -377,6 +389,15 @@ OF_FURTHER_4 = {
     "a huge page of 4 MB has limit files": ('"512MB", ', '"512MB", "4MB", '),
     "what is reserved of huge pages is no limit": ('("max", "rsvd.max")', '("max",)'),
     "memory.swap.max comes with no controller": ('"memory.swap.max": ("memory",', '"memory.swap.max": (None,'),
+    "cpu.max.burst comes before cpu.max": (
+        '"cpu.max": ("cpu", "max 100000"),\n    "cpu.max.burst": ("cpu", "0"),',
+        '"cpu.max.burst": ("cpu", "0"), "cpu.max": ("cpu", "max 100000"),'),
+    "what is reserved of huge pages comes behind all else of them": (
+        'for size in SIZES for end in ("max", "rsvd.max")', 'for end in ("max", "rsvd.max") for size in SIZES'),
+    "dmem.min comes first of the three": (
+        '"dmem.low": ("dmem", "max"),\n    "dmem.max": ("dmem", "max"),\n    "dmem.min": ("dmem", "max"),',
+        '**{f"dmem.{end}": ("dmem", "max") for end in ("min", "low", "max")},'),
+    "cpu.idle is turned by 0": ('"cpu.idle": "1", ', ""),
     "cpuset.mems comes with cpu": ('"cpuset.mems": ("cpuset",', '"cpuset.mems": ("cpu",'),
 }
 # of the texts that are tried, and the device before them
@@ -470,6 +491,8 @@ OF_RULES_FURTHER_4 = {
     "a further limit file that comes is root's": (COME, ""),
     "a further limit file that stands is theirs by a control": ("child, enabled - old.enabled)", "child, enabled)"),
     "cgroup.freeze of a cgroup that is made is root's": ("path, {None, *brought(state, path)})", "path, brought(state, path))"),
+    "cgroup.freeze of a cgroup that they made is root's behind a control above it": (
+        "if one is None or one in brought(state, path)}", "if one in brought(state, path)}"),
     "a controller's further limit files of a cgroup that is made are root's": ("path, {None, *brought(state, path)})", "path, {None})"),
     "what is told of a further limit file outlasts it": (
         "told = [file for file in told_at(state, path) if file in further_at(state, path)]", "told = told_at(state, path)"),
