@@ -110,7 +110,7 @@ PARTS = [
     program_tests("help"),
     of_program("tests/program/devices.py PROGRAM", PROGRAM, "tests/program/case.py", "tests/program/device_rows.py", "tests/program/failing.c", "examples",
                packages=COMPILER),
-    of_model("run PROGRAM --seed 51 --cases 6000 --blind --table --kept"),
+    of_model("run PROGRAM --seed 51 --cases 7500 --blind --table --kept"),
     of_model("run PROGRAM --cases 1000", is_fresh=True),
     of_model("fuzz PROGRAM"),
     of_model("search PROGRAM --blind", is_fresh=True),
