@@ -254,7 +254,7 @@ class RealMountTest(OnMountTest):
                                input=text, capture_output=True, text=True,
                                env={**os.environ, "MADE_UP": "all,advise", "CALLS": os.devnull})
         self.assertEqual((there.returncode, there.stderr), (1, ""))
-        self.assertRegex(there.stdout, f"escapes {'' if GOOD == 0 else '.v1.'} *{self.top}/bob")
+        self.assertRegex(there.stdout, fr"escapes {'' if GOOD == 0 else '.v1. '}\[limited\] *{self.top}/bob")
 
 
 if __name__ == "__main__":

@@ -186,7 +186,8 @@ class HelperTest(unittest.TestCase):
     def test_each_status_of_each_command_comes_about(self):
         with tempfile.TemporaryDirectory() as folder:
             calls = {**OF_TEXTS, **self.of_files(folder)}
-            self.assertEqual({*calls, "check", "fleet"}, set(DESCRIPTIONS))
+            # a watch goes on until it is ended: watch_run_test
+            self.assertEqual({*calls, "check", "fleet", "watch"}, set(DESCRIPTIONS))
             for command, by_status in calls.items():
                 told = DESCRIPTIONS[command].partition("The status is ")[2]
                 self.assertEqual(set(map(int, re.findall(r"\b[0-4]\b", told))), set(by_status), command)
