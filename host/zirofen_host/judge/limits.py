@@ -44,7 +44,8 @@ def of_options(options: Options) -> Iterator[AnswerLimit]:
     if options.only is not None and not is_root(text_of(options.only)):
         yield AnswerLimit(ONLY, f"nothing but {shown(options.only)} was asked about, what is inside and what is above")
     if options.no_processes:
-        yield AnswerLimit(NO_PROCESSES, "no process stands in the text that was asked of: what is unsettled may be an escape")
+        yield AnswerLimit(NO_PROCESSES, "no process stands in the text that was asked of: what is unsettled may be an escape, and an "
+                          "escape may be refused")
     if options.tree is None and options.text_format.number != NEWEST:
         yield AnswerLimit(TREE_FORMAT, f"a text of format {options.text_format.number} tells of three controllers alone, and of no "
                           "further limit file")
