@@ -5,8 +5,9 @@
     tests/host/managers_trial.py HOST_FOLDER [--only PART,PART] [--times 10]
 
 HOST_FOLDER has zirofen-host. Containers are made of busybox, since no image can be fetched; Docker, podman (root's and a user's), LXC,
-systemd-nspawn, libvirt's LXC and Slurm are used as far as they are there. Parts: names in each form and command; acceptances of what is
-made again; options of the hierarchy; what is mounted over; causes; plans; a capability. Status 1 says that something is otherwise.
+systemd-nspawn, libvirt's LXC and Slurm are used as far as they are there. Parts: names in each form and command; what is tried inside of
+whatever runs then; the lines of a host of default containers; acceptances of what is made again; options of the hierarchy; what is mounted
+over; causes; plans; a capability. Status 1 says that something is otherwise.
 """
 import argparse
 import contextlib
@@ -20,7 +21,9 @@ import tempfile
 import time
 from dataclasses import dataclass
 
+import entered
 from elsewhere_trial import ROOTLESS, image_of, ready_docker, ready_rootless, rootless, uid_of
+from inside_trial import words_of
 from limits_trial import MOUNT, read, said, write
 
 FOLDER, USER = "/srv/zirofen-managers", "zirofen-one"
@@ -77,9 +80,13 @@ def start_docker():
     yield from run(DOCKERS, said)
 
 
+def ready_podman():
+    subprocess.run(f"tar -C {image_of(FOLDER, 'podman')} -c . | podman import - busy", shell=True, check=True, capture_output=True)
+
+
 def start_podman():
     subordinate("containers", 700000, 300000)
-    subprocess.run(f"tar -C {image_of(FOLDER, 'podman')} -c . | podman import - busy", shell=True, check=True, capture_output=True)
+    ready_podman()
     said("podman", "pod", "rm", "-f", "-t", "0", "rpod", check=False)
     said("podman", "pod", "create", "--name", "rpod", "--network", "none")
     yield from run(PODMANS, said)
@@ -217,6 +224,11 @@ class Checked:
     def lines(self, pattern):
         return [line for line in self.text.splitlines() if re.search(pattern, line)]
 
+    @property
+    def size(self):
+        lines, words, size = len(self.text.splitlines()), len(self.text.split()), len(self.text.encode())
+        return f"status {self.status}, {lines} lines, {words} words, {size} bytes, {self.seconds:.0f} s"
+
     def path_of(self, word):
         return next((each["path"] for each in self.report.get("scopes", ()) if each.get("word") == word), None)
 
@@ -255,8 +267,7 @@ def names(options):
         wrong = [f"no name in {' '.join(lacks)}"] if lacks else []
         wrong += [] if each.held is None or held == {each.held} else [f"held is {held or 'not told'} and not {each.held}"]
         yield each.word, f"{len(inside)} of root's, {'; '.join(sorted({why for row in inside for why in row['why']})) or '-'}", wrong
-    lines, words, size = len(checked.text.splitlines()), len(checked.text.split()), len(checked.text)
-    yield "its report", f"status {checked.status}, {lines} lines, {words} words, {size} bytes, {checked.seconds:.0f} s", []
+    yield "its report", checked.size, []
     yield from by_name(options, containers, checked)
 
 
@@ -280,6 +291,30 @@ def by_engine(containers):
     return found
 
 
+def inside(options):
+    """What processes in each container that runs, and in each subtree that is contained, come by."""
+    for place, done, refused, why in entered.trials(Checked(options).report):
+        wrong = [f"nothing could be tried: {why}"] if why else ["it isn't held"] if place.is_held and done else []
+        yield place.name, f"{place.told}; {len(refused)} refused; done: {words_of(done)}", wrong
+
+
+def default(options):
+    """Containers as engines make them by default."""
+    plain = tuple(of_docker(f"d{number}") for number in range(3)), tuple(of_podman(f"p{number}") for number in range(3))
+    for containers, program, ready in zip(plain, ("dockerd", "podman"), (lambda: ready_docker(FOLDER), ready_podman)):
+        if shutil.which(program):
+            ready()
+            yield from ((each.word, "started", []) for each in run(containers, said))
+    yield from ((each.word, "started", []) for each in start_rootless())
+    time.sleep(5)
+    checked = Checked(options)
+    write("/var/tmp/zirofen-default.txt", checked.text.encode("ascii", "replace").decode())
+    yield "its report", checked.size, [] if len(checked.text.splitlines()) <= 20 else ["over 20 lines"]
+    for each in (*plain[0], *plain[1]):
+        if shutil.which(each.end[0]):
+            said(*each.end, check=False)
+
+
 POD = """apiVersion: v1
 kind: Pod
 metadata:
@@ -291,12 +326,12 @@ spec:
     imagePullPolicy: Never
     command: ["sleep", "100000"]
     securityContext:
-      privileged: {0}
+      {0}
 """
 
 
 def played(is_worse):
-    write(f"{FOLDER}/shop.yaml", POD.format("true"))
+    write(f"{FOLDER}/shop.yaml", POD.format("privileged: true" if is_worse else 'capabilities: {add: ["SYS_ADMIN"]}'))
     said("podman", "play", "kube", "--network", "none", "--replace", f"{FOLDER}/shop.yaml")
 
 
@@ -314,15 +349,16 @@ def docker_made(is_worse):
 
 # by what is done the word, what does it, the program, and whether there is one that is worse
 AGAIN = {"docker run": ("docker:ci", docker_made, "dockerd", True),
-         "podman play kube": ("podman:shop-front", played, "podman", False),
+         "podman play kube": ("podman:shop-front", played, "podman", True),
          "a pod made again": ("podman:again-one", pod_made, "podman", True)}
 
 
-def accepted_of(checked, word):
-    """An acceptance of each container of root's that isn't held, by its name."""
+def accepted_of(checked, word, is_by_path=False):
+    """An acceptance of each container of root's that isn't held, by its name or by its path."""
     path = checked.path_of(word)
     rows = [each for each in checked.inside(word) if not each["held"]]
-    return "".join(f'[[accept]]\nwhat = "root-inside"\npath = "{word}{":" + each["path"][len(path):] if each["path"] != path else ""}"\n'
+    names = {each["path"]: word if each["path"] == path else f"{word}:{each['path'][len(path):]}" for each in rows}
+    return "".join(f'[[accept]]\nwhat = "root-inside"\npath = "{each["path"] if is_by_path else names[each["path"]]}"\n'
                    f'entry = "{" ".join(each["ways"])}"\nwhom = "root(0)"\nreason = "a trial"\nuntil = 2099-12-31\n' for each in rows)
 
 
@@ -349,6 +385,7 @@ def made_again(options, name, word, make, has_worse):
     is_so = {*states} == {"accepted"} and {*told} == {(0, 0, 0, 0)} and len(ids) == options.times + 1
     yield name, (f"{word}: accepted {states.count('accepted')} of {len(states)}, nothing new, worse or gone {told.count((0, 0, 0, 0))} of "
                  f"{len(told)}, {len(ids)} ids"), [] if is_so else [f"states {states}, {told}"]
+    yield by_path(options, name, word, first)
     if has_worse:
         make(True)
         time.sleep(2)
@@ -357,6 +394,20 @@ def made_again(options, name, word, make, has_worse):
         worse = [each["line"] for kind in ("new", "worse") for each in checked.report["baseline"][kind]]
         wrong = (("accepted", "accepted" in states), ("status", checked.status != 1), ("not worse", not worse))
         yield f"{name}, worse", f"{states}, status {checked.status}, new or worse {len(worse)}", lacking(wrong)
+
+
+def by_path(options, name, word, first):
+    """Acceptances of the one that is there now and of the first one, which is gone, by their paths."""
+    file = f"{FOLDER}/by-path.toml"
+    there = Checked(options, "--only", word)
+    write(file, accepted_of(there, word, True) + accepted_of(first, word, True))
+    checked = Checked(options, "--only", word, "--accept", file)
+    states = [each["state"] for each in checked.report["acceptances"]]
+    half = len(states) // 2
+    told = [line.rpartition("; ")[2] for line in checked.lines("^accepted: ") if f'path = "{word}' in line]
+    wrong = lacking((("not accepted", {*states[:half]} != {"accepted"}), ("accepted where it is gone", "accepted" in states[half:]),
+                     ("no name to write instead", not told)))
+    return f"{name}, by path", f"{states}, status {checked.status}; {'; '.join(told)}", wrong
 
 
 # the hierarchy
@@ -543,7 +594,8 @@ def capability(options):
     said("systemctl", "stop", "zm-fowner.service")
 
 
-PARTS = {"names": names, "again": again, "hierarchy": hierarchy, "over": over, "causes": causes, "plans": plans, "capability": capability}
+PARTS = {"default": default, "names": names, "inside": inside, "again": again, "hierarchy": hierarchy, "over": over, "causes": causes,
+         "plans": plans, "capability": capability}
 
 
 def play(options, name):

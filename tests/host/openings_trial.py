@@ -5,7 +5,8 @@ thrown away:
 
     tests/host/openings_trial.py HOST_FOLDER [--only NAME,NAME]   each by itself: the script, and then a restart of its unit
     tests/host/openings_trial.py HOST_FOLDER --together           all at once: the script, and then the machine is to be booted again
-    tests/host/openings_trial.py HOST_FOLDER --booted             behind that
+    tests/host/openings_trial.py HOST_FOLDER --restarted          behind that in a boot's place: a restart of each unit
+    tests/host/openings_trial.py HOST_FOLDER --booted             behind a boot
     tests/host/openings_trial.py HOST_FOLDER --remove
 
 HOST_FOLDER has zirofen-host. What no setting of root's decides is to stand in the script as a comment with its cgroup and file; a line of
@@ -261,10 +262,10 @@ def wrongs_of(opening, before, checked, then):
         yield "the user writes it still"
 
 
-def restart(opening):
+def restart(*openings):
     said("systemctl", "daemon-reload")
-    said("systemctl", "restart", opening.unit)
-    wait([opening])
+    said("systemctl", "restart", *(each.unit for each in openings))
+    wait(openings)
 
 
 def play(options, opening):
@@ -309,7 +310,7 @@ def together(options, openings):
         failed += bool(wrong)
         stays = differing(before[each.name], state_of(each))
         print(f"| {start_of_row(each, refused[each.name], checked)} | {'; '.join(stays) or 'as made'} | {otherwise(wrong)} |", flush=True)
-    print("\nboot the machine again, and go on with --booted", flush=True)
+    print("\nboot the machine again, and go on with --booted; or with --restarted", flush=True)
     return failed
 
 
@@ -320,6 +321,11 @@ def start_of_row(opening, refused, checked):
 
 def otherwise(wrong):
     return "<br>".join(f"**{each}**" for each in wrong) or "as it is to be"
+
+
+def restarted(options, openings):
+    restart(*openings)
+    return booted(options, openings)
 
 
 def booted(options, openings):
@@ -337,7 +343,7 @@ def main():
     parser = argparse.ArgumentParser(description=__doc__, formatter_class=argparse.RawDescriptionHelpFormatter)
     parser.add_argument("folder", metavar="HOST_FOLDER")
     parser.add_argument("--only", default="", help=f"of {' '.join(each.name for each in OPENINGS)}")
-    for name in ("--together", "--booted", "--remove", "--verbose"):
+    for name in ("--together", "--restarted", "--booted", "--remove", "--verbose"):
         parser.add_argument(name, action="store_true")
     options = parser.parse_args()
     openings = [each for each in OPENINGS if not options.only or each.name in options.only.split(",")]
@@ -345,7 +351,8 @@ def main():
         remove(openings)
         return 0
     print(f"Linux {os.uname().release}, {said('systemctl', '--version').split(chr(10), 1)[0]}\n", flush=True)
-    failed = (booted if options.booted else together if options.together else each_by_itself)(options, openings)
+    ways = ((options.booted, booted), (options.restarted, restarted), (options.together, together), (True, each_by_itself))
+    failed = next(act for is_asked, act in ways if is_asked)(options, openings)
     print(f"\n{failed} otherwise", flush=True)
     return 1 if failed else 0
 
