@@ -160,6 +160,30 @@ def audits(_):
     yield fault("usage", "audit", "--settle", "--settle", *asked("1000", "/c0"))
 
 
+def paired(_):
+    """Of pairs, which a text names, what is said of each alone, in their order."""
+    given = ["--pairs", "-"]
+    escape = ["pair 1001:7 /c0", *LIMIT_SET]
+    pairs = b"pair 1001:7 /c0\nescapes\nset /c0 memory.max max\npair 1000 /c1\npair 01001:7 /c0\n"
+    for form in [], ["--all"]:
+        yield Case(["audit", *form, *tree("delegation-second-user"), *given], 1, 2 * escape, given=pairs)
+    yield Case(["audit", *tree("delegation-second-user"), *given], 0, ["contained"], given=b"pair 1000 /c0\npair 1001 /c1\n")
+    yield Case(["audit", *tree("delegation-parent-directory"), *given], 2, ["pair 1000 /c0", "unsettled parent-dir /"], given=b"pair 1000 /c0\n")
+    yield Case(["explain", *tree("delegation"), *given], 0, 2 * TOLD, given=2 * b"pair 1000 /c0\n")
+    for command in "audit", "explain":
+        asks = [command, *tree("delegation"), *given]
+        yield Case(asks, 3, fault="fault: line 1 bad-word", given=b"pairs 1000 /c0\n")
+        yield Case(asks, 3, fault="fault: line 2 cut", given=b"pair 1000 /c0\npair 1000 /c")
+        yield Case(asks, 3, fault="fault: no-pair", given=b"")
+        yield Case(asks, 3, fault="fault: uid", given=b"pair 1000 /zz\npair 0 /c0\n")
+        yield Case(asks, 3, fault="fault: subtree missing", given=b"pair 1000 /c0\npair 1000 /zz\n")
+        for beside in ["--uid", "1000"], ["--subtree", "/c0"], ["--settle"], ["--pairs", "-"]:
+            yield Case([*asks, *beside], 3, fault="fault: usage", given=b"pair 1000 /c0\n")
+        yield fault("usage", command, "--uid", "1000", *given)
+        yield fault("usage", command, "--subtree", "/c0")
+        yield fault("read", command, "--pairs", f"{EXAMPLES}/none.pairs")
+
+
 def advices(_):
     yield Case(["advise", *asked("1000", "/c0")], 0, ["contained"])
     yield Case(["advise", *tree("delegation-ancestor-group"), "--gid", "50", *asked("1000", "/c0")], 1,
@@ -228,7 +252,7 @@ def upgrades(program):
 
 
 def cases(program):
-    for table in command_lines, migrations, checks, settled, explained, audits, advices, replays, upgrades:
+    for table in command_lines, migrations, checks, settled, explained, audits, paired, advices, replays, upgrades:
         yield from table(program)
     yield from format_4_rows()
 

@@ -81,7 +81,7 @@ def is_front(row, ended):
     pairs that are explained some first pairs."""
     if row.words[0] == "explain":
         return row.out.startswith(ended.out) and (not ended.out or row.out[len(ended.out):].startswith(b"pair "))
-    if row.words[0] == "replay" or "--all" in row.words:
+    if row.words[0] == "replay" or row.words[0] == "audit" and {"--all", "--pairs"} & {*row.words}:
         return row.out.startswith(ended.out) and ended.out[-1:] in (b"", b"\n")
     return ended.out == b""
 

@@ -122,6 +122,7 @@ def command_lines():
     yield Row(MAY[:5], "usage", ["--to <PATH>"])
     yield Row(REPLAY[:3], "usage", ["--ops <FILE>"])
     yield Row(["audit", "--uid", "1000:", "--subtree", "/c0"], "usage")
+    yield Row(["audit", "--subtree", "/c0"], "usage", ["audit and explain take users and subtrees"])
     yield Row([*CHECK, b"\xff"], "usage")
     yield Row(["check", "--uid", "1\n  0", "--subtree", "/c0"], "usage", ["1\\x0a  0"])
     yield Row(["audit", "--uid", "+1000", "--subtree", "/c0"], "usage", ["a user of audit"])
@@ -360,7 +361,8 @@ def modes():
         yield Row(words, None, [said], edited("gid = 1000 }", "gid = 1000, mode\t=  400 }"))
     tree = edited("mode = 0o644", "mode = 400")
     yield Row([*REPLAY[:4], "-", "--tree", "TREE"], None, [said], tree, input=OPS)
-    yield Row(["advise", "--pairs", "-", "--tree", "TREE"], None, [said], tree, input="pair 1000 /c0\n")
+    for command in ("advise", "audit", "explain"):
+        yield Row([command, "--pairs", "-", "--tree", "TREE"], None, [said], tree, input="pair 1000 /c0\n")
     yield Row(CHECK, None, [said], tree.replace("value = 4096", "value = 4096, mode = 500"))
     for spelled in ("0o400", "420", "493", "0x190", "4_00", "0o620", "64", "50"):
         yield Row(CHECK, None, (), edited("mode = 0o644", f"mode = {spelled}"))
@@ -403,7 +405,8 @@ def terminals():
     ops = said.format("the operations are", "them", "--ops")
     yield Row([*REPLAY[:4], "-", "--tree", "TREE"], None, input=OPS, terminal=ops)
     pairs = said.format("the pairs are", "them", "--pairs")
-    yield Row(["advise", "--pairs", "-", "--tree", "TREE"], None, input="pair 1000 /c0\n", terminal=pairs)
+    for command in ("advise", "audit", "explain"):
+        yield Row([command, "--pairs", "-", "--tree", "TREE"], None, input="pair 1000 /c0\n", terminal=pairs)
     for words in ([*CHECK, "--tree", "TREE"], [*REPLAY, "--tree", "TREE"], ["--help"]):
         yield Row(words, None, terminal="")
     yield Row(["chek"], "usage", ["check"], terminal="")
@@ -452,6 +455,9 @@ def pairs():
     yield Row(words, "line 1 bad-word", ["\\xef\\xbb\\xbfpair", form], input="\ufeffpair 1000 /c0\n")
     for given in ("", "escapes\nset /c0 memory.max max\n", "contained\ncontained\n"):
         yield Row(words, "no-pair", ["no line names a pair", form], input=given)
+    for command in ("audit", "explain"):
+        yield Row([command, *words[1:]], "line 1 bad-word", ["'PAIR 1000 /c0'", form], input="PAIR 1000 /c0\n")
+        yield Row([command, *words[1:]], "no-pair", ["no line names a pair", form], input="")
 
 
 def operations():

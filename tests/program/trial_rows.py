@@ -166,6 +166,10 @@ def byte_trials():
     yield "advise_pairs_bytes", DELEGATION, ["advise_pairs", "1000", "/c0", "1001", "/c1"], "contained\nstatus 0\n"
     yield ("advise_pairs_bytes", SECOND_USER, ["advise_pairs", "1000", "/c0", "1001", "/c0"],
            "fails limit-file /c0 memory.max 1001:0 644 owner\nchown /c0 memory.max 0:0\nstatus 1\n")
+    yield "audit_pairs_bytes", DELEGATION, ["audit_pairs", "1000", "/c0", "1001", "/c1"], "contained\nstatus 0\n"
+    yield ("audit_pairs_bytes", SECOND_USER, ["audit_pairs", "1001", "/c0", "1000", "/c0", "1001", "/c0"],
+           2 * "pair 1001 /c0\nescapes\nset /c0 memory.max max\n" + "status 1\n")
+    yield "explain_pairs_bytes", DELEGATION, ["explain_pairs", "1000", "/c0"], "pair 1000 /c0\nholds common-ancestor / cgroup.procs 0:0 644"
     for tree, number in ((DELEGATION, 2), (OTHERS, 4)):
         yield "upgrade_bytes", tree, ["upgrade"], f"]\nformat = {number}"
     for tree, subtree, ops, outcomes, verdict in (*REPLAYS[:REPLAYS_OF_BYTES], REPLAYS[-1], CUT):
@@ -185,7 +189,8 @@ def free_byte_trials():
     yield "advise_bytes", ["advise", "0", "/c0"], "fault: uid\n"
     yield "advise_settled_bytes", ["advise_settled", "0", "/c0"], "fault: uid\n"
     yield "explain_bytes", ["explain", "0", "/c0"], "fault: uid\n"
-    yield "advise_pairs_bytes", ["advise_pairs", "1000", "/c0", "0", "/c0"], "fault: uid\n"
+    for call in "advise_pairs", "audit_pairs", "explain_pairs":
+        yield f"{call}_bytes", [call, "1000", "/c0", "0", "/c0"], "fault: uid\n"
     yield "replay_bytes", ["replay", "0", "-"], "fault: uid\n"
     yield "replay_from", ["replay_from", "0", "-"], "fault: uid\n"
 

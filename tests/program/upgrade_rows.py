@@ -232,10 +232,11 @@ def asked_of_users(tree):
         for path in some(paths, 2):
             yield Asked(["replay", *user, "--ops", OPS, "--subtree", path], script)
     subtrees = [word for path in paths or ["/"] for word in ("--subtree", path)]
-    pairs = itertools.product(listed[1::2], subtrees[1::2])
+    pairs = "".join(f"pair {user} {path}\n" for user, path in itertools.product(listed[1::2], subtrees[1::2]))
     yield Asked(["advise", *listed, *subtrees], "")
     yield Asked(["advise", "--settle", *listed, *subtrees], "")
-    yield Asked(["advise", "--pairs", OPS], "".join(f"pair {user} {path}\n" for user, path in pairs))
+    for command in ("advise", "audit", "explain"):
+        yield Asked([command, "--pairs", OPS], pairs)
     yield Asked(["audit", *listed, *subtrees], "")
     yield Asked(["audit", "--all", *listed, *subtrees], "")
     yield Asked(["audit", "--settle", *listed, *subtrees], "")

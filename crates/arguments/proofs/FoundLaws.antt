@@ -7,7 +7,8 @@ use Rattle.clap.specs.Walk.{rows_of, first_of, one_of, all_of}
 use Rattle.clap.specs.declared.parser.matches.Found.{Found}
 use Rattle.clap.proofs.WalkLemmas.{first_value-rows, one_text-rows, raw_values-rows}
 use Rattle.arguments.specs.UserWords.{id_at, ids_at, all_read, user_at}
-use Rattle.arguments.specs.Given.{words_at, file_named, file_at, number_at, numbers_at, user_given, users_given, users_beside, advised_given, Holds}
+use Rattle.arguments.specs.Given.{words_at, file_named, file_at, number_at, numbers_at, user_given, users_given, users_beside, advised_given, IsOfPairs, Holds}
+use Rattle.arguments.specs.declared.request.Pairs.{Pairs}
 use Rattle.arguments.specs.declared.request.Request.{Request}
 use Rattle.arguments.specs.declared.request.Request.TheVariants as request
 
@@ -50,6 +51,17 @@ module _ (f g : Found) (same : rows_of f ≡ rows_of g) where
   advised_same = ap₂ (λ (gids : Option (List ℕ)) (words : List (List ℕ)). option_and_then (users_beside words) gids)
       (numbers_same (codes "gid")) (words_same (codes "uid"))
 
+  pairs_same : (pairs : Pairs) → IsOfPairs f pairs → IsOfPairs g pairs
+  pairs_same pairs h = record {
+    tree = h.tree ∙ file_same (codes "tree");
+    pairs = h.pairs ∙ file_same (codes "pairs");
+    some_pairs = λ none. h.some_pairs (first_same (codes "pairs") ∙ none);
+    no_user = sym (words_same (codes "uid")) ∙ h.no_user;
+    no_group = sym (words_same (codes "gid")) ∙ h.no_group;
+    no_subtree = sym (words_same (codes "subtree")) ∙ h.no_subtree;
+    no_settle = λ said. h.no_settle (first_same (codes "settle") ∙ said);
+  }
+
   pub holds_same : (asked : Request) → Holds f asked → Holds g asked
   holds_same (request.Help help) h = tt
   holds_same (request.May may) h = record {
@@ -76,14 +88,18 @@ module _ (f g : Found) (same : rows_of f ≡ rows_of g) where
     settle = ((λ said. h.settle.0 (text_same (codes "settle") ∙ said)), (λ said. h.settle.1 (text_same (codes "settle") ∙ said)));
     some_user = λ none. h.some_user (words_same (codes "uid") ∙ none);
     some_subtree = λ none. h.some_subtree (words_same (codes "subtree") ∙ none);
+    no_pairs = sym (first_same (codes "pairs")) ∙ h.no_pairs;
   }
+  holds_same (request.AuditPairs pairs) h = pairs_same pairs h
   holds_same (request.Explain explain) h = record {
     tree = h.tree ∙ file_same (codes "tree");
     users = sym users_same ∙ h.users;
     subtrees = sym (words_same (codes "subtree")) ∙ h.subtrees;
     some_user = λ none. h.some_user (words_same (codes "uid") ∙ none);
     some_subtree = λ none. h.some_subtree (words_same (codes "subtree") ∙ none);
+    no_pairs = sym (first_same (codes "pairs")) ∙ h.no_pairs;
   }
+  holds_same (request.ExplainPairs pairs) h = pairs_same pairs h
   holds_same (request.Advise advise) h = record {
     tree = h.tree ∙ file_same (codes "tree");
     users = sym advised_same ∙ h.users;
@@ -93,15 +109,7 @@ module _ (f g : Found) (same : rows_of f ≡ rows_of g) where
     no_pairs = sym (first_same (codes "pairs")) ∙ h.no_pairs;
     settle = ((λ said. h.settle.0 (text_same (codes "settle") ∙ said)), (λ said. h.settle.1 (text_same (codes "settle") ∙ said)));
   }
-  holds_same (request.AdvisePairs advise) h = record {
-    tree = h.tree ∙ file_same (codes "tree");
-    pairs = h.pairs ∙ file_same (codes "pairs");
-    some_pairs = λ none. h.some_pairs (first_same (codes "pairs") ∙ none);
-    no_user = sym (words_same (codes "uid")) ∙ h.no_user;
-    no_group = sym (words_same (codes "gid")) ∙ h.no_group;
-    no_subtree = sym (words_same (codes "subtree")) ∙ h.no_subtree;
-    no_settle = λ said. h.no_settle (first_same (codes "settle") ∙ said);
-  }
+  holds_same (request.AdvisePairs pairs) h = pairs_same pairs h
   holds_same (request.Replay replay) h = record {
     tree = h.tree ∙ file_same (codes "tree");
     ops = h.ops ∙ file_same (codes "ops");

@@ -40,14 +40,16 @@ may_command = command_with (codes "may") (of_user ++ needed (number_option (code
 abbrev pub subtree_command : Text → Shape
 subtree_command name = command_with name (of_user ++ needed (word_option (codes "subtree")) ∷ [])
 
-abbrev pub audit_command : Shape
-audit_command = command_with (codes "audit")
-    (word_option (codes "tree") ∷ repeated (needed (word_option (codes "uid"))) ∷ repeated (needed (word_option (codes "subtree")))
-    ∷ flag (codes "all") ∷ flag (codes "settle") ∷ [])
+-- a command that is asked of users and subtrees, or of pairs of them
+abbrev pub pairs_command : Text → Shape
+pairs_command name = command_with name
+    (word_option (codes "tree") ∷ repeated (word_option (codes "uid")) ∷ repeated (word_option (codes "subtree"))
+    ∷ word_option (codes "pairs") ∷ [])
 
-abbrev pub explain_command : Shape
-explain_command = command_with (codes "explain")
-    (word_option (codes "tree") ∷ repeated (needed (word_option (codes "uid"))) ∷ repeated (needed (word_option (codes "subtree"))) ∷ [])
+abbrev pub audit_command : Shape
+audit_command = record (pairs_command (codes "audit")) {
+  rules = (pairs_command (codes "audit")).rules ++ flag (codes "all") ∷ flag (codes "settle") ∷ [];
+}
 
 -- by users and subtrees, or by pairs of them
 abbrev pub advise_named : Shape
@@ -78,5 +80,5 @@ with_judgements = record {
 -- and with those that say why or what to do, and those that go over a text
 abbrev pub command_line : App
 command_line = record with_judgements {
-  subs = with_judgements.subs ++ explain_command ∷ advise_command ∷ replay_command ∷ upgrade_command ∷ [];
+  subs = with_judgements.subs ++ pairs_command (codes "explain") ∷ advise_command ∷ replay_command ∷ upgrade_command ∷ [];
 }

@@ -14,7 +14,7 @@ use Rattle.arguments.specs.declared.request.Check.{Check}
 use Rattle.arguments.specs.declared.request.Audit.{Audit}
 use Rattle.arguments.specs.declared.request.Explain.{Explain}
 use Rattle.arguments.specs.declared.request.Advise.{Advise}
-use Rattle.arguments.specs.declared.request.AdvisePairs.{AdvisePairs}
+use Rattle.arguments.specs.declared.request.Pairs.{Pairs}
 use Rattle.arguments.specs.declared.request.Sources.{Sources}
 use Rattle.arguments.specs.declared.request.Sources.TheVariants.{Files, TreeGiven, OtherGiven}
 use Rattle.arguments.specs.declared.request.Replay.{Replay}
@@ -105,7 +105,7 @@ pub record IsCheck (found : Found) (check : Check) : Type 0 where
   pub user : user_given found ≡ Some (ids_of check.user)
   pub subtree : first_value found (codes "subtree") ≡ Some check.subtree.now
 
--- of one user and one subtree at least
+-- of one user and one subtree at least, and of no text of pairs
 pub record IsAudit (found : Found) (audit : Audit) : Type 0 where
   pub tree : option_map (λ file. file.now) audit.tree ≡ file_at found (codes "tree")
   pub users : users_given found ≡ Some (map ids_of audit.users.items)
@@ -114,6 +114,7 @@ pub record IsAudit (found : Found) (audit : Audit) : Type 0 where
   pub settle : IsFlag (one_text found (codes "settle")) audit.settle
   pub some_user : words_at found (codes "uid") ≢ []
   pub some_subtree : words_at found (codes "subtree") ≢ []
+  pub no_pairs : first_value found (codes "pairs") ≡ None
 
 pub record IsExplain (found : Found) (explain : Explain) : Type 0 where
   pub tree : option_map (λ file. file.now) explain.tree ≡ file_at found (codes "tree")
@@ -121,6 +122,7 @@ pub record IsExplain (found : Found) (explain : Explain) : Type 0 where
   pub subtrees : words_at found (codes "subtree") ≡ map (λ subtree. subtree.now) explain.subtrees.items
   pub some_user : words_at found (codes "uid") ≢ []
   pub some_subtree : words_at found (codes "subtree") ≢ []
+  pub no_pairs : first_value found (codes "pairs") ≡ None
 
 pub record IsAdvise (found : Found) (advise : Advise) : Type 0 where
   pub tree : option_map (λ file. file.now) advise.tree ≡ file_at found (codes "tree")
@@ -133,9 +135,9 @@ pub record IsAdvise (found : Found) (advise : Advise) : Type 0 where
   pub settle : IsFlag (one_text found (codes "settle")) advise.settle
 
 -- of the pairs that a text names, and of nobody else, and it isn't looked further
-pub record IsAdvisePairs (found : Found) (advise : AdvisePairs) : Type 0 where
-  pub tree : tree_file advise.sources ≡ file_at found (codes "tree")
-  pub pairs : other_file advise.sources ≡ file_at found (codes "pairs")
+pub record IsOfPairs (found : Found) (asked : Pairs) : Type 0 where
+  pub tree : tree_file asked.sources ≡ file_at found (codes "tree")
+  pub pairs : other_file asked.sources ≡ file_at found (codes "pairs")
   pub some_pairs : first_value found (codes "pairs") ≢ None
   pub no_user : words_at found (codes "uid") ≡ []
   pub no_group : words_at found (codes "gid") ≡ []
@@ -157,9 +159,11 @@ command_of (request.May may) = Some (codes "may")
 command_of (request.Check check) = Some (codes "check")
 command_of (request.Settle check) = Some (codes "settle")
 command_of (request.Audit audit) = Some (codes "audit")
+command_of (request.AuditPairs pairs) = Some (codes "audit")
 command_of (request.Explain explain) = Some (codes "explain")
+command_of (request.ExplainPairs pairs) = Some (codes "explain")
 command_of (request.Advise advise) = Some (codes "advise")
-command_of (request.AdvisePairs advise) = Some (codes "advise")
+command_of (request.AdvisePairs pairs) = Some (codes "advise")
 command_of (request.Replay replay) = Some (codes "replay")
 command_of (request.Upgrade upgrade) = Some (codes "upgrade")
 
@@ -169,9 +173,11 @@ Holds found (request.May may) = IsMay found may
 Holds found (request.Check check) = IsCheck found check
 Holds found (request.Settle check) = IsCheck found check
 Holds found (request.Audit audit) = IsAudit found audit
+Holds found (request.AuditPairs pairs) = IsOfPairs found pairs
 Holds found (request.Explain explain) = IsExplain found explain
+Holds found (request.ExplainPairs pairs) = IsOfPairs found pairs
 Holds found (request.Advise advise) = IsAdvise found advise
-Holds found (request.AdvisePairs advise) = IsAdvisePairs found advise
+Holds found (request.AdvisePairs pairs) = IsOfPairs found pairs
 Holds found (request.Replay replay) = IsReplay found replay
 Holds found (request.Upgrade upgrade) = IsUpgrade found upgrade
 

@@ -9,7 +9,7 @@ use Rattle.clap.specs.declared.error.kind.ErrorKind.{ErrorKind}
 use Rattle.clap.specs.declared.error.kind.ErrorKind.TheVariants.{DisplayHelp, DisplayVersion}
 use Rattle.clap.specs.declared.parser.matches.Found.{Found}
 use Rattle.arguments.specs.CommandLine.{command_line}
-use Rattle.arguments.specs.Given.{IsMay, IsCheck, IsAudit, IsExplain, IsAdvise, IsAdvisePairs, IsReplay, IsUpgrade}
+use Rattle.arguments.specs.Given.{IsMay, IsCheck, IsAudit, IsExplain, IsAdvise, IsOfPairs, IsReplay, IsUpgrade}
 use Rattle.arguments.specs.declared.request.Request.{Request}
 use Rattle.arguments.specs.declared.request.Request.TheVariants as request
 
@@ -29,9 +29,11 @@ Makes words (request.May may) = NamesCommand words (codes "may") (λ found. IsMa
 Makes words (request.Check check) = NamesCommand words (codes "check") (λ found. IsCheck found check)
 Makes words (request.Settle check) = NamesCommand words (codes "settle") (λ found. IsCheck found check)
 Makes words (request.Audit audit) = NamesCommand words (codes "audit") (λ found. IsAudit found audit)
+Makes words (request.AuditPairs pairs) = NamesCommand words (codes "audit") (λ found. IsOfPairs found pairs)
 Makes words (request.Explain explain) = NamesCommand words (codes "explain") (λ found. IsExplain found explain)
+Makes words (request.ExplainPairs pairs) = NamesCommand words (codes "explain") (λ found. IsOfPairs found pairs)
 Makes words (request.Advise advise) = NamesCommand words (codes "advise") (λ found. IsAdvise found advise)
-Makes words (request.AdvisePairs advise) = NamesCommand words (codes "advise") (λ found. IsAdvisePairs found advise)
+Makes words (request.AdvisePairs pairs) = NamesCommand words (codes "advise") (λ found. IsOfPairs found pairs)
 Makes words (request.Replay replay) = NamesCommand words (codes "replay") (λ found. IsReplay found replay)
 Makes words (request.Upgrade upgrade) = NamesCommand words (codes "upgrade") (λ found. IsUpgrade found upgrade)
 

@@ -2,7 +2,7 @@
 ghost use Rattle.std.specs.Prelude.{◌≡◌, [], ◌∷◌, IfOk, codes};
 ghost use Rattle.clap.specs.Words.{app_of};
 ghost use Rattle.arguments.specs.Building.{IsOption, IsCommand};
-ghost use Rattle.arguments.specs.CommandLine.{word_option, number_option, flag, needed, program_command, command_with, of_user, may_command, subtree_command, audit_command, explain_command, advise_named, advise_command, replay_command, upgrade_command, with_judgements, command_line};
+ghost use Rattle.arguments.specs.CommandLine.{word_option, number_option, flag, needed, program_command, command_with, of_user, may_command, subtree_command, pairs_command, audit_command, advise_named, advise_command, replay_command, upgrade_command, with_judgements, command_line};
 
 use clap::{Arg, ArgAction, Command, value_parser};
 use std::alloc::{AllocError, Global};
@@ -63,6 +63,9 @@ Example:
   rmdir /c0/c00
   rmdir /c0";
 
+const AUDIT: &str =
+    "Says whether every subtree is shown to be contained against all users, whatever they do together";
+
 const AUDIT_HELP: &str = "\
 Status: 0 contained, 1 escapes, 2 unsettled, 3 a fault
 `contained` means that every subtree is held whatever all these users do, in whatever order, where nobody else acts. Else
@@ -70,6 +73,9 @@ Status: 0 contained, 1 escapes, 2 unsettled, 3 a fault
 status.
 With --all every such pair has these lines, by user and then subtree, and its line `pair` names the groups too; the status
 is 1 where one escapes, else 2 where one is unsettled. Users and subtrees that are named again count once.
+With --pairs it says what it says with --all, of each pair in the order in which they are named, a pair that is named again too:
+a line `pair UID PATH` or `pair UID:GID,GID.. PATH` of each, one at least, among the other lines that audit writes with --all; and
+neither --uid, --subtree nor --settle beside it. A subtree is contained against all who are named with it and aren't listed, together.
 With --settle it is looked further where check says `unsettled`, as settle does. Users against whom a list of operations is
 planned escape; where the second row of guards holds of a subtree against all others together none of these is listed with it,
 and else each whom check doesn't call contained. So a subtree is contained against all with whom it isn't listed, together.
@@ -83,6 +89,9 @@ Example:
   escapes
   set /c0 memory.max max";
 
+const EXPLAIN: &str =
+    "Says of every user and subtree what each guard asks, and by what it holds or fails";
+
 const EXPLAIN_HELP: &str = "\
 Status: 0 contained, 1 escapes, 2 unsettled, 3 a fault
 Of every user and every subtree, by user and then subtree, the line `pair` names them, and below it each entry that is there
@@ -92,6 +101,7 @@ guard fails, lines follow of what the second row of guards asks: that the subtre
 files, and each cgroup to which a move over the edge of the subtree may lead. Then the two limits of the subtree have a line
 each with how many there are, and last stands the first line of what settle may say.
 The status is 1 where one escapes, else 2 where one is unsettled. Users and subtrees that are named again count once.
+With --pairs it is told of each pair in the order in which they are named, a pair that is named again too: see audit --help.
 A user is UID or UID:GID,GID.. in decimal digits, with up to 32 gids, of which the first is the primary one.
 `fault: usage` means that the command line isn't as it says above.
 docs/FORMATS.md of the repository has the tree's format, and every line of an answer and of a fault.
@@ -165,7 +175,7 @@ pub(crate) fn command<'a>(alloc: Global) -> Result<Command<'a>, AllocError>
     ensures { IfOk result (λ command. app_of command ≡ command_line) }
 {
     with_judgements(alloc)?
-        .subcommand(explain_command(alloc)?)?
+        .subcommand(pairs_command(alloc, "explain", EXPLAIN, EXPLAIN_HELP)?)?
         .subcommand(advise_command(alloc)?)?
         .subcommand(replay_command(alloc)?)?
         .subcommand(upgrade_command(alloc)?)
@@ -244,59 +254,45 @@ fn subtree_command<'a>(
     )
 }
 
+/// A command that is asked of a tree, and of users and subtrees or of pairs of them.
+fn pairs_command<'a>(
+    alloc: Global,
+    name: &'a str,
+    about: &'a str,
+    help: &'a str,
+) -> Result<Command<'a>, AllocError>
+    ensures { IfOk result (IsCommand (pairs_command name.entry.now)) }
+{
+    Command::new(alloc, name)
+        .about(about)
+        .after_help(help)
+        .arg(tree_argument(alloc))?
+        .arg(
+            word_argument(alloc, "uid", "UID[:GID,GID..]")
+                .action(ArgAction::Append)
+                .help("A user and their groups, once or more"),
+        )?
+        .arg(
+            subtree_argument(alloc)
+                .action(ArgAction::Append)
+                .help("The top of a subtree, once or more"),
+        )?
+        .arg(pairs_argument(alloc))
+}
+
 fn audit_command<'a>(alloc: Global) -> Result<Command<'a>, AllocError>
     ensures { IfOk result (IsCommand audit_command) }
 {
-    Command::new(alloc, "audit")
-        .about(
-            "Says whether every subtree is shown to be contained against all users, whatever they do together",
-        )
-        .after_help(AUDIT_HELP)
-        .arg(tree_argument(alloc))?
-        .arg(
-            word_argument(alloc, "uid", "UID[:GID,GID..]")
-                .action(ArgAction::Append)
-                .required(true)
-                .help("A user and their groups, once or more"),
-        )?
-        .arg(
-            subtree_argument(alloc)
-                .required(true)
-                .action(ArgAction::Append)
-                .help("The top of a subtree, once or more"),
-        )?
+    pairs_command(alloc, "audit", AUDIT, AUDIT_HELP)?
         .arg(all_argument(alloc))?
         .arg(settle_argument(alloc))
-}
-
-fn explain_command<'a>(alloc: Global) -> Result<Command<'a>, AllocError>
-    ensures { IfOk result (IsCommand explain_command) }
-{
-    Command::new(alloc, "explain")
-        .about("Says of every user and subtree what each guard asks, and by what it holds or fails")
-        .after_help(EXPLAIN_HELP)
-        .arg(tree_argument(alloc))?
-        .arg(
-            word_argument(alloc, "uid", "UID[:GID,GID..]")
-                .action(ArgAction::Append)
-                .required(true)
-                .help("A user and their groups, once or more"),
-        )?
-        .arg(
-            subtree_argument(alloc)
-                .required(true)
-                .action(ArgAction::Append)
-                .help("The top of a subtree, once or more"),
-        )
 }
 
 fn advise_command<'a>(alloc: Global) -> Result<Command<'a>, AllocError>
     ensures { IfOk result (IsCommand advise_command) }
 {
     advise_named(alloc)?
-        .arg(word_argument(alloc, "pairs", "FILE").help(
-            "Pairs in place of --uid and --subtree, one a line, as audit --all prints them; - is standard input, and then the tree's text is a file",
-        ))?
+        .arg(pairs_argument(alloc))?
         .arg(settle_argument(alloc))
 }
 
@@ -359,6 +355,14 @@ fn subtree_argument<'a>(alloc: Global) -> Arg<'a>
     ensures { IsOption (word_option (codes "subtree")) result }
 {
     word_argument(alloc, "subtree", "PATH")
+}
+
+fn pairs_argument<'a>(alloc: Global) -> Arg<'a>
+    ensures { IsOption (word_option (codes "pairs")) result }
+{
+    word_argument(alloc, "pairs", "FILE").help(
+        "Pairs in place of --uid and --subtree, one a line, as audit --all prints them; - is standard input, and then the tree's text is a file",
+    )
 }
 
 fn all_argument<'a>(alloc: Global) -> Arg<'a>

@@ -3,9 +3,9 @@ ghost use Rattle.std.specs.Prelude.{◌≡◌, ◌≢◌, ◌⊎◌, [], Some, N
 ghost use Rattle.std.specs.Option.{option_map};
 ghost use Rattle.clap.specs.Matches.{found_of, first_value};
 ghost use Rattle.arguments.specs.UserWords.{id_at, ids_at, all_read, user_at};
-ghost use Rattle.arguments.specs.Given.{words_at, file_named, file_at, NamesNoFile, number_at, numbers_at, user_given, users_given, plain_number, users_beside, advised_given, ids_of, IsMay, IsCheck, IsAudit, IsExplain, IsAdvise, IsAdvisePairs, tree_file, other_file, IsReplay, IsUpgrade, command_of, Holds, IsOf};
+ghost use Rattle.arguments.specs.Given.{words_at, file_named, file_at, NamesNoFile, number_at, numbers_at, user_given, users_given, plain_number, users_beside, advised_given, ids_of, IsMay, IsCheck, IsAudit, IsExplain, IsAdvise, IsOfPairs, tree_file, other_file, IsReplay, IsUpgrade, command_of, Holds, IsOf};
 ghost use Rattle.arguments.specs.Words.{Makes, IsNone};
-ghost use Rattle.arguments.specs.declared.request.AdvisePairs.{AdvisePairs};
+ghost use Rattle.arguments.specs.declared.request.Pairs.{Pairs};
 ghost use Rattle.arguments.specs.declared.request.Request.{Request};
 
 use crate::command::command;
@@ -25,9 +25,11 @@ pub enum Request<'a> {
     /// What `check` is asked, looked at further.
     Settle(Check<'a>),
     Audit(Audit<'a>),
+    AuditPairs(Pairs<'a>),
     Explain(Explain<'a>),
+    ExplainPairs(Pairs<'a>),
     Advise(Advise<'a>),
-    AdvisePairs(AdvisePairs<'a>),
+    AdvisePairs(Pairs<'a>),
     Replay(Replay<'a>),
     Upgrade(Upgrade<'a>),
 }
@@ -77,12 +79,38 @@ impl<'a> Request<'a> {
             "may" => Ok(Request::May(May::from_matches(alloc, given)?)),
             "check" => Ok(Request::Check(Check::from_matches(alloc, given)?)),
             "settle" => Ok(Request::Settle(Check::from_matches(alloc, given)?)),
-            "audit" => Ok(Request::Audit(Audit::from_matches(alloc, given)?)),
-            "explain" => Ok(Request::Explain(Explain::from_matches(alloc, given)?)),
+            "audit" => Request::of_audit(alloc, given),
+            "explain" => Request::of_explain(alloc, given),
             "advise" => Request::of_advise(alloc, given),
             "replay" => Ok(Request::Replay(Replay::from_matches(alloc, given)?)),
             "upgrade" => Ok(Request::Upgrade(Upgrade::from_matches(given))),
             _ => Err(ArgumentsFault::Usage),
+        }
+    }
+
+    /// The request of `audit`, which is of the pairs of a text where one is named.
+    fn of_audit(alloc: Global, given: &ArgMatches<'a>) -> Result<Request<'a>, ArgumentsFault>
+        ensures name { IfOk result (λ asked. command_of asked ≡ Some (codes "audit")) }
+        ensures given { IfOk result (Holds (found_of given.now)) }
+        ensures fault { IfErr result (λ fault. fault ≢ ArgumentsFault.NoMemory
+            → (asked : Request) → command_of asked ≡ Some (codes "audit") → Holds (found_of given.now) asked → ⊥) }
+    {
+        match given.get_str("pairs") {
+            None => Ok(Request::Audit(Audit::from_matches(alloc, given)?)),
+            Some(_) => Ok(Request::AuditPairs(Pairs::from_matches(given)?)),
+        }
+    }
+
+    /// The request of `explain`, which is of the pairs of a text where one is named.
+    fn of_explain(alloc: Global, given: &ArgMatches<'a>) -> Result<Request<'a>, ArgumentsFault>
+        ensures name { IfOk result (λ asked. command_of asked ≡ Some (codes "explain")) }
+        ensures given { IfOk result (Holds (found_of given.now)) }
+        ensures fault { IfErr result (λ fault. fault ≢ ArgumentsFault.NoMemory
+            → (asked : Request) → command_of asked ≡ Some (codes "explain") → Holds (found_of given.now) asked → ⊥) }
+    {
+        match given.get_str("pairs") {
+            None => Ok(Request::Explain(Explain::from_matches(alloc, given)?)),
+            Some(_) => Ok(Request::ExplainPairs(Pairs::from_matches(given)?)),
         }
     }
 
@@ -95,7 +123,7 @@ impl<'a> Request<'a> {
     {
         match given.get_str("pairs") {
             None => Ok(Request::Advise(Advise::from_matches(alloc, given)?)),
-            Some(_) => Ok(Request::AdvisePairs(AdvisePairs::from_matches(given)?)),
+            Some(_) => Ok(Request::AdvisePairs(Pairs::from_matches(given)?)),
         }
     }
 }
@@ -162,8 +190,9 @@ pub struct Audit<'a> {
 }
 
 impl<'a> Audit<'a> {
-    /// What was given to the command.
+    /// What was given to the command, where no text of pairs is named.
     fn from_matches(alloc: Global, matches: &ArgMatches<'a>) -> Result<Audit<'a>, ArgumentsFault>
+        requires { first_value (found_of matches.now) (codes "pairs") ≡ None }
         ensures given { IfOk result (IsAudit (found_of matches.now)) }
         ensures fault { IfErr result (λ fault. fault ≢ ArgumentsFault.NoMemory → (users_given (found_of matches.now) ≡ None)
             ⊎ (words_at (found_of matches.now) (codes "uid") ≡ [])
@@ -188,8 +217,9 @@ pub struct Explain<'a> {
 }
 
 impl<'a> Explain<'a> {
-    /// What was given to the command.
+    /// What was given to the command, where no text of pairs is named.
     fn from_matches(alloc: Global, matches: &ArgMatches<'a>) -> Result<Explain<'a>, ArgumentsFault>
+        requires { first_value (found_of matches.now) (codes "pairs") ≡ None }
         ensures given { IfOk result (IsExplain (found_of matches.now)) }
         ensures fault { IfErr result (λ fault. fault ≢ ArgumentsFault.NoMemory → (users_given (found_of matches.now) ≡ None)
             ⊎ (words_at (found_of matches.now) (codes "uid") ≡ [])
@@ -232,20 +262,19 @@ impl<'a> Advise<'a> {
     }
 }
 
-/// Pairs of a user and a subtree that a text names: what to change so that every subtree is contained against the users named
-/// with it.
+/// Pairs of a user and a subtree that a text names, in place of users and subtrees.
 #[derive(Clone, Copy, Debug, PartialEq, Eq)]
-pub struct AdvisePairs<'a> {
+pub struct Pairs<'a> {
     pub sources: Sources<'a>,
 }
 
-impl<'a> AdvisePairs<'a> {
+impl<'a> Pairs<'a> {
     /// What was given to the command, where a text of pairs is named: beside it no user and no subtree, and no further look.
-    fn from_matches(matches: &ArgMatches<'a>) -> Result<AdvisePairs<'a>, ArgumentsFault>
+    fn from_matches(matches: &ArgMatches<'a>) -> Result<Pairs<'a>, ArgumentsFault>
         requires { first_value (found_of matches.now) (codes "pairs") ≢ None }
         ensures { MatchResult result
-            (IsAdvisePairs (found_of matches.now))
-            (λ fault. (asked : AdvisePairs) → IsAdvisePairs (found_of matches.now) asked → ⊥) }
+            (IsOfPairs (found_of matches.now))
+            (λ fault. (asked : Pairs) → IsOfPairs (found_of matches.now) asked → ⊥) }
     {
         if is_given(matches, "uid") || is_given(matches, "gid") || is_given(matches, "subtree") {
             return Err(ArgumentsFault::Usage);
@@ -253,7 +282,7 @@ impl<'a> AdvisePairs<'a> {
         if is_said(matches, "settle", "true") {
             return Err(ArgumentsFault::Usage);
         }
-        Ok(AdvisePairs {
+        Ok(Pairs {
             sources: Sources::from_matches(matches, "pairs")?,
         })
     }

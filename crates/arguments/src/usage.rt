@@ -5,8 +5,9 @@ use clap::{ArgMatches, Error};
 use std::alloc::{AllocError, Global};
 
 const USERS: &str =
-    "a user of audit or explain is UID or UID:GID,GID.. in decimal digits, with no spaces:
-`id -u NAME` prints a user's uid, `id -G NAME` the gids";
+    "audit and explain take users and subtrees, --uid and --subtree once or more each, or pairs of them alone, --pairs;
+of these and the tree one at most comes from standard input; a user of audit or explain is UID or UID:GID,GID.. in decimal
+digits, with no spaces: `id -u NAME` prints a user's uid, `id -G NAME` the gids";
 
 const ONE_INPUT: &str =
     "standard input is read once, and both the tree and the operations are to come from it:

@@ -32,7 +32,7 @@ use Rattle.cg_cli.specs.May.{tree_read}
 use Rattle.cg_model.specs.Once.{once}
 use Rattle.cg_cli.specs.Once.{same_user}
 use Rattle.streams.specs.Written.{AppendsPart}
-use Rattle.cg_cli.specs.AllPairs.{is_escape, pairs_status, worse, listing_text, WritesPairs, read_then, pairs_found, all_report, ReportsPairs, UnlistedAreContained, ListsUncontained}
+use Rattle.cg_cli.specs.AllPairs.{is_escape, pairs_status, worse, listing_text, WritesPairs, read_then, found_unless_fault, pairs_found, all_report, ReportsPairs, UnlistedAreContained, ListsUncontained}
 use Rattle.cg_faults.specs.declared.fault.CliFault.{CliFault}
 use Rattle.cg_faults.specs.declared.fault.CliFault.TheVariants.{Write, NoMemory}
 use Rattle.cg_cli.proofs.NamedReads.{regrouped, by_reading}
@@ -281,36 +281,33 @@ module _ (pairs : List Listed) where
       subst (λ l. AppendsPart old new (listing_text l)) (sym empty)
       (part_behind old mid new [] (listing_text []) (subst (λ l. Appends old mid (pairs_text l)) empty written.1) part)
 
-module _ (st : State) (users : List Identity) (subtrees : List Names) where
+module _ (st : State) (subtrees : List Names) (pairs : List Listed) where
   pub subtree_said : (fault : CheckFault) (known : Option (List ℕ)) → Some fault ≡ first (flat_map (subtree_faults st) subtrees)
-      → ReportsPairs (pairs_found st users subtrees) known known (Err (lifted_check fault))
+      → ReportsPairs (found_unless_fault st subtrees pairs) known known (Err (lifted_check fault))
   subtree_said fault known is =
-      subst (λ o. ReportsPairs (in_call (unless_fault o (listed st users subtrees))) known known (Err (lifted_check fault))) is
+      subst (λ o. ReportsPairs (in_call (unless_fault o pairs)) known known (Err (lifted_check fault))) is
       (fault_said (lifted_check fault) known)
 
   module _ (none : None ≡ first (flat_map (subtree_faults st) subtrees)) where
-    abbrev pairs : List Listed
-    pairs = listed st users subtrees
-
     by_pairs : (old new : Option (List ℕ)) (result : Result ℕ CliFault) → ReportsPairs (Ok pairs) old new result
-        → ReportsPairs (pairs_found st users subtrees) old new result
+        → ReportsPairs (found_unless_fault st subtrees pairs) old new result
     by_pairs old new result = subst (λ o. ReportsPairs (in_call (unless_fault o pairs)) old new result) none
 
     pub stop_said : (fault : CliFault) (old new : Option (List ℕ)) → WritesPairs pairs old new (Err fault)
-        → ReportsPairs (pairs_found st users subtrees) old new (Err fault)
+        → ReportsPairs (found_unless_fault st subtrees pairs) old new (Err fault)
     stop_said fault old new written = by_pairs old new (Err fault) (stop_reports pairs fault old new written)
 
     pub listing_said : (status : ℕ) (old new : Option (List ℕ)) → WritesPairs pairs old new (Ok status) → status ≢ 0
-        → ReportsPairs (pairs_found st users subtrees) old new (Ok status)
+        → ReportsPairs (found_unless_fault st subtrees pairs) old new (Ok status)
     listing_said status old new written other = by_pairs old new (Ok status) (pairs_report pairs status old new written other)
 
     pub contained_said : (status : ℕ) (old mid new : Option (List ℕ)) → WritesPairs pairs old mid (Ok status) → status ≡ 0
-        → Appends mid new (listing_text []) → ReportsPairs (pairs_found st users subtrees) old new (Ok status)
+        → Appends mid new (listing_text []) → ReportsPairs (found_unless_fault st subtrees pairs) old new (Ok status)
     contained_said status old mid new written zero text =
         by_pairs old new (Ok status) (contained_reports pairs status old mid new written zero text)
 
     pub contained_stops : (status : ℕ) (old mid new : Option (List ℕ)) → WritesPairs pairs old mid (Ok status) → status ≡ 0
-        → AppendsPart mid new (listing_text []) → ReportsPairs (pairs_found st users subtrees) old new (Err Write)
+        → AppendsPart mid new (listing_text []) → ReportsPairs (found_unless_fault st subtrees pairs) old new (Err Write)
     contained_stops status old mid new written zero part =
         by_pairs old new (Err Write) (contained_part pairs status old mid new written zero part)
 
@@ -321,7 +318,7 @@ wanted : (report : Result (List Listed) CliFault) (known : Option (List ℕ)) �
 wanted (Ok found) known some = wants found known
 wanted (Err fault) known some = (some, Keeps-refl known)
 
-met_pairs : {A : Type 0} (read : Result A CliFault) (next : A → Result (List Listed) CliFault)
+pub met_pairs : {A : Type 0} (read : Result A CliFault) (next : A → Result (List Listed) CliFault)
     → ((x : A) → read_takes_memory (next x) ≡ true)
     → (fault : CliFault) → IsMet read fault → (known : Option (List ℕ)) → ReportsPairs (read_then read next) known known (Err fault)
 met_pairs read next needs Write met known = absurd met

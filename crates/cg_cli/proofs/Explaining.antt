@@ -33,7 +33,7 @@ use Rattle.cg_cli.specs.Containment.{in_call, answer_status}
 use Rattle.cg_cli.specs.May.{tree_read}
 use Rattle.cg_cli.specs.Once.{same_user}
 use Rattle.cg_cli.specs.Settled.{IsSettledFault}
-use Rattle.cg_cli.specs.Explaining.{told_status, told_text, pair_told, IsTold, TellsPair, TellsPairs, pairs_asked, explain_asked, ReportsTold}
+use Rattle.cg_cli.specs.Explaining.{told_status, told_text, pair_told, IsTold, TellsPair, TellsPairs, asked_unless_fault, pairs_asked, explain_asked, ReportsTold}
 use Rattle.streams.specs.Written.{AppendsPart}
 use Rattle.cg_faults.specs.Faults.{lifted_check}
 use Rattle.cg_faults.specs.declared.fault.CliFault.{CliFault}
@@ -207,17 +207,17 @@ fault_said fault known = (refl, Keeps-refl known)
 pub none_told : (st : State) (pairs : List Pair) (known : Option (List ℕ)) → TellsPairs st pairs known known (Err NoMemory)
 none_told st pairs known = ([], ([], pairs, refl, (refl, All-nil (IsTold st))), Appends-nil known)
 
-module _ (st : State) (users : List Identity) (subtrees : List Names) where
+module _ (st : State) (subtrees : List Names) (pairs : List Pair) where
   pub subtree_said : (fault : CheckFault) (known : Option (List ℕ)) → Some fault ≡ first (flat_map (subtree_faults st) subtrees)
-      → ReportsTold (pairs_asked st users subtrees) known known (Err (lifted_check fault))
+      → ReportsTold (asked_unless_fault st subtrees pairs) known known (Err (lifted_check fault))
   subtree_said fault known is =
-      subst (λ o. ReportsTold (in_call (unless_fault o (st, all_pairs users subtrees))) known known (Err (lifted_check fault))) is
+      subst (λ o. ReportsTold (in_call (unless_fault o (st, pairs))) known known (Err (lifted_check fault))) is
       (fault_said (lifted_check fault) known)
 
   pub pairs_said : None ≡ first (flat_map (subtree_faults st) subtrees) → (old new : Option (List ℕ)) (result : Result ℕ CliFault)
-      → TellsPairs st (all_pairs users subtrees) old new result → ReportsTold (pairs_asked st users subtrees) old new result
+      → TellsPairs st (pairs) old new result → ReportsTold (asked_unless_fault st subtrees pairs) old new result
   pairs_said none old new result =
-      subst (λ o. ReportsTold (in_call (unless_fault o (st, all_pairs users subtrees))) old new result) none
+      subst (λ o. ReportsTold (in_call (unless_fault o (st, pairs))) old new result) none
 
 -- ---- what is read before
 
@@ -226,7 +226,7 @@ wanted : (asked : Result (State × List Pair) CliFault) (known : Option (List �
 wanted (Ok found) known some = none_told found.0 found.1 known
 wanted (Err fault) known some = (some, Keeps-refl known)
 
-met_asked : {A : Type 0} (read : Result A CliFault) (next : A → Result (State × List Pair) CliFault)
+pub met_asked : {A : Type 0} (read : Result A CliFault) (next : A → Result (State × List Pair) CliFault)
     → ((x : A) → read_takes_memory (next x) ≡ true)
     → (fault : CliFault) → IsMet read fault → (known : Option (List ℕ)) → ReportsTold (read_then read next) known known (Err fault)
 met_asked read next needs Write met known = absurd met

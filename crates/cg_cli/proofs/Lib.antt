@@ -10,6 +10,7 @@ pub mod AdviseReports
 pub mod AdvisedTrees
 pub mod FurtherAdvice
 pub mod NamedPairs
+pub mod EachPair
 mod EachRead
 pub mod AuditStatus
 pub mod AuditOnce

@@ -1,5 +1,5 @@
 -- Pairs that are named one by one: each subtree, and the users named with it.
-use Rattle.std.proofs.Common.{◌≡◌, ◌≢◌, ℕ, zero, suc, ◌+◌, ◌<◌, ◌≤◌, true, false, cond, List, [], ◌∷◌, ◌++◌, map, length, take, get_or, None, Ok, refl, ap, sym, subst, ◌∙◌, add-one, arith}
+use Rattle.std.proofs.Common.{◌≡◌, ◌≢◌, ℕ, zero, suc, ◌+◌, ◌<◌, ◌≤◌, true, false, cond, List, [], ◌∷◌, ◌++◌, map, length, take, get_or, None, Option, Result, Ok, Err, refl, ap, sym, subst, ◌∙◌, add-one, arith}
 use Rattle.std.specs.List.{All, AllByRecursion, Contains, filter, flat_map}
 use Rattle.std.proofs.lemmas.List.Elements.{All-from_recursion, recursion_from_All, All-contains}
 use Rattle.cg_cgroup.specs.Paths.{Names, same_path}
@@ -17,16 +17,20 @@ use Rattle.cg_check.proofs.AllContained.{guarded-are-contained}
 use Rattle.cg_advice.specs.AdviceLines.{is_pair_guarded, advice_lines}
 use Rattle.cg_advice.specs.Ways.{pair_of}
 use Rattle.cg_advice.specs.declared.pair.Pair.{Pair as PairOfBoth}
-use Rattle.cg_format.specs.Readings.{Reading}
-use Rattle.cg_cli.specs.Advising.{pair_with, paired, advice_report, named_report, advise_pairs_report, named_with, AreContainedAsNamed, IsAdvisable, AreNamed}
-use Rattle.cg_cli.specs.Asking.{read_in_turn, named_read}
+use Rattle.cg_format.specs.Readings.{Reading, OnText}
+use Rattle.cg_format.specs.TextOf.{IsTextOf}
+use Rattle.cg_format.proofs.ReadingLaws.{one_reading}
+use Rattle.cg_cli.specs.Advising.{pair_with, paired, advice_report, named_report, advise_pairs_report, named_with, AdvisesNamed, AreContainedAsNamed, IsAdvisable, AreNamed}
+use Rattle.cg_cli.specs.Asking.{read_in_turn, named_read, PairsReport}
 use Rattle.cg_cli.specs.Audits.{users_read, paths_read}
 use Rattle.cg_cli.specs.May.{tree_read}
 use Rattle.cg_cli.specs.Pairs.{pair_given}
-use Rattle.cg_cli.specs.Reports.{Report, takes_memory}
-use Rattle.cg_cli.specs.declared.advise_pairs.PairIds.{PairIds}
-use Rattle.cg_cli.proofs.AdviseReports.{each_there, each_passes, no_failures, all_guarded, advice_takes}
+use Rattle.cg_cli.specs.Reports.{Report, Reports, takes_memory}
+use Rattle.cg_cli.specs.declared.pairs.PairIds.{PairIds}
+use Rattle.cg_cli.proofs.AdviseReports.{each_there, each_passes, no_failures, all_guarded, advice_takes, fault_said, said_of_read}
 use Rattle.cg_cli.proofs.AdvisedTrees.{contained-advised}
+use Rattle.cg_faults.specs.declared.fault.CliFault.{CliFault}
+use Rattle.cg_cli.proofs.NamedReads.{by_read}
 use Rattle.cg_cli.proofs.ReportLaws.{same_Ok}
 
 -- ---- the two lists
@@ -64,7 +68,7 @@ each_paired P [] subtrees all = tt
 each_paired P (user ∷ users) [] all = tt
 each_paired P (user ∷ users) (subtree ∷ subtrees) all = (all.0, each_paired P users subtrees all.1)
 
-some_paired : (users : List Identity) (subtrees : List Names) → 0 < length (paired users subtrees) → subtrees ≢ []
+pub some_paired : (users : List Identity) (subtrees : List Names) → 0 < length (paired users subtrees) → subtrees ≢ []
 some_paired [] subtrees some = absurd (omega (arith, some))
 some_paired (user ∷ users) [] some = absurd (omega (arith, some))
 some_paired (user ∷ users) (subtree ∷ subtrees) some = λ none. cc
@@ -72,7 +76,7 @@ some_paired (user ∷ users) (subtree ∷ subtrees) some = λ none. cc
 -- ---- the users named with a subtree
 
 -- what holds of the user of each pair with the subtree holds of each of them
-each_named : (P : Identity → Type 0) (subtree : Names) (pairs : List Pair)
+pub each_named : (P : Identity → Type 0) (subtree : Names) (pairs : List Pair)
     → AllByRecursion (λ (pair : Pair). pair.subtree ≡ subtree → P pair.user) pairs → AllByRecursion P (named_with pairs subtree)
 each_named P subtree [] all = tt
 each_named P subtree (pair ∷ pairs) all =
@@ -84,7 +88,7 @@ each_named P subtree (pair ∷ pairs) all =
     ] refl
 
 -- somebody is named with the subtree of a pair
-some_named : (pairs : List Pair) (k : ℕ) (d : Pair) → k < length pairs → named_with pairs (get_or pairs k d).subtree ≢ []
+pub some_named : (pairs : List Pair) (k : ℕ) (d : Pair) → k < length pairs → named_with pairs (get_or pairs k d).subtree ≢ []
 some_named [] k d within = absurd (omega (arith, within))
 some_named (pair ∷ pairs) zero d within =
     λ none.
@@ -132,18 +136,18 @@ module _ (st : State) (users : List Identity) (subtrees : List Names) (none : fi
   sub_at : All (IsSubtree st) subtrees
   sub_at k d within = no_fault st (get_or subtrees k d) (sym (none-element (subtree_faults st) subtrees k d within none))
 
-  subs : AllByRecursion (λ (pair : Pair). IsSubtree st pair.subtree) (paired users subtrees)
-  subs = each_paired (IsSubtree st) users subtrees (recursion_from_All (IsSubtree st) subtrees sub_at)
+  pub paired_subtrees : AllByRecursion (λ (pair : Pair). IsSubtree st pair.subtree) (paired users subtrees)
+  paired_subtrees = each_paired (IsSubtree st) users subtrees (recursion_from_All (IsSubtree st) subtrees sub_at)
 
   pub paired_there : (pairs : List PairOfBoth) → map pair_of pairs ≡ paired users subtrees
       → All (λ pair. IsSubtree st pair.subtree.now) pairs
-  paired_there pairs are = each_there st pairs (paired users subtrees) are subs
+  paired_there pairs are = each_there st pairs (paired users subtrees) are paired_subtrees
 
   -- where nothing is to be changed
   pub contained-as-named : (subtrees ≢ [] → IsWellFormed st) → None ≡ advice_lines st (paired users subtrees)
       → AreContainedAsNamed st (paired users subtrees)
   contained-as-named formed nothing =
-      guarded-as-named st (paired users subtrees) (λ some. formed (some_paired users subtrees some)) subs
+      guarded-as-named st (paired users subtrees) (λ some. formed (some_paired users subtrees some)) paired_subtrees
       (holding (paired users subtrees) (each_passes (is_pair_guarded st) (paired users subtrees)
       (all_guarded st (paired users subtrees) nothing)))
     where
@@ -196,7 +200,7 @@ pub paired_takes : (st : State) (users : List Identity) (subtrees : List Names)
     → takes_memory (paired_report st users subtrees).ending ≡ true
 paired_takes st users subtrees = advice_takes st subtrees (paired users subtrees)
 
-mapped_again : {A B C : Type 0} (f : B → C) (g : A → B) (xs : List A) → map f (map g xs) ≡ map (λ x. f (g x)) xs
+pub mapped_again : {A B C : Type 0} (f : B → C) (g : A → B) (xs : List A) → map f (map g xs) ≡ map (λ x. f (g x)) xs
 mapped_again f g [] = refl
 mapped_again f g (x ∷ xs) = ap (λ l. f (g x) ∷ l) (mapped_again f g xs)
 
@@ -215,3 +219,31 @@ named_means tree given texts users subtrees st read contained start who paths is
     subst (λ (all : List Identity × List Names × State). AreContainedAsNamed all.2 (paired all.0 all.1))
     (same_Ok (users, subtrees, st) (who, paths, start)
     (sym read ∙ (λ i. read_in_turn (is_who i) (are_paths i) (tree_read (is_text i))))) contained
+
+pub advised_said : (tree : Reading) (pairs : List PairIds) (old new : Option (List ℕ)) (result : Result ℕ CliFault)
+    → PairsReport AdvisesNamed tree (map (λ pair. (pair_given pair).0) pairs) (map (λ pair. (pair_given pair).1) pairs) old new result
+    → Reports (advise_pairs_report tree (map pair_given pairs)) old new result
+advised_said tree pairs old new result said =
+    let given = map (λ pair. (pair_given pair).0) pairs in
+    let texts = map (λ pair. (pair_given pair).1) pairs in
+    subst (λ (r : Report). Reports r old new result) (sym (of_lists tree pairs))
+    (by_read (named_read given texts tree) (λ users subtrees st. named_read given texts tree ≡ Ok (users, subtrees, st)) AdvisesNamed
+    (Reports (named_report paired_report tree given texts))
+    (λ fault met known. fault_said paired_report paired_takes tree given texts fault met known (Err fault) refl)
+    (λ users subtrees st is old new result advises.
+    subst (λ (r : Report). Reports r old new result)
+    (sym (said_of_read paired_report paired_takes tree given texts users subtrees st is)) advises.0)
+    old new result said)
+
+pub contained_said : (bytes : List ℕ) (given : List (ℕ × List ℕ)) (texts : List (List ℕ)) (old new : Option (List ℕ))
+    (result : Result ℕ CliFault) → OnText bytes (λ read. PairsReport AdvisesNamed read given texts old new result) → result ≡ Ok 0
+    → (start : State) (who : List Identity) (paths : List Names) → IsTextOf start bytes → users_read given ≡ Ok who
+    → paths_read texts ≡ Ok paths → AreContainedAsNamed start (paired who paths)
+contained_said bytes given texts old new result asked zero start who paths of_text is_who are_paths =
+    by_read (named_read given texts asked.0) (λ users subtrees st. named_read given texts asked.0 ≡ Ok (users, subtrees, st))
+    AdvisesNamed (λ old new result. result ≡ Ok 0 → AreContainedAsNamed start (paired who paths))
+    (λ fault met known none. let never : ⊥ = cc in absurd never)
+    (λ users subtrees st is old new result advises none.
+    named_means asked.0 given texts users subtrees st is (advises.1 none) start who paths
+    (one_reading bytes asked.0 (Ok start) asked.1 of_text) is_who are_paths)
+    old new result asked.2 zero

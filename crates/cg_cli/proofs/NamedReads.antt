@@ -10,7 +10,7 @@ use Rattle.cg_format.specs.Readings.{Reading}
 use Rattle.cg_format.specs.declared.fault.TreeFault.{TreeFault}
 use Rattle.cg_format.specs.declared.fault.TreeFault.TheVariants.{NoMemory as TreeNoMemory}
 use Rattle.cg_cli.specs.Arguments.{user_read, path_read}
-use Rattle.cg_cli.specs.Asking.{read_in_turn, named_read, read_takes_memory, IsMet, IsKeptOnce, NamedReports}
+use Rattle.cg_cli.specs.Asking.{read_in_turn, named_read, read_takes_memory, IsMet, IsKeptOnce, CallEnding, ReadReports, NamedReports}
 use Rattle.cg_cli.specs.Audits.{read_before, each_read, users_read, paths_read}
 use Rattle.cg_faults.specs.Faults.{lifted}
 use Rattle.cg_cli.specs.May.{tree_read}
@@ -124,18 +124,27 @@ module _ (given : List (ℕ × List ℕ)) (texts : List (List ℕ)) (tree : Read
       pub all_are : (st : State) → tree ≡ Ok st → named_read given texts tree ≡ Ok (users, subtrees, st)
       all_are st of_text = by_tree (tree_read tree) ∙ ap (λ t. read_in_turn (Ok users) (Ok subtrees) (tree_read t)) of_text
 
--- What holds of a call that asks users and subtrees, by how its reading ended.
-pub by_reading : (answers : State → List Identity → List Names → Option (List ℕ) → Option (List ℕ) → Result ℕ CliFault → Type 0)
-    (tree : Reading) (given : List (ℕ × List ℕ)) (texts : List (List ℕ))
-    (P : Option (List ℕ) → Option (List ℕ) → Result ℕ CliFault → Type 0)
+-- What holds of a call that reads and then answers, by how its reading ended.
+pub by_read : (read : Result (List Identity × List Names × State) CliFault) (Kept : List Identity → List Names → State → Type 0)
+    (answers : State → List Identity → List Names → CallEnding) (P : CallEnding)
+    → ((fault : CliFault) → IsMet read fault → (known : Option (List ℕ)) → P known known (Err fault))
+    → ((users : List Identity) (subtrees : List Names) (st : State) → Kept users subtrees st
+    → (old new : Option (List ℕ)) (result : Result ℕ CliFault) → answers st users subtrees old new result → P old new result)
+    → (old new : Option (List ℕ)) (result : Result ℕ CliFault) → ReadReports read Kept answers old new result → P old new result
+by_read read Kept answers P of_fault of_answer old new result (inl met) =
+    subst (λ r. P old new r) (sym met.2) (subst (λ n. P old n (Err met.0)) (sym met.3) (of_fault met.0 met.1 old))
+by_read read Kept answers P of_fault of_answer old new result (inr asked) =
+    of_answer asked.0 asked.1 asked.2 asked.3 old new result asked.4
+
+-- and where who and what is named again counts once
+pub by_reading : (answers : State → List Identity → List Names → CallEnding)
+    (tree : Reading) (given : List (ℕ × List ℕ)) (texts : List (List ℕ)) (P : CallEnding)
     → ((fault : CliFault) → IsMet (named_read given texts tree) fault → (known : Option (List ℕ)) → P known known (Err fault))
     → ((users : List Identity) (subtrees : List Names) (st : State) → IsKeptOnce (named_read given texts tree) users subtrees st
     → (old new : Option (List ℕ)) (result : Result ℕ CliFault) → answers st users subtrees old new result → P old new result)
     → (old new : Option (List ℕ)) (result : Result ℕ CliFault) → NamedReports answers tree given texts old new result → P old new result
-by_reading answers tree given texts P of_fault of_answer old new result (inl met) =
-    subst (λ r. P old new r) (sym met.2) (subst (λ n. P old n (Err met.0)) (sym met.3) (of_fault met.0 met.1 old))
-by_reading answers tree given texts P of_fault of_answer old new result (inr asked) =
-    of_answer asked.0 asked.1 asked.2 asked.3 old new result asked.4
+by_reading answers tree given texts P =
+    by_read (named_read given texts tree) (IsKeptOnce (named_read given texts tree)) answers P
 
 -- the same lists by other names
 pub kept_as : {read : Result (List Identity × List Names × State) CliFault} {users others : List Identity}

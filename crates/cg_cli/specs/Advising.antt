@@ -84,6 +84,12 @@ named_with pairs subtree = map (λ pair. pair.user) (filter (λ pair. same_path 
 abbrev pub AreContainedAsNamed : State → List Pair → Type 0
 AreContainedAsNamed st pairs = All (λ pair. AreContained st (named_with pairs pair.subtree) (pair.subtree ∷ [])) pairs
 
+-- The advice for those that stand at the same place is written, and status 0 means that they are contained as they are.
+abbrev pub AdvisesNamed : State → List Identity → List Names → Option (List ℕ) → Option (List ℕ) → Result ℕ CliFault → Type 0
+AdvisesNamed st users subtrees old new result =
+    Reports (advice_report st subtrees (paired users subtrees)) old new result
+    × (result ≡ Ok 0 → AreContainedAsNamed st (paired users subtrees))
+
 -- A user who isn't root, and a subtree whose counts are numbers that its limits may have.
 pub record IsAdvisable (st : State) (pair : Pair) : Type 0 where
   pub user : IsUser pair.user

@@ -57,9 +57,12 @@ abbrev pub read_then : {A B : Type 0} → Result A CliFault → (A → Result B 
 read_then (Ok x) next = next x
 read_then (Err fault) next = Err fault
 
--- The first fault of the subtrees, in the order of their list, or the pairs.
+-- The first fault of the subtrees, in the order of their list, or pairs.
+abbrev pub found_unless_fault : State → List Names → List Listed → Result (List Listed) CliFault
+found_unless_fault st subtrees pairs = in_call (unless_fault (first (flat_map (subtree_faults st) subtrees)) pairs)
+
 abbrev pub pairs_found : State → List Identity → List Names → Result (List Listed) CliFault
-pairs_found st users subtrees = in_call (unless_fault (first (flat_map (subtree_faults st) subtrees)) (listed st users subtrees))
+pairs_found st users subtrees = found_unless_fault st subtrees (listed st users subtrees)
 
 -- All users are looked at first, each with their uid before their gids; then all paths, the tree's text, and whether the
 -- subtrees are ones that can be checked. Who and what is named again counts once.

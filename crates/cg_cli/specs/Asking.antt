@@ -40,10 +40,25 @@ pub record IsKeptOnce (read : Result (List Identity × List Names × State) CliF
   pub of_users : users ≡ once same_user all_users
   pub of_subtrees : subtrees ≡ once same_path all_subtrees
 
--- What a call answers, and has written by then, that reads users, subtrees and a tree, and then answers something of these; or a
--- fault that it meets in reading, by when nothing is written.
-abbrev pub NamedReports : (State → List Identity → List Names → Option (List ℕ) → Option (List ℕ) → Result ℕ CliFault → Type 0) → Reading → List (ℕ × List ℕ) → List (List ℕ) → Option (List ℕ) → Option (List ℕ) → Result ℕ CliFault → Type 0
-NamedReports answers tree given texts old new result =
-    ((fault : CliFault) × IsMet (named_read given texts tree) fault × (result ≡ Err fault) × (new ≡ old))
-    ⊎ ((users : List Identity) × (subtrees : List Names) × (st : State) × IsKeptOnce (named_read given texts tree) users subtrees st
+-- what may be answered, and written by then
+abbrev pub CallEnding : Type 1
+CallEnding = Option (List ℕ) → Option (List ℕ) → Result ℕ CliFault → Type 0
+
+-- What a call answers that reads users, subtrees and a tree, and then answers something of what it keeps of these; or a fault that
+-- it meets in reading, by when nothing is written.
+abbrev pub ReadReports : Result (List Identity × List Names × State) CliFault → (List Identity → List Names → State → Type 0)
+    → (State → List Identity → List Names → CallEnding) → CallEnding
+ReadReports read Kept answers old new result =
+    ((fault : CliFault) × IsMet read fault × (result ≡ Err fault) × (new ≡ old))
+    ⊎ ((users : List Identity) × (subtrees : List Names) × (st : State) × Kept users subtrees st
     × answers st users subtrees old new result)
+
+-- Of who and what is named again, the first.
+abbrev pub NamedReports : (State → List Identity → List Names → CallEnding) → Reading → List (ℕ × List ℕ) → List (List ℕ) → CallEnding
+NamedReports answers tree given texts =
+    ReadReports (named_read given texts tree) (IsKeptOnce (named_read given texts tree)) answers
+
+-- All of them, as they are named.
+abbrev pub PairsReport : (State → List Identity → List Names → CallEnding) → Reading → List (ℕ × List ℕ) → List (List ℕ) → CallEnding
+PairsReport answers tree given texts =
+    ReadReports (named_read given texts tree) (λ users subtrees st. named_read given texts tree ≡ Ok (users, subtrees, st)) answers

@@ -67,10 +67,13 @@ TellsPair st pair old new (Err Write) =
 TellsPair st pair old new (Err NoMemory) = Keeps old new
 TellsPair st pair old new (Err fault) = ⊥
 
--- the first fault of the subtrees, in the order of their list, or the state and every user with every subtree
+-- the first fault of the subtrees, in the order of their list, or the state and pairs
+abbrev pub asked_unless_fault : State → List Names → List Pair → Result (State × List Pair) CliFault
+asked_unless_fault st subtrees pairs = in_call (unless_fault (first (flat_map (subtree_faults st) subtrees)) (st, pairs))
+
+-- every user with every subtree
 abbrev pub pairs_asked : State → List Identity → List Names → Result (State × List Pair) CliFault
-pairs_asked st users subtrees =
-    in_call (unless_fault (first (flat_map (subtree_faults st) subtrees)) (st, all_pairs users subtrees))
+pairs_asked st users subtrees = asked_unless_fault st subtrees (all_pairs users subtrees)
 
 -- All users are looked at first, each with their uid before their gids; then all paths, the tree's text, and whether the
 -- subtrees are ones that can be checked. Who and what is named again counts once.

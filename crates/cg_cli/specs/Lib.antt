@@ -24,5 +24,6 @@ pub mod FurtherAdvice
 pub mod FurtherPairs
 pub mod Pairs
 pub mod Explaining
+pub mod EachPair
 pub mod SettledPairs
 pub mod SettledRows

@@ -140,7 +140,7 @@ impl<H: Hierarchy + Drop> Listing<'_, H> {
 }
 
 /// Writes a pair, unless it is contained.
-fn write_pair<H: Hierarchy + Drop, W: Write>(
+pub(crate) fn write_pair<H: Hierarchy + Drop, W: Write>(
     alloc: Global,
     tree: &H,
     user: &User,

@@ -90,7 +90,7 @@ fn write_told<H: Hierarchy + Drop, W: Write>(
 }
 
 /// Writes pairs, one after another.
-fn write_pairs<H: Hierarchy + Drop, W: Write>(
+pub(crate) fn write_pairs<H: Hierarchy + Drop, W: Write>(
     alloc: Global,
     tree: &H,
     pairs: &[Pair<'_>],

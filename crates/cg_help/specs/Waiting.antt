@@ -38,7 +38,9 @@ awaited (request.Settle check) = tree_awaited check.tree
 awaited (request.Audit audit) = tree_awaited audit.tree
 awaited (request.Explain explain) = tree_awaited explain.tree
 awaited (request.Advise advise) = tree_awaited advise.tree
-awaited (request.AdvisePairs advise) = awaited_of advise.sources pairs_words
+awaited (request.AdvisePairs asked) = awaited_of asked.sources pairs_words
+awaited (request.AuditPairs asked) = awaited_of asked.sources pairs_words
+awaited (request.ExplainPairs asked) = awaited_of asked.sources pairs_words
 awaited (request.Replay replay) = awaited_of replay.sources operations_words
 awaited (request.Upgrade upgrade) = tree_awaited upgrade.tree
 

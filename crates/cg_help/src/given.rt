@@ -10,7 +10,9 @@ pub(crate) fn tree_of<'a>(request: &Request<'a>) -> Option<&'a str> {
         Request::Audit(request) => request.tree,
         Request::Explain(request) => request.tree,
         Request::Advise(request) => request.tree,
-        Request::AdvisePairs(request) => request.sources.tree(),
+        Request::AdvisePairs(request)
+        | Request::AuditPairs(request)
+        | Request::ExplainPairs(request) => request.sources.tree(),
         Request::Replay(request) => request.sources.tree(),
         Request::Upgrade(request) => request.tree,
         _ => None,
@@ -20,7 +22,9 @@ pub(crate) fn tree_of<'a>(request: &Request<'a>) -> Option<&'a str> {
 /// The file of the operations or the pairs, where one is named.
 pub(crate) fn other_of<'a>(request: &Request<'a>) -> Option<&'a str> {
     match request {
-        Request::AdvisePairs(request) => request.sources.other(),
+        Request::AdvisePairs(request)
+        | Request::AuditPairs(request)
+        | Request::ExplainPairs(request) => request.sources.other(),
         Request::Replay(request) => request.sources.other(),
         _ => None,
     }

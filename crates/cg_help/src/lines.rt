@@ -28,7 +28,9 @@ pub(crate) fn line_said(
     }
     match std::str::from_utf8(line) {
         Ok(line) => match request {
-            Request::AdvisePairs(_) => shown_with(alloc, line, PAIR),
+            Request::AdvisePairs(_) | Request::AuditPairs(_) | Request::ExplainPairs(_) => {
+                shown_with(alloc, line, PAIR)
+            }
             _ => operation_said(alloc, vocabulary, line),
         },
         Err(_) => String::from_str(alloc, "the line isn't UTF-8"),

@@ -3,10 +3,9 @@ use Rattle.std.proofs.Common.{◌≡◌, ◌≢◌, ℕ, ◌+◌, ◌<◌, ◌�
 use Rattle.std.specs.Prelude.{drop, nat_lt, nat_le, ◌&&◌, ◌||◌, option_and_then, Option, Some, None, Result, Ok, Err}
 use Rattle.std.specs.List.{slice_split, onto_first}
 use Rattle.std.specs.Option.{option_map}
-use Rattle.cg_format.specs.Readings.{OnText}
-use Rattle.cg_cli.specs.Advising.{advise_pairs_report}
+use Rattle.cg_format.specs.Readings.{Reading, OnText}
+use Rattle.cg_cli.specs.Asking.{CallEnding}
 use Rattle.cg_cli.specs.Replays.{is_newline}
-use Rattle.cg_cli.specs.Reports.{Report, Reports, report_on}
 use Rattle.cg_faults.specs.declared.fault.CliFault.{CliFault}
 use Rattle.cg_faults.specs.declared.fault.CliFault.TheVariants.{Write, NoPair, NoMemory}
 use Rattle.cg_cli.proofs.ReadingOf.{on_text}
@@ -27,7 +26,7 @@ use Rattle.cg_lines.specs.OperationLines.{spelling, IsInRange}
 use Rattle.cg_lines.specs.LineReading.{operation_at}
 use Rattle.cg_lines.proofs.LineLaws.{line_again, nothing_read}
 use Rattle.commands.specs.PairLines.{GivenPair, with_path, words_read, is_pair_line, is_answer_line, is_operation_line, one_read, other_read, line_read, text_end_read, followed_by, pieces_read, pairs_read, lines_read, nothing_listed, asked_of, AsksSomething}
-use Rattle.commands.specs.Requests.{ReportsOnPairs}
+use Rattle.commands.specs.Requests.{OnLines, AnswersPairs}
 use Rattle.commands.proofs.RequestLaws.{Keeps-refl, unread}
 
 -- ---- a line
@@ -202,33 +201,34 @@ only_listed text (Err fault) is = absurd (no_fault_is fault [] is)
 only_listed text (Ok []) is = only_by_test text (same_name text nothing_listed) refl is
 only_listed text (Ok (pair ∷ pairs)) is = absurd (not_empty pair pairs is)
 
--- what a report is on
-pub asked_about : (text : List ℕ) (pairs : Result (List GivenPair) CliFault) → pairs ≡ pairs_read text
-    → (said : List GivenPair → Report) (status : ℕ) → (report_on pairs said).ending ≡ Ok status → AsksSomething text
-asked_about text (Err fault) is said status ended = absurd (no_fault_is fault status ended)
-asked_about text (Ok []) is said status ended = inl (only_listed text (lines_read text) (sym is))
-asked_about text (Ok (pair ∷ pairs)) is said status ended = inr (pair, pairs, sym is)
+-- what is answered with a status is of something
+pub asked_about : (Says : List GivenPair → Reading → CallEnding) (text : List ℕ) (pairs : Result (List GivenPair) CliFault)
+    → pairs ≡ pairs_read text → (tree : Reading) (old new : Option (List ℕ)) (status : ℕ) → OnLines Says pairs tree old new (Ok status)
+    → AsksSomething text
+asked_about Says text (Err fault) is tree old new status said = let never : ⊥ = let same = said.0 in cc in absurd never
+asked_about Says text (Ok []) is tree old new status said = inl (only_listed text (lines_read text) (sym is))
+asked_about Says text (Ok (pair ∷ pairs)) is tree old new status said = inr (pair, pairs, sym is)
 
--- the first fault of the lines is the report's, or there was no memory
-pub fault_said : (tree text : List ℕ) (fault : CliFault) → fault ≢ Write → (fault ≢ NoMemory → pairs_read text ≡ Err fault)
-    → (known : Option (List ℕ)) → ReportsOnPairs tree text known known (Err fault)
-fault_said tree text Write other stated known = absurd (other refl)
-fault_said tree text NoMemory other stated known = inr (unread known NoMemory (Err NoMemory) refl (inr refl))
-fault_said tree text fault other stated known =
-    inl (on_text tree (λ read _.
-    (ap (λ pairs. (report_on pairs (λ given. advise_pairs_report read given)).ending) (stated (λ same. cc)), Keeps-refl known)))
+module _ (Says : List GivenPair → Reading → CallEnding) (tree text : List ℕ) where
+  -- the first fault of the lines is the answer, or there was no memory
+  pub fault_said : (fault : CliFault) → fault ≢ Write → (fault ≢ NoMemory → pairs_read text ≡ Err fault) → (known : Option (List ℕ))
+      → AnswersPairs Says tree text known known (Err fault)
+  fault_said Write other stated known = absurd (other refl)
+  fault_said NoMemory other stated known = inr (unread known NoMemory (Err NoMemory) refl (inr refl))
+  fault_said fault other stated known =
+      inl (on_text tree (λ read _.
+      subst (λ (pairs : Result (List GivenPair) CliFault). OnLines Says pairs read known known (Err fault))
+      (sym (stated (λ same. cc))) (refl, Keeps-refl known)))
 
-pub memory_said : (tree text : List ℕ) (known : Option (List ℕ)) → ReportsOnPairs tree text known known (Err NoMemory)
-memory_said tree text known = inr (unread known NoMemory (Err NoMemory) refl (inr refl))
+  pub memory_said : (known : Option (List ℕ)) → AnswersPairs Says tree text known known (Err NoMemory)
+  memory_said known = inr (unread known NoMemory (Err NoMemory) refl (inr refl))
 
--- and without one the report is that on the pairs
-pub pairs_reported : (tree text : List ℕ) (pairs : List GivenPair) (old new : Option (List ℕ)) (result : Result ℕ CliFault)
-    → pairs_read text ≡ Ok pairs → OnText tree (λ read. Reports (advise_pairs_report read pairs) old new result)
-    → ReportsOnPairs tree text old new result
-pairs_reported tree text pairs old new result is said =
-    inl (
-      said.0,
-      said.1,
-      subst (λ (r : Report). Reports r old new result)
-          (sym (ap (λ found. report_on found (λ given. advise_pairs_report said.0 given)) is)) said.2,
-    )
+  -- and without one it is that of the pairs
+  pub pairs_answered : (pairs : List GivenPair) (old new : Option (List ℕ)) (result : Result ℕ CliFault) → pairs_read text ≡ Ok pairs
+      → OnText tree (λ read. Says pairs read old new result) → AnswersPairs Says tree text old new result
+  pairs_answered pairs old new result is said =
+      inl (
+        said.0,
+        said.1,
+        subst (λ (found : Result (List GivenPair) CliFault). OnLines Says found said.0 old new result) (sym is) said.2,
+      )

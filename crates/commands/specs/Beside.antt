@@ -54,7 +54,9 @@ IsNotedFor (request.Settle check) files given beside = IsOfUsers (source files (
 IsNotedFor (request.Audit audit) files given beside = IsOfUsers (source files (name_of audit.tree) given) (map ids_of audit.users.items) beside
 IsNotedFor (request.Explain explain) files given beside = IsOfUsers (source files (name_of explain.tree) given) (map ids_of explain.users.items) beside
 IsNotedFor (request.Advise advise) files given beside = IsOfUsers (source files (name_of advise.tree) given) (map ids_of advise.users.items) beside
-IsNotedFor (request.AdvisePairs advise) files given beside = IsPlain (source files (tree_file advise.sources) given) beside
+IsNotedFor (request.AdvisePairs asked) files given beside = IsPlain (source files (tree_file asked.sources) given) beside
+IsNotedFor (request.AuditPairs asked) files given beside = IsPlain (source files (tree_file asked.sources) given) beside
+IsNotedFor (request.ExplainPairs asked) files given beside = IsPlain (source files (tree_file asked.sources) given) beside
 IsNotedFor (request.Replay replay) files given beside = IsPlain (source files (tree_file replay.sources) given) beside
 IsNotedFor (request.Upgrade upgrade) files given beside = IsPlain (source files (name_of upgrade.tree) given) beside
 

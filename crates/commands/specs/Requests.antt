@@ -19,6 +19,8 @@ use Rattle.cg_cli.specs.Settled.{IsSettledFrom}
 use Rattle.cg_cli.specs.Settling.{AskedReports, FurtherSays}
 use Rattle.cg_cli.specs.Audits.{audit_report}
 use Rattle.cg_cli.specs.AllPairs.{all_report, ReportsPairs}
+use Rattle.cg_cli.specs.Asking.{CallEnding}
+use Rattle.cg_cli.specs.EachPair.{audit_pairs_report, explain_pairs_asked}
 use Rattle.cg_cli.specs.Explaining.{explain_asked, ReportsTold}
 use Rattle.cg_cli.specs.Advising.{advise_report, advise_pairs_report}
 use Rattle.cg_cli.specs.SettledAdvice.{advise_settled_report}
@@ -27,10 +29,10 @@ use Rattle.cg_cli.specs.SettledPairs.{ReportsSettled}
 use Rattle.cg_cli.specs.Upgrades.{Upgrades}
 use Rattle.cg_cli.specs.Replays.{closed, lines_report}
 use Rattle.cg_cli.specs.Replaying.{Reporting, ReplaysFrom}
-use Rattle.cg_cli.specs.Reports.{Report, Reports, report_on}
+use Rattle.cg_cli.specs.Reports.{Report, Reports}
 use Rattle.cg_faults.specs.declared.fault.CliFault.{CliFault}
 use Rattle.cg_faults.specs.declared.fault.CliFault.TheVariants.{Read, NoMemory}
-use Rattle.commands.specs.PairLines.{pairs_read}
+use Rattle.commands.specs.PairLines.{GivenPair, pairs_read}
 use Rattle.cg_cgroup.specs.declared.files.Vocabulary.{Vocabulary}
 use Rattle.cg_format.specs.TreeTexts.{most_read}
 
@@ -81,9 +83,21 @@ AdviseSays advise old new result tree =
     MatchBool advise.settle (Reports (advise_settled_report tree users subtrees) old new result)
     (Reports (advise_report tree users subtrees) old new result)
 
--- the first fault of the lines of a text, or the report on the pairs that they name
-abbrev pub pairs_said : List ℕ → Reading → Report
-pairs_said text tree = report_on (pairs_read text) (λ pairs. advise_pairs_report tree pairs)
+-- ---- what is answered of pairs, on what the text of a tree is read as
+
+abbrev pub AdvisesOn : List GivenPair → Reading → CallEnding
+AdvisesOn pairs tree = Reports (advise_pairs_report tree pairs)
+
+abbrev pub AuditsOn : List GivenPair → Reading → CallEnding
+AuditsOn pairs tree = ReportsPairs (audit_pairs_report tree pairs)
+
+abbrev pub ExplainsOn : List GivenPair → Reading → CallEnding
+ExplainsOn pairs tree = ReportsTold (explain_pairs_asked tree pairs)
+
+-- the first fault of the lines of a text, by when nothing is written, or what is answered of the pairs that they name
+abbrev pub OnLines : (List GivenPair → Reading → CallEnding) → Result (List GivenPair) CliFault → Reading → CallEnding
+OnLines Says (Ok pairs) tree old new result = Says pairs tree old new result
+OnLines Says (Err fault) tree old new result = (result ≡ Err fault) × Keeps old new
 
 -- each pair that isn't contained, or the first alone
 abbrev pub GuardsSay : Bool → List (ℕ × List ℕ) → List (List ℕ) → Option (List ℕ) → Option (List ℕ) → Result ℕ CliFault → Reading → Type 0
@@ -133,14 +147,15 @@ ReportsOnTree known said old new result = OnTree known (λ tree. Reports (said t
 abbrev pub SettlesOnTree : Option (List ℕ) → Check → Option (List ℕ) → Option (List ℕ) → Result ℕ CliFault → Type 0
 SettlesOnTree known check old new result = OnTree known (SettlesAs check old new result) old new result
 
--- The report on the pairs of a text and the text of a tree.
-abbrev pub ReportsOnPairs : List ℕ → List ℕ → Option (List ℕ) → Option (List ℕ) → Result ℕ CliFault → Type 0
-ReportsOnPairs tree text old new result = OnText tree (λ read. Reports (pairs_said text read) old new result) ⊎ IsUnread old new result
+-- What is answered of the pairs of a text on the text of a tree.
+abbrev pub AnswersPairs : (List GivenPair → Reading → CallEnding) → List ℕ → List ℕ → CallEnding
+AnswersPairs Says tree text old new result = OnText tree (λ read. OnLines Says (pairs_read text) read old new result) ⊎ IsUnread old new result
 
--- What is answered on both, of what they are read as.
-abbrev pub OnPairs : Option (List ℕ) → Option (List ℕ) → Option (List ℕ) → Option (List ℕ) → Result ℕ CliFault → Type 0
-OnPairs known pairs old new result =
-    ((tree : List ℕ) × (text : List ℕ) × IsTree known tree × ArePairs pairs text × ReportsOnPairs tree text old new result) ⊎ IsUnread old new result
+-- The same, of what both are read as.
+abbrev pub OnPairsText : (List GivenPair → Reading → CallEnding) → Option (List ℕ) → Option (List ℕ) → CallEnding
+OnPairsText Says known pairs old new result =
+    ((tree : List ℕ) × (text : List ℕ) × IsTree known tree × ArePairs pairs text × AnswersPairs Says tree text old new result)
+    ⊎ IsUnread old new result
 
 -- The report of operations over what a reader had to give, of which some may be left.
 abbrev pub ReplaysOver : Option (List ℕ) → Reporting → Option (List ℕ) → Option (List ℕ) → Result ℕ CliFault → Type 0
@@ -165,8 +180,12 @@ CarriesOut (request.Explain explain) files given old new result =
     OnTree (source files (name_of explain.tree) given) (ExplainSays explain old new result) old new result
 CarriesOut (request.Advise advise) files given old new result =
     OnTree (source files (name_of advise.tree) given) (AdviseSays advise old new result) old new result
-CarriesOut (request.AdvisePairs advise) files given old new result =
-    OnPairs (source files (tree_file advise.sources) given) (source files (other_file advise.sources) given) old new result
+CarriesOut (request.AdvisePairs asked) files given old new result =
+    OnPairsText AdvisesOn (source files (tree_file asked.sources) given) (source files (other_file asked.sources) given) old new result
+CarriesOut (request.AuditPairs asked) files given old new result =
+    OnPairsText AuditsOn (source files (tree_file asked.sources) given) (source files (other_file asked.sources) given) old new result
+CarriesOut (request.ExplainPairs asked) files given old new result =
+    OnPairsText ExplainsOn (source files (tree_file asked.sources) given) (source files (other_file asked.sources) given) old new result
 CarriesOut (request.Upgrade upgrade) files given old new result =
     OnTreeText (source files (name_of upgrade.tree) given) (λ vocabulary. Upgrades vocabulary old new result) old new result
 CarriesOut (request.Replay replay) files given old new result =

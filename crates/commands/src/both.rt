@@ -1,17 +1,15 @@
-//! The commands that are asked of a tree and of a text beside it: pairs, or operations.
+//! The command that is asked of a tree and of operations: a replay.
 ghost use Rattle.std.specs.Prelude.{◌≡◌, None, IfOk, IfErr};
 ghost use Rattle.cg_format.specs.Readings.{OnText, vocabulary_in};
 ghost use Rattle.arguments.specs.Given.{tree_file, other_file};
 ghost use Rattle.cg_help.specs.Modes.{spelled_mode};
 ghost use Rattle.commands.specs.Beside.{IsPlain};
-ghost use Rattle.commands.specs.Requests.{source, ReportsOnPairs, OnPairs, replay_said, ReplaysOver, ReplaysOnTree};
+ghost use Rattle.commands.specs.Requests.{source, replay_said, ReplaysOver, ReplaysOnTree};
 
 use crate::carried::Noted;
-use crate::pairs::{line_at, read_pairs};
-use crate::texts::{both_texts, file_text, opened, tree_text};
-use crate::users::{ids, pair_ids};
-use arguments::request::{AdvisePairs, Replay, Sources};
-use cg_cli::advise_pairs::advise_pairs_bytes;
+use crate::texts::{file_text, opened, tree_text};
+use crate::users::ids;
+use arguments::request::{Replay, Sources};
 use cg_cli::replay::replay_from;
 use cg_faults::fault::CliFault;
 use cg_help::beside::Beside;
@@ -21,53 +19,6 @@ use std::io::{BufReader, Read, Write};
 use streams::again::Again;
 use streams::files::Files;
 use streams::line::{LineKept, line_of};
-
-/// Advises on the pairs of a text. Where one of its lines ends it, that line is noted.
-pub(crate) fn advise_pairs<F: Files, I: Read + Drop, W: Write>(
-    alloc: Global,
-    asked: AdvisePairs<'_>,
-    files: &F,
-    input: I,
-    noted: &mut Noted,
-    out: &mut W,
-) -> Result<u8, CliFault>
-    ensures answer { OnPairs (source (F.given files.now) (tree_file asked.entry.sources) (I.remaining input))
-        (source (F.given files.now) (other_file asked.entry.sources) (I.remaining input))
-        (W.contents out.old) (W.contents out.new) result }
-    ensures noted { IfOk result (λ _. IsPlain (source (F.given files.now) (tree_file asked.entry.sources) (I.remaining input)) noted.new.beside) }
-{
-    let texts = both_texts(alloc, asked.sources, files, input)?;
-    noted.beside = plain(alloc, texts.tree.as_slice())?;
-    advised(
-        alloc,
-        texts.tree.as_slice(),
-        texts.other.as_slice(),
-        &mut noted.line,
-        out,
-    )
-}
-
-/// Advises on the pairs of a text and the text of a tree.
-fn advised<W: Write>(
-    alloc: Global,
-    tree: &[u8],
-    text: &[u8],
-    line: &mut Option<Vec<u8>>,
-    out: &mut W,
-) -> Result<u8, CliFault>
-    ensures { ReportsOnPairs tree.now text.now (W.contents out.old) (W.contents out.new) result }
-{
-    match read_pairs(alloc, text) {
-        Err(fault) => {
-            *line = line_at(alloc, text, &fault);
-            Err(fault)
-        }
-        Ok(pairs) => {
-            let pairs = pair_ids(alloc, pairs.as_slice())?;
-            advise_pairs_bytes(alloc, tree, pairs.as_slice(), out)
-        }
-    }
-}
 
 /// A replay, and the place of the line that ends it.
 #[derive(Drop)]

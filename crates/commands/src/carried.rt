@@ -4,7 +4,8 @@ ghost use Rattle.cg_cli.specs.Reports.{Reports};
 ghost use Rattle.commands.specs.Beside.{IsNotedFor};
 ghost use Rattle.commands.specs.Requests.{CarriesOut};
 
-use crate::both::{advise_pairs, replay};
+use crate::both::replay;
+use crate::on_pairs::{Advising, Auditing, Explaining, on_pairs};
 use crate::on_tree::{Settling, on_tree};
 use arguments::request::Request;
 use cg_faults::fault::CliFault;
@@ -51,7 +52,9 @@ pub(crate) fn carried_out<F: Files, I: Read + Drop, W: Write>(
         Request::Explain(asked) => on_tree(alloc, asked, files, input, beside, out),
         Request::Advise(asked) => on_tree(alloc, asked, files, input, beside, out),
         Request::Upgrade(asked) => on_tree(alloc, asked, files, input, beside, out),
-        Request::AdvisePairs(asked) => advise_pairs(alloc, *asked, files, input, noted, out),
+        Request::AdvisePairs(asked) => { on_pairs(alloc, &Advising, asked.sources, files, input, noted, out) }
+        Request::AuditPairs(asked) => { on_pairs(alloc, &Auditing, asked.sources, files, input, noted, out) }
+        Request::ExplainPairs(asked) => { on_pairs(alloc, &Explaining, asked.sources, files, input, noted, out) }
         Request::Replay(asked) => replay(alloc, asked, files, input, noted, out),
     }
 }

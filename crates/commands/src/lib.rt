@@ -4,6 +4,7 @@
 mod both;
 mod carried;
 pub mod fault;
+mod on_pairs;
 mod on_tree;
 mod pairs;
 pub mod program;

@@ -11,6 +11,7 @@ mod check;
 mod explain;
 mod input;
 mod may;
+mod pairs;
 mod readers;
 mod replay;
 mod replay_ends;

@@ -51,7 +51,7 @@ module _ (st : State) (formed : IsWellFormed st) where
       let both = neither (not (is_contained each.found)) (list_any (λ each. not (is_contained each.found)) told) none in
       (one_contained each.user each.subtree each.found subs.0 are.0 both.0, each_contained told are.1 both.1 subs.1)
 
-  told_contained : (pairs : List Pair) (old new : Option (List ℕ)) (status : ℕ) → TellsPairs st pairs old new (Ok status) → status ≡ 0
+  pub told_contained : (pairs : List Pair) (old new : Option (List ℕ)) (status : ℕ) → TellsPairs st pairs old new (Ok status) → status ≡ 0
       → AllByRecursion (λ (pair : Pair). IsSubtree st pair.subtree) pairs
       → All (λ (pair : Pair). IsContained st pair.user pair.subtree) pairs
   told_contained pairs old new status tells zero subs =

@@ -32,6 +32,8 @@ use Rattle.cg_cli.specs.Advising.{all_pairs, paired, advise_report, advise_pairs
 use Rattle.cg_cli.specs.FurtherAdvice.{AreHeld}
 use Rattle.cg_cli.specs.FurtherPairs.{listed_from, AreFurther, first_pair_report}
 use Rattle.cg_cli.specs.AllPairs.{all_report, ReportsPairs}
+use Rattle.cg_cli.specs.Asking.{CallEnding}
+use Rattle.cg_cli.specs.EachPair.{audit_pairs_report, explain_pairs_asked, UnlistedAsNamed}
 use Rattle.cg_cli.specs.Containment.{answer_report}
 use Rattle.cg_cli.specs.Explaining.{explain_asked, ReportsTold}
 use Rattle.cg_cli.specs.Settled.{IsSettledFrom}
@@ -53,14 +55,14 @@ use Rattle.arguments.specs.declared.request.Check.{Check}
 use Rattle.arguments.specs.declared.request.Audit.{Audit}
 use Rattle.arguments.specs.declared.request.Explain.{Explain}
 use Rattle.arguments.specs.declared.request.Advise.{Advise}
-use Rattle.arguments.specs.declared.request.AdvisePairs.{AdvisePairs}
+use Rattle.arguments.specs.declared.request.Pairs.{Pairs}
 use Rattle.arguments.specs.declared.request.Upgrade.{Upgrade}
 use Rattle.arguments.specs.declared.request.Replay.{Replay}
 use Rattle.arguments.specs.declared.request.Request.{Request}
 use Rattle.arguments.specs.declared.request.Request.TheVariants as request
 use Rattle.streams.specs.declared.write.WriteFailed.{WriteFailed}
-use Rattle.commands.specs.PairLines.{pairs_read, AsksSomething}
-use Rattle.commands.specs.Requests.{Files, IsUnread, source, name_of, may_said, check_said, SettlesAs, AdviseSays, pairs_said, GuardsSay, FurtherSay, AuditSays, ExplainSays, replay_said, OnTreeText, OnTree, OnPairs, ReplaysOver, CarriesOut}
+use Rattle.commands.specs.PairLines.{GivenPair, pairs_read, AsksSomething}
+use Rattle.commands.specs.Requests.{Files, IsUnread, source, name_of, may_said, check_said, SettlesAs, AdviseSays, AdvisesOn, AuditsOn, ExplainsOn, OnLines, OnPairsText, GuardsSay, FurtherSay, AuditSays, ExplainSays, replay_said, OnTreeText, OnTree, ReplaysOver, CarriesOut}
 use Rattle.commands.specs.Runs.{IsFlushed, CarriesOutBuffered, LeadsTo, LiesBelow, RunsTo}
 use Rattle.commands.specs.declared.fault.Fault.{Fault}
 use Rattle.commands.specs.declared.fault.Fault.TheVariants.{Usage, Cli}
@@ -72,7 +74,7 @@ use Rattle.theorems.proofs.FurtherLaws.{settled_told, all_told, first_told}
 use Rattle.theorems.proofs.StatusLaws.{all_contained_by_status, all_contained_by_pairs, all_contained_by_advice}
 use Rattle.theorems.proofs.ExplainedLaws.{explained_contained}
 use Rattle.theorems.proofs.MayLaws.{nothing_bars}
-use Rattle.theorems.proofs.PairedLaws.{contained_as_they_are}
+use Rattle.theorems.proofs.PairedLaws.{contained_as_they_are, audited_as_named, explained_as_named}
 use Rattle.theorems.proofs.ReplayedLaws.{replay_held}
 use Rattle.cg_cgroup.specs.declared.files.Vocabulary.{Vocabulary}
 use Rattle.cg_format.specs.Readings.{vocabulary_in}
@@ -167,19 +169,28 @@ on_operations said known old new status ops of_known (inl over) =
     subst (λ bytes. Replays closed said bytes old new (Ok status)) same replays.2
 on_operations said known old new status ops of_known (inr unread) = read_whole old new status unread
 
--- what is answered on the pairs that there are
-on_pairs : (known known_pairs old new : Option (List ℕ)) (status : ℕ) (text pairs : List ℕ) (st : State) → known ≡ Some text
-    → known_pairs ≡ Some pairs → IsTextOf st text → length pairs ≤ 16777216 → OnPairs known known_pairs old new (Ok status)
-    → Reports (pairs_said pairs (Ok st)) old new (Ok status)
-on_pairs known known_pairs old new status text pairs st of_known of_pairs of_text short (inl both) =
+-- what is answered of the pairs that there are
+on_pairs : (Says : List GivenPair → Reading → CallEnding) (known known_pairs old new : Option (List ℕ)) (status : ℕ)
+    (text pairs : List ℕ) (st : State) → known ≡ Some text → known_pairs ≡ Some pairs → IsTextOf st text → length pairs ≤ 16777216
+    → OnPairsText Says known known_pairs old new (Ok status) → OnLines Says (pairs_read pairs) (Ok st) old new (Ok status)
+on_pairs Says known known_pairs old new status text pairs st of_known of_pairs of_text short (inl both) =
     let same : both.1 ≡ pairs =
     subst (λ k. IfSome k (λ bytes. both.1 ≡ take 16777217 bytes)) of_pairs both.3 ∙ take_all 16777217 pairs (omega (arith, short)) in
-    subst (λ bytes. Reports (pairs_said bytes (Ok st)) old new (Ok status)) same
+    subst (λ bytes. OnLines Says (pairs_read bytes) (Ok st) old new (Ok status)) same
     (⊎_elim (λ said.
-    on_state (λ read. Reports (pairs_said both.1 read) old new (Ok status)) known old new status text st of_known of_text
+    on_state (λ read. OnLines Says (pairs_read both.1) read old new (Ok status)) known old new status text st of_known of_text
     (inl (both.0, both.2, said)))
     (λ unread. read_whole old new status unread) both.4)
-on_pairs known known_pairs old new status text pairs st of_known of_pairs of_text short (inr unread) = read_whole old new status unread
+on_pairs Says known known_pairs old new status text pairs st of_known of_pairs of_text short (inr unread) =
+    read_whole old new status unread
+
+-- they are named
+pairs_named : (Says : List GivenPair → Reading → CallEnding) (pairs : List ℕ) (read : Result (List GivenPair) CliFault)
+    → read ≡ pairs_read pairs → (st : State) (old new : Option (List ℕ)) (status : ℕ) → OnLines Says read (Ok st) old new (Ok status)
+    → (named : List GivenPair) × (pairs_read pairs ≡ Ok named) × AsksSomething pairs × Says named (Ok st) old new (Ok status)
+pairs_named Says pairs (Ok named) is st old new status said =
+    (named, sym is, asked_about Says pairs (Ok named) is (Ok st) old new status said, said)
+pairs_named Says pairs (Err fault) is st old new status said = let never : ⊥ = let same = said.0 in cc in absurd never
 
 -- ---- command by command
 
@@ -237,22 +248,67 @@ module _ (files : Files) (given old new : Option (List ℕ)) (status : ℕ) wher
         (on_state (SettlesAs check old new (Ok status)) (source files (name_of check.tree) given) old new status text st of_known of_text
         carried)
 
-    pub advise_pairs_ended : (advise : AdvisePairs) (pairs : List ℕ)
-        → CarriesOut (request.AdvisePairs advise) files given old new (Ok status)
-        → source files (tree_file advise.sources) given ≡ Some text → source files (other_file advise.sources) given ≡ Some pairs
-        → IsTextOf st text → length pairs ≤ 16777216 → Reports (pairs_said pairs (Ok st)) old new (Ok status) × AsksSomething pairs
-        × (status ≡ 0 → (named : List ((ℕ × List ℕ) × List ℕ)) (users : List Identity) (subtrees : List Names)
-        → pairs_read pairs ≡ Ok named → users_read (map (λ pair. pair.0) named) ≡ Ok users
-        → paths_read (map (λ pair. pair.1) named) ≡ Ok subtrees → AreContainedAsNamed st (paired users subtrees))
-    advise_pairs_ended advise pairs carried of_known of_pairs of_text short =
+    pub advise_pairs_ended : (asked : Pairs) (pairs : List ℕ) → CarriesOut (request.AdvisePairs asked) files given old new (Ok status)
+        → source files (tree_file asked.sources) given ≡ Some text → source files (other_file asked.sources) given ≡ Some pairs
+        → IsTextOf st text → length pairs ≤ 16777216
+        → (named : List ((ℕ × List ℕ) × List ℕ)) × (pairs_read pairs ≡ Ok named) × AsksSomething pairs
+        × Reports (advise_pairs_report (Ok st) named) old new (Ok status)
+        × ((users : List Identity) (subtrees : List Names) → users_read (map (λ pair. pair.0) named) ≡ Ok users
+        → paths_read (map (λ pair. pair.1) named) ≡ Ok subtrees
+        → status ≡ 0 → AreContainedAsNamed st (paired users subtrees))
+    advise_pairs_ended asked pairs carried of_known of_pairs of_text short =
         let said =
-        on_pairs (source files (tree_file advise.sources) given) (source files (other_file advise.sources) given) old new status text pairs
-        st of_known of_pairs of_text short carried in (
-          said,
-          asked_about pairs (pairs_read pairs) refl (λ named. advise_pairs_report (Ok st) named) status said.0,
-          λ zero named users subtrees of_named of_users of_paths.
-              contained_as_they_are st named users subtrees of_text.says.formed of_users of_paths
-              (ap (λ read. (report_on read (λ named. advise_pairs_report (Ok st) named)).ending) (sym of_named) ∙ said.0 ∙ ap Ok zero),
+        pairs_named AdvisesOn pairs (pairs_read pairs) refl st old new status
+        (on_pairs AdvisesOn (source files (tree_file asked.sources) given) (source files (other_file asked.sources) given) old new status
+        text pairs st of_known of_pairs of_text short carried) in (
+          said.0,
+          said.1,
+          said.2,
+          said.3,
+          λ users subtrees of_users of_paths.
+              λ zero. contained_as_they_are st said.0 users subtrees of_text.says.formed of_users of_paths (said.3.0 ∙ ap Ok zero),
+        )
+
+    pub audit_pairs_ended : (asked : Pairs) (pairs : List ℕ) → CarriesOut (request.AuditPairs asked) files given old new (Ok status)
+        → source files (tree_file asked.sources) given ≡ Some text → source files (other_file asked.sources) given ≡ Some pairs
+        → IsTextOf st text → length pairs ≤ 16777216
+        → (named : List ((ℕ × List ℕ) × List ℕ)) × (pairs_read pairs ≡ Ok named) × AsksSomething pairs
+        × ReportsPairs (audit_pairs_report (Ok st) named) old new (Ok status)
+        × ((users : List Identity) (subtrees : List Names) → users_read (map (λ pair. pair.0) named) ≡ Ok users
+        → paths_read (map (λ pair. pair.1) named) ≡ Ok subtrees
+        → UnlistedAsNamed st (paired users subtrees) × (status ≡ 0 → AreContainedAsNamed st (paired users subtrees)))
+    audit_pairs_ended asked pairs carried of_known of_pairs of_text short =
+        let said =
+        pairs_named AuditsOn pairs (pairs_read pairs) refl st old new status
+        (on_pairs AuditsOn (source files (tree_file asked.sources) given) (source files (other_file asked.sources) given) old new status
+        text pairs st of_known of_pairs of_text short carried) in (
+          said.0,
+          said.1,
+          said.2,
+          said.3,
+          λ users subtrees of_users of_paths.
+              audited_as_named st said.0 users subtrees of_text.says.formed of_users of_paths old new status said.3,
+        )
+
+    pub explain_pairs_ended : (asked : Pairs) (pairs : List ℕ) → CarriesOut (request.ExplainPairs asked) files given old new (Ok status)
+        → source files (tree_file asked.sources) given ≡ Some text → source files (other_file asked.sources) given ≡ Some pairs
+        → IsTextOf st text → length pairs ≤ 16777216
+        → (named : List ((ℕ × List ℕ) × List ℕ)) × (pairs_read pairs ≡ Ok named) × AsksSomething pairs
+        × ReportsTold (explain_pairs_asked (Ok st) named) old new (Ok status)
+        × ((users : List Identity) (subtrees : List Names) → users_read (map (λ pair. pair.0) named) ≡ Ok users
+        → paths_read (map (λ pair. pair.1) named) ≡ Ok subtrees
+        → status ≡ 0 → All (λ pair. IsContained st pair.user pair.subtree) (paired users subtrees))
+    explain_pairs_ended asked pairs carried of_known of_pairs of_text short =
+        let said =
+        pairs_named ExplainsOn pairs (pairs_read pairs) refl st old new status
+        (on_pairs ExplainsOn (source files (tree_file asked.sources) given) (source files (other_file asked.sources) given) old new status
+        text pairs st of_known of_pairs of_text short carried) in (
+          said.0,
+          said.1,
+          said.2,
+          said.3,
+          λ users subtrees of_users of_paths.
+              explained_as_named st said.0 users subtrees of_text.says.formed of_users of_paths old new status said.3,
         )
 
     pub upgrade_ended : (upgrade : Upgrade) → CarriesOut (request.Upgrade upgrade) files given old new (Ok status)

@@ -58,6 +58,7 @@ ghost use Rattle.cg_cli.specs.Audits.{users_read, paths_read, audit_report};
 ghost use Rattle.cg_cli.specs.Once.{same_user};
 ghost use Rattle.cg_cli.specs.AllPairs.{all_report, ReportsPairs, UnlistedAreContained};
 ghost use Rattle.cg_cli.specs.Explaining.{explain_asked, ReportsTold};
+ghost use Rattle.cg_cli.specs.EachPair.{audit_pairs_report, explain_pairs_asked, UnlistedAsNamed};
 ghost use Rattle.cg_cli.specs.Upgrades.{upgrade_report, IsNewText};
 ghost use Rattle.cg_cli.specs.FurtherAdvice.{AreHeld};
 ghost use Rattle.cg_cli.specs.FurtherPairs.{listed_from, AreFurther, first_pair_report};
@@ -76,13 +77,13 @@ ghost use Rattle.arguments.specs.declared.request.Check.{Check};
 ghost use Rattle.arguments.specs.declared.request.Audit.{Audit};
 ghost use Rattle.arguments.specs.declared.request.Explain.{Explain};
 ghost use Rattle.arguments.specs.declared.request.Advise.{Advise};
-ghost use Rattle.arguments.specs.declared.request.AdvisePairs.{AdvisePairs};
+ghost use Rattle.arguments.specs.declared.request.Pairs.{Pairs};
 ghost use Rattle.arguments.specs.declared.request.Upgrade.{Upgrade};
 ghost use Rattle.arguments.specs.declared.request.Replay.{Replay};
 ghost use Rattle.arguments.specs.declared.request.Request.{Request};
 ghost use Rattle.arguments.specs.declared.request.Request.TheVariants as request;
 ghost use Rattle.commands.specs.PairLines.{pairs_read, AsksSomething};
-ghost use Rattle.commands.specs.Requests.{Files, source, name_of, may_said, check_said, pairs_said, CarriesOut};
+ghost use Rattle.commands.specs.Requests.{Files, source, name_of, may_said, check_said, CarriesOut};
 ghost use Rattle.commands.specs.Runs.{LeadsTo, RunsTo};
 ghost use Rattle.commands.specs.declared.fault.Fault.{Fault};
 ghost use Rattle.streams.specs.declared.write.WriteFailed.{WriteFailed};
@@ -308,6 +309,15 @@ pub fn the_program()
         × ReportsPairs (Ok (listed_from found 0 (once same_user users) (once same_path subtrees))) old new (Ok status)
         × (status ≡ 0 → users ≢ []
         → AreHeld st users subtrees × AreSettled st (once same_user users) (once same_path subtrees)) }
+    ensures audit_pairs { (asked : Pairs) (files : Files) (given old new : Option (List ℕ)) (status : ℕ) (text pairs : List ℕ) (st : State)
+        → CarriesOut (request.AuditPairs asked) files given old new (Ok status)
+        → source files (tree_file asked.sources) given ≡ Some text → source files (other_file asked.sources) given ≡ Some pairs
+        → IsTextOf st text → length pairs ≤ 16777216
+        → (named : List ((ℕ × List ℕ) × List ℕ)) × (pairs_read pairs ≡ Ok named) × AsksSomething pairs
+        × ReportsPairs (audit_pairs_report (Ok st) named) old new (Ok status)
+        × ((users : List Identity) (subtrees : List Names) → users_read (map (λ pair. pair.0) named) ≡ Ok users
+        → paths_read (map (λ pair. pair.1) named) ≡ Ok subtrees
+        → UnlistedAsNamed st (paired users subtrees) × (status ≡ 0 → AreContainedAsNamed st (paired users subtrees))) }
     ensures explain { (explain : Explain) (files : Files) (given old new : Option (List ℕ)) (status : ℕ) (text : List ℕ) (st : State)
         → CarriesOut (request.Explain explain) files given old new (Ok status)
         → source files (name_of explain.tree) given ≡ Some text → IsTextOf st text
@@ -315,6 +325,15 @@ pub fn the_program()
         × (status ≡ 0 → (users : List Identity) (subtrees : List Names) → users_read (map ids_of explain.users.items) ≡ Ok users
         → paths_read (map (λ subtree. subtree.now) explain.subtrees.items) ≡ Ok subtrees
         → All (λ pair. IsContained st pair.user pair.subtree) (all_pairs (once same_user users) (once same_path subtrees))) }
+    ensures explain_pairs { (asked : Pairs) (files : Files) (given old new : Option (List ℕ)) (status : ℕ) (text pairs : List ℕ) (st : State)
+        → CarriesOut (request.ExplainPairs asked) files given old new (Ok status)
+        → source files (tree_file asked.sources) given ≡ Some text → source files (other_file asked.sources) given ≡ Some pairs
+        → IsTextOf st text → length pairs ≤ 16777216
+        → (named : List ((ℕ × List ℕ) × List ℕ)) × (pairs_read pairs ≡ Ok named) × AsksSomething pairs
+        × ReportsTold (explain_pairs_asked (Ok st) named) old new (Ok status)
+        × ((users : List Identity) (subtrees : List Names) → users_read (map (λ pair. pair.0) named) ≡ Ok users
+        → paths_read (map (λ pair. pair.1) named) ≡ Ok subtrees
+        → status ≡ 0 → All (λ pair. IsContained st pair.user pair.subtree) (paired users subtrees)) }
     ensures advise { (advise : Advise) (files : Files) (given old new : Option (List ℕ)) (status : ℕ) (text : List ℕ) (st : State)
         → CarriesOut (request.Advise advise) files given old new (Ok status) → advise.settle ≡ false
         → source files (name_of advise.tree) given ≡ Some text → IsTextOf st text
@@ -330,13 +349,15 @@ pub fn the_program()
         ⊎ Reports (record { text = codes "contained\n"; ending = Ok 0 }) old new (Ok status))
         × (status ≡ 0 → AreHeld st users subtrees
         × (AreSettled st (once same_user users) (once same_path subtrees) ⊎ AreContained st users subtrees)) }
-    ensures advise_pairs { (advise : AdvisePairs) (files : Files) (given old new : Option (List ℕ)) (status : ℕ) (text pairs : List ℕ) (st : State)
-        → CarriesOut (request.AdvisePairs advise) files given old new (Ok status)
-        → source files (tree_file advise.sources) given ≡ Some text → source files (other_file advise.sources) given ≡ Some pairs
-        → IsTextOf st text → length pairs ≤ 16777216 → Reports (pairs_said pairs (Ok st)) old new (Ok status) × AsksSomething pairs
-        × (status ≡ 0 → (named : List ((ℕ × List ℕ) × List ℕ)) (users : List Identity) (subtrees : List Names) → pairs_read pairs ≡ Ok named
-        → users_read (map (λ pair. pair.0) named) ≡ Ok users → paths_read (map (λ pair. pair.1) named) ≡ Ok subtrees
-        → AreContainedAsNamed st (paired users subtrees)) }
+    ensures advise_pairs { (asked : Pairs) (files : Files) (given old new : Option (List ℕ)) (status : ℕ) (text pairs : List ℕ) (st : State)
+        → CarriesOut (request.AdvisePairs asked) files given old new (Ok status)
+        → source files (tree_file asked.sources) given ≡ Some text → source files (other_file asked.sources) given ≡ Some pairs
+        → IsTextOf st text → length pairs ≤ 16777216
+        → (named : List ((ℕ × List ℕ) × List ℕ)) × (pairs_read pairs ≡ Ok named) × AsksSomething pairs
+        × Reports (advise_pairs_report (Ok st) named) old new (Ok status)
+        × ((users : List Identity) (subtrees : List Names) → users_read (map (λ pair. pair.0) named) ≡ Ok users
+        → paths_read (map (λ pair. pair.1) named) ≡ Ok subtrees
+        → status ≡ 0 → AreContainedAsNamed st (paired users subtrees)) }
     ensures upgrade { (upgrade : Upgrade) (files : Files) (given old new : Option (List ℕ)) (status : ℕ) (text : List ℕ) (st : State)
         → CarriesOut (request.Upgrade upgrade) files given old new (Ok status)
         → source files (name_of upgrade.tree) given ≡ Some text → IsTextOf st text

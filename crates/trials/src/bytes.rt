@@ -5,15 +5,18 @@ use crate::said::{Said, is_out_of_memory};
 use crate::trial::{Ended, Trial};
 use crate::words::Words;
 use cg_cli::advise::advise_bytes;
-use cg_cli::advise_pairs::{PairIds, advise_pairs_bytes};
+use cg_cli::advise_pairs::advise_pairs_bytes;
 use cg_cli::advise_settle::advise_settled_bytes;
 use cg_cli::arguments::UserIds;
 use cg_cli::audit::audit_bytes;
 use cg_cli::audit_all::audit_all_bytes;
+use cg_cli::audit_pairs::audit_pairs_bytes;
 use cg_cli::audit_settle::{audit_all_settled_bytes, audit_settled_bytes};
 use cg_cli::check::check_bytes;
 use cg_cli::explain::explain_bytes;
+use cg_cli::explain_pairs::explain_pairs_bytes;
 use cg_cli::may::may_bytes;
+use cg_cli::pairs::PairIds;
 use cg_cli::replay::{replay_bytes, replay_from};
 use cg_cli::settle::settle_bytes;
 use cg_cli::upgrade::upgrade_bytes;
@@ -94,6 +97,8 @@ enum Call<'a> {
     May(UserIds<'a>, u32, &'a str),
     Named(Asked, Named<'a>),
     AdvisePairs(Vec<PairIds<'a>>),
+    AuditPairs(Vec<PairIds<'a>>),
+    ExplainPairs(Vec<PairIds<'a>>),
     Upgrade,
     ReplayBytes(UserIds<'a>, Option<&'a str>, Vec<u8>),
     ReplayFrom(UserIds<'a>, Option<&'a str>, Vec<u8>),
@@ -105,6 +110,8 @@ impl Call<'_> {
             Call::May(user, pid, to) => may_bytes(alloc, tree, *user, *pid, to, &mut None, out),
             Call::Named(asked, named) => named.ask(alloc, *asked, tree, out),
             Call::AdvisePairs(pairs) => advise_pairs_bytes(alloc, tree, pairs.as_slice(), out),
+            Call::AuditPairs(pairs) => audit_pairs_bytes(alloc, tree, pairs.as_slice(), out),
+            Call::ExplainPairs(pairs) => explain_pairs_bytes(alloc, tree, pairs.as_slice(), out),
             Call::Upgrade => upgrade_bytes(alloc, tree, out),
             Call::ReplayBytes(user, subtree, ops) => {
                 replay_bytes(alloc, tree, *user, *subtree, ops.as_slice(), out)
@@ -181,6 +188,8 @@ fn call_told<'a>(alloc: Global, words: &mut Words<'a>) -> Result<Call<'a>, Stopp
     match name {
         "may" => Ok(Call::May(user(words.id()?), words.id()?, words.next()?)),
         "advise_pairs" => Ok(Call::AdvisePairs(paired(alloc, words)?)),
+        "audit_pairs" => Ok(Call::AuditPairs(paired(alloc, words)?)),
+        "explain_pairs" => Ok(Call::ExplainPairs(paired(alloc, words)?)),
         "upgrade" => Ok(Call::Upgrade),
         "replay" => {
             let user = user(words.id()?);

@@ -23,8 +23,8 @@ OPTIONS = {
     "may": {"--tree": "", "--uid": "must", "--gid": "again", "--pid": "must", "--to": "must"},
     "check": {"--tree": "", "--uid": "must", "--gid": "again", "--subtree": "must"},
     "settle": {"--tree": "", "--uid": "must", "--gid": "again", "--subtree": "must"},
-    "audit": {"--tree": "", "--uid": "must again", "--subtree": "must again", "--all": "flag", "--settle": "flag"},
-    "explain": {"--tree": "", "--uid": "must again", "--subtree": "must again"},
+    "audit": {"--tree": "", "--uid": "again", "--subtree": "again", "--pairs": "", "--all": "flag", "--settle": "flag"},
+    "explain": {"--tree": "", "--uid": "again", "--subtree": "again", "--pairs": ""},
     "replay": {"--tree": "", "--uid": "must", "--gid": "again", "--ops": "must", "--subtree": ""},
     "upgrade": {"--tree": ""},
     "advise": {"--tree": "", "--uid": "again", "--gid": "again", "--subtree": "again", "--pairs": "",
@@ -184,21 +184,19 @@ class Call:
         self.given.setdefault(option, []).append(value)
 
     def read_users(self):
-        if self.command in ("audit", "explain"):
-            return self.listed_users()
         if self.command == "upgrade":
             return []
-        return self.advised_users() if self.command == "advise" else self.one_user()
+        return self.several_users() if self.command in ("audit", "explain", "advise") else self.one_user()
 
-    def advised_users(self):
-        """None where pairs name them; else one user and their groups, or such as an audit's."""
+    def several_users(self):
+        """None where pairs name them; of `advise` one user and their groups, too."""
         if "--pairs" in self.given:
             if self.given.keys() & {"--uid", "--gid", "--subtree", "--settle"}:
                 raise Fault("usage")
             return []
         if not {"--uid", "--subtree"} <= self.given.keys():
             raise Fault("usage")
-        if len(self.given["--uid"]) == 1 and re.fullmatch(PLAIN, self.given["--uid"][0]):
+        if self.command == "advise" and len(self.given["--uid"]) == 1 and re.fullmatch(PLAIN, self.given["--uid"][0]):
             return self.one_user()
         if "--gid" in self.given:
             raise Fault("usage")
@@ -388,14 +386,16 @@ def head_of(user, top):
 
 
 def asked(call, tops):
-    """Each user with each subtree; who or what is named again counts once."""
+    """The pairs as they are named, or each user with each subtree; of these who or what is named again counts once."""
+    if "--pairs" in call.given:
+        return list(zip(call.users, tops))
     return list(itertools.product(dict.fromkeys(call.users), dict.fromkeys(tops)))
 
 
 def audit(call, state, tops, _files, lines):
     if "--settle" in call.given:
         return settled_audit(call, state, tops, lines)
-    listed = "--all" in call.given
+    listed = bool(call.given.keys() & {"--all", "--pairs"})
     kinds = set()
     for user, top in asked(call, tops):
         answer = rules.answer(state, user, top)

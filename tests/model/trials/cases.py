@@ -102,7 +102,7 @@ def drawn_case(seed, number, known):
     case = Case(MAKERS[command](rng, tree, state_of(data)))
     if command.startswith("replay"):
         case.files[OPS] = operations(rng, tree, data, case.words, wide)
-    if command == "advise --pairs":
+    if command.endswith(" --pairs"):
         case.files[PAIRS] = pair_lines(rng, tree, state_of(data))
     if wide and number >= FIRST_HEAVY and command in ("may", "upgrade") and rng.random() < 0.06:
         data = format_4.with_many(rng, data)
@@ -206,6 +206,14 @@ def advise_words(rng, tree, state):
 
 def pairs_words(_rng, _tree, _state):
     return ["advise", "--pairs", PAIRS]
+
+
+def audit_pairs_words(rng, _tree, _state):
+    return ["audit", "--pairs", PAIRS, *["--all"] * (rng.random() < 0.1), *["--settle"] * (rng.random() < 0.03)]
+
+
+def explain_pairs_words(_rng, _tree, _state):
+    return ["explain", "--pairs", PAIRS]
 
 
 def pair_lines(rng, tree, state):
@@ -321,9 +329,11 @@ def upgrade_words(_rng, _tree, _state):
 MAKERS = {"may": may_words, "check": check_words, "audit": audit_words, "audit --all": all_words, "advise": advise_words,
           "advise --pairs": pairs_words, "settle": settle_words, "audit --settle": settled_audit_words,
           "advise --settle": settled_advice_words, "explain": explain_words, "replay": replay_words,
-          "replay alone": replay_alone_words, "upgrade": upgrade_words}
+          "replay alone": replay_alone_words, "upgrade": upgrade_words, "audit --pairs": audit_pairs_words,
+          "explain --pairs": explain_pairs_words}
 WEIGHTS = {"may": 14, "check": 30, "audit": 12, "audit --all": 12, "advise": 14, "advise --pairs": 12, "settle": 24,
-           "audit --settle": 14, "advise --settle": 8, "explain": 18, "replay": 28, "replay alone": 6, "upgrade": 7}
+           "audit --settle": 14, "advise --settle": 8, "explain": 18, "replay": 28, "replay alone": 6, "upgrade": 7,
+           "audit --pairs": 10, "explain --pairs": 5}
 
 
 # Operations

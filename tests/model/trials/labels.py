@@ -27,7 +27,8 @@ no-such-file cgroup, bad-pid process, bad-entry process, duplicate-pid process, 
 FAULTS = ["usage", "uid", "gid", "pid", "path", "subtree root", "subtree missing", "line too-long", "line cut", "line bad-word",
           "too-many-steps", "read", "write", *("tree " + name for name in re.split(r",\s+", TREE_FAULTS))]
 STATUSES = {"may": 2, "check": 3, "audit": 3, "audit --all": 3, "replay": 2, "upgrade": 1, "advise": 2, "advise --pairs": 2, "settle": 3,
-            "audit --settle": 3, "audit --all --settle": 3, "advise --settle": 2, "explain": 3}
+            "audit --settle": 3, "audit --all --settle": 3, "advise --settle": 2, "explain": 3, "audit --pairs": 3,
+            "explain --pairs": 3}
 # of trees of format 4, and of controllers that other formats don't have
 FAULTS_4 = """bad-controller cgroup, bad-controller top, bad-entry cgroup, bad-value cgroup, internal-process process, no-such-file cgroup,
 shape cgroup, too-many, top-down cgroup"""
@@ -347,4 +348,4 @@ def told_words(kind, _path, *words):
 
 
 LABELS = {"may": may_labels, "check": check_labels, "advise": advise_labels, "advise --pairs": advise_labels, "settle": settle_labels,
-          "explain": explain_labels}
+          "explain": explain_labels, "explain --pairs": explain_labels}

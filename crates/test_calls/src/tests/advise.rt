@@ -2,7 +2,7 @@
 use super::answers_written::Written;
 use super::calls::{Call, expect, expect_fault};
 use crate::tests::users::{USER, user};
-use cg_cli::advise_pairs::PairIds;
+use cg_cli::pairs::PairIds;
 use cg_faults::fault::CliFault;
 use cg_model::fault::CheckFault;
 use std::alloc::Global;

@@ -1,15 +1,18 @@
 //! The calls over bytes as values, and what is expected of one.
 use crate::tests::readers::Pieces;
 use cg_cli::advise::advise_bytes;
-use cg_cli::advise_pairs::{PairIds, advise_pairs_bytes};
+use cg_cli::advise_pairs::advise_pairs_bytes;
 use cg_cli::advise_settle::advise_settled_bytes;
 use cg_cli::arguments::UserIds;
 use cg_cli::audit::audit_bytes;
 use cg_cli::audit_all::audit_all_bytes;
+use cg_cli::audit_pairs::audit_pairs_bytes;
 use cg_cli::audit_settle::{audit_all_settled_bytes, audit_settled_bytes};
 use cg_cli::check::check_bytes;
 use cg_cli::explain::explain_bytes;
+use cg_cli::explain_pairs::explain_pairs_bytes;
 use cg_cli::may::may_bytes;
+use cg_cli::pairs::PairIds;
 use cg_cli::replay::{replay_bytes, replay_from};
 use cg_cli::upgrade::upgrade_bytes;
 use cg_faults::fault::CliFault;
@@ -29,6 +32,8 @@ pub enum Call<'a> {
     AuditAllSettled(&'a [UserIds<'a>], &'a [&'a str]),
     Advise(&'a [UserIds<'a>], &'a [&'a str]),
     AdvisePairs(&'a [PairIds<'a>]),
+    AuditPairs(&'a [PairIds<'a>]),
+    ExplainPairs(&'a [PairIds<'a>]),
     AdviseSettled(&'a [UserIds<'a>], &'a [&'a str]),
     Upgrade,
     Replay(UserIds<'a>, Option<&'a str>, &'a [u8]),
@@ -60,6 +65,8 @@ impl Call<'_> {
                 alloc, tree, users, subtrees, stranger, out,
             ),
             Call::AdvisePairs(pairs) => advise_pairs_bytes(alloc, tree, pairs, out),
+            Call::AuditPairs(pairs) => audit_pairs_bytes(alloc, tree, pairs, out),
+            Call::ExplainPairs(pairs) => explain_pairs_bytes(alloc, tree, pairs, out),
             Call::AdviseSettled(users, subtrees) => {
                 advise_settled_bytes(alloc, tree, users, subtrees, stranger, out)
             }

@@ -1,4 +1,4 @@
-use Rattle.theorems.proofs.ProgramLaws.{carried_by_status, led_to_fault, help_ended, may_ended, check_ended, settle_ended, audit_ended, all_ended, explain_ended, settled_ended, all_settled_ended, advise_ended, advise_settled_ended, advise_pairs_ended, upgrade_ended, replay_ended}
+use Rattle.theorems.proofs.ProgramLaws.{carried_by_status, led_to_fault, help_ended, may_ended, check_ended, settle_ended, audit_ended, all_ended, explain_ended, settled_ended, all_settled_ended, advise_ended, advise_settled_ended, advise_pairs_ended, audit_pairs_ended, explain_pairs_ended, upgrade_ended, replay_ended}
 use Rattle.theorems.proofs.the_program.Goals as goal
 
 pub returns : goal.returns
@@ -18,13 +18,17 @@ returns c = record {
       settled_ended files given old new status text st audit carried of_known of_text users subtrees further of_users of_paths first;
   audit_all_settled = λ audit files given old new status text st users subtrees carried further each of_known of_text of_users of_paths.
       all_settled_ended files given old new status text st audit carried of_known of_text users subtrees further of_users of_paths each;
+  audit_pairs = λ asked files given old new status text pairs st.
+      audit_pairs_ended files given old new status text st asked pairs;
   explain = λ explain files given old new status text st. explain_ended files given old new status text st explain;
+  explain_pairs = λ asked files given old new status text pairs st.
+      explain_pairs_ended files given old new status text st asked pairs;
   advise = λ advise files given old new status text st carried guards of_known of_text.
       advise_ended files given old new status text st advise carried of_known of_text guards;
   advise_settled = λ advise files given old new status text st users subtrees carried further of_known of_text.
       advise_settled_ended files given old new status text st advise carried of_known of_text users subtrees further;
-  advise_pairs = λ advise files given old new status text pairs st.
-      advise_pairs_ended files given old new status text st advise pairs;
+  advise_pairs = λ asked files given old new status text pairs st.
+      advise_pairs_ended files given old new status text st asked pairs;
   upgrade = λ upgrade files given old new status text st. upgrade_ended files given old new status text st upgrade;
   replay = λ replay files given old new status text ops st. replay_ended files given old new status text st replay ops;
 }

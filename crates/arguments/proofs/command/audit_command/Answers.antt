@@ -1,20 +1,8 @@
-use Rattle.std.proofs.Common.{rules, codes}
 use Rattle.std.proofs.lemmas.Result.{IfOk-weaker}
-use Rattle.clap.specs.Simple.{new_shape}
-use Rattle.arguments.specs.Building.{IsOption, IsCommand}
-use Rattle.arguments.specs.CommandLine.{word_option, needed, repeated}
 use Rattle.arguments.proofs.CommandLaws.{option_added}
 use Rattle.arguments.proofs.command.audit_command.Goals as goal
 
 pub returns : goal.returns
 returns c =
-    let begun : IsCommand (new_shape (codes "audit")) c.after_help.result = record { app_is = search rules; local = search rules } in
-    let of_tree = option_added _ _ _ _ _ begun c.tree_argument.ensures c.in_ok-arg.ensures in
-    let uid : IsOption (repeated (needed (word_option (codes "uid")))) c.help.result =
-    record { rule_is = search rules; local = search rules } in
-    let of_uid = option_added _ _ _ _ _ of_tree uid c.in_ok-arg-2.ensures in
-    let subtree : IsOption (repeated (needed (word_option (codes "subtree")))) c.help-2.result =
-    record { rule_is = search rules; local = search rules } in
-    let of_subtree = option_added _ _ _ _ _ of_uid subtree c.in_ok-arg-3.ensures in
-    let of_all = option_added _ _ _ _ _ of_subtree c.all_argument.ensures c.in_ok-arg-4.ensures in
-    IfOk-weaker c.arg-5.result _ _ (λ new added. option_added _ _ _ _ _ of_all c.settle_argument.ensures added) c.arg-5.ensures
+    let of_all = option_added _ _ _ _ _ c.in_ok-pairs_command.ensures c.all_argument.ensures c.in_ok-arg.ensures in
+    IfOk-weaker c.arg-2.result _ _ (λ new added. option_added _ _ _ _ _ of_all c.settle_argument.ensures added) c.arg-2.ensures

@@ -14,7 +14,7 @@ returns-in_err-pairs g c =
     let st = g.H.Hierarchy.state c.args.tree.now in
     let known = g.W.Write.contents c.args.out.now in
     rw (p.1, p.2)
-    (pairs_said st c.args.users.now c.args.subtrees.now c.in_default.ensures.fault known known _
+    (pairs_said st c.args.subtrees.now (all_pairs c.args.users.now c.args.subtrees.now) c.in_default.ensures.fault known known _
     (none_told st (all_pairs c.args.users.now c.args.subtrees.now) known))
 
 pub write_pairs-requires : goal.write_pairs-requires
@@ -30,6 +30,7 @@ returns g c =
     let st = g.H.Hierarchy.state c.args.tree.now in
     let old = g.W.Write.contents c.args.out.now in
     let new = g.W.Write.contents c.write_pairs.new.out in
-    pairs_said st c.args.users.now c.args.subtrees.now c.in_default.ensures.fault old new c.write_pairs.result
+    pairs_said st c.args.subtrees.now (all_pairs c.args.users.now c.args.subtrees.now) c.in_default.ensures.fault old new
+    c.write_pairs.result
     (subst (λ (l : List Pair). TellsPairs st l old new c.write_pairs.result)
     (ap (map pair_of) c.as_slice.ensures.value ∙ c.in_ok-pairs.ensures) c.write_pairs.ensures)

@@ -25,7 +25,13 @@ pub returns-in-Upgrade-clause-answer : goal.returns-in-Upgrade-clause-answer
 returns-in-Upgrade-clause-answer g c = rw c.in-Upgrade.is c.on_tree-in-Upgrade.ensures.answer
 
 pub returns-in-AdvisePairs-clause-answer : goal.returns-in-AdvisePairs-clause-answer
-returns-in-AdvisePairs-clause-answer g c = rw c.in-AdvisePairs.is c.advise_pairs.ensures.answer
+returns-in-AdvisePairs-clause-answer g c = rw c.in-AdvisePairs.is c.on_pairs.ensures.answer
+
+pub returns-in-AuditPairs-clause-answer : goal.returns-in-AuditPairs-clause-answer
+returns-in-AuditPairs-clause-answer g c = rw c.in-AuditPairs.is c.on_pairs-in-AuditPairs.ensures.answer
+
+pub returns-in-ExplainPairs-clause-answer : goal.returns-in-ExplainPairs-clause-answer
+returns-in-ExplainPairs-clause-answer g c = rw c.in-ExplainPairs.is c.on_pairs-in-ExplainPairs.ensures.answer
 
 pub returns-in-Replay-clause-answer : goal.returns-in-Replay-clause-answer
 returns-in-Replay-clause-answer g c = rw c.in-Replay.is c.replay.ensures.answer
@@ -52,7 +58,13 @@ pub returns-in-Upgrade-clause-noted : goal.returns-in-Upgrade-clause-noted
 returns-in-Upgrade-clause-noted g c = rw c.in-Upgrade.is c.on_tree-in-Upgrade.ensures.noted
 
 pub returns-in-AdvisePairs-clause-noted : goal.returns-in-AdvisePairs-clause-noted
-returns-in-AdvisePairs-clause-noted g c = rw c.in-AdvisePairs.is c.advise_pairs.ensures.noted
+returns-in-AdvisePairs-clause-noted g c = rw c.in-AdvisePairs.is c.on_pairs.ensures.noted
+
+pub returns-in-AuditPairs-clause-noted : goal.returns-in-AuditPairs-clause-noted
+returns-in-AuditPairs-clause-noted g c = rw c.in-AuditPairs.is c.on_pairs-in-AuditPairs.ensures.noted
+
+pub returns-in-ExplainPairs-clause-noted : goal.returns-in-ExplainPairs-clause-noted
+returns-in-ExplainPairs-clause-noted g c = rw c.in-ExplainPairs.is c.on_pairs-in-ExplainPairs.ensures.noted
 
 pub returns-in-Replay-clause-noted : goal.returns-in-Replay-clause-noted
 returns-in-Replay-clause-noted g c = rw c.in-Replay.is c.replay.ensures.noted

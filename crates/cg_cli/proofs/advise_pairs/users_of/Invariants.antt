@@ -1,7 +1,0 @@
-use Rattle.std.proofs.Common.{◌≡◌, map, Ok, take}
-use Rattle.cg_cli.specs.Audits.{users_read}
-use Rattle.cg_cli.specs.Pairs.{pair_given}
-use Rattle.cg_cli.proofs.advise_pairs.users_of.Given as goal
-
-abbrev pub invariant-loop-pair : goal.invariant-loop-pair
-invariant-loop-pair l = users_read (map (λ pair. (pair_given pair).0) (take l.pair-index l.pairs)) ≡ Ok l.users.items

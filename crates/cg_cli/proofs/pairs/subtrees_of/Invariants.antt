@@ -1,0 +1,7 @@
+use Rattle.std.proofs.Common.{◌≡◌, map, Ok, take}
+use Rattle.cg_cli.specs.Audits.{paths_read}
+use Rattle.cg_cli.specs.Pairs.{pair_given}
+use Rattle.cg_cli.proofs.pairs.subtrees_of.Given as goal
+
+abbrev pub invariant-loop-pair : goal.invariant-loop-pair
+invariant-loop-pair l = paths_read (map (λ pair. (pair_given pair).1) (take l.pair-index l.pairs)) ≡ Ok l.subtrees.items
