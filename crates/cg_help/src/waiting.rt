@@ -38,9 +38,8 @@ fn awaited(request: &Request<'_>) -> Option<&'static str>
         Request::Audit(asked) => tree_awaited(asked.tree),
         Request::Explain(asked) => tree_awaited(asked.tree),
         Request::Advise(asked) => tree_awaited(asked.tree),
-        Request::AdvisePairs(asked)
-        | Request::AuditPairs(asked)
-        | Request::ExplainPairs(asked) => awaited_of(asked.sources, PAIRS),
+        Request::AdvisePairs(asked) | Request::AuditPairs(asked) | Request::ExplainPairs(asked) =>
+            awaited_of(asked.sources, PAIRS),
         Request::Replay(asked) => awaited_of(asked.sources, OPERATIONS),
         Request::Upgrade(asked) => tree_awaited(asked.tree),
     }

@@ -52,9 +52,15 @@ pub(crate) fn carried_out<F: Files, I: Read + Drop, W: Write>(
         Request::Explain(asked) => on_tree(alloc, asked, files, input, beside, out),
         Request::Advise(asked) => on_tree(alloc, asked, files, input, beside, out),
         Request::Upgrade(asked) => on_tree(alloc, asked, files, input, beside, out),
-        Request::AdvisePairs(asked) => { on_pairs(alloc, &Advising, asked.sources, files, input, noted, out) }
-        Request::AuditPairs(asked) => { on_pairs(alloc, &Auditing, asked.sources, files, input, noted, out) }
-        Request::ExplainPairs(asked) => { on_pairs(alloc, &Explaining, asked.sources, files, input, noted, out) }
+        Request::AdvisePairs(asked) => {
+            on_pairs(alloc, &Advising, asked.sources, files, input, noted, out)
+        }
+        Request::AuditPairs(asked) => {
+            on_pairs(alloc, &Auditing, asked.sources, files, input, noted, out)
+        }
+        Request::ExplainPairs(asked) => {
+            on_pairs(alloc, &Explaining, asked.sources, files, input, noted, out)
+        }
         Request::Replay(asked) => replay(alloc, asked, files, input, noted, out),
     }
 }

@@ -5,8 +5,8 @@ ghost use Rattle.arguments.specs.Given.{ids_of, ids_of_pair};
 
 use arguments::named_pair::NamedPair;
 use arguments::named_user::NamedUser;
-use cg_cli::pairs::PairIds;
 use cg_cli::arguments::UserIds;
+use cg_cli::pairs::PairIds;
 use cg_faults::fault::CliFault;
 use std::alloc::Global;
 

@@ -8,6 +8,7 @@ use cg_faults::fault::CliFault;
 use std::test::Fail;
 
 const SECOND: &str = "pair 1001 /c0\nescapes\nset /c0 memory.max max\n";
+
 const INNER: &str = "pair 1000 /c0/c00\nescapes\nset /c0/c00 cgroup.max.descendants 0\n";
 
 fn pair<'a>(user: UserIds<'a>, subtree: &'a str) -> PairIds<'a> {
