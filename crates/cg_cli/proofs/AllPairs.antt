@@ -289,7 +289,7 @@ module _ (st : State) (subtrees : List Names) (pairs : List Listed) where
       (fault_said (lifted_check fault) known)
 
   module _ (none : None ≡ first (flat_map (subtree_faults st) subtrees)) where
-    by_pairs : (old new : Option (List ℕ)) (result : Result ℕ CliFault) → ReportsPairs (Ok pairs) old new result
+    pub by_pairs : (old new : Option (List ℕ)) (result : Result ℕ CliFault) → ReportsPairs (Ok pairs) old new result
         → ReportsPairs (found_unless_fault st subtrees pairs) old new result
     by_pairs old new result = subst (λ o. ReportsPairs (in_call (unless_fault o pairs)) old new result) none
 

@@ -73,6 +73,10 @@ unlisted-as-named st users subtrees none formed k d within =
     (All-from_recursion (λ (one : Pair). IsSubtree st one.subtree) (paired users subtrees) (paired_subtrees st users subtrees none) k d
     within)
 
+pub each_status : {P : Type 0} (result : Result ℕ CliFault) → P → IfOk result (λ status. P)
+each_status (Ok status) holds = holds
+each_status (Err fault) holds = tt
+
 -- ---- what is read before
 
 -- of the lists of a call over pairs
@@ -84,7 +88,8 @@ of_pairs found tree pairs =
     lists_then found tree (mapped_again (λ pair. pair.0) pair_given pairs i) (mapped_again (λ pair. pair.1) pair_given pairs i)
 
 module _ {R : Type 0} (Says : Result R CliFault → CallEnding)
-    (of_met : {A : Type 0} (read : Result A CliFault) (next : A → Result R CliFault) → ((x : A) → read_takes_memory (next x) ≡ true)
+    (of_met : (read : Result (List Identity × List Names × State) CliFault) (next : List Identity × List Names × State → Result R CliFault)
+    → ((x : List Identity × List Names × State) → read_takes_memory (next x) ≡ true)
     → (fault : CliFault) → IsMet read fault → (known : Option (List ℕ)) → Says (read_then read next) known known (Err fault))
     (found : State → List Names → List Pair → Result R CliFault)
     (takes : (st : State) (subtrees : List Names) (pairs : List Pair) → read_takes_memory (found st subtrees pairs) ≡ true)

@@ -239,11 +239,11 @@ pub contained_said : (bytes : List ℕ) (given : List (ℕ × List ℕ)) (texts 
     (result : Result ℕ CliFault) → OnText bytes (λ read. PairsReport AdvisesNamed read given texts old new result) → result ≡ Ok 0
     → (start : State) (who : List Identity) (paths : List Names) → IsTextOf start bytes → users_read given ≡ Ok who
     → paths_read texts ≡ Ok paths → AreContainedAsNamed start (paired who paths)
-contained_said bytes given texts old new result asked zero start who paths of_text is_who are_paths =
+contained_said bytes given texts old new result asked ended start who paths of_text is_who are_paths =
     by_read (named_read given texts asked.0) (λ users subtrees st. named_read given texts asked.0 ≡ Ok (users, subtrees, st))
     AdvisesNamed (λ old new result. result ≡ Ok 0 → AreContainedAsNamed start (paired who paths))
     (λ fault met known none. let never : ⊥ = cc in absurd never)
     (λ users subtrees st is old new result advises none.
     named_means asked.0 given texts users subtrees st is (advises.1 none) start who paths
     (one_reading bytes asked.0 (Ok start) asked.1 of_text) is_who are_paths)
-    old new result asked.2 zero
+    old new result asked.2 ended

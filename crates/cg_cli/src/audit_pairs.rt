@@ -69,12 +69,25 @@ impl NamedQuestion for NamedPairs {
             return Err(CliFault::from(fault));
         }
         let pairs = paired(alloc, users, subtrees)?;
-        let status = write_pairs(alloc, tree, pairs.as_slice(), out)?;
-        if status == 0 {
-            write_whole(out, b"contained\n")?;
-        }
-        Ok(status)
+        write_listing(alloc, tree, pairs.as_slice(), out)
     }
+}
+
+/// Writes the pairs that aren't contained, or that there is none.
+fn write_listing<H: Hierarchy + Drop, W: Write>(
+    alloc: Global,
+    tree: &H,
+    pairs: &[Pair<'_>],
+    out: &mut W,
+) -> Result<u8, CliFault>
+    requires there { All (λ pair. IsSubtree (H.state tree.now) pair.subtree.now) pairs.now }
+    ensures { ReportsPairs (Ok (pairs_listed (H.state tree.now) (map pair_of pairs.now))) (W.contents out.old) (W.contents out.new) result }
+{
+    let status = write_pairs(alloc, tree, pairs, out)?;
+    if status == 0 {
+        write_whole(out, b"contained\n")?;
+    }
+    Ok(status)
 }
 
 /// Writes the pairs that aren't contained, one after another.
