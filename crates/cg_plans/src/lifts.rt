@@ -51,10 +51,7 @@ fn move_lifts<H: Hierarchy + Drop>(
 ) -> Result<Vec<Goal>, NoMemory> {
     match refusal {
         Refusal::NoAccess { len, .. } if *len < to.depth() => around(draft, pid, to),
-        Refusal::NoSuchCgroup { len } if *len == to.depth() => {
-            let path = to.try_clone(draft.planner.alloc)?;
-            only(draft.planner.alloc, Op::Mkdir { path })
-        }
+        Refusal::NoSuchCgroup { len } if *len == to.depth() => made(draft, pid, to),
         Refusal::InternalProcess { .. } => all_off(draft, to),
         _ => Ok(Vec::new(draft.planner.alloc)),
     }
@@ -163,6 +160,33 @@ fn around<H: Hierarchy + Drop>(
     match draft.best_place(pid, Goer::Between { from: &from, to })? {
         Some(to) => only(alloc, Op::Move { pid, to }),
         None => Ok(Vec::new(alloc)),
+    }
+}
+
+/// A place that isn't there. Where the process comes there by another place it goes to that first: it may be removed to make room.
+fn made<H: Hierarchy + Drop>(
+    draft: &mut Draft<H>,
+    pid: Pid,
+    to: &Path,
+) -> Result<Vec<Goal>, NoMemory> {
+    let alloc = draft.planner.alloc;
+    let mut goals = Vec::new(alloc);
+    if !comes_straight(draft, pid, to) {
+        goals = around(draft, pid, to)?;
+        if goals.is_empty() {
+            return Ok(goals);
+        }
+    }
+    let path = to.try_clone(alloc)?;
+    goals.push(Goal::new(Op::Mkdir { path }))?;
+    Ok(goals)
+}
+
+/// Whether the user moves a process past what lies between it and a place.
+fn comes_straight<H: Hierarchy>(draft: &Draft<H>, pid: Pid, to: &Path) -> bool {
+    match draft.tree.place(pid) {
+        Some(place) => draft.planner.passes(&draft.tree, place, to),
+        None => false,
     }
 }
 

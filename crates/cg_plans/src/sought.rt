@@ -38,7 +38,7 @@ impl Leaving<'_> {
     }
 
     /// Whether a process may go to a cgroup, or to a new child of it: the cgroups above the subtree enable the controller, too.
-    fn may_go_to(&self, path: &Path, is_new: bool, subtree: &Path) -> bool {
+    pub fn may_go_to(&self, path: &Path, is_new: bool, subtree: &Path) -> bool {
         match self {
             Leaving::Below(top) => !top.is_prefix_of(path),
             Leaving::At(_) => {
