@@ -114,6 +114,7 @@ PARTS = [
     of_model("run PROGRAM --cases 1000", is_fresh=True),
     of_model("fuzz PROGRAM"),
     of_model("search PROGRAM --blind", is_fresh=True),
+    of_model("search PROGRAM --large --trees 40", is_fresh=True),
     of_program("tests/model/walks --trees 500", "tests/model/second", "tests/model/trials", is_fresh=True),
     of_folder("tests/gate", "tests/gate", "gate", "verify", "tools", "zirofen", "crates.txt", "crates/machine",
               "tests/program/trial_rows.py"),

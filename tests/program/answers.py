@@ -26,6 +26,17 @@ ESCAPES = [
     ("delegation-parent-control", "/c0", ["ok", "broken 1 limits"]),
     ("parent-delegated", "/p/s", ["ok", "ok", "broken 2 crossed 20"]),
 ]
+# of planned ones the number of operations, and what the last of them breaks
+PLANNED = [
+    ("four-closed-places", "/s", 2, "crossed 11"),
+    ("four-full-places", "/s", 3, "crossed 11"),
+    ("one-process-alone", "/p/s", 4, "crossed 11"),
+    ("refuge-in-two-moves", "/a/p/s", 5, "limits"),
+    ("refuge-to-raise", "/q/p/s", 4, "limits"),
+    ("room-one-in-another", "/s", 4, "crossed 5"),
+    ("room-side-by-side", "/s", 4, "crossed 5"),
+    ("three-closed-places", "/s", 2, "crossed 11"),
+]
 
 
 def tree(name):
@@ -233,6 +244,10 @@ def replays(program):
     for name, subtree, lines in ESCAPES:
         _, *operations = call(program, ["check", *tree(name), *asked("1000", subtree)]).output.splitlines(keepends=True)
         yield Case(["replay", *tree(name), *asked("1000", subtree), "--ops", "-"], 1, lines, given=b"".join(operations))
+    for name, subtree, count, broken in PLANNED:
+        asked_of = [*tree(f"planned-{name}"), *asked("1000", subtree)]
+        _, *operations = call(program, ["settle", *asked_of]).output.splitlines(keepends=True)
+        yield Case(["replay", *asked_of, "--ops", "-"], 1, [*["ok"] * count, f"broken {count} {broken}"], given=b"".join(operations))
     _, *planned = call(program, ["settle", *tree("delegation-parent-directory"), *asked("1000", "/c0")]).output.splitlines(keepends=True)
     yield Case(["replay", *tree("delegation-parent-directory"), *asked("1000", "/c0"), "--ops", "-"], 1,
                ["ok", "ok", "ok", "ok", "broken 4 gone"], given=b"".join(planned))

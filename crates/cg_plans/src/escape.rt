@@ -4,6 +4,7 @@ ghost use Rattle.cg_plans.specs.Breaking.{Breaks};
 
 use crate::draft::Draft;
 use crate::goals::goals;
+use crate::loose::Loose;
 use crate::planner::Planner;
 use crate::replayed::replayed;
 use cg_cgroup::memory::NoMemory;
@@ -16,7 +17,7 @@ use std::alloc::Global;
 
 /// A list of operations of a user that breaks a subtree, where one is found: nothing bars any of them, and the last breaks it.
 ///
-/// At most 52 operations are planned, each on a copy of the tree: the removal of the subtree, each controller off or on at its
+/// At most 106 operations are planned, each on a copy of the tree: the removal of the subtree, each controller off or on at its
 /// parent, and moves over its edge. A plan goes over all cgroups and processes at most 64 times and has at most 65536 steps; its
 /// list is replayed on one more copy. Not every subtree that the user can break is found to be.
 #[tactic(auto, using(cg_model::proofs::Prefixes::no_root_of_length))]
@@ -31,12 +32,14 @@ pub fn find_escape<H: Hierarchy + Drop>(
     if subtree.depth() == 0 {
         return Ok(None);
     }
+    let paths = tree.paths(alloc)?;
     let planner = Planner {
         alloc,
         tree,
         user,
         subtree,
-        paths: tree.paths(alloc)?,
+        loose: Loose::new(alloc, tree, user, subtree, paths.as_slice())?,
+        paths,
         pids: tree.pids(alloc)?,
     };
     for goal in goals(&planner)? {

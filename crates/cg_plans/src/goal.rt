@@ -2,26 +2,27 @@
 use cg_model::operation::Op;
 use cg_model::outcome::Refusal;
 
-/// An operation that is to be carried out, the last refusal that it met and how many times in a row, and how many refusals it met
-/// in all.
+/// An operation that is to be carried out.
 #[derive(Drop)]
 pub struct Goal {
     pub op: Op,
-    met: Option<Refusal>,
-    times: usize,
+    /// A refusal for which what lifts it is planned already.
+    planned: Option<Refusal>,
+    /// How many refusals it met since something was carried out, and how many operations were by then.
     refusals: usize,
+    carried: usize,
 }
 
-/// How many refusals of one operation are lifted.
+/// How many times in a row an operation is refused while nothing is carried out.
 const MOST_REFUSALS: usize = 8;
 
 impl Goal {
     pub fn new(op: Op) -> Goal {
         Goal {
             op,
-            met: None,
-            times: 0,
+            planned: None,
             refusals: 0,
+            carried: 0,
         }
     }
 
@@ -29,27 +30,34 @@ impl Goal {
     pub fn after(op: Op, refusal: Refusal) -> Goal {
         Goal {
             op,
-            met: Some(refusal),
-            times: 1,
-            refusals: 1,
+            planned: Some(refusal),
+            refusals: 0,
+            carried: 0,
         }
     }
 
-    /// How many times in a row the operation has met a refusal, this time apart.
-    pub fn times(&self, refusal: &Refusal) -> usize {
-        match &self.met {
-            Some(met) if met == refusal => self.times,
-            _ => 0,
+    /// Whether what lifts a refusal is planned already.
+    pub fn is_planned(&self, refusal: &Refusal) -> bool {
+        match &self.planned {
+            Some(planned) => planned == refusal,
+            None => false,
         }
     }
 
-    /// Keeps that the operation has met a refusal. Whether it hasn't met too many.
-    pub fn refuse(&mut self, refusal: Refusal) -> bool {
+    /// Whether what lifts its refusal is being carried out.
+    pub fn is_underway(&self) -> bool {
+        self.refusals > 0
+    }
+
+    /// Keeps that it was refused once so many operations were carried out. Whether it may be tried again.
+    pub fn refuse(&mut self, carried: usize) -> bool {
+        if carried > self.carried {
+            self.refusals = 0;
+            self.carried = carried;
+        }
         if self.refusals >= MOST_REFUSALS {
             return false;
         }
-        self.times = self.times(&refusal).saturating_add(1);
-        self.met = Some(refusal);
         self.refusals += 1;
         true
     }

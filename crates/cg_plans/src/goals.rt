@@ -2,8 +2,8 @@
 ghost use Rattle.std.specs.Prelude.{◌≡◌, false};
 ghost use Rattle.cg_cgroup.specs.Paths.{is_root};
 
-use crate::holds::Side;
 use crate::planner::Planner;
+use crate::sought::{Goer, Side, Sought, Way};
 use cg_cgroup::files::{Controller, EntryName};
 use cg_cgroup::memory::NoMemory;
 use cg_cgroup::process::Pid;
@@ -20,7 +20,7 @@ pub fn goals<H: Hierarchy>(planner: &Planner<H>) -> Result<Vec<Op>, NoMemory>
     let mut goals = Vec::new(planner.alloc);
     add_removal(planner, &mut goals)?;
     add_controls(planner, &mut goals)?;
-    let Some(top) = top_passed(planner) else {
+    let Some(top) = planner.top_passed(planner.tree, planner.subtree) else {
         return Ok(goals);
     };
     add_moves(planner, Side::Outside, top, &mut goals)?;
@@ -69,17 +69,10 @@ fn add_controls<H: Hierarchy>(planner: &Planner<H>, goals: &mut Vec<Op>) -> Resu
     Ok(())
 }
 
-/// The first cgroup above the subtree, from the root down, past which the user moves processes, by its number of names.
-fn top_passed<H: Hierarchy>(planner: &Planner<H>) -> Option<usize> {
-    for len in 0..planner.subtree.depth() {
-        if planner.passes_at(planner.tree, planner.subtree, len) {
-            return Some(len);
-        }
-    }
-    None
-}
+/// How many places of a kind are tried on a side.
+const MOST_PLACES: usize = 4;
 
-/// Adds moves to the holds of a side, of processes from the other one.
+/// Adds moves to the places of a side, of processes from the other one.
 fn add_moves<H: Hierarchy>(
     planner: &Planner<H>,
     to: Side,
@@ -87,53 +80,51 @@ fn add_moves<H: Hierarchy>(
     goals: &mut Vec<Op>,
 ) -> Result<(), NoMemory> {
     let movers = movers(planner, to, top)?;
-    for hold in planner.holds(to)? {
+    if movers.is_empty() {
+        return Ok(());
+    }
+    let sought = Sought {
+        goer: Goer::Over(to),
+        avoided: &[],
+    };
+    for place in planner.places(planner.tree, &sought, MOST_PLACES)? {
         for pid in &movers {
-            let to = hold.try_clone(planner.alloc)?;
+            let to = place.try_clone(planner.alloc)?;
             goals.push(Op::Move { pid: *pid, to })?;
         }
     }
     Ok(())
 }
 
-/// A process for each way to a side, where there is one.
+/// The ways to a side, of processes of the user's own and of others.
+const WAYS: [(Way, bool); 4] = [
+    (Way::Straight, true),
+    (Way::Straight, false),
+    (Way::Around, true),
+    (Way::Around, false),
+];
+
+/// The first process of the user's own and the first of others for each way to a side, where there is one.
 fn movers<H: Hierarchy>(planner: &Planner<H>, to: Side, top: usize) -> Result<Vec<Pid>, NoMemory> {
     let mut movers = Vec::new(planner.alloc);
-    for way in [Way::Straight, Way::Around] {
-        if let Some(pid) = mover(planner, to, top, way) {
+    for (way, is_own) in WAYS {
+        if let Some(pid) = first_mover(planner, to, top, way, is_own) {
             movers.push(pid)?;
         }
     }
     Ok(movers)
 }
 
-/// How a process of the other side comes over the edge.
-#[derive(Clone, Copy, Debug, PartialEq, Eq)]
-enum Way {
-    /// The user moves it there.
-    Straight,
-    /// They move it to another place first.
-    Around,
-}
-
-/// A process that goes to a side in a way, where there is one: of the user's own first.
-fn mover<H: Hierarchy>(planner: &Planner<H>, to: Side, top: usize, way: Way) -> Option<Pid> {
-    match first_mover(planner, to, top, way, true) {
-        Some(pid) => Some(pid),
-        None => first_mover(planner, to, top, way, false),
-    }
-}
-
-/// The first process that goes to a side in a way, of the user's own or of the others.
+/// The first process that goes to a side in a way, of the user's own or of others.
 fn first_mover<H: Hierarchy>(
     planner: &Planner<H>,
     to: Side,
     top: usize,
     way: Way,
-    own: bool,
+    is_own: bool,
 ) -> Option<Pid> {
     for pid in &planner.pids {
-        if planner.is_own(*pid) == own && way_of(planner, to, top, *pid) == Some(way) {
+        if planner.is_own(*pid) == is_own && way_of(planner, to, top, *pid) == Some(way) {
             return Some(*pid);
         }
     }
@@ -143,13 +134,9 @@ fn first_mover<H: Hierarchy>(
 /// How a process may come to a side; none where it is there, or can't.
 fn way_of<H: Hierarchy>(planner: &Planner<H>, to: Side, top: usize, pid: Pid) -> Option<Way> {
     let place = planner.tree.place(pid)?;
-    let is_inside = planner.subtree.is_prefix_of(place);
-    match to {
-        Side::Outside if is_inside => Some(Way::Straight),
-        Side::Inside if is_inside => None,
-        Side::Outside => None,
-        Side::Inside if planner.passes(planner.tree, place, planner.subtree) => Some(Way::Straight),
-        Side::Inside if top < place.common_len(planner.subtree) => Some(Way::Around),
-        Side::Inside => None,
+    match (to, planner.subtree.is_prefix_of(place)) {
+        (Side::Outside, true) => Some(Way::Straight),
+        (Side::Inside, false) => planner.way(planner.tree, place, planner.subtree, Some(top)),
+        _ => None,
     }
 }

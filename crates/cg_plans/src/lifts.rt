@@ -1,8 +1,9 @@
 //! What lifts a refusal: operations that are to be carried out before the one that met it.
 use crate::draft::Draft;
-use crate::emptied::{emptied, left, room};
+use crate::emptied::{emptied, left};
 use crate::goal::Goal;
-use crate::holds::Side;
+use crate::room::room;
+use crate::sought::Goer;
 use cg_cgroup::files::{Controller, ControllerSet, EntryName, Limit, LimitFile};
 use cg_cgroup::memory::NoMemory;
 use cg_cgroup::path::Path;
@@ -20,50 +21,59 @@ pub fn lifts<H: Hierarchy + Drop>(
     goal: &Goal,
     refusal: &Refusal,
 ) -> Result<Vec<Goal>, NoMemory> {
-    let times = goal.times(refusal);
     match (&goal.op, refusal) {
-        (op, Refusal::NoAccess { len, entry }) if times == 0 && owns(draft, op, *len, *entry) => {
+        (op, Refusal::NoAccess { len, entry }) if owns(draft, op, *len, *entry) => {
             chmod(draft, op, *len, *entry)
         }
-        (Op::Move { pid, to }, Refusal::NoAccess { len, .. }) if *len < to.depth() => {
-            around(draft, *pid, to, *len, times)
-        }
-        (Op::Control { at, .. }, Refusal::NoAccess { .. }) if times == 0 => removed(draft, at),
-        (Op::Control { at, .. }, Refusal::ChildUses { .. }) if times == 1 => removed(draft, at),
-        (Op::Mkdir { path }, Refusal::DescendantLimit { len }) if times > 0 => {
-            room(draft, path, *len, times - 1)
-        }
-        (op, refusal) if times == 0 => first_lifts(draft, op, refusal),
-        _ => Ok(Vec::new(draft.planner.alloc)),
-    }
-}
-
-/// What lifts a refusal that is met for the first time.
-fn first_lifts<H: Hierarchy + Drop>(
-    draft: &mut Draft<H>,
-    op: &Op,
-    refusal: &Refusal,
-) -> Result<Vec<Goal>, NoMemory> {
-    match (op, refusal) {
-        (Op::Move { to, .. }, Refusal::NoSuchCgroup { len }) if *len == to.depth() => {
-            let path = to.try_clone(draft.planner.alloc)?;
-            only(draft.planner.alloc, Op::Mkdir { path })
-        }
-        (Op::Move { to, .. }, Refusal::InternalProcess { .. }) => all_off(draft, to),
-        (Op::Control { at, .. }, Refusal::InternalProcess { .. }) => left(draft, at),
-        (Op::Control { at, .. }, Refusal::NotAvailable { controller }) => {
-            on_above(draft, at, *controller)
-        }
-        (Op::Control { at, .. }, Refusal::ChildUses { controller }) => {
-            off_below(draft, at, *controller)
-        }
+        (Op::Move { pid, to }, refusal) => move_lifts(draft, *pid, to, refusal),
+        (Op::Control { at, .. }, refusal) => control_lifts(draft, goal, at, refusal),
         (Op::Mkdir { path }, Refusal::DescendantLimit { len }) => {
-            raised(draft, path, *len, LimitFile::MaxDescendants)
+            raised_or_room(draft, path, *len)
         }
         (Op::Mkdir { path }, Refusal::DepthLimit { len }) => {
             raised(draft, path, *len, LimitFile::MaxDepth)
         }
-        (Op::Rmdir { path }, Refusal::HasChildren | Refusal::HasProcesses) => emptied(draft, path),
+        (Op::Rmdir { path }, Refusal::HasChildren | Refusal::HasProcesses)
+            if !goal.is_planned(refusal) =>
+        {
+            emptied(draft, path)
+        }
+        _ => Ok(Vec::new(draft.planner.alloc)),
+    }
+}
+
+/// What lifts a refusal of a move.
+fn move_lifts<H: Hierarchy + Drop>(
+    draft: &mut Draft<H>,
+    pid: Pid,
+    to: &Path,
+    refusal: &Refusal,
+) -> Result<Vec<Goal>, NoMemory> {
+    match refusal {
+        Refusal::NoAccess { len, .. } if *len < to.depth() => around(draft, pid, to),
+        Refusal::NoSuchCgroup { len } if *len == to.depth() => made(draft, pid, to),
+        Refusal::InternalProcess { .. } => all_off(draft, to),
+        _ => Ok(Vec::new(draft.planner.alloc)),
+    }
+}
+
+/// What lifts a refusal of a change of controllers.
+fn control_lifts<H: Hierarchy + Drop>(
+    draft: &mut Draft<H>,
+    goal: &Goal,
+    at: &Path,
+    refusal: &Refusal,
+) -> Result<Vec<Goal>, NoMemory> {
+    match refusal {
+        Refusal::NoAccess { .. } => removed(draft, at),
+        Refusal::InternalProcess { .. } => match left(draft, at)? {
+            Some(goals) => Ok(goals),
+            None => Ok(Vec::new(draft.planner.alloc)),
+        },
+        Refusal::NotAvailable { controller } => on_above(draft, at, *controller),
+        Refusal::ChildUses { controller } => {
+            off_or_removed(draft, at, *controller, goal.is_planned(refusal))
+        }
         _ => Ok(Vec::new(draft.planner.alloc)),
     }
 }
@@ -136,35 +146,53 @@ fn opened<H: Hierarchy>(
     Mode::new(entry.mode | 0o200)
 }
 
-/// A move to a place outside whose common ancestor with the subtree lies above the one of `len` names, where the user doesn't
-/// move processes past that: of these places the one behind so many.
+/// A move to a place from which the user moves the process on.
 fn around<H: Hierarchy + Drop>(
     draft: &mut Draft<H>,
     pid: Pid,
     to: &Path,
-    len: usize,
-    times: usize,
 ) -> Result<Vec<Goal>, NoMemory> {
     let alloc = draft.planner.alloc;
-    if !draft.may_scan() {
+    let Some(place) = draft.tree.place(pid) else {
         return Ok(Vec::new(alloc));
+    };
+    let from = place.try_clone(alloc)?;
+    match draft.best_place(pid, Goer::Between { from: &from, to })? {
+        Some(to) => only(alloc, Op::Move { pid, to }),
+        None => Ok(Vec::new(alloc)),
     }
-    let mut left = times;
-    for hold in draft.planner.holds(Side::Outside)? {
-        if hold.common_len(to) >= len {
-            continue;
-        }
-        if left == 0 {
-            return only(alloc, Op::Move { pid, to: hold });
-        }
-        left -= 1;
-    }
-    Ok(Vec::new(alloc))
 }
 
-/// A controller on at the parent of a cgroup.
-fn on_above<H: Hierarchy>(
-    draft: &Draft<H>,
+/// A place that isn't there. Where the process comes there by another place it goes to that first: it may be removed to make room.
+fn made<H: Hierarchy + Drop>(
+    draft: &mut Draft<H>,
+    pid: Pid,
+    to: &Path,
+) -> Result<Vec<Goal>, NoMemory> {
+    let alloc = draft.planner.alloc;
+    let mut goals = Vec::new(alloc);
+    if !comes_straight(draft, pid, to) {
+        goals = around(draft, pid, to)?;
+        if goals.is_empty() {
+            return Ok(goals);
+        }
+    }
+    let path = to.try_clone(alloc)?;
+    goals.push(Goal::new(Op::Mkdir { path }))?;
+    Ok(goals)
+}
+
+/// Whether the user moves a process past what lies between it and a place.
+fn comes_straight<H: Hierarchy>(draft: &Draft<H>, pid: Pid, to: &Path) -> bool {
+    match draft.tree.place(pid) {
+        Some(place) => draft.planner.passes(&draft.tree, place, to),
+        None => false,
+    }
+}
+
+/// A controller on at the parent of a cgroup, which processes leave first: once those above enable it fewer take them.
+fn on_above<H: Hierarchy + Drop>(
+    draft: &mut Draft<H>,
     at: &Path,
     controller: Controller,
 ) -> Result<Vec<Goal>, NoMemory> {
@@ -172,8 +200,12 @@ fn on_above<H: Hierarchy>(
     if at.depth() == 0 {
         return Ok(Vec::new(alloc));
     }
+    let Some(mut goals) = left(draft, at)? else {
+        return Ok(Vec::new(alloc));
+    };
     let parent = at.try_prefix(alloc, at.parent_len())?;
-    only(alloc, control(alloc, parent, true, controller)?)
+    goals.push(Goal::new(control(alloc, parent, true, controller)?))?;
+    Ok(goals)
 }
 
 /// Each controller off that a cgroup enables.
@@ -191,6 +223,22 @@ fn all_off<H: Hierarchy>(draft: &Draft<H>, path: &Path) -> Result<Vec<Goal>, NoM
         }
     }
     Ok(goals)
+}
+
+/// A controller off at each cgroup below one; where that is planned already, or one of them is barred, the removal of the cgroup.
+fn off_or_removed<H: Hierarchy + Drop>(
+    draft: &mut Draft<H>,
+    at: &Path,
+    controller: Controller,
+    is_planned: bool,
+) -> Result<Vec<Goal>, NoMemory> {
+    if !is_planned {
+        let goals = off_below(draft, at, controller)?;
+        if !goals.is_empty() && !draft.bars_some(goals.as_slice()) {
+            return Ok(goals);
+        }
+    }
+    removed(draft, at)
 }
 
 /// A controller off at each cgroup below one that enables it, the deepest first.
@@ -247,4 +295,22 @@ fn raised<H: Hierarchy>(
     let at = path.try_prefix(alloc, len)?;
     let value = Limit::Max;
     only(alloc, Op::Set { at, file, value })
+}
+
+/// What makes room for a new cgroup at the one of the first `len` names: its limit is raised if the user reaches it.
+fn raised_or_room<H: Hierarchy + Drop>(
+    draft: &mut Draft<H>,
+    path: &Path,
+    len: usize,
+) -> Result<Vec<Goal>, NoMemory> {
+    let file = LimitFile::MaxDescendants;
+    if len <= path.depth()
+        && draft
+            .planner
+            .reaches(&draft.tree, path, len, EntryName::File(file))
+    {
+        raised(draft, path, len, file)
+    } else {
+        room(draft, path, len)
+    }
 }

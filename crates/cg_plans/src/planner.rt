@@ -1,13 +1,14 @@
 //! Who plans, and what a tree says of what they reach.
 ghost use Rattle.std.specs.Prelude.{◌≤◌, length};
 
+use crate::loose::Loose;
+use crate::sought::{Side, Way};
 use cg_cgroup::files::EntryName;
 use cg_cgroup::memory::NoMemory;
 use cg_cgroup::path::{Path, PathFault};
 use cg_cgroup::process::Pid;
 use cg_cgroup::user::User;
 use cg_model::hierarchy::Hierarchy;
-use cg_ops::moves::may_hold;
 use std::alloc::Global;
 
 /// A user, the subtree of a tree that they would break, and what was in the tree at the start.
@@ -19,6 +20,8 @@ pub struct Planner<'a, H: Hierarchy> {
     pub subtree: &'a Path,
     pub paths: Vec<Path>,
     pub pids: Vec<Pid>,
+    /// What may go of the tree at the start.
+    pub loose: Loose,
 }
 
 impl<'a, H: Hierarchy> Planner<'a, H> {
@@ -40,14 +43,6 @@ impl<'a, H: Hierarchy> Planner<'a, H> {
         }
     }
 
-    /// Whether a cgroup is there and takes processes as it is.
-    pub fn is_open(&self, tree: &H, path: &Path) -> bool {
-        match tree.get(path, path.depth()) {
-            Some(cgroup) => may_hold(cgroup, path),
-            None => false,
-        }
-    }
-
     /// Whether the user reaches the `cgroup.procs` of the cgroup of the first `len` names of a path.
     pub fn passes_at(&self, tree: &H, path: &Path, len: usize) -> bool
         requires { len ≤ length path.now }
@@ -59,6 +54,38 @@ impl<'a, H: Hierarchy> Planner<'a, H> {
     #[tactic(auto, using(cg_model::proofs::Prefixes::length_common))]
     pub fn passes(&self, tree: &H, from: &Path, to: &Path) -> bool {
         self.passes_at(tree, to, from.common_len(to))
+    }
+
+    /// The first of the cgroups above one, from the root down, past which the user moves processes, by its number of names.
+    pub fn top_passed(&self, tree: &H, path: &Path) -> Option<usize> {
+        for len in 0..path.depth() {
+            if self.passes_at(tree, path, len) {
+                return Some(len);
+            }
+        }
+        None
+    }
+
+    /// How a process comes from a place to another, if it may: over the first cgroup above that is passed where the user doesn't
+    /// move it there.
+    pub fn way(&self, tree: &H, from: &Path, to: &Path, top: Option<usize>) -> Option<Way> {
+        if self.passes(tree, from, to) {
+            return Some(Way::Straight);
+        }
+        match top {
+            Some(top) if top < from.common_len(to) => Some(Way::Around),
+            _ => None,
+        }
+    }
+
+    /// Whether a cgroup is on a side, and the user moves processes past its common ancestor with the subtree.
+    pub fn is_beside(&self, tree: &H, side: Side, path: &Path) -> bool {
+        match side {
+            Side::Inside => self.subtree.is_prefix_of(path),
+            Side::Outside => {
+                !self.subtree.is_prefix_of(path) && self.passes(tree, path, self.subtree)
+            }
+        }
     }
 
     /// A path below a cgroup that isn't there; none where its text would be too long.

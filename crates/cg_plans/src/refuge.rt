@@ -1,52 +1,47 @@
-//! Where processes go that have to leave.
+//! Processes that have to leave where they are.
 use crate::draft::Draft;
-use crate::holds::is_full;
-use cg_cgroup::files::EntryName;
+use crate::goal::Goal;
+use crate::sought::{Goer, Leaving};
 use cg_cgroup::memory::NoMemory;
 use cg_cgroup::path::Path;
 use cg_cgroup::process::Pid;
 use cg_model::hierarchy::Hierarchy;
+use cg_model::operation::Op;
 
-/// From where processes have to go.
-#[derive(Clone, Copy)]
-pub enum Leaving<'a> {
-    /// From a cgroup and all below it.
-    Below(&'a Path),
-    /// From a cgroup that is to enable a controller.
-    At(&'a Path),
-}
-
-impl Leaving<'_> {
-    /// Whether a process at a place has to go.
-    pub fn is_from(&self, place: &Path) -> bool {
-        match self {
-            Leaving::Below(top) => top.is_prefix_of(place),
-            Leaving::At(at) => *at == place,
-        }
-    }
-
-    /// Whether a process may go to a cgroup: those above one that is to enable a controller enable it, too.
-    fn may_go_to(&self, path: &Path) -> bool {
-        match self {
-            Leaving::Below(top) => !top.is_prefix_of(path),
-            Leaving::At(at) => path.depth() == 0 || !path.is_prefix_of(at),
-        }
-    }
-
-    /// Whether a process may go to a new child of a cgroup.
-    fn may_go_below(&self, path: &Path) -> bool {
-        match self {
-            Leaving::Below(top) => !top.is_prefix_of(path),
-            Leaving::At(_) => true,
-        }
-    }
-}
-
-/// The place to which a process goes that has to leave, where there is one: the last one again, where the user still moves
-/// processes past what lies between.
-pub fn refuge<H: Hierarchy + Drop>(
+/// Adds what takes the processes away from where they are: the user's own end, others go to a refuge. Whether all may go.
+pub fn leave<H: Hierarchy + Drop>(
     draft: &mut Draft<H>,
-    leaving: &Leaving<'_>,
+    leaving: Leaving<'_>,
+    goals: &mut Vec<Goal>,
+) -> Result<bool, NoMemory> {
+    for pid in &draft.planner.pids {
+        let pid = *pid;
+        if !is_leaving(draft, &leaving, pid) {
+            continue;
+        }
+        if draft.may_end(pid) {
+            goals.push(Goal::new(Op::Exit { pid }))?;
+        } else if let Some(to) = refuge(draft, leaving, pid)? {
+            goals.push(Goal::new(Op::Move { pid, to }))?;
+        } else {
+            return Ok(false);
+        }
+    }
+    Ok(true)
+}
+
+/// Whether a process is where it is to leave.
+fn is_leaving<H: Hierarchy>(draft: &Draft<H>, leaving: &Leaving<'_>, pid: Pid) -> bool {
+    match draft.tree.place(pid) {
+        Some(place) => leaving.is_from(place),
+        None => false,
+    }
+}
+
+/// The place to which a process goes that has to leave, where there is one: the last one again, if the user moves it there.
+fn refuge<H: Hierarchy + Drop>(
+    draft: &mut Draft<H>,
+    leaving: Leaving<'_>,
     pid: Pid,
 ) -> Result<Option<Path>, NoMemory> {
     let alloc = draft.planner.alloc;
@@ -55,70 +50,33 @@ pub fn refuge<H: Hierarchy + Drop>(
     };
     let from = place.try_clone(alloc)?;
     if let Some(last) = &draft.refuge {
-        if leaving.may_go_to(last) && draft.planner.passes(&draft.tree, &from, last) {
+        if is_refuge(draft, &leaving, pid, &from, last)? {
             return Ok(Some(last.try_clone(alloc)?));
         }
     }
-    if !draft.may_scan() {
-        return Ok(None);
-    }
-    let found = first_refuge(draft, leaving, &from)?;
+    let goer = Goer::Leaving {
+        from: &from,
+        leaving,
+        top: draft.planner.top_passed(&draft.tree, &from),
+    };
+    let found = draft.best_place(pid, goer)?;
     if let Some(found) = &found {
         draft.refuge = Some(found.try_clone(alloc)?);
     }
     Ok(found)
 }
 
-/// The first cgroup that takes a process as it is, else a new one, else the first that takes one once its controllers are off.
-fn first_refuge<H: Hierarchy>(
+/// Whether a process that has to leave may be moved to a place where others were put.
+fn is_refuge<H: Hierarchy + Drop>(
     draft: &Draft<H>,
     leaving: &Leaving<'_>,
+    pid: Pid,
     from: &Path,
-) -> Result<Option<Path>, NoMemory> {
-    if let Some(found) = old_refuge(draft, leaving, from, true)? {
-        return Ok(Some(found));
+    last: &Path,
+) -> Result<bool, NoMemory> {
+    let subtree = draft.planner.subtree;
+    if !leaving.may_go_to(last, false, subtree) || !draft.planner.passes(&draft.tree, from, last) {
+        return Ok(false);
     }
-    if let Some(found) = new_refuge(draft, leaving, from)? {
-        return Ok(Some(found));
-    }
-    old_refuge(draft, leaving, from, false)
-}
-
-/// The first cgroup to which a process may go, of those that take processes as they are, or of the others.
-fn old_refuge<H: Hierarchy>(
-    draft: &Draft<H>,
-    leaving: &Leaving<'_>,
-    from: &Path,
-    open: bool,
-) -> Result<Option<Path>, NoMemory> {
-    let planner = draft.planner;
-    for path in &planner.paths {
-        if leaving.may_go_to(path)
-            && planner.passes(&draft.tree, from, path)
-            && planner.reaches(&draft.tree, path, path.depth(), EntryName::Procs)
-            && planner.is_open(&draft.tree, path) == open
-        {
-            return Ok(Some(path.try_clone(planner.alloc)?));
-        }
-    }
-    Ok(None)
-}
-
-/// A new child of the first cgroup that may have one.
-fn new_refuge<H: Hierarchy>(
-    draft: &Draft<H>,
-    leaving: &Leaving<'_>,
-    from: &Path,
-) -> Result<Option<Path>, NoMemory> {
-    let planner = draft.planner;
-    for path in &planner.paths {
-        if leaving.may_go_below(path)
-            && planner.passes(&draft.tree, from, path)
-            && planner.reaches(&draft.tree, path, path.depth(), EntryName::Dir)
-            && !is_full(&draft.tree, path)
-        {
-            return planner.new_child(&draft.tree, path);
-        }
-    }
-    Ok(None)
+    Ok(!draft.avoided(pid)?.contains(last))
 }

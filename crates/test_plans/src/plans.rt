@@ -219,6 +219,71 @@ process = [{ pid = 5, uid = 0, at = \"/\" }]
 }
 
 #[test]
+fn room_is_made_by_one_in_another(rt: HostRuntime) -> Result<(), Fail> {
+    let tree = b"
+format = 1
+controllers = []
+cgroup = [
+    { path = \"/\", files = { \"cgroup.procs\" = { uid = 1000 }, \"cgroup.max.descendants\" = { value = 3 } } },
+    { path = \"/s\", dir = { uid = 1000 } },
+    { path = \"/b\", dir = { uid = 1000 } },
+    { path = \"/b/c\", dir = { uid = 1000 } },
+    { path = \"/b/c/d\" },
+]
+process = [{ pid = 5, uid = 0, at = \"/\" }]
+";
+    expect_planned(
+        &rt,
+        tree,
+        "/s",
+        "rmdir /b/c/d\nrmdir /b/c\nmkdir /s/probe0\nmove 5 /s/probe0\n",
+    )
+}
+
+#[test]
+fn a_refuge_takes_two_moves(rt: HostRuntime) -> Result<(), Fail> {
+    let tree = b"
+format = 1
+controllers = [\"cpu\"]
+cgroup = [
+    { path = \"/\", files = { \"cgroup.subtree_control\" = { uid = 1000 } } },
+    { path = \"/a\", files = { \"cgroup.procs\" = { uid = 1000 }, \"cgroup.subtree_control\" = { uid = 1000 } } },
+    { path = \"/a/p\", files = { \"cgroup.subtree_control\" = { uid = 1000 } } },
+    { path = \"/a/p/x\", files = { \"cgroup.procs\" = { uid = 1000 } } },
+    { path = \"/a/p/s\" },
+]
+process = [{ pid = 13, uid = 1001, at = \"/a/p\" }]
+";
+    expect_planned(
+        &rt,
+        tree,
+        "/a/p/s",
+        "move 13 /a\nmove 13 /a/p/x\ncontrol / +cpu\ncontrol /a +cpu\ncontrol /a/p +cpu\n",
+    )
+}
+
+#[test]
+fn anothers_process_crosses_where_theirs_ends(rt: HostRuntime) -> Result<(), Fail> {
+    let tree = b"
+format = 1
+controllers = [\"memory\"]
+cgroup = [
+    { path = \"/\", enabled = [\"memory\"] },
+    { path = \"/p\", enabled = [\"memory\"], dir = { uid = 1000 }, files = { \"cgroup.procs\" = { uid = 1000 }, \"cgroup.max.descendants\" = { value = 2 } } },
+    { path = \"/p/s\", dir = { uid = 1000 } },
+    { path = \"/p/s/b\" },
+]
+process = [{ pid = 11, uid = 1002, at = \"/p/s\" }, { pid = 13, uid = 1000, at = \"/p/s/b\" }]
+";
+    expect_planned(
+        &rt,
+        tree,
+        "/p/s",
+        "exit 13\nrmdir /p/s/b\nmkdir /p/probe0\nmove 11 /p/probe0\n",
+    )
+}
+
+#[test]
 fn others_processes_stay(rt: HostRuntime) -> Result<(), Fail> {
     let tree = b"
 format = 1

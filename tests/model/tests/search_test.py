@@ -1,6 +1,7 @@
 """The second row of guards on trees by hand, and the search on the ones that it breaks."""
 import importlib.machinery
 import importlib.util
+import itertools
 import os
 import random
 import sys
@@ -108,8 +109,8 @@ class RowTest(unittest.TestCase):
 
 class SearchTest(unittest.TestCase):
     def test_random_states_are_well_formed(self):
-        for number in range(200):
-            state = small.random_state(random.Random(number))
+        for number, draw in itertools.product(range(200), (small.random_state, small.state_about_plans)):
+            state = draw(random.Random(number))
             for path, cgroup in state.cgroups.items():
                 self.assertLessEqual(cgroup.enabled, rules.available(state, path))
                 self.assertEqual(list(cgroup.values), rules.files_at(state, path))

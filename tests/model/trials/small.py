@@ -60,6 +60,104 @@ def state_about_room(rng, paths):
     return state
 
 
+def state_about_plans(rng, least=3, most=5):
+    """A state about lists of several operations: places that have to be opened, or room to be made, or processes that have to leave."""
+    kinds = [state_about_closed_places, state_about_full_places, state_about_leaving, state_about_nesting]
+    return rng.choice(kinds)(rng, rng.randint(least, most))
+
+
+def head_of(rng):
+    """A subtree with what is above it, and one of these cgroups, at which there are many places."""
+    head = rng.choice([[(), ("s",)], [(), ("p",), ("p", "s")]])
+    return head, rng.choice([head[-1], head[-1], head[-2]])
+
+
+def with_chances(rng, paths, controllers, enabled, chance):
+    """Of a chance to be reached for each entry of each path, with processes."""
+    enabled = {path: enabled.get(path, frozenset()) for path in sorted(paths)}
+    cgroups = cgroups_of(rng, controllers, enabled, {name: 0 for name in rules.STANDING})
+    for path, cgroup in cgroups.items():
+        for name in (*rules.STANDING, DESCENDANTS, DEPTH):
+            cgroup.entries[name] = random_entry(rng, chance(path, name), name == DIR)
+    return with_processes(rng, controllers, cgroups, [1, 1, 2, 3])
+
+
+def state_about_closed_places(rng, number):
+    """Many places enable a controller, which may go off at few of them."""
+    head, at = head_of(rng)
+    places = [at + (f"c{count}",) for count in range(number)]
+    paths = head + places + [place + ("d",) for place in places if rng.random() < 0.3]
+    on, open_ones = frozenset(["cpu"]), {place for place in places if rng.random() < 0.1}
+    enabled = {path: on for path in paths if path[:-1] not in open_ones and path not in open_ones and
+               (len(path) <= len(at) or rng.random() < (0.9 if path in places else 0.5))}
+    enabled = {path: those for path, those in enabled.items() if not path or all(path[:length] in enabled for length in range(len(path)))}
+    few = rng.choice([0.15, 0.3])
+
+    def chance(path, name):
+        if path in head:
+            return {rules.PROCS: 0.6 if path != at else 0.1, DIR: 0.15}.get(name, 0.05)
+        return {rules.PROCS: 0.9, rules.CONTROL: few}.get(name, 0.1)
+    return with_chances(rng, paths, on, enabled, chance)
+
+
+def state_about_full_places(rng, number):
+    """Many places may get no child, by limits that few of them may raise, or make room for."""
+    head, at = head_of(rng)
+    places = [at + (f"c{count}",) for count in range(number)]
+    paths = head + places + [place + (f"d{count}",) for place in places for count in range(rng.choice([0, 0, 0, 1, 2]))]
+    memory, few = frozenset(["memory"]), rng.choice([0.15, 0.3])
+    enabled = {path[:-1]: memory for path in paths if path}
+
+    def chance(path, name):
+        if path in head:
+            return {rules.PROCS: 0.7}.get(name, 0.1)
+        return {DIR: 0.8, rules.PROCS: 0.05, rules.CONTROL: 0.05}.get(name, few)
+    state = with_chances(rng, paths, memory, enabled, chance)
+    for path, cgroup in state.cgroups.items():
+        if rng.random() < (0.3 if path in head else 0.9):
+            cgroup.values[DESCENDANTS] = max(0, len(rules.below(state, path)) - rng.choice([0, 0, 0, 1]))
+        if rng.random() < 0.1:
+            cgroup.values[DEPTH] = rules.depth_below(state, path)
+    return state
+
+
+def state_about_leaving(rng, number):
+    """Processes are in a chain whose controls are reached, with places beside it."""
+    chain = [tuple("abcd"[:length]) for length in range(rng.choice([4, 5]))]
+    paths = list(chain)
+    for count in range(max(1, number - 3)):
+        paths.append(rng.choice(paths[:-1]) + (f"x{count}",))
+    controllers, first = frozenset([rng.choice(["cpu", "memory"])]), rng.randint(0, 2)
+    enabled = {}
+    for path in sorted(paths):
+        if (not path or path[:-1] in enabled) and (len(path) < first if path in chain else rng.random() < 0.4):
+            enabled[path] = controllers
+    moved, made, raised = rng.choice([0.3, 0.6]), rng.choice([0, 0.3, 0.6]), rng.choice([0.1, 0.5])
+
+    def chance(path, name):
+        return {rules.CONTROL: 0.9 if path in chain[:-1] else 0.4, rules.PROCS: moved, DIR: made}.get(name, raised)
+    state = with_chances(rng, paths, controllers, enabled, chance)
+    return with_limits(rng, state, rng.choice([0, 0.4]))
+
+
+def state_about_nesting(rng, number):
+    """Room is made by the removal of several cgroups, some of which lie in others."""
+    paths, memory = random_paths(rng, number + 1), frozenset(["memory"])
+    inner, often, enabled = {path[:-1] for path in paths if path}, rng.choice([0.3, 1]), {}
+    for path in sorted(paths):
+        if (not path or path[:-1] in enabled) and path in inner and rng.random() < often:
+            enabled[path] = memory
+    removed, moved = rng.choice([0.5, 0.8]), rng.choice([0.1, 0.4])
+
+    def chance(_, name):
+        return {DIR: removed, rules.PROCS: moved}.get(name, 0.1)
+    state = with_chances(rng, paths, memory, enabled, chance)
+    for path, cgroup in state.cgroups.items():
+        if rng.random() < 0.4:
+            cgroup.values[DESCENDANTS] = max(0, len(rules.below(state, path)) - rng.choice([0, 0, 1, 1, 2]))
+    return state
+
+
 def state_of_site(rng):
     """Processes are moved past one cgroup alone, and to nowhere but into new cgroups there."""
     paths, controllers = [(), ("a",), ("a", "b"), ("a", "b", "c")], frozenset(["memory"])
@@ -104,9 +202,9 @@ def cgroups_of(rng, controllers, enabled, chances):
     return cgroups
 
 
-def with_processes(rng, controllers, cgroups):
+def with_processes(rng, controllers, cgroups, numbers=(0, 1, 1, 2)):
     places = [path for path, cgroup in cgroups.items() if not path or not cgroup.enabled]
-    pids = rng.sample(PIDS, rng.choice([0, 1, 1, 2]))
+    pids = rng.sample(PIDS, rng.choice(numbers))
     live = {pid: (rng.choice([STRANGER, STRANGER, 1000, 1001]), rng.choice(places)) for pid in pids}
     return State(controllers, cgroups, live, frozenset(live))
 
