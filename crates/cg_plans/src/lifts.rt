@@ -34,10 +34,7 @@ pub fn lifts<H: Hierarchy + Drop>(
             raised(draft, path, *len, LimitFile::MaxDepth)
         }
         (Op::Rmdir { path }, Refusal::HasChildren | Refusal::HasProcesses)
-            if !goal.is_planned(refusal) =>
-        {
-            emptied(draft, path)
-        }
+            if !goal.is_planned(refusal) => { emptied(draft, path) }
         _ => Ok(Vec::new(draft.planner.alloc)),
     }
 }

@@ -101,14 +101,12 @@ impl Loose {
 
     /// How many of the cgroups below the one at a place may be removed.
     pub fn removable_below(&self, at: usize) -> usize {
-        self.removable
-            .between(at.saturating_add(1), self.end(at))
+        self.removable.between(at.saturating_add(1), self.end(at))
     }
 
     /// Whether each cgroup below the one at a place may be removed, or enable nothing.
     pub fn opens_below(&self, at: usize) -> bool {
-        self.enabling
-            .between(at.saturating_add(1), self.end(at)) == 0
+        self.enabling.between(at.saturating_add(1), self.end(at)) == 0
     }
 }
 

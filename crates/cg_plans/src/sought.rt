@@ -60,7 +60,10 @@ pub enum Goer<'a> {
         top: Option<usize>,
     },
     /// One that comes from a place to another by the one that is sought.
-    Between { from: &'a Path, to: &'a Path },
+    Between {
+        from: &'a Path,
+        to: &'a Path,
+    },
 }
 
 /// What is sought: a place for a process, but for some that are avoided.
@@ -90,8 +93,7 @@ impl Sought<'_> {
                 }
             }
             Goer::Between { from, to }
-                if planner.passes(tree, from, path) && planner.passes(tree, path, to) =>
-            {
+                if planner.passes(tree, from, path) && planner.passes(tree, path, to) => {
                 Some(Way::Straight)
             }
             Goer::Between { .. } => None,
