@@ -1,11 +1,11 @@
-"""What each subcommand takes on its command line, and what its --help says."""
+"""From a subcommand's name to the parser of its command line, and what its --help says."""
 import argparse
 import os
 from typing import Callable, Dict, Sequence, Type
 
 from zirofen_host.fault import Parser
 from zirofen_host.parsing import StableParser
-from zirofen_host.installed import MANUAL, NAME, TOLD_PROGRAM, default_program
+from zirofen_host.installed import MANUAL, NAME, PROGRAM_IN_HELP, default_program
 from zirofen_host.options import MOUNT, PROC, Way
 from zirofen_host.profile import LARGEST_ID, NEWEST, TEXT_FORMATS, is_number
 
@@ -19,7 +19,7 @@ FORMATS = ("text", "json", "sarif", "junit", "metrics")
 FLEET_FORMATS = ("text", "json", "metrics")
 # in which words it tells what mends findings
 MENDS = ("systemd", "shell")
-# a systemd that isn't told
+# a systemd whose version isn't given
 NEW_SYSTEMD = 257
 # columns that a tree is drawn in at least
 LEAST_WIDTH = 20
@@ -182,7 +182,7 @@ def add_keep(parser: argparse.ArgumentParser) -> None:
 
 def add_program(parser: argparse.ArgumentParser) -> None:
     parser.add_argument("--zirofen", metavar="PROGRAM", dest="program", default=default_program(),
-                        help=f"the program, also by the environment's ZIROFEN ({TOLD_PROGRAM})")
+                        help=f"the program, also by the environment's ZIROFEN ({PROGRAM_IN_HELP})")
 
 
 def add_ask(parser: argparse.ArgumentParser) -> None:

@@ -1,4 +1,7 @@
-"""The command `zirofen-host`: which subcommand is run. Each is imported where it is asked for."""
+"""From the words of the command `zirofen-host` to the subcommand that is run, and its status.
+
+Each is imported where it is asked for.
+"""
 import importlib
 import sys
 from typing import List, NoReturn
@@ -9,8 +12,8 @@ from zirofen_host.installed import NAME
 
 def help_text() -> str:
     from zirofen_host.arguments import ABOUT, ARGUMENTS, DESCRIPTIONS
-    told = [f"  {name:<12} {DESCRIPTIONS[name].partition(chr(10))[0]}" for name in ARGUMENTS]
-    return "\n".join([ABOUT, "", "Commands:", *told, "", "Options:", "      --help     this text",
+    lines = [f"  {name:<12} {DESCRIPTIONS[name].partition(chr(10))[0]}" for name in ARGUMENTS]
+    return "\n".join([ABOUT, "", "Commands:", *lines, "", "Options:", "      --help     this text",
                       "      --version  the versions of the helpers and of the program"])
 
 
@@ -21,7 +24,7 @@ def tell_version() -> int:
     said = ending.run([program, "--version"])
     if said.returncode:
         raise fault.Fault(f"{program} doesn't run here, and ended with status {said.returncode}")
-    fault.write(f"{version.told()}\n{said.stdout}")
+    fault.write(f"{version.helper_line()}\n{said.stdout}")
     return 0
 
 

@@ -1,4 +1,4 @@
-"""What nothing is left of, however a helper ends: files that it hasn't finished, temporary folders, and programs that it runs."""
+"""From files, folders and programs that aren't finished to nothing that is left of them, however a helper ends."""
 import contextlib
 import os
 import signal

@@ -1,4 +1,4 @@
-"""Why a helper can't give what was asked of it, and lines that harm no terminal."""
+"""From why a helper can't give what was asked of it to a status, and to lines that harm no terminal."""
 import os
 import signal
 import sys
@@ -26,10 +26,10 @@ class OutOfTime(BaseException):
 class _Clock:
     """When the run has to have ended, where there is a bound."""
     end: Optional[float] = None
-    # when the program has to have been asked, so that what it answered is still told
+    # when the program has to have been asked, so that what it answered is still reported
     end_of_asking: Optional[float] = None
     seconds: Optional[int] = None
-    told = ""
+    message = ""
 
 
 # the part of the time in which the program is asked
@@ -42,14 +42,14 @@ def bound(seconds: Optional[int]) -> None:
         def end_run(*_: object) -> NoReturn:
             raise out_of_time()
         _Clock.end, _Clock.end_of_asking = time.monotonic() + seconds, time.monotonic() + ASKING * seconds
-        _Clock.told = f"it took longer than {seconds} seconds, and this is no answer"
+        _Clock.message = f"it took longer than {seconds} seconds, and this is no answer"
         _Clock.seconds = seconds
         signal.signal(signal.SIGALRM, end_run)
         signal.alarm(seconds)
 
 
 def bound_anew(seconds: int) -> Optional[int]:
-    """Gives what is left to be told so many seconds more, once a run has come to the end of its time; how many that was."""
+    """Gives what is left to be written so many seconds more, once a run has come to the end of its time; how many that was."""
     if _Clock.end is None:
         return None
     signal.alarm(seconds)
@@ -74,7 +74,7 @@ def seconds_to_ask() -> Optional[float]:
 
 def out_of_time() -> OutOfTime:
     """What ends a run of which a part took too long."""
-    return OutOfTime(_Clock.told)
+    return OutOfTime(_Clock.message)
 
 
 def plain(text: str) -> str:

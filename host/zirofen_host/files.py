@@ -1,4 +1,4 @@
-"""What each interface file of a cgroup is: what writing it does, and in one table all facts of those by which a limit is set."""
+"""From the name of a cgroup's file to what writing it does, and to all facts of those by which a limit is set."""
 from dataclasses import dataclass
 from enum import Enum
 from functools import cached_property, lru_cache
@@ -17,7 +17,7 @@ class Kind(Enum):
     DELEGATED = "delegated"
 
 
-class Told(Enum):
+class Texts(Enum):
     """Which tree texts tell of a file."""
     ALWAYS = "every text"
     FURTHER = "a text of format 4, where it isn't root's own"
@@ -67,7 +67,7 @@ class LimitFile:
     usual: Union[int, str]
     # the first kernel that has it, in a hierarchy of version 2
     since: Tuple[int, int]
-    told: Told = Told.FURTHER
+    texts: Texts = Texts.FURTHER
     kind: Kind = Kind.LIMIT
     # the setting of a unit that brings its value back, and how
     setting: Optional[str] = None
@@ -96,14 +96,14 @@ class LimitFile:
 CPU_WEIGHTS = ("cpu.idle", "cpu.weight")
 # first what every text tells of, in its order; then what a text of format 4 tells of, in the order of bytes; and then others
 LIMITS = (
-    LimitFile("cgroup.max.descendants", "max", (4, 14), Told.ALWAYS, counts="cgroups"),
-    LimitFile("cgroup.max.depth", "max", (4, 14), Told.ALWAYS, counts="levels"),
-    LimitFile("cpu.weight", 100, (4, 15), Told.ALWAYS, setting="CPUWeight", is_share=True, range=Range(1, 10000, False)),
-    LimitFile("memory.min", 0, (4, 18), Told.ALWAYS, setting="MemoryMin", is_share=True),
-    LimitFile("memory.low", 0, (4, 5), Told.ALWAYS, setting="MemoryLow", is_share=True),
-    LimitFile("memory.high", "max", (4, 5), Told.ALWAYS, setting="MemoryHigh"),
-    LimitFile("memory.max", "max", (4, 5), Told.ALWAYS, setting="MemoryMax"),
-    LimitFile("pids.max", "max", (4, 5), Told.ALWAYS, setting="TasksMax"),
+    LimitFile("cgroup.max.descendants", "max", (4, 14), Texts.ALWAYS, counts="cgroups"),
+    LimitFile("cgroup.max.depth", "max", (4, 14), Texts.ALWAYS, counts="levels"),
+    LimitFile("cpu.weight", 100, (4, 15), Texts.ALWAYS, setting="CPUWeight", is_share=True, range=Range(1, 10000, False)),
+    LimitFile("memory.min", 0, (4, 18), Texts.ALWAYS, setting="MemoryMin", is_share=True),
+    LimitFile("memory.low", 0, (4, 5), Texts.ALWAYS, setting="MemoryLow", is_share=True),
+    LimitFile("memory.high", "max", (4, 5), Texts.ALWAYS, setting="MemoryHigh"),
+    LimitFile("memory.max", "max", (4, 5), Texts.ALWAYS, setting="MemoryMax"),
+    LimitFile("pids.max", "max", (4, 5), Texts.ALWAYS, setting="TasksMax"),
 
     LimitFile("cgroup.freeze", "0", (5, 2), kind=Kind.ACTS),
     LimitFile("cpu.idle", "0", (5, 15), setting="CPUWeight", form=Form.IDLE, changes=CPU_WEIGHTS),
@@ -133,22 +133,22 @@ LIMITS = (
     LimitFile("misc.max", "max", (5, 13), is_keyed=True),
     LimitFile("rdma.max", "max", (4, 11), is_keyed=True),
 
-    LimitFile("io.cost.model", "", (5, 4), Told.NEVER),
-    LimitFile("io.cost.qos", "", (5, 4), Told.NEVER),
-    LimitFile("cgroup.pressure", "1", (6, 1), Told.NEVER, Kind.ACTS),
-    LimitFile("cgroup.type", "domain", (4, 14), Told.NEVER, Kind.ACTS),
-    LimitFile("memory.oom.group", "0", (4, 19), Told.NEVER, Kind.DELEGATED))
+    LimitFile("io.cost.model", "", (5, 4), Texts.NEVER),
+    LimitFile("io.cost.qos", "", (5, 4), Texts.NEVER),
+    LimitFile("cgroup.pressure", "1", (6, 1), Texts.NEVER, Kind.ACTS),
+    LimitFile("cgroup.type", "domain", (4, 14), Texts.NEVER, Kind.ACTS),
+    LimitFile("memory.oom.group", "0", (4, 19), Texts.NEVER, Kind.DELEGATED))
 BY_NAME: Dict[str, LimitFile] = {row.name: row for row in LIMITS}
 
 
-def told_in(told: Told) -> Dict[str, LimitFile]:
+def files_in(texts: Texts) -> Dict[str, LimitFile]:
     """The limit files of some texts by their whole names, of each size of a huge page one, in their order."""
-    found = {row.name.replace(SIZE, size): row for row in LIMITS if row.told is told
+    found = {row.name.replace(SIZE, size): row for row in LIMITS if row.texts is texts
              for size in (PAGE_SIZES if SIZE in row.name else ("",))}
-    return found if told is Told.ALWAYS else dict(sorted(found.items()))
+    return found if texts is Texts.ALWAYS else dict(sorted(found.items()))
 
 
-LIMIT_FILES, FURTHER_FILES = told_in(Told.ALWAYS), told_in(Told.FURTHER)
+LIMIT_FILES, FURTHER_FILES = files_in(Texts.ALWAYS), files_in(Texts.FURTHER)
 # by the settings that bring them, the limit files that have one number by these
 BY_SETTING: Dict[str, str] = {row.setting: row.name for row in LIMITS if row.setting and row.form is Form.NUMBER}
 # those that bound how much is below a cgroup, and what each counts

@@ -1,4 +1,4 @@
-"""Where the package stands, in a clone or installed, and what is beside it."""
+"""From where the package stands, in a clone or installed, to what is beside it."""
 import os
 
 NAME = "zirofen-host"
@@ -13,7 +13,7 @@ IS_CLONE = os.path.isfile(WRAPPER)
 UNPACKED = os.path.join(PREFIX, "share/doc/zirofen/docs/HOSTS.md")
 MANUAL = "docs/HOSTS.md" if IS_CLONE else UNPACKED if PREFIX != "/usr" and os.path.isfile(UNPACKED) else "zirofen-host(8)"
 # what the program is called where its place doesn't matter
-TOLD_PROGRAM = "the wrapper beside this folder" if IS_CLONE else PROGRAM
+PROGRAM_IN_HELP = "the wrapper beside this folder" if IS_CLONE else PROGRAM
 
 
 def default_program() -> str:

@@ -1,4 +1,4 @@
-"""What each subcommand was asked for, made of its command line once."""
+"""From a command line to what the subcommand was asked for, made once."""
 import os
 from dataclasses import dataclass
 from typing import NamedTuple, Optional, Tuple

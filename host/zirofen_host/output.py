@@ -1,8 +1,8 @@
-"""The one module that writes files: a text stands whole in the place of what was there, or nothing is changed.
+"""From a text to a file that has all of it, or is as it was before: the one module that writes files.
 
-The folder is opened once; what is written is made in it, given its mode, renamed and synced by that descriptor. As root it goes
-into no folder that somebody else owns or writes, since whoever does could put another file there, or take this one; and what it
-reads back stands in none of these.
+The folder is opened once; what is written is made in it, given its mode, renamed and synced by that descriptor. As root it goes into no
+folder that somebody else owns or writes, since whoever does could put another file there, or take this one; and what it reads back stands
+in none of these.
 """
 import contextlib
 import errno

@@ -1,10 +1,10 @@
-"""A parser of options whose help and faults are made of its own data, so that they are the same whichever Python runs it."""
+"""From the options of a parser to its help and faults, which are the same whichever Python runs it."""
 import argparse
 import textwrap
 from typing import Dict, Iterator, List, Sequence, Tuple
 
 # columns of a help, and where what is said of an option begins
-WIDTH, TOLD_AT = 78, 24
+WIDTH, HELP_AT = 78, 24
 HELP = "show this help message and exit"
 
 
@@ -57,8 +57,8 @@ class StableParser(argparse.ArgumentParser):
             of = together.get(id(action), [action])
             if action.option_strings and id(of[0]) not in seen:
                 seen.add(id(of[0]))
-                told = " | ".join(map(in_usage, of))
-                words.append(told if action.required else f"[{told}]")
+                choices = " | ".join(map(in_usage, of))
+                words.append(choices if action.required else f"[{choices}]")
         return words, [in_usage(action) for action in self._actions if not action.option_strings]
 
     def format_usage(self) -> str:
@@ -73,13 +73,13 @@ class StableParser(argparse.ArgumentParser):
     def listed(self, actions: Sequence[argparse.Action]) -> Iterator[str]:
         """A line for each, with what is said of it behind it or below."""
         for action in actions:
-            head, told = f"  {invoked(action)}", HELP if isinstance(action, argparse._HelpAction) else action.help or ""
-            lines = textwrap.wrap(told, WIDTH - TOLD_AT) or [""]
-            if len(head) > TOLD_AT - 2:
+            head, help_text = f"  {invoked(action)}", HELP if isinstance(action, argparse._HelpAction) else action.help or ""
+            lines = textwrap.wrap(help_text, WIDTH - HELP_AT) or [""]
+            if len(head) > HELP_AT - 2:
                 yield head
             else:
-                yield f"{head:<{TOLD_AT}}{lines.pop(0)}".rstrip()
-            yield from (" " * TOLD_AT + line for line in lines)
+                yield f"{head:<{HELP_AT}}{lines.pop(0)}".rstrip()
+            yield from (" " * HELP_AT + line for line in lines)
 
     def format_help(self) -> str:
         parts = [self.format_usage().rstrip("\n"), (self.description or "").strip("\n")]

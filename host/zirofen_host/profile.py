@@ -1,4 +1,4 @@
-"""What a tree text can carry: paths, names, numbers, and how much of each its formats have at most."""
+"""From paths, names and numbers to whether a tree text can carry them, and how much its formats have at most."""
 import os
 import re
 from typing import Dict, FrozenSet, Iterable, Iterator, List, NamedTuple, NewType, Optional, Tuple, TypeVar, Union

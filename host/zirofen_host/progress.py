@@ -1,4 +1,4 @@
-"""What a helper is at, for whoever waits for it at a terminal."""
+"""From what a helper is at to a line for whoever waits for it at a terminal."""
 import sys
 import time
 

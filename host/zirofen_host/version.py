@@ -1,4 +1,4 @@
-"""Which helper this is: its version, and a sum over its own files, by which two of one version are told apart."""
+"""From the package's own files to the line that names this helper, by which two of one version differ."""
 import functools
 import hashlib
 import os
@@ -40,6 +40,6 @@ def digits() -> str:
         return sum_of()
 
 
-def told() -> str:
+def helper_line() -> str:
     """The line that names this helper."""
     return f"{NAME} {VERSION} ({digits()})"

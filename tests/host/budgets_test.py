@@ -340,7 +340,7 @@ class DescriptorsTest(ThreeTest):
 
     def test_a_mount_that_nothing_tells_of(self):
         self.host.opens(7, 3, "/bob/cgroup.max.depth", os.O_WRONLY, mount=31)
-        with mock.patch.object(bounded, "hold") as asked:
+        with mock.patch.object(bounded, "open_path") as asked:
             found = self.report()
         self.assertEqual((self.held(found), asked.called), (self.perhaps, False))
         self.others(found)
@@ -523,7 +523,7 @@ class EntriesTest(ThreeTest):
         self.assertEqual(fault["subtrees"], [f"/alice/c{number}" for number in range(9)])
 
 
-class LooksTest(ThreeTest):
+class AttemptsTest(ThreeTest):
     """Each look stands alone."""
 
     def broken(self, module, name):
@@ -607,7 +607,7 @@ class SecondsTest(ThreeTest):
         def take(*_):
             turns._Turns.went.update({1000: 41.0, 1001: 2.4, 0: 99.0, 1002: 0.4})
             raise fault.out_of_time()
-        clock = mock.patch.multiple(fault._Clock, end_of_asking=0.0, end=0.0, seconds=1, told="it took longer than 1 seconds")
+        clock = mock.patch.multiple(fault._Clock, end_of_asking=0.0, end=0.0, seconds=1, message="it took longer than 1 seconds")
         warned = []
         with clock, mock.patch.object(accepted, "take", take), mock.patch("zirofen_host.fault.bound", lambda _: None), \
                 mock.patch("signal.alarm", lambda _: None), mock.patch("zirofen_host.fault.warn", warned.append), \
@@ -642,7 +642,7 @@ class SecondsTest(ThreeTest):
             turns.begin()
             for uid in (5, 1005, 0, 6, 6):
                 spent.take(uid)
-            self.assertEqual(turns.told(), "2 went to what uid 5 holds, 1 went to what uid 6 holds")
+            self.assertEqual(turns.shares_text(), "2 went to what uid 5 holds, 1 went to what uid 6 holds")
         turns.begin()
 
     def test_what_was_asked_in_time_is_told(self):

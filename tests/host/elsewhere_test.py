@@ -50,7 +50,7 @@ class ElsewhereTest(HostTest):
         taken = taken or self.host.snapshot()
         taken = replace(taken, mount_options=tuple(mounts.options(taken.mount)))
         options = self.options()
-        lines = [*fitting.told_changing(taken)]
+        lines = [*fitting.changing_lines(taken)]
         if with_host:
             lines += elsewhere.carried(taken, accounts_of(options.accounts, taken))
         with open(self.file, "w", encoding="ascii") as out:

@@ -7,7 +7,7 @@ from unittest import mock
 from check_test import HostTest, owned
 from zirofen_host import files
 from zirofen_host.collect import bounded
-from zirofen_host.files import CONTROL_FILES, FURTHER_FILES, LIMIT_FILES, LIMITS, USUAL_LIST, Form, Kind, Told, kind_of
+from zirofen_host.files import CONTROL_FILES, FURTHER_FILES, LIMITS, LIMIT_FILES, USUAL_LIST, Form, Kind, Texts, kind_of
 
 REAL_MOUNT = "/sys/fs/cgroup"
 
@@ -19,11 +19,11 @@ class TableTest(unittest.TestCase):
         self.assertEqual(set(files.KINDS.values()), set(Kind))
 
     def test_which_texts_tell_of_limits(self):
-        told = {told: [limit.name for limit in LIMITS if limit.told is told] for told in Told}
-        self.assertEqual(told[Told.ALWAYS], list(LIMIT_FILES))
-        self.assertEqual(told[Told.FURTHER], sorted(told[Told.FURTHER]))
-        self.assertEqual({files.in_tables(name) for name in FURTHER_FILES}, set(told[Told.FURTHER]))
-        never = {limit.name for limit in LIMITS if limit.kind is Kind.LIMIT and limit.told is Told.NEVER}
+        by_texts = {each: [limit.name for limit in LIMITS if limit.texts is each] for each in Texts}
+        self.assertEqual(by_texts[Texts.ALWAYS], list(LIMIT_FILES))
+        self.assertEqual(by_texts[Texts.FURTHER], sorted(by_texts[Texts.FURTHER]))
+        self.assertEqual({files.in_tables(name) for name in FURTHER_FILES}, set(by_texts[Texts.FURTHER]))
+        never = {limit.name for limit in LIMITS if limit.kind is Kind.LIMIT and limit.texts is Texts.NEVER}
         self.assertEqual(never, {"io.cost.model", "io.cost.qos"})
 
     def test_settings_bring_values(self):

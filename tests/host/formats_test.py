@@ -17,7 +17,7 @@ from shown import made
 from zirofen_host.fault import Fault
 from zirofen_host.judge import baseline
 from zirofen_host.judge.host_model import Owner
-from zirofen_host.judge.model import FaultFinding, OpenedFinding, Told, Whom
+from zirofen_host.judge.model import FaultFinding, OpenedFinding, ReportNote, Whom
 from zirofen_host.judge.rules import RULES, findings_of
 from zirofen_host.options import CheckOptions, Way
 from zirofen_host.show import formats, junit, metrics, sarif
@@ -47,7 +47,7 @@ def odd_report():
               FaultFinding("alice(1000)", 1000, (), "too large", ("/a/b",), "alice(1000)"))
     entries = tuple(replace(each, path=ODD, answer=answer) for each in found.entries[:1] for answer in ("escapes", "unsettled"))
     return replace(found, opened=(opened, *found.opened), faults=faults, entries=(*entries, *found.entries), asked=False, status=3,
-                   version_1=("cpu",), host="web\u202e1", unseen=(Told("failed", "accounts", "no"), *found.unseen))
+                   version_1=("cpu",), host="web\u202e1", unseen=(ReportNote("failed", "accounts", "no"), *found.unseen))
 
 
 def runs():

@@ -156,7 +156,7 @@ class SnapshotTest(MadeUpTest):
             return f"{next(count)} 100000" if file == "cpu.max" else listed(folder, file)
         with mock.patch.object(walk, "text_of", changing):
             taken = self.host.snapshot()
-        self.assertEqual((dict(taken.changing), dict(taken.spoiled), note_lines(taken)), ({}, {}, []))
+        self.assertEqual((dict(taken.changing), dict(taken.unanswerable), note_lines(taken)), ({}, {}, []))
         self.assertEqual(self.files(taken), ['"cpu.max" = { uid = 1000, value = "2 100000" }'])
 
     def test_a_value_that_cant_be_read(self):
@@ -288,7 +288,7 @@ class CheckTest(HostTest):
     def test_of_a_subtree_without_an_answer_it_is_opened(self):
         self.host.cgroup("/svc", owners=of_user("cpu.max"), more=("cpu.max",))
         taken = self.host.snapshot()
-        found = check.report(replace(taken, spoiled={path("/svc"): "it changes"}), self.options(), False)
+        found = check.report(replace(taken, unanswerable={path("/svc"): "it changes"}), self.options(), False)
         self.assertEqual(self.opened(self.value_of(found)), ["/svc cpu.max by alice(1000)"])
 
     def test_the_report_has_their_values_once(self):
@@ -341,7 +341,7 @@ class CheckTest(HostTest):
         host = view.host_of(made(self.report(json=True)))
         told = steps.steps_of(host, "/svc", ["set /svc cpu.max max 100000"])
         self.assertEqual(told.breaks, steps.Breaks(steps.LIMITS, changes=(steps.Change("cpu.max", "5 100000", "max 100000"),)))
-        self.assertEqual(told.told[0][4:], [" from 5 100000", " to max 100000"])
+        self.assertEqual(told.sentences[0][4:], [" from 5 100000", " to max 100000"])
 
     def test_values_of_several_lines(self):
         """They are shown in one, and what nobody has set isn't shown: each resource has a line."""
@@ -352,7 +352,7 @@ class CheckTest(HostTest):
             host = view.host_of(made(found), shown)
             self.assertEqual(host.limits("/svc"), [("dmem.max", f"a max b{escape} 7"), ("io.max", "8:0 rbps=1 wbps=max 8:16 rbps=2")])
         told = steps.steps_of(host, "/svc", ["set /svc io.max 8:0 rbps=max"])
-        self.assertEqual(told.told[0][4:], [" from 8:0 rbps=1 wbps=max 8:16 rbps=2", " to 8:0 rbps=max"])
+        self.assertEqual(told.sentences[0][4:], [" from 8:0 rbps=1 wbps=max 8:16 rbps=2", " to 8:0 rbps=max"])
 
 
 class CommandsTest(MadeUpTest):

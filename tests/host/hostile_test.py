@@ -262,7 +262,7 @@ class GrowthTest(HostTest):
                     for user in plan.asked_as.values():
                         if not of.is_above(user.uid, path):
                             self.assertIn((user, path), pairs)
-                    self.assertTrue(any(of.holds(user, path) and (user, path) in pairs for user in plan.asked_as.values()))
+                    self.assertTrue(any(of.is_holder(user, path) and (user, path) in pairs for user in plan.asked_as.values()))
 
     def test_many_cgroups_that_a_group_writes(self):
         self.host.accounts(group="team:x:50:alice,bob,carol\n")

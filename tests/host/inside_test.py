@@ -158,8 +158,8 @@ class WhoTest(InsideTest):
         self.container(cgroups=OWN, uid=1000)
         self.container(other, 101)
         taken = self.host.snapshot()
-        look = inside.look(self.host.proc, taken.cgroups, taken.processes)
-        self.assertEqual(look.in_hosts_namespace({path_of(DOCKER), path_of(other)}), {path_of(DOCKER)})
+        inspection = inside.inspect(self.host.proc, taken.cgroups, taken.processes)
+        self.assertEqual(inspection.in_hosts_namespace({path_of(DOCKER), path_of(other)}), {path_of(DOCKER)})
 
     def test_one_that_ends_meanwhile_is_none(self):
         self.container()

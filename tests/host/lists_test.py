@@ -51,7 +51,7 @@ class ListsTest(HostTest):
         self.processes((7, 9, 11, 12), (8,), p7={"permitted": NET}, p9={"uid": 0}, p11={"uid": 1000}, p12={"uid": 1000})
         found = self.tried("move 7 /up/svc", "exit 7")
         self.assertEqual(found.lines, ("move 11 /up/svc", "exit 11"))
-        self.assertRegex(found.told, "^process 11 for 7, which has capabilities or is the kernel's; the program was asked again")
+        self.assertRegex(found.why, "^process 11 for 7, which has capabilities or is the kernel's; the program was asked again")
 
     def test_the_users_own_first_and_then_others(self):
         self.processes((7, 9), (8,), p7={"permitted": NET}, p9={"uid": 0})
@@ -61,13 +61,13 @@ class ListsTest(HostTest):
         self.processes((7, 9), (8,), p7={"permitted": NET}, p9={"permitted": NET})
         found = self.tried("move 7 /up/svc")
         self.assertEqual(found.lines, ("move 7 /up/svc",))
-        self.assertRegex(found.told, "^process 7 has capabilities or is the kernel's, and where it is stands no other")
+        self.assertRegex(found.why, "^process 7 has capabilities or is the kernel's, and where it is stands no other")
 
     def test_where_it_doesnt_break_the_programs_own_stands(self):
         self.processes((7, 9), (8,), p7={"permitted": NET})
         found = self.tried("move 7 /up/other")
         self.assertEqual(found.lines, ("move 7 /up/other",))
-        self.assertIn("with process 9 for 7 it isn't shown to break the subtree", found.told)
+        self.assertIn("with process 9 for 7 it isn't shown to break the subtree", found.why)
 
     def test_a_process_that_is_started_is_none_of_the_host(self):
         self.assertEqual(lists.pids_in(["fork 7 9", "move 9 /a", "move 8 /a", "set /a memory.max 1", "exit 7"]), [7, 8])
@@ -132,7 +132,7 @@ class ReplayTest(HostTest):
         program = Program(self.program, tree)
         found = lists.tried(self.host.snapshot(), program, ALICE, path("/a"), ["move 7 /"])
         self.assertEqual(found.lines, ("move 7 /",))
-        self.assertIn("isn't shown to break", found.told)
+        self.assertIn("isn't shown to break", found.why)
 
 
 if __name__ == "__main__":

@@ -13,7 +13,7 @@ from formats_test import odd_report, run_of
 from shown import made
 from zirofen_host.judge import check, mends, settings, wanted
 from zirofen_host.judge.host_model import ABSENT, ReportCgroup, ReportFile
-from zirofen_host.judge.model import Told
+from zirofen_host.judge.model import ReportNote
 from zirofen_host.judge.notes import Restart
 from zirofen_host.judge.rules import findings_of
 from zirofen_host.judge.wanted import LostLimit
@@ -86,8 +86,8 @@ class MendsTest(HostTest):
         self.assertEqual((kept.unit.drop_in, kept.unit.section, kept.settings, kept.why),
                          ("/etc/systemd/system/a.service.d/60-zirofen.conf", "Service", ("MemoryMax=8192",),
                           "it is the value of now, which alice(1000) could write"))
-        self.assertEqual(found.told, (LOOK_AT_SERVICE.format("a.service"), "what the settings of a.service say isn't told here: its next "
-                                      "start brings that, and no value is written"))
+        self.assertEqual(found.remarks, (LOOK_AT_SERVICE.format("a.service"), "what the settings of a.service say isn't told here: its "
+                                          "next start brings that, and no value is written"))
 
     def test_a_service_that_was_handed_over_by_hand(self):
         self.host.cgroup("/")
@@ -113,9 +113,9 @@ class MendsTest(HostTest):
         for path, words in (("/user.slice/user-1000.slice", "units in user-1000.slice"), ("/user.slice/run.scope", "a scope has no file"),
                             ("/box", "Look for what makes /box, and for chown and chmod")):
             found = self.mend_at(path)
-            self.assertEqual((found.withheld, len(found.told)), ((), 1))
-            self.assertIn("no file of the host was looked at for what gives it away", found.told[0])
-            self.assertIn(words, found.told[0])
+            self.assertEqual((found.withheld, len(found.remarks)), ((), 1))
+            self.assertIn("no file of the host was looked at for what gives it away", found.remarks[0])
+            self.assertIn(words, found.remarks[0])
             self.assertTrue(found.changes)
 
     def test_what_is_no_entry(self):
@@ -125,11 +125,11 @@ class MendsTest(HostTest):
         for entry, words in (("already-over", over), ("unknown", "nothing is known to make it: report it")):
             changed = replace(report, entries=(replace(report.entries[0], entry=entry, owner=None),), opened=(), differs=(), unseen=())
             [found] = mends.mends_of(changed, findings_of(changed))
-            self.assertEqual((found.told, found.withheld), ((words,), ()))
+            self.assertEqual((found.remarks, found.withheld), ((words,), ()))
 
     def test_a_limit_that_the_next_start_doesnt_bring(self):
         report = made(example.kept())
-        told = Told.of(Restart("/system.slice/web.service", "web.service", (
+        told = ReportNote.of(Restart("/system.slice/web.service", "web.service", (
             LostLimit("memory.max", "4294967296", "MemoryMax=infinity"), LostLimit("memory.swap.max", "0", "MemorySwapMax=infinity"))))
         report = replace(report, entries=(), opened=(), differs=(), unseen=(told,), cgroups=(
             replace(row(memory_max=4294967296, memory_swap_max=0, memory_high=4096, pids_max=1754), path=told.place),))
@@ -146,7 +146,7 @@ class MendsTest(HostTest):
         self.host.cgroup("/system.slice/a.service", owners={**owned(1000), "memory.high": 1000}, marks=(MARK,),
                          values={"memory.max": 8192, "memory.high": 4096, "pids.max": 5})
         report = made(self.report(json=True))
-        told = Told.of(Restart("/system.slice/a.service", "a.service", (LostLimit("memory.max", "8192", "MemoryMax=infinity"),)))
+        told = ReportNote.of(Restart("/system.slice/a.service", "a.service", (LostLimit("memory.max", "8192", "MemoryMax=infinity"),)))
         report = replace(report, unseen=(*report.unseen, told))
         [found] = [each for each in mends.mends_of(report, findings_of(report)) if each.withheld]
         self.assertEqual([each.settings for each in found.withheld], [("MemoryHigh=4096",), ("MemoryMax=8192",)])
@@ -161,7 +161,7 @@ class MendsTest(HostTest):
                              modes={"memory.max": 0o666}, values={"memory.max": 4096})
         found = self.mends()
         self.assertEqual({each.withheld for each in found}, {()})
-        self.assertIn("they make these cgroups", found[-1].told[0])
+        self.assertIn("they make these cgroups", found[-1].remarks[0])
 
     def test_what_was_accepted_needs_no_mend(self):
         report = made(example.kept())

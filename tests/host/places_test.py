@@ -7,7 +7,7 @@ from check_test import HostTest, owned
 from zirofen_host.collect import bounded, rings, tables
 from zirofen_host.collect.bounded import PROCESS_BYTES, Spent
 from zirofen_host.collect.inside import BY_UNREAD
-from zirofen_host.collect.model import Holding
+from zirofen_host.collect.model import DescriptorKind
 from zirofen_host.collect.processes import Reader
 from zirofen_host.collect.threads import ThreadReader, place_in
 from zirofen_host.profile import path_of
@@ -120,7 +120,7 @@ class TablesTest(HostTest):
         self.host.process(7, uid=1000, gid=1000, threads=(0, 0))
         self.opens_in_thread(7, 9, 3, "/good/memory.max", WRITES)
         held, = self.host.take(only=None).held
-        self.assertEqual((held.uid, held.path, held.file, held.pid, held.holding), (1000, b"/good", "memory.max", 7, Holding.OPEN))
+        self.assertEqual((held.uid, held.path, held.file, held.pid, held.holding), (1000, b"/good", "memory.max", 7, DescriptorKind.OPEN))
 
     def test_what_root_holds_on_the_host_isnt_looked_at(self):
         self.host.cgroup("/good", owners=owned(1000))
@@ -172,7 +172,7 @@ class RingHolderTest(HostTest):
 
     def test_a_file_of_the_mount(self):
         text = NEW_RING.format(f"{self.host.mount}/good/memory.max", "/x")
-        self.assertEqual(self.ring(text), ([(b"/good", "memory.max", Holding.RING)], []))
+        self.assertEqual(self.ring(text), ([(b"/good", "memory.max", DescriptorKind.RING)], []))
 
     def test_what_isnt_looked_at(self):
         self.assertEqual(self.ring(BUSY_NEW), ([], ["an io_uring of process 7 wasn't looked at: its files aren't told"]))

@@ -9,8 +9,10 @@ ASKING = {"startswith", "endswith", "partition", "rpartition", "split", "rsplit"
           "removesuffix"}
 MATCHING = {"match", "search", "fullmatch", "sub", "findall"}
 # the fields that have sentences of notes, reasons and findings, and the names that such a sentence goes by
-FIELDS = {"text", "line", "fact", "rest", "sentence", "why", "told", "fault", "reason", "setting", "accepted", "meaning"}
-NAMES = {"told", "sentence", "why", "fault", "reason", "note", "detail", "refused", "error"}
+FIELDS = {"text", "line", "fact", "rest", "sentence", "why", "told", "fault", "reason", "setting", "accepted", "meaning",
+          "description", "details", "remarks", "sentences", "why_shown"}
+NAMES = {"told", "sentence", "why", "fault", "reason", "note", "detail", "refused", "error", "description", "details", "message",
+         "reasons", "remarks", "sentences"}
 TEXT_OF_FILE = "the text of a file, or a name"
 CARRIED = "a text of another host carries sentences alone"
 # where it is no sentence of this package's, or all that there is

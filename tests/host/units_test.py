@@ -405,7 +405,7 @@ class CommandTest(UnitsTest):
             text, planned = plan.text_behind(found, plan.Planned(ops, ("x",), ("x",)), options)
             report = plan.compared(found, text, options, planned)
             self.assertEqual((report.status, report.baseline.status, plan.status_of(report.baseline, report)), (status, status, status))
-        self.assertEqual([plan.at_least_untold(status) for status in (0, 1, 2, 3, 4)], [2, 1, 2, 3, 2])
+        self.assertEqual([plan.at_least_unsettled(status) for status in (0, 1, 2, 3, 4)], [2, 1, 2, 3, 2])
 
     def test_either_is_wanted(self):
         for words in ((), ("--ops", "/dev/null", "--unit", "/x/a.service")):

@@ -30,8 +30,8 @@ class VersionTest(HostTest):
 
     def test_the_helper_and_the_program_say_theirs(self):
         ended = self.said()
-        self.assertEqual((ended.stdout, ended.stderr, ended.returncode), (f"{version.told()}\nmade-up 1.0\n", "", 0))
-        self.assertTrue(LINE.fullmatch(version.told()))
+        self.assertEqual((ended.stdout, ended.stderr, ended.returncode), (f"{version.helper_line()}\nmade-up 1.0\n", "", 0))
+        self.assertTrue(LINE.fullmatch(version.helper_line()))
 
     def test_the_sum_is_of_every_file(self):
         with tempfile.TemporaryDirectory() as folder:
@@ -56,18 +56,18 @@ class VersionTest(HostTest):
         self.host.cgroup("/a", owners=owned(1000))
         report = check.report(self.host.snapshot(), self.options(), True)
         value, run = self.value_of(report), Run(report, report.status)
-        self.assertEqual((value["helper"], value["program"]), (version.told(), "made-up 1.0"))
+        self.assertEqual((value["helper"], value["program"]), (version.helper_line(), "made-up 1.0"))
         (log,) = json.loads("".join(sarif.parts_of(run)))["runs"]
-        self.assertEqual(f"zirofen-host {log['tool']['driver']['version']}", version.told())
+        self.assertEqual(f"zirofen-host {log['tool']['driver']['version']}", version.helper_line())
         self.assertEqual(log["properties"]["program"], "made-up 1.0")
         for said in ("".join(junit.parts_of(run)), page.page([report]), tree_view.draw(report, tree_view.Drawing())[0],
                      list(lines.lines_of(report))[-2], *(list(mends.lines_of(run, kind))[at] for at, kind in ((0, KINDS[0]), (2, SHELL)))):
-            self.assertIn(version.told(), said)
+            self.assertIn(version.helper_line(), said)
             self.assertIn("made-up 1.0", said)
         self.assertIn(f'zirofen_host_info{{version="{version.VERSION}",sum="{version.digits()}",program="made-up 1.0"}} 1\n',
                       "".join(metrics.parts_of(run)))
         compared = replace(report, baseline=baseline.compared(report, report, "before.json"))
-        self.assertIn(version.told(), list(lines.comparison_lines(compared, compared.baseline))[-2])
+        self.assertIn(version.helper_line(), list(lines.comparison_lines(compared, compared.baseline))[-2])
 
     def test_a_program_may_say_anything(self):
         self.host.cgroup("/a", owners=owned(1000))
@@ -83,9 +83,10 @@ class VersionTest(HostTest):
                 out.writelines(as_json.parts_of(replace(report, helper=helper)))
         found = fleet.read_fleet(folder, fleet.Rules(None), lambda name, each: None)
         value = fleet.value_of(found)
-        self.assertEqual((value["helper"], [each["helper"] for each in value["hosts"]]), (version.told(), [version.told(), None]))
-        self.assertEqual(list(fleet_lines.lines_of(found, False))[-2], f"made with {version.told()}")
-        self.assertIn(f"Made with {version.told()}.", fleet_page.Index(found).html())
+        self.assertEqual((value["helper"], [each["helper"] for each in value["hosts"]]),
+                         (version.helper_line(), [version.helper_line(), None]))
+        self.assertEqual(list(fleet_lines.lines_of(found, False))[-2], f"made with {version.helper_line()}")
+        self.assertIn(f"Made with {version.helper_line()}.", fleet_page.Index(found).html())
         self.assertIn(f'zirofen_fleet_info{{version="{version.VERSION}",sum="{version.digits()}"}} 1\n',
                       "".join(fleet_metrics.parts_of(found, 1.0, 2.0)))
 

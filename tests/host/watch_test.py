@@ -16,7 +16,7 @@ from zirofen_host.judge.severity import Severity
 from zirofen_host.options import WatchOptions
 from zirofen_host.collect.snapshot import take
 from zirofen_host.ask.questions import subtrees_by
-from zirofen_host.watch import backs, checks, hooks, journal, kernel, known, lanes, numbers, told
+from zirofen_host.watch import backs, checks, hooks, journal, kernel, known, lanes, messages, numbers
 from zirofen_host.watch.doers import Doer, doer_of
 from zirofen_host.watch.kernel import ATTRIB, CREATE, DELETE, IS_FOLDER, LOST, MODIFY, Event
 
@@ -83,7 +83,7 @@ class KernelTest(unittest.TestCase):
             (number,) = source.paths
             with mock.patch.object(kernel.bounded, "read_ready", return_value=watched(-1, LOST) + watched(number, MODIFY, b"file")):
                 found = source.take()
-            self.assertEqual(found, kernel.Told({Event(b"/", b"file", MODIFY, None): 1}, True, {}))
+            self.assertEqual(found, kernel.Batch({Event(b"/", b"file", MODIFY, None): 1}, True, {}))
 
     def test_a_mark_that_is_refused(self):
         whys = []
@@ -303,11 +303,11 @@ class ReportsTest(HostTest):
 
 
 class ToldTest(unittest.TestCase):
-    one = told.Told("new", "/a: it\x1b[2J", 0.25, ("    change: x",), (Doer(7, 1000, "/bin/chmod", "a.service"), Doer(8)), "entry", "/a",
-                    "dir", 1, True)
+    one = messages.Message("new", "/a: it\x1b[2J", 0.25, ("    change: x",), (Doer(7, 1000, "/bin/chmod", "a.service"), Doer(8)), "entry",
+                           "/a", "dir", 1, True)
 
     def test_lines(self):
-        self.assertEqual(list(told.lines_of(self.one)), [
+        self.assertEqual(list(messages.lines_of(self.one)), [
             "1970-01-01T00:00:00.250Z new: /a: it\x1b[2J", "    by pid 7 (uid 1000, /bin/chmod, a.service)",
             "    by pid 8, which has ended", "    change: x"])
 
@@ -358,9 +358,9 @@ class ToldTest(unittest.TestCase):
     def test_how_much_is_told_of_what_a_holder_made(self):
         def change(person):
             return mock.Mock(difference=mock.Mock(within=person))
-        folding = told.Folding()
+        folding = messages.Folding()
         made = [change(1000) for _ in range(100)]
-        kept, more = folding.kept([*made, change(told.Absent.ABSENT)])
+        kept, more = folding.kept([*made, change(messages.Absent.ABSENT)])
         self.assertEqual((len(kept), more), (17, {1000: 84}))
         for _ in range(100):
             kept, more = folding.kept(made)

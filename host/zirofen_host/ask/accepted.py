@@ -1,4 +1,4 @@
-"""What is asked of: this host, or a text of another one, which the program takes first."""
+"""From options to the snapshot that is asked about: of this host, or of a text that the program takes first."""
 import atexit
 import contextlib
 import os
@@ -8,7 +8,7 @@ from zirofen_host import output
 from zirofen_host.ask.program import Program
 from zirofen_host.collect import bounded, elsewhere
 from zirofen_host.collect import snapshot as snapshots
-from zirofen_host.collect.agreement import spoiled_of
+from zirofen_host.collect.agreement import unanswerable_of
 from zirofen_host.collect.elsewhere import Accepted
 from zirofen_host.collect.model import Snapshot
 from zirofen_host.collect.snapshot import SubtreesOf
@@ -26,7 +26,7 @@ def take(options: Options, subtrees_of: SubtreesOf) -> Snapshot:
         raise Fault("--only, --keep and --tree-format go with a host, and not with --tree")
     found = elsewhere.read(accept(options.tree, options.program), options.mount)
     subtrees = subtrees_of(found, found.changing) if found.changing else ()
-    return replace(found, spoiled=spoiled_of(found.changing, subtrees))
+    return replace(found, unanswerable=unanswerable_of(found.changing, subtrees))
 
 
 def accept(file: str, program: str) -> Accepted:

@@ -1,5 +1,4 @@
-"""Questions within what is spent on each person: what goes in is a plan, and what comes out is the plan without what is over their budgets,
-and what that is."""
+"""From a plan of questions to the plan without what is over a person's budget, and why that is left out."""
 from collections import Counter
 from dataclasses import dataclass, replace
 from typing import Dict, Iterable, List, Mapping, Tuple
@@ -33,7 +32,7 @@ class Runs:
 
 def bounded_plan(questions: Questions, plan: Plan, runs: Runs) -> Tuple[Plan, Dict[CgroupPath, Reason]]:
     """A plan with no more uids of one person's than are asked of, and no more questions for what one person made: of what is over
-    these budgets nothing is asked, and it is told of which subtrees, each with why."""
+    these budgets nothing is asked, and these subtrees come out, each with why."""
     charged_user = questions.accounts.charged_user
     users = Spent(bounded.USERS, charged_user)
     uids = {user.uid for each in plan.questions for user in each.users}

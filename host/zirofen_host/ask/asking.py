@@ -1,4 +1,4 @@
-"""Everybody asked of everything in a snapshot."""
+"""From a snapshot to its questions, the texts in which they are asked, and everybody's answers."""
 from dataclasses import dataclass
 from typing import Callable, Iterable, List, Mapping, Sequence
 
@@ -8,7 +8,7 @@ from zirofen_host.ask.model import Answers, Plan, Question
 from zirofen_host.ask.program import TooLarge, abilities_of
 from zirofen_host.ask.affordable import Runs, bounded_further, bounded_plan
 from zirofen_host.ask.questions import Questions, further_of, plan_of, questions_of
-from zirofen_host.ask.spoiled import spoiled
+from zirofen_host.ask.unanswerable import unanswerable
 from zirofen_host.ask.texts import Programs, Text, texts_of, write
 from zirofen_host.collect import bounded, turns
 from zirofen_host.collect.accounts import Accounts
@@ -61,7 +61,7 @@ def ask_all(snapshot: Snapshot, accounts: Accounts, options: Options, folder: st
 
 def ask_in_texts(snapshot: Snapshot, accounts: Accounts, options: Options, folder: str, is_large: bool) -> Asked:
     questions = questions_of(snapshot, accounts)
-    lost = spoiled(snapshot, questions)
+    lost = unanswerable(snapshot, questions)
     questions = questions.without(lost)
     made = {path for path in questions.subtrees if questions.makers.within(path)}
     texts = texts_of(snapshot.tree, questions.subtrees, not options.no_processes, made, is_large)

@@ -1,4 +1,4 @@
-"""Who was handed what: the users who reach at a cgroup what they don't one level up."""
+"""From a tree and accounts to the users who reach at a cgroup what they don't reach one level up."""
 from collections import defaultdict
 from functools import cached_property
 from typing import Collection, DefaultDict, Dict, FrozenSet, Iterable, Iterator, List, Sequence, Set, Tuple
@@ -12,7 +12,7 @@ from zirofen_host.profile import ANYBODY, MOST_GROUPS, CgroupPath, ancestors, is
 
 
 class Alike:
-    """The users of a uid, who differ by their groups alone and may be thousands: by some groups few of them are told apart."""
+    """The users of a uid, who differ by their groups alone and may be thousands: by some groups few of them differ."""
 
     def __init__(self, users: Sequence[User]) -> None:
         self.users = users

@@ -1,7 +1,4 @@
-"""The guards: on which entries each stands, and what is said of it where it fails, in one table.
-
-What goes in is the word of a guard, or an entry's name, and what comes out is its row.
-"""
+"""From a guard's word or an entry's name to its row: on which entries it stands, and what it means where it fails."""
 from dataclasses import dataclass
 from typing import Dict, Tuple
 
@@ -17,7 +14,7 @@ class Guard:
     no_entry: str
     # what it lets happen, as a finding says it
     finding: str
-    # what whoever writes its entry does, as it is told of one user
+    # what whoever writes its entry does, as it is said of one user
     deed: str
     # what an answer says that names it and the path of its entry
     answer: str

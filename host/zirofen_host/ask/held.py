@@ -1,5 +1,7 @@
-"""Entries that somebody holds open and couldn't open now. Who opened one isn't told: they may have had it from root, or from before it
-was taken from them."""
+"""From a snapshot to the entries that processes have open and couldn't open now.
+
+Who opened one isn't known: they may have had it from root, or from before it was taken from them.
+"""
 from typing import FrozenSet, Iterable, Iterator, Tuple
 
 from zirofen_host.collect.accounts import Accounts
@@ -9,7 +11,7 @@ PROCS = "cgroup.procs"
 
 
 def held_in(snapshot: Snapshot, accounts: Accounts) -> Iterator[Tuple[HeldEntry, Entry]]:
-    """What is held so, with the entry as it is now. Of root's in a container it is what they see on no mount that they write."""
+    """What is open so, with the entry as it is now. Of root's in a container it is what they see on no mount that they write."""
     for each in snapshot.held:
         cgroup = snapshot.cgroups.get(each.path)
         entry = cgroup.files.get(each.file) if cgroup else None
@@ -18,7 +20,7 @@ def held_in(snapshot: Snapshot, accounts: Accounts) -> Iterator[Tuple[HeldEntry,
 
 
 def opens_now(snapshot: Snapshot, accounts: Accounts, held: HeldEntry, entry: Entry) -> bool:
-    """Whether a holder could open an entry, as the process that holds it or as anybody of their uid."""
+    """Whether a holder could open an entry, as the process that has it open or as anybody of their uid."""
     process = snapshot.processes.get(held.pid)
     if process and "DAC_OVERRIDE" in process.capabilities:
         return True
@@ -27,5 +29,5 @@ def opens_now(snapshot: Snapshot, accounts: Accounts, held: HeldEntry, entry: En
 
 
 def movers(snapshot: Snapshot, accounts: Accounts) -> FrozenSet[int]:
-    """The uids that hold a cgroup.procs so: of these the guards alone are asked, since another list may begin by what they hold."""
+    """The uids that have a cgroup.procs open so: the guards alone are asked of these, since another list may begin by that."""
     return frozenset(each.uid for each, _ in held_in(snapshot, accounts) if each.file == PROCS)

@@ -1,5 +1,7 @@
-"""Asking in a run that has to end at some time: all at once where that goes, else of what each person holds by itself, of whoever
-holds the most last, so that what was asked by then is answered."""
+"""From questions and a time limit to the answers that were there in time, and why others are missing.
+
+All is asked at once where that goes, else of what each person holds by itself, of whoever holds the most last.
+"""
 import time
 from collections import defaultdict
 from dataclasses import dataclass, replace

@@ -1,4 +1,4 @@
-"""What is asked, and what the program answers: the second form of what is told."""
+"""What is asked of the program, and what it answers: the second form of the data, between a snapshot and a report."""
 from dataclasses import dataclass
 from typing import AbstractSet, FrozenSet, Mapping, NamedTuple, Optional, Tuple
 

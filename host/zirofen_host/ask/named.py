@@ -1,4 +1,4 @@
-"""Containers that are named on the command line, by their words in place of their paths."""
+"""From the name of a container on the command line to its path."""
 from dataclasses import replace
 from typing import Iterable, Mapping, Optional, TypeVar
 
@@ -39,8 +39,8 @@ def place_among(text: str, scopes: Iterable[Scope], options: Options) -> str:
              if each.name is not None and inside is not None]
     if len(found) != 1:
         several = f"{len(found)} containers have that name: {' '.join(path for path, _ in found[:8])}"
-        told = several if found else "no container has that name"
-        raise Fault(f"{shown(text)}: {told}")
+        reason = several if found else "no container has that name"
+        raise Fault(f"{shown(text)}: {reason}")
     return "".join(found[0])
 
 

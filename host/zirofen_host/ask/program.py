@@ -1,7 +1,7 @@
-"""Asking the program of users and subtrees: every pair that isn't contained, and what to change.
+"""From a tree text with questions to the program's answers: every pair that isn't contained, and what to change.
 
-What goes in is a tree text with questions, and what comes out are answers. By `audit --all` every pair is asked of; where the program's
---help has `audit --settle`, it is asked of what is left unsettled, with everybody together.
+By `audit --all` every pair is asked of; where the program's --help has `audit --settle`, it is asked of what is left unsettled, with
+everybody together.
 """
 import os
 import signal
@@ -45,7 +45,7 @@ class Ended(NamedTuple):
     lines: List[str]
 
 
-NOTHING_TOLD = Ended(CONTAINED, ["contained"])
+NOTHING_FOUND = Ended(CONTAINED, ["contained"])
 
 
 class TooLarge(Fault):
@@ -105,11 +105,11 @@ def program_at(path: str) -> str:
     if not os.path.isfile(path) or os.path.realpath(path) != os.path.realpath(WRAPPER):
         return path
     try:
-        told = ending.run([path, "--which"])
+        ended = ending.run([path, "--which"])
     except OSError:
         return path
-    found = told.stdout.rstrip("\n")
-    return found if not told.returncode and os.path.isabs(found) and os.access(found, os.X_OK) else path
+    found = ended.stdout.rstrip("\n")
+    return found if not ended.returncode and os.path.isabs(found) and os.access(found, os.X_OK) else path
 
 
 @dataclass(frozen=True)
@@ -152,18 +152,18 @@ class Program:
         ended = self.try_start(words)
         if ended.returncode in (CONTAINED, ESCAPES, UNSETTLED) and ended.stdout:
             return Ended(ended.returncode, ended.stdout.splitlines())
-        told = told_by(ended)
-        is_too_large = self.is_large and (told[0] == NO_MEMORY or ended.returncode == -signal.SIGKILL)
-        is_of_tree = told[0].startswith(FAULT_OF_TREE)
+        error = error_lines(ended)
+        is_too_large = self.is_large and (error[0] == NO_MEMORY or ended.returncode == -signal.SIGKILL)
+        is_of_tree = error[0].startswith(FAULT_OF_TREE)
         is_whole = is_too_large or ended.returncode == NOT_BUILT or is_of_tree
-        raise Refused(told[0], is_whole, help_below(told), is_too_large, is_of_tree)
+        raise Refused(error[0], is_whole, help_below(error), is_too_large, is_of_tree)
 
     def refuse_text(self) -> None:
         """Ends with the program's fault line where it doesn't take the text: no operation is tried in it."""
         ended = self.try_start(["replay", "--tree", self.tree, "--uid", "65534", "--ops", os.devnull])
         if ended.returncode != CONTAINED:
-            told = told_by(ended)
-            raise Fault(told[0], help_below(told))
+            error = error_lines(ended)
+            raise Fault(error[0], help_below(error))
 
     def breaks(self, user: User, subtree: CgroupPath, operations: Sequence[str]) -> bool:
         """Whether a user's operations come to their end and break a subtree; Refused is for the caller."""
@@ -242,7 +242,7 @@ class Program:
                 raise Refused(f"an answer that wasn't asked for: {head!r}", False)
             found[pair] = answer_of(WORDS.get(lines[0].split(" ")[0] if lines else ""), lines)
         statuses = {answer.status for answer in found.values()}
-        if CONTAINED in statuses or ended.status != worst(statuses) or not found and ended.lines != NOTHING_TOLD.lines:
+        if CONTAINED in statuses or ended.status != worst(statuses) or not found and ended.lines != NOTHING_FOUND.lines:
             raise Refused(f"ended with status {ended.status}, which its answers don't have", False)
         return found
 
@@ -298,7 +298,7 @@ def fitting(questions: Iterable[Question]) -> Iterator[Question]:
                 yield Question(tuple(users), tuple(subtrees))
 
 
-def told_by(ended: "subprocess.CompletedProcess[str]") -> List[str]:
+def error_lines(ended: "subprocess.CompletedProcess[str]") -> List[str]:
     """The lines of a fault; the first is the fault. Where a signal ended the program, whatever it wrote is none."""
     if ended.returncode < 0:
         return [f"the program was ended by the signal {signal_name(-ended.returncode)}, which is no answer: "
@@ -306,9 +306,9 @@ def told_by(ended: "subprocess.CompletedProcess[str]") -> List[str]:
     return [line for line in ended.stderr.split("\n") if line] or [f"ended with status {ended.returncode}"]
 
 
-def help_below(told: Sequence[str]) -> List[str]:
+def help_below(lines: Sequence[str]) -> List[str]:
     """The lines of help below a fault, which stand two spaces in."""
-    return [line for line in told[1:] if line.startswith("  ")]
+    return [line for line in lines[1:] if line.startswith("  ")]
 
 
 def signal_name(number: int) -> str:

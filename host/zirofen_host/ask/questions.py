@@ -1,4 +1,4 @@
-"""What is asked of a host: its subtrees, and everybody who can matter for one of them."""
+"""From a snapshot to what is asked of it: its subtrees, and everybody who can matter for one of them."""
 import itertools
 import re
 from collections import Counter, defaultdict
@@ -100,7 +100,7 @@ class Questions:
     def gids_that_matter(self, subtree: CgroupPath) -> Set[int]:
         return {self.delegations.entry(each.path, each.name).gid for each in self.guarded(subtree)}
 
-    def holds(self, user: User, subtree: CgroupPath) -> bool:
+    def is_holder(self, user: User, subtree: CgroupPath) -> bool:
         """Whether a user is among those who hold a subtree. Of somebody unknown no more is known than their group."""
         holders = self.holders[subtree]
         if user.uid not in holders.uids or user.uid != ANYBODY or holders.by == OWNER:
@@ -113,7 +113,7 @@ class Questions:
 
     def is_asked_as_holder(self, user: User, path: CgroupPath) -> bool:
         """Whether a user holds a subtree and isn't above it, or nobody holds it who isn't."""
-        return self.holds(user, path) and (not self.is_above(user.uid, path) or self.is_held_from_above(path))
+        return self.is_holder(user, path) and (not self.is_above(user.uid, path) or self.is_held_from_above(path))
 
     def is_held_from_above(self, path: CgroupPath) -> bool:
         """Whether all who hold a subtree are above it."""
@@ -363,9 +363,9 @@ def expected(questions: Questions, users: Iterable[User], owners: FrozenSet[int]
 
 def further_of(questions: Questions, plan: Plan, found: Mapping[Pair, Answer]) -> Tuple[Tuple[Question, ...], Dict[CgroupPath, int]]:
     """What to ask where everybody is let in, and of all that were asked nobody escapes: some of those who hold something
-    elsewhere, who may be able to do more than anybody. Of the rest it is told how many weren't asked."""
+    elsewhere, who may be able to do more than anybody. Of the rest it is said how many weren't asked."""
     escaped = {path for (user, path), answer in found.items() if answer.status == ESCAPES
-               and not questions.holds(user, path) and not questions.handed_above(user, path)}
+               and not questions.is_holder(user, path) and not questions.handed_above(user, path)}
     uids = {uid for path in questions.subtrees for uid in questions.holders[path].uids}
     holders = list(dict.fromkeys(few for user, few in plan.asked_as.items() if user.uid in uids))
     everybody, not_asked = set(plan.asked_as.values()), {}

@@ -1,4 +1,4 @@
-"""Why nothing is asked of a subtree, by what a text and the program take."""
+"""From why nothing is asked of a subtree, by what a text and the program take, to a sentence."""
 from dataclasses import dataclass
 
 from zirofen_host.collect.reasons import Reason

@@ -1,10 +1,10 @@
-"""The tree texts that a host takes: one where all of it goes in, else as many as are needed for its subtrees.
+"""From a snapshot and its questions to tree texts: one where all of it goes in, else as many as are needed.
 
-A `contained` rests on the subtree's ancestors and on what is inside, so that these are all in one text; of processes, on
-which no `contained` rests, those inside go in first, and then as many of the others as there is room for, with their places.
+A `contained` rests on the subtree's ancestors and on what is inside, so that these are all in one text; of processes, on which no
+`contained` rests, those inside go in first, and then as many of the others as there is room for, with their places.
 
-Each run of the program reads a whole text, and what isn't contained takes it as long as the text is large. So what somebody made, who
-may make much of that, is asked of in small texts, however large the one of the host is.
+Each run of the program reads a whole text, and what isn't contained takes it as long as the text is large. So what somebody made, who may
+make much of that, is asked of in small texts, however large the one of the host is.
 """
 import time
 from bisect import bisect_left
@@ -19,7 +19,7 @@ from zirofen_host.ask.model import Advice, Pair, Question
 from zirofen_host.ask.program import UNSETTLED, Answered, Program, TreeRefused
 from zirofen_host.ask.reasons import TextRefused, TooLargeForText, TooLong, TooManyCgroups
 from zirofen_host.collect import snapshot as snapshots
-from zirofen_host.collect.looks import Looks
+from zirofen_host.collect.attempts import Attempts
 from zirofen_host.collect.model import Placed, Snapshot, Tree, User
 from zirofen_host.collect.notes import Failed
 from zirofen_host.collect.reasons import Reason
@@ -287,7 +287,7 @@ class Programs:
 def write(texts: Texts, options: Options, place: str, snapshot: Snapshot) -> Programs:
     """Writes the texts for the program to be asked in them, into files whose paths begin so, and to where they are to be kept."""
     of: Dict[CgroupPath, Program] = {}
-    looks = Looks()
+    attempts = Attempts()
     for number, text in enumerate(texts.texts, 1):
         file = snapshot.source.file
         if not (file and text.is_whole()):
@@ -295,6 +295,6 @@ def write(texts: Texts, options: Options, place: str, snapshot: Snapshot) -> Pro
             output.make(file, written.encode("ascii"))
             if options.keep:
                 kept = f"{options.keep}.{number}" if number > 1 else options.keep
-                looks.at("keep", partial(output.write, kept, [written], "the tree text"), None)
+                attempts.at("keep", partial(output.write, kept, [written], "the tree text"), None)
         of.update(dict.fromkeys(text.subtrees, Program(options.program, file, text.memory, text.is_large)))
-    return Programs(texts.texts, of, looks.failed)
+    return Programs(texts.texts, of, attempts.failed)

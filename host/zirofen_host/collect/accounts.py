@@ -1,4 +1,4 @@
-"""Who is in which group: accounts, subordinate ids and running processes."""
+"""From account files, subordinate ids and running processes to users, and who is in which group."""
 import grp
 import os
 import pwd
@@ -222,6 +222,6 @@ def accounts_of(folder: Optional[str], snapshot: Snapshot) -> Accounts:
     no group, a group has no members, and no ids are subordinate."""
     source = snapshot.source
     if folder or source.file is None:
-        return accounts_here(folder, snapshot.processes_told)
+        return accounts_here(folder, snapshot.known_processes)
     lists = source.carried.accounts if source.carried else AccountLists()
-    return Accounts(lists, {process.user for process in snapshot.processes_told})
+    return Accounts(lists, {process.user for process in snapshot.known_processes})

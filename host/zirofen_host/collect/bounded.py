@@ -1,6 +1,7 @@
-"""The one module that reads what a user can choose: /proc, extended attributes, the files of cgroups, and files that are named.
+"""From what a user can choose, and a bound, to what was read there: the one module that reads such files.
 
-Each reader has its bound as an argument, and tells in what it gives whether something was cut.
+These are /proc, extended attributes, the files of cgroups, and files that are named. Each reader has its bound as an argument, and tells
+in what it gives whether something was cut.
 """
 import errno
 import os
@@ -85,7 +86,7 @@ LINKS = Budget("open files", 65536)
 DESCRIPTORS = Budget("open files with a path", 4096)
 LONG_DESCRIPTORS = Budget("open files that /proc tells much of", 16)
 RINGS, RING_BYTES = Budget("io_urings", 1024), Budget("bytes in what /proc tells of io_urings", 1 << 22)
-# further mounts of the hierarchy that are told
+# further mounts of the hierarchy that are reported
 FURTHER_MOUNTS = 64
 # of one unit with containers of root's: cgroups of theirs, and processes of one mount namespace whose root is looked at
 INSIDES, ROOTS = 64, 256
@@ -217,12 +218,12 @@ def open_folder(path: Place, folder: Optional[int] = None, flags: int = FOLDER) 
     return os.open(path, flags, dir_fd=folder)
 
 
-def hold(path: Place) -> int:
+def open_path(path: Place) -> int:
     """A descriptor of what a path leads to, which is to be closed; its file system isn't asked for it."""
     return os.open(path, os.O_PATH | os.O_CLOEXEC)
 
 
-def hold_in(name: Place, folder: int) -> int:
+def open_path_in(name: Place, folder: int) -> int:
     """A descriptor of what stands in an opened folder, which is to be closed; neither a link is followed nor its file system asked."""
     return os.open(name, os.O_PATH | os.O_NOFOLLOW | os.O_CLOEXEC, dir_fd=folder)
 

@@ -1,8 +1,7 @@
-"""What a text of a host carries in its comments: one schema of records, by which they are written and read by name.
+"""From what a tree has no place for to comments of a text, and back: one schema of records, read by name.
 
-What goes in is what a tree has no place for, or a text, and what comes out are lines of comments, or records. A comment that begins with
-`#= ` and is an object of JSON with one key of this schema is a record; any other is a comment. The first record names the version of this
-form. Version 1, of 0.2.0, had none, and its records were lists in the order of this schema.
+A comment that begins with `#= ` and is an object of JSON with one key of this schema is a record; any other is a comment. The first
+record names the version of this form. Version 1, of 0.2.0, had none, and its records were lists in the order of this schema.
 """
 import json
 import re
@@ -11,8 +10,8 @@ from operator import attrgetter
 from typing import Any, Callable, Dict, Generic, Iterable, Iterator, List, Mapping, NamedTuple, Optional, Sequence, Tuple, TypeVar
 
 from zirofen_host.collect.accounts import is_id
-from zirofen_host.collect.model import (Account, CgroupMount, Covered, Entry, FurtherMount, Group, HeldEntry, Holding, Inside, PrivateMount,
-                                        Process, Range, Scope, Unheld, User)
+from zirofen_host.collect.model import (Account, CgroupMount, Covered, DescriptorKind, Entry, FurtherMount, Group, HeldEntry, Inside,
+                                        PrivateMount, Process, Range, Scope, Unheld, User)
 from zirofen_host.collect.notes import CarriedNote, Note
 from zirofen_host.collect.reasons import CHANGED, CarriedOfSomebody, CarriedReason, Reason
 from zirofen_host.collect.tree import number_in, parts_in, table_in, text_in, typed
@@ -187,7 +186,7 @@ GROUP = Record("group", Group, Field("gid", ID), Field("members", many(ANY_TEXT)
 CHANGING = Record("changing", Changing, Field("path", PATH), Field("why", REASON))
 COVERED = Record("covered", Covered, Field("path", PATH), Field("file", TEXT), Field("type", TEXT))
 HELD = Record("held", HeldEntry, Field("uid", ID), Field("path", PATH), Field("file", TEXT), Field("pid", NUMBER), Field("program", TEXT),
-              Field("holding", Value[Holding](lambda each: each.value, lambda each: Holding(text_in(each)))))
+              Field("holding", Value[DescriptorKind](lambda each: each.value, lambda each: DescriptorKind(text_in(each)))))
 UNHELD = Record("unheld", Unheld, Field("uid", ID), Field("path", perhaps(PATH)),
                 Field("why", Value[Reason](str, lambda each: CarriedReason(text_in(each)))))
 INSIDE = Record("inside", Inside, Field("path", PATH), Field("processes", NUMBER), Field("by", many(TEXT)),

@@ -1,8 +1,7 @@
-"""What of root's files gives entries of cgroups away, and what sets a unit's limits: lines of units with their drop-ins, of tmpfiles.d,
-udev's rules, cron and PAM.
+"""From root's files to what in them gives entries of cgroups away, and what sets a unit's limits.
 
-A file counts where it and each folder on the way to it are root's, and nobody else writes them; no link is followed. What else is there is
-counted.
+These are lines of units with their drop-ins, of tmpfiles.d, udev's rules, cron and PAM. A file counts where it and each folder on the
+way to it are root's, and nobody else writes them; no link is followed. What else is there is counted.
 """
 import os
 import re
@@ -17,7 +16,7 @@ from zirofen_host.profile import is_inside
 
 # where the host's files are
 TOP = "/"
-# lines that are told of one place, and letters of one
+# lines that are kept of one place, and letters of one
 MOST, LONGEST = 4, 200
 CONFIGURED = ("/etc", "/run", "/usr/local/lib", "/usr/lib")
 # folders of units: those that a manager writes by itself go first or last

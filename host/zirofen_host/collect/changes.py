@@ -1,5 +1,7 @@
-"""Changes of root's to a tree, a line each: carried out one after another, as far as a kernel lets root. The first that it doesn't let,
-or that isn't known, is a fault."""
+"""From a tree and lines of root's changes to the tree behind them, as far as a kernel lets root make them.
+
+The first that it doesn't let, or that isn't known, is a fault.
+"""
 from dataclasses import replace
 from typing import Callable, Dict, Iterable, Iterator, List, Mapping, NamedTuple, NoReturn, Sequence, Tuple
 
@@ -77,8 +79,8 @@ class Changes:
 
     def is_further(self, path: CgroupPath, name: str) -> bool:
         """Whether a name is that of a further limit file that stands at a cgroup, and that the text's format has."""
-        is_told = name in self.snapshot.tree.format.further and not is_root(path)
-        return is_told and FURTHER_FILES[name].is_brought_by(self.controllers_for(path))
+        is_in_format = name in self.snapshot.tree.format.further and not is_root(path)
+        return is_in_format and FURTHER_FILES[name].is_brought_by(self.controllers_for(path))
 
     def children(self, path: CgroupPath) -> List[CgroupPath]:
         return [each for each in self.rows if parent_of(each) == path]

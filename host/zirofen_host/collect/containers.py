@@ -1,4 +1,4 @@
-"""Containers by their names: what files of root's say of the scopes of podman, Docker, containerd and CRI-O, and of the slices of pods.
+"""From files of root's to the names of containers: of podman, Docker, containerd and CRI-O, and of pods.
 
 A file counts where it and each folder on the way to it are root's, and nobody else writes them. A container below a cgroup that isn't
 root's has the name that a file of its holder's tells, which is theirs to choose: it stands behind theirs.

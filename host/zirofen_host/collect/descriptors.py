@@ -1,18 +1,18 @@
-"""Files of cgroups that processes hold open for writing, as /proc tells of them: in each table of descriptors, and registered with an
-io_uring.
+"""From what /proc lists of processes to the files of cgroups that they have open for writing.
 
-No file system is asked but that of cgroups: another may be a user's own, which answers when they like.
+They are in a table of descriptors, or registered with an io_uring. No file system is asked but that of cgroups: another may be a user's
+own, which answers when they like.
 """
 import os
 from typing import Dict, Iterable, Iterator, List, Mapping, NamedTuple, Optional, Sequence, Tuple
 
 from zirofen_host.collect import bounded, rings
 from zirofen_host.collect.bounded import Budget, ChargedUser, Spent
-from zirofen_host.collect.model import Holding, Process
+from zirofen_host.collect.model import DescriptorKind, Process
 from zirofen_host.collect.mount_kinds import Kinds, MountKinds, mount_of, number_in
 from zirofen_host.collect.processes import names_in, status_fields
-from zirofen_host.collect.reasons import (MoreThanLookedAt, Reason, UnlookedHeadless, UnlookedRing, UnlookedTables, UntoldMounts,
-                                          UntoldPaths)
+from zirofen_host.collect.reasons import (MoreThanLookedAt, Reason, UnknownMounts, UnknownPaths, UnlookedHeadless, UnlookedRing,
+                                          UnlookedTables)
 from zirofen_host.collect.tables import Tables
 from zirofen_host.collect.threads import Fields
 from zirofen_host.profile import CgroupPath
@@ -24,11 +24,11 @@ FileOf = Tuple[CgroupPath, str]
 
 
 class Held(NamedTuple):
-    """A file of the hierarchy that a process may write by what it holds."""
+    """A file of the hierarchy that a process may write by what it has open."""
     pid: int
     path: CgroupPath
     file: str
-    holding: Holding
+    holding: DescriptorKind
 
 
 class Unlooked(NamedTuple):
@@ -45,8 +45,8 @@ class Stopped(Exception):
         self.why = MoreThanLookedAt(budget.most, budget.what)
 
 
-class Untold(Exception):
-    """Which file a descriptor is of isn't told."""
+class UnknownFile(Exception):
+    """Which file a descriptor is of isn't known."""
 
 
 class Hierarchy(NamedTuple):
@@ -56,7 +56,7 @@ class Hierarchy(NamedTuple):
 
 
 class Descriptors:
-    """What processes hold, charged to whose they are, and what of it isn't looked at."""
+    """What processes have open, charged to whose they are, and what of it isn't looked at."""
 
     def __init__(self, proc: str, charged_user: ChargedUser, hierarchy: Hierarchy, roots: Iterable[int] = (), release: str = "") -> None:
         self.proc, self.hierarchy = proc, hierarchy
@@ -70,7 +70,7 @@ class Descriptors:
         self.names = frozenset(os.fsencode(name) for _, name in hierarchy.files.values())
 
     def held(self, processes: Iterable[Tuple[Process, int]]) -> Iterator[Held]:
-        """What processes hold, which are given with whose they are: those of one after another's."""
+        """What processes have open, which are given with whose they are: those of one after another's."""
         by: Dict[int, List[Process]] = {}
         self.mounts.read_own()
         for process, whose in sorted(processes, key=lambda each: each[0].pid):
@@ -84,17 +84,17 @@ class Descriptors:
                 self.unlooked.append(Unlooked(whose, stopped.why))
 
     def held_by(self, whose: int, processes: Iterable[Process]) -> Iterator[Held]:
-        untold = 0
+        unknown = 0
         for process in processes:
             for folder in self.folders(process, whose):
                 for number in self.numbers(f"{folder}/fd"):
                     self.charge(self.links, whose)
                     try:
                         yield from self.of_descriptor(process.pid, whose, folder, number)
-                    except Untold:
-                        untold += 1
-        if untold:
-            self.unlooked.append(Unlooked(whose, UntoldMounts(untold)))
+                    except UnknownFile:
+                        unknown += 1
+        if unknown:
+            self.unlooked.append(Unlooked(whose, UnknownMounts(unknown)))
 
     def folders(self, process: Process, whose: int) -> Sequence[str]:
         """The folders of a process that tell of its tables, each table once."""
@@ -103,7 +103,7 @@ class Descriptors:
             return [own]
         threads = [int(name) for name in self.numbers(f"{own}/task") if name.isdigit() and int(name) != process.thread]
         if not self.threads.take(whose, len(threads)):
-            # what other processes hold is looked at all the same
+            # what other processes have open is looked at all the same
             self.unlooked.append(Unlooked(whose, UnlookedTables(process.pid, len(threads), self.threads.budget.most)))
             threads = []
         if process.is_headless and process.living is None:
@@ -135,13 +135,14 @@ class Descriptors:
         if kind is None and (inode < 0 or inode in files):
             kind = self.mounts.kind_by_root(mount)
         if kind is None and inode < 0:
-            raise Untold
+            raise UnknownFile
         if inode < 0 and kind:
             inode = inode_of(link, self.mounts.kinds)
-        return [Held(pid, *files[inode], Holding.OPEN if kind else Holding.PERHAPS)] if kind is not False and inode in files else ()
+        is_held = kind is not False and inode in files
+        return [Held(pid, *files[inode], DescriptorKind.OPEN if kind else DescriptorKind.PERHAPS)] if is_held else ()
 
     def fields(self, whose: int, folder: str, number: str) -> Optional[Fields]:
-        """What is told of a descriptor."""
+        """What /proc has of a descriptor."""
         self.charge(self.infos, whose)
         try:
             read = bounded.read_file(f"{folder}/fdinfo/{number}", bounded.DESCRIPTOR)
@@ -167,9 +168,9 @@ class Descriptors:
                 break
         if found is None or read.is_cut:
             self.unlooked.append(Unlooked(whose, UnlookedRing(pid)))
-        elif found.untold:
-            self.unlooked.append(Unlooked(whose, UntoldPaths(pid, found.untold)))
-        return () if found is None else [Held(pid, path, file, Holding.RING) for path, file in found.files]
+        elif found.unknown:
+            self.unlooked.append(Unlooked(whose, UnknownPaths(pid, found.unknown)))
+        return () if found is None else [Held(pid, path, file, DescriptorKind.RING) for path, file in found.files]
 
     def charge(self, spent: Spent, whose: int, amount: int = 1) -> None:
         if not spent.take(whose, amount):
@@ -187,7 +188,7 @@ def inode_of(link: str, kinds: Kinds) -> int:
     """The inode of what a descriptor is of where a kernel doesn't tell it, or -1. What stands behind a link may be another file by
     now, so that it is held first and asked of its mount, and then of its inode where the mount is one of cgroups."""
     try:
-        opened = bounded.hold(link)
+        opened = bounded.open_path(link)
     except OSError:
         return -1
     try:

@@ -1,7 +1,7 @@
-"""A text that was taken on another host, with what zirofen-host snapshot --with-host carries in its comments.
+"""From a snapshot of a host to a text for a check elsewhere, and from such a text back to a snapshot.
 
-What goes in is a snapshot of a host, or a text of one, and what comes out is the other. Comments of a text carry what the tree has no
-place for (`carried`): all of what a check on the host itself would have looked at, but for the settings of units.
+Comments of a text carry what the tree has no place for (`carried`): all of what a check on the host itself would have looked at, but for
+the settings of units.
 """
 from dataclasses import dataclass, replace
 from typing import Any, Callable, Dict, Iterable, Iterator, Mapping, Set, Tuple
@@ -40,7 +40,7 @@ def read(accepted: Accepted, mount: str) -> Snapshot:
                     mount_options=host.options if host else (), cgroups=cgroups, tree=tree, processes=processes_of(tree, found),
                     kernel_threads=0, places={}, notes=notes, version_1=version_1_in(notes),
                     kernel_list=frozenset(host.delegate if host else ()) or read_kernel_list(None),
-                    changing={each.path: each.why for each in found.all(carrying.CHANGING)}, spoiled={},
+                    changing={each.path: each.why for each in found.all(carrying.CHANGING)}, unanswerable={},
                     source=Source(accepted.file, carried_by(found) if host else None, found.last(carrying.OPTIONS) or Options()),
                     inside=tuple(each for each in found.all(carrying.INSIDE) if each.path in rows), held=tuple(found.all(carrying.HELD)),
                     unheld=tuple(found.all(carrying.UNHELD)), mounts=tuple(found.all(carrying.MOUNT)),
@@ -156,12 +156,12 @@ def carried_of(snapshot: Snapshot, path: CgroupPath, found: Cgroup) -> carrying.
     others = {name: entry for name, entry in found.files.items()
               if is_other_limit(name) or not is_known(name) or entry.is_reached or entry.mode > 0o777}
     # what the row tells isn't carried again
-    told = {name for name in row.further if row.files[name] == others.get(name)}
+    in_tree = {name for name in row.further if row.files[name] == others.get(name)}
     if found.directory.mode > 0o777:
         others[DIRECTORY] = found.directory
     values = {name: value for name in others if is_other_limit(name) and name not in row.values
               and (value := snapshots.value_of(snapshot, path, name)) is not None}
-    return carrying.CarriedCgroup(path, {name: entry for name, entry in others.items() if name not in told}, values, found.marks)
+    return carrying.CarriedCgroup(path, {name: entry for name, entry in others.items() if name not in in_tree}, values, found.marks)
 
 
 def text_with(snapshot: Snapshot, lines: Iterable[str], with_processes: bool) -> str:

@@ -1,5 +1,7 @@
-"""One text of a host that is too large for one: what is inside of whoever has most is left out until the rest fits, and the text
-says so. A check of it has a fault of what it lacks alone."""
+"""From a host that is too large for one text to a snapshot that fits, and says what it lacks.
+
+What is inside of whoever has most is left out until the rest fits. A check of it has a fault of what it lacks alone.
+"""
 from collections import Counter, defaultdict
 from dataclasses import replace
 from typing import Callable, DefaultDict, Dict, Iterator, List, Optional
@@ -52,7 +54,7 @@ def length(snapshot: Snapshot) -> Weight:
 
 def without_inside(snapshot: Snapshot, makers: Makers, person: int, most: int, what: str) -> Snapshot:
     """A snapshot without the cgroups that somebody made, and what is inside of these, since a text has so many of something at most.
-    What is told of each place where some were is told at the first of them."""
+    What is noted of each place where some were stands at the first of them."""
     made = {path for path in snapshot.tree.rows if makers.within(path) == person}
     lost = {path for path in snapshot.tree.rows if path in made or not made.isdisjoint(ancestors(path))}
     by_parent: DefaultDict[CgroupPath, List[CgroupPath]] = defaultdict(list)
@@ -85,6 +87,6 @@ def without_processes(snapshot: Snapshot, makers: Makers) -> Snapshot:
     return replace(snapshot, tree=replace(snapshot.tree, processes=processes), notes=tuple(notes))
 
 
-def told_changing(snapshot: Snapshot) -> Iterator[str]:
+def changing_lines(snapshot: Snapshot) -> Iterator[str]:
     """What a text always carries: what it lacks, and why."""
     return (CHANGING.line(Changing(path, why)) for path, why in snapshot.changing.items())

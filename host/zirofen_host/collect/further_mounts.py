@@ -1,5 +1,7 @@
-"""Other mounts of a hierarchy, and who gets to each: by which folders one has to go. A file system that somebody may answer for is
-asked nothing."""
+"""From the list of mounts to the other mounts of a hierarchy, and the folders on the way to each.
+
+A file system that somebody may answer for is asked nothing.
+"""
 import errno
 import os
 import stat
@@ -30,7 +32,7 @@ def further_mounts(mounts: Mounts, mount: str) -> Iterator[FurtherMount]:
 
 def look(place: str, types: Mapping[int, str], folders: List[Entry]) -> bool:
     """Gathers the folders above a place that don't let everybody through; whether each was asked."""
-    opened = bounded.hold("/")
+    opened = bounded.open_path("/")
     try:
         for name in place.strip("/").split("/"):
             if types.get(mount_of(opened)) not in OF_KERNEL:
@@ -38,7 +40,7 @@ def look(place: str, types: Mapping[int, str], folders: List[Entry]) -> bool:
             found = owned_of(os.stat(opened))
             if found[2] & EVERYBODY_SEARCHES != EVERYBODY_SEARCHES:
                 folders.append(Entry(*found))
-            below = bounded.hold_in(name, opened)
+            below = bounded.open_path_in(name, opened)
             os.close(opened)
             opened = below
         return True
@@ -49,10 +51,10 @@ def look(place: str, types: Mapping[int, str], folders: List[Entry]) -> bool:
 def read_theirs(file: str, uid: int, types: Mapping[int, str], most: int, top: str = "/") -> bounded.Read:
     """What a regular file of somebody's has, which is theirs or root's as each folder on the way: no link is followed, and no file
     system is asked that somebody may answer for. It is opened as what was looked at, whatever stands there by then."""
-    opened = bounded.hold(top)
+    opened = bounded.open_path(top)
     try:
         for name in file.strip("/").split("/"):
-            below = bounded.hold_in(name, opened)
+            below = bounded.open_path_in(name, opened)
             os.close(opened)
             opened = below
             if types.get(mount_of(opened)) not in OF_KERNEL or os.stat(opened).st_uid not in (0, uid):

@@ -1,10 +1,12 @@
-"""What processes hold open of a hierarchy: every user's, and those of root's in a container. A service of root's on the host itself can
-open what it likes, and isn't looked at."""
+"""From a snapshot and /proc to what processes have open of a hierarchy: every user's, and root's in a container.
+
+A service of root's on the host itself can open what it likes, and isn't looked at.
+"""
 from typing import Iterable, List, Optional, Tuple
 
 from zirofen_host.collect.bounded import ChargedUser
 from zirofen_host.collect.descriptors import Descriptors, Held, Hierarchy, inodes_of
-from zirofen_host.collect.inside import Look
+from zirofen_host.collect.inside import Inspection
 from zirofen_host.collect.model import HeldEntry, PrivateMount, Process, Snapshot, Unheld
 from zirofen_host.collect.processes import program_of
 
@@ -12,8 +14,8 @@ from zirofen_host.collect.processes import program_of
 Found = Tuple[Tuple[HeldEntry, ...], Tuple[Unheld, ...], Tuple[PrivateMount, ...]]
 
 
-def look(proc: str, found: Snapshot, charged_user: ChargedUser, containers: Optional[Look]) -> Found:
-    """What is held, each once, and what else the processes of users tell."""
+def look(proc: str, found: Snapshot, charged_user: ChargedUser, containers: Optional[Inspection]) -> Found:
+    """What is open, each once, and what else the processes of users tell."""
     hierarchy = Hierarchy(found.mount, inodes_of(found.places))
     roots = [pid for pid, process in found.processes.items() if not process.user.uid and not process.is_kernel_thread]
     users = [(process, process.user.uid) for process in found.processes.values() if process.user.uid]
@@ -29,8 +31,8 @@ def look(proc: str, found: Snapshot, charged_user: ChargedUser, containers: Opti
 
 
 def look_inside(proc: str, found: Snapshot, hierarchy: Hierarchy, roots: Iterable[int],
-                containers: Look) -> Tuple[List[HeldEntry], List[Unheld]]:
-    """What processes of root's in a container hold, and couldn't open by a mount that they see; charged to each container by itself."""
+                containers: Inspection) -> Tuple[List[HeldEntry], List[Unheld]]:
+    """What processes of root's in a container have open, and couldn't open by a mount that they see; charged to each by itself."""
     units = {unit: number for number, unit in enumerate(sorted({containers.unit_of(pid) for pid in containers.pids}), 1)}
     looked = Descriptors(proc, int, hierarchy, roots, found.about.kernel or "")
     processes = [(found.processes[pid], units[containers.unit_of(pid)]) for pid in sorted(containers.pids)]

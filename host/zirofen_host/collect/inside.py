@@ -1,7 +1,8 @@
-"""Containers of root's: processes of root's whose cgroup namespace or root isn't PID 1's, and what of cgroups they get at.
+"""From the processes of a host to those of root's in containers, and what of cgroups they get at.
 
-Of a process its status, its list of mounts and the names of its namespaces are read, by a thread that lives. Nothing below its root or
-its working folder is opened or asked: that may be a file system of a user's own, which answers when they like.
+In a container is a process whose cgroup namespace or root isn't PID 1's. Of a process its status, its list of mounts and the names of its
+namespaces are read, by a thread that lives. Nothing below its root or its working folder is opened or asked: that may be a file system of
+a user's own, which answers when they like.
 """
 import os
 from collections import Counter, defaultdict
@@ -105,7 +106,7 @@ def cgroup_mounts(proc: str, pid: int, most: int) -> Tuple[List[Tuple[str, Cgrou
 
 
 def shows_above(top: CgroupPath, places: AbstractSet[CgroupPath]) -> bool:
-    """Whether a mount shows what is above the root of a cgroup namespace with processes at these places. That root is nowhere told: it
+    """Whether a mount shows what is above the root of a cgroup namespace with processes at these places. That root is shown nowhere: it
     is where they all are or above, so that a mount's top is at it or below where one of them is inside of it, or where it is the
     nearest above all of those that it shows."""
     if is_root(top):
@@ -116,7 +117,7 @@ def shows_above(top: CgroupPath, places: AbstractSet[CgroupPath]) -> bool:
     return not shown or os.path.commonpath(shown) != top
 
 
-class Look:
+class Inspection:
     """Looks at the processes of a host."""
 
     def __init__(self, proc: str, first: First, cgroups: Mapping[CgroupPath, Cgroup], processes: Mapping[int, Process]) -> None:
@@ -243,7 +244,7 @@ class Look:
                       any(namespace(self.proc, each.thread, "pid") in (self.first.pids, None) for each in found), is_cut)
 
 
-def look(proc: str, cgroups: Mapping[CgroupPath, Cgroup], processes: Mapping[int, Process]) -> Optional[Look]:
-    """A look at the containers of root's; none where what PID 1 has isn't seen."""
+def inspect(proc: str, cgroups: Mapping[CgroupPath, Cgroup], processes: Mapping[int, Process]) -> Optional[Inspection]:
+    """The containers of root's, as they are inspected; none where what PID 1 has isn't seen."""
     first = first_of(proc)
-    return Look(proc, first, cgroups, processes) if first else None
+    return Inspection(proc, first, cgroups, processes) if first else None

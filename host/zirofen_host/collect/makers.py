@@ -1,4 +1,4 @@
-"""Whose making a cgroup is: of what somebody makes below their own delegation there may be any number."""
+"""From a cgroup to whose making it is: of what somebody makes below their own delegation there may be any number."""
 from typing import Callable, Container, Dict, FrozenSet, Iterable, Mapping, Optional
 
 from zirofen_host.collect.model import Row, Snapshot

@@ -1,4 +1,4 @@
-"""What is collected of a host, or read back from a text of another one: the first form of what is told."""
+"""What is collected of a host, or read back from a text of another one: the first form of the data."""
 from dataclasses import dataclass, field
 from enum import Enum
 from functools import cached_property
@@ -140,7 +140,7 @@ class Tree:
     format: TextFormat = TEXT_FORMATS[2]
 
     def limit_files(self, path: CgroupPath) -> List[str]:
-        """The limit files that stand at a cgroup, in their order, and behind them the further ones that are told of."""
+        """The limit files that stand at a cgroup, in their order, and behind them the further ones that it has."""
         parent = parent_of(path)
         enabled = self.rows[parent].enabled if parent else ()
         first = standing(enabled)
@@ -208,28 +208,28 @@ class Inside:
     is_cut: bool
 
 
-class Holding(Enum):
-    """How a process holds an entry, as far as /proc tells."""
+class DescriptorKind(Enum):
+    """How a process has an entry open, as far as /proc shows it."""
     OPEN = "open for writing"
     # on a mount that nothing tells of, so that it may be another file
     PERHAPS = "perhaps open for writing"
-    # of which the flags aren't told
+    # of which the flags aren't known
     RING = "registered with an io_uring"
 
 
 class HeldEntry(NamedTuple):
-    """An entry that a process may write by what it holds open, whatever its owner and mode are now."""
+    """An entry that a process may write by what it has open, whatever its owner and mode are now."""
     uid: int
     path: CgroupPath
     file: str
     pid: int
-    # the place of its program, as a link of /proc has it; nothing where that isn't told
+    # the place of its program, as a link of /proc has it; nothing where that isn't known
     program: str
-    holding: Holding
+    holding: DescriptorKind
 
 
 class Unheld(NamedTuple):
-    """Processes of which not all that they hold was looked at: whose they are, of a container of root's which, and why."""
+    """Processes of which not all that they have open was looked at: whose they are, of a container of root's which, and why."""
     uid: int
     path: Optional[CgroupPath]
     why: Reason
@@ -262,7 +262,7 @@ class FurtherMount(NamedTuple):
 
 
 class Covered(NamedTuple):
-    """A file of a cgroup over which something is mounted, and of what type the file system is, where that is told."""
+    """A file of a cgroup over which something is mounted, and of what type the file system is, where that is known."""
     path: CgroupPath
     file: str
     type: str
@@ -310,7 +310,7 @@ class Carried:
     """What a text of another host carries beside its tree: accounts, and values that a tree has no place for."""
     accounts: AccountLists
     values: Mapping[Tuple[CgroupPath, str], str]
-    # where threads run, and what processes hold open, was looked at
+    # where threads run, and what processes have open, was looked at
     has_descriptors: bool = False
     # records of a later version, which aren't known here
     unknown: int = 0
@@ -342,9 +342,9 @@ class Snapshot:
     # the files that this kernel says are made to be handed over
     kernel_list: FrozenSet[str]
     notes: Tuple[Note, ...]
-    # what changed all the time or can't be read, and the subtrees that this spoils, each with why
+    # what changed all the time or can't be read, and the subtrees without an answer by that, each with why
     changing: Mapping[CgroupPath, Reason]
-    spoiled: Mapping[CgroupPath, Reason]
+    unanswerable: Mapping[CgroupPath, Reason]
     # the controllers whose limits are those of version 1
     version_1: Tuple[str, ...] = ()
     source: Source = Source()
@@ -356,7 +356,7 @@ class Snapshot:
     inside: Tuple[Inside, ...] = ()
     # containers and pods by their names
     scopes: Tuple[Scope, ...] = ()
-    # what processes hold open, and what of that wasn't looked at
+    # what processes have open, and what of that wasn't looked at
     held: Tuple[HeldEntry, ...] = ()
     unheld: Tuple[Unheld, ...] = ()
     # other mounts of the hierarchy, and files of cgroups over which something is mounted
@@ -367,6 +367,6 @@ class Snapshot:
     in_hosts_namespace: Tuple[CgroupPath, ...] = ()
 
     @property
-    def processes_told(self) -> Collection[Process]:
+    def known_processes(self) -> Collection[Process]:
         """The processes of which all is known that accounts are found by; of a text that carries nothing, none."""
         return () if self.source.file is not None and self.source.carried is None else self.processes.values()

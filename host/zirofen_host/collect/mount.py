@@ -1,4 +1,4 @@
-"""Mounts of cgroups, and whether a snapshot can be taken here."""
+"""From the list of mounts to those of cgroups, and whether a snapshot can be taken here."""
 import os
 from typing import Dict, FrozenSet, List, Mapping, Optional, Tuple
 
@@ -76,7 +76,7 @@ def unescaped(text: str) -> str:
 
 
 def refuse_what_is_no_host(mount: str) -> Mounts:
-    """Ends with a clear line where owners, paths or PIDs would be told wrongly."""
+    """Ends with a clear line where owners, paths or PIDs would be read wrongly."""
     if os.geteuid() != 0:
         raise Fault("run this as root: others don't see every process, nor every descriptor")
     if bounded.read_file("/proc/self/uid_map", bounded.PROC_FILE).text("ascii").split() != WHOLE_UID_MAP:

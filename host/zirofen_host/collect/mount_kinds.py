@@ -1,4 +1,4 @@
-"""The mounts that processes see, by their numbers: which are of cgroups, and which of these somebody has in a namespace of their own."""
+"""From the mounts that processes see to those of cgroups, and those in a mount namespace of somebody's own."""
 import os
 from collections import defaultdict
 from typing import DefaultDict, Dict, Iterable, Iterator, Optional, Set, Tuple
@@ -86,7 +86,7 @@ class MountKinds:
 
 
 def number_in(fields: Fields, key: str) -> int:
-    """A number that is told of a descriptor, or -1."""
+    """A number that /proc has of a descriptor, or -1."""
     words = fields.get(key, [])
     return int(words[0]) if words and words[0].isascii() and words[0].isdigit() and len(words[0]) <= 20 else -1
 
@@ -101,7 +101,7 @@ def mount_of(opened: int, proc: str = "/proc") -> int:
 
 
 def memory_mount(proc: str) -> int:
-    """The mount that a kernel has files of memory on, as memfd_create makes them, or -1: many processes hold such files, whose
+    """The mount that a kernel has files of memory on, as memfd_create makes them, or -1: many processes have such files open, whose
     inodes are small numbers as those of cgroups are."""
     try:
         opened = os.memfd_create("mount")

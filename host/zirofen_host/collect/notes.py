@@ -1,4 +1,4 @@
-"""Notes of what a tree text changes or leaves out, a class for each: what was found is in its fields, and its text is made of them.
+"""From what a tree text changes or leaves out to a note of it, a class for each kind, and the text of a note.
 
 A note's `kind` is the word that a report and the docs have for it; notes of one kind may be of several classes.
 """
@@ -39,7 +39,7 @@ class Note(ABC):
     @property
     @abstractmethod
     def text(self) -> str:
-        """What is told of its place."""
+        """What is said of its place."""
 
     @property
     def line(self) -> str:
@@ -143,8 +143,8 @@ class OtherControllers(Note):
 
     @property
     def text(self) -> str:
-        told = ", ".join(f"{name} ({count})" for name, count in self.counts)
-        return f"left out, with how many cgroups enable each: {told}"
+        counted = ", ".join(f"{name} ({count})" for name, count in self.counts)
+        return f"left out, with how many cgroups enable each: {counted}"
 
 
 @dataclass(frozen=True)

@@ -1,4 +1,4 @@
-"""What is equal in many cgroups, which is held once: what goes in is read of one cgroup, and what comes out is shared by all alike."""
+"""From what was read of one cgroup to the equal of it that is held once, and shared by all alike."""
 from typing import Dict, List, Mapping, Tuple
 
 from zirofen_host.collect.model import Entry

@@ -1,4 +1,4 @@
-"""Processes, as /proc tells of them."""
+"""From /proc to processes, and of whom not all could be read."""
 from typing import Container, Dict, Iterator, List, Mapping, Optional, Tuple
 
 from zirofen_host.collect import bounded
@@ -42,7 +42,7 @@ class Reader:
         self.users: Dict[User, User] = {}
         self.threads = ThreadReader(proc, charged_user, self.bytes)
         self.found: Dict[int, Process] = {}
-        # of which what is told isn't known
+        # of which what /proc has isn't known
         self.unknown: List[int] = []
         self.failed: List[Failed] = []
 
@@ -124,7 +124,7 @@ def capabilities_of(proc: str, pid: int, bits: int) -> Tuple[str, ...]:
 
 
 def program_of(proc: str, thread: int) -> str:
-    """The place of a process's program; nothing where it isn't told."""
+    """The place of a process's program; nothing where it isn't known."""
     try:
         return bounded.read_link(f"{proc}/{thread}/exe")
     except OSError:

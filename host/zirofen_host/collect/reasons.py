@@ -1,4 +1,4 @@
-"""Why something of a host is left out, or has no answer: a class for each kind, and a sentence made of its fields where it is shown."""
+"""From why something of a host is left out, or has no answer, to a sentence: a class for each kind."""
 from abc import ABC, abstractmethod
 from dataclasses import dataclass
 from typing import ClassVar
@@ -45,7 +45,7 @@ class Unreadable(Reason):
 @dataclass(frozen=True)
 class MountedOver(Reason):
     """Something is mounted over a cgroup, or over a file of it without which nothing is known of it; of what type, where that is
-    told."""
+    known."""
     type: str
     file: str = ""
 
@@ -107,7 +107,7 @@ class MoreThanLookedAt(Reason):
 
 
 @dataclass(frozen=True)
-class UntoldMounts(Reason):
+class UnknownMounts(Reason):
     """So many open files are on mounts that nothing tells of."""
     count: int
 
@@ -146,7 +146,7 @@ class UnlookedRing(Reason):
 
 
 @dataclass(frozen=True)
-class UntoldPaths(Reason):
+class UnknownPaths(Reason):
     """So many files that are registered with an io_uring have names of cgroups' files, and no path on the mount."""
     pid: int
     count: int

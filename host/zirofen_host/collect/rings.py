@@ -1,7 +1,7 @@
-"""Files that are registered with an io_uring, as the fdinfo of its descriptor lists them.
+"""From the fdinfo of an io_uring's descriptor to the files that are registered with it.
 
-A new kernel lists their paths, and tells nothing of a ring while that is busy; an older one, as 6.1, lists their names alone, one for each
-slot, and none while it is busy. By which flags one was opened no kernel tells.
+A new kernel lists their paths, and tells nothing of a ring while that is busy; an older one, as 6.1, lists their names alone, one for
+each slot, and none while it is busy. By which flags one was opened no kernel tells.
 """
 import re
 from typing import AbstractSet, NamedTuple, Optional, Tuple
@@ -25,7 +25,7 @@ FileOf = Tuple[CgroupPath, str]
 class Registered(NamedTuple):
     """Files of cgroups that are registered with a ring, and how many more may be such files."""
     files: Tuple[FileOf, ...]
-    untold: int
+    unknown: int
 
 
 def registered(text: bytes, mount: bytes, names: AbstractSet[bytes], has_paths: bool) -> Optional[Registered]:

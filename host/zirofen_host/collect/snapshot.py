@@ -1,4 +1,4 @@
-"""From what was found on a host to a tree that the format carries, with a line for each thing bent or left out."""
+"""From what was found on a host to a tree that the format carries, with a note of each thing changed or left out."""
 import os
 import time
 from collections import Counter
@@ -8,9 +8,9 @@ from typing import Callable, Container, Dict, Iterable, Iterator, List, Mapping,
 from zirofen_host.collect import containers, held, inside, walk
 from zirofen_host.collect.accounts import charged_user_of
 from zirofen_host.collect.agreement import Agreed, walk_until_agreed
+from zirofen_host.collect.attempts import Attempts
 from zirofen_host.collect.bounded import ChargedUser
 from zirofen_host.collect.further_mounts import further_mounts
-from zirofen_host.collect.looks import Looks
 from zirofen_host.collect.model import About, Cgroup, Covered, Entry, Inside, Placed, Process, Row, Scope, Snapshot, Tree, Value
 from zirofen_host.collect.mount import Mounts, mounts_of_folder, read_kernel_list, refuse_what_is_no_host
 from zirofen_host.collect.notes import (ANY_MODE, Changing, FileOfNoController, LimitsOfVersion1, NamedAsFile, NoFile, Note, NoValue,
@@ -68,7 +68,7 @@ def version_1_notes(mounts: Mounts) -> Iterator[Note]:
 
 
 class Conversion:
-    """What a tree text carries of cgroups, with a note of each thing that it bends or leaves out."""
+    """What a tree text carries of cgroups, with a note of each thing that it changes or leaves out."""
 
     def __init__(self, cgroups: Cgroups, text_format: TextFormat, covered: Container[Tuple[CgroupPath, str]] = ()) -> None:
         self.cgroups = cgroups
@@ -78,7 +78,7 @@ class Conversion:
         self.notes: List[Note] = []
         # the entries of the cgroup whose row is made that have more in their modes than a text has
         self.modes: List[Tuple[str, int]] = []
-        # the further limit files that are told of, by the table of files that cgroups with the same ones share
+        # the further limit files that a text has, by the table of files that cgroups with the same ones share
         self.reached: Dict[int, List[str]] = {}
 
     def row(self, path: CgroupPath, found: Cgroup) -> Row:
@@ -110,7 +110,7 @@ class Conversion:
         return Row(path, directory, files, values, tuple(name for name in self.text_format.controllers if name in found.enabled))
 
     def further(self, path: CgroupPath, found: Cgroup, available: Sequence[str]) -> List[str]:
-        """The further limit files that are told of: those that somebody but root reaches, and that the parent brings."""
+        """The further limit files that a text has: those that somebody but root reaches, and that the parent brings."""
         reached = self.reached.get(id(found.files))
         if reached is None:
             reached = self.reached[id(found.files)] = reached_in(found.files) if self.text_format.further else []
@@ -132,7 +132,7 @@ class Conversion:
 
     def plain(self, name: str, entry: Entry) -> Entry:
         """An entry without what its mode has beside read, write and search: its owner may give such a mode to each of many files, and
-        it is told in one note of a cgroup."""
+        it is one note of a cgroup."""
         if entry.mode <= ANY_MODE:
             return entry
         self.modes.append((name, entry.mode))
@@ -142,9 +142,9 @@ class Conversion:
         value: Value = int(text) if text.isdigit() and len(text) <= 20 else text
         if accepts(file, value):
             return value
-        bent = 1 if value == 0 else LIMIT_FILES[file].usual
-        self.notes.append(OtherValue(text_of(path), file, text, bent))
-        return bent
+        replacement = 1 if value == 0 else LIMIT_FILES[file].usual
+        self.notes.append(OtherValue(text_of(path), file, text, replacement))
+        return replacement
 
     def places(self) -> Dict[int, CgroupPath]:
         """Where each process is that a tree text can carry."""
@@ -192,22 +192,22 @@ def snapshot_of(agreed: Agreed, reader: Reader, options: Options, mounts: Mounts
     conversion = Conversion(cgroups, text_format, walked.covered)
     conversion.notes += [*changing_notes(agreed.changing), *name_notes(walked), *controller_notes(cgroups, text_format),
                          *process_notes(reader)]
-    looks = Looks()
-    rows = {row.path: row for row in looks.each("cgroups", cgroups, lambda path: conversion.row(path, cgroups[path]))}
+    attempts = Attempts()
+    rows = {row.path: row for row in attempts.each("cgroups", cgroups, lambda path: conversion.row(path, cgroups[path]))}
     kept = walk.whole(rows)
     rows = kept if len(kept) < len(rows) else rows
     cgroups = {path: cgroups[path] for path in rows}
     placed, threads = conversion.placed(rows, processes)
     tree = Tree(tuple(name for name in text_format.controllers if name in root.available), rows, placed, text_format)
-    lacking = () if options.plain_folder else looks.all("capabilities", lambda: lacking_notes(PROC))
-    kernel_list = looks.at("delegate", lambda: read_kernel_list(None if options.plain_folder else KERNEL_LIST), read_kernel_list(None))
+    lacking = () if options.plain_folder else attempts.all("capabilities", lambda: lacking_notes(PROC))
+    kernel_list = attempts.at("delegate", lambda: read_kernel_list(None if options.plain_folder else KERNEL_LIST), read_kernel_list(None))
     return Snapshot(about=about_this_host(), mount=options.mount, mount_options=tuple(mounts.options(options.mount)), cgroups=cgroups,
                     tree=tree, processes=processes, kernel_threads=threads, places=walked.places,
                     kernel_list=kernel_list,
-                    notes=(*conversion.notes, *version_1_notes(mounts), *lacking, *reader.failed, *looks.failed), changing=agreed.changing,
-                    spoiled=agreed.spoiled,
+                    notes=(*conversion.notes, *version_1_notes(mounts), *lacking, *reader.failed, *attempts.failed),
+                    changing=agreed.changing, unanswerable=agreed.unanswerable,
                     version_1=mounts.limits_of_version_1(),
-                    makers={path: walked.holds[path].uid for path in agreed.changing if path in walked.holds},
+                    makers={path: walked.charged_tops[path].uid for path in agreed.changing if path in walked.charged_tops},
                     over=reader.over(), covered=tuple(Covered(path, file, kind) for (path, file), kind in sorted(walked.covered.items())
                                                       if path in rows))
 
@@ -227,23 +227,23 @@ def take(options: Options, subtrees_of: SubtreesOf) -> Snapshot:
     agreed = walk_until_agreed(options.mount, options.only, subtrees_in, charged_user, options.text_format.further,
                                mounts.below(options.mount), options.shallow)
     reader = look_at_processes(options, charged_user, gids_in(agreed.walk.found))
-    found, looks = snapshot_of(agreed, reader, options, mounts), Looks()
-    look = looks.at("root-inside", lambda: inside.look(options.proc, found.cgroups, found.processes), None)
-    insides = looks.all("root-inside", look.found) if look else ()
-    entries, unheld, private = looks.at("descriptors", lambda: held.look(options.proc, found, charged_user, look), NOTHING_HELD)
-    scopes = () if options.plain_folder else looks.all("containers", lambda: containers.scopes(found.cgroups))
-    further = looks.all("mounts", lambda: further_mounts(mounts, options.mount))
-    # of a part what is above it is there for the answers, and isn't told of by itself
+    found, attempts = snapshot_of(agreed, reader, options, mounts), Attempts()
+    inspection = attempts.at("root-inside", lambda: inside.inspect(options.proc, found.cgroups, found.processes), None)
+    insides = attempts.all("root-inside", inspection.found) if inspection else ()
+    entries, unheld, private = attempts.at("descriptors", lambda: held.look(options.proc, found, charged_user, inspection), NOTHING_HELD)
+    scopes = () if options.plain_folder else attempts.all("containers", lambda: containers.scopes(found.cgroups))
+    further = attempts.all("mounts", lambda: further_mounts(mounts, options.mount))
+    # of a part what is above it is there for the answers, and isn't reported by itself
     return replace(found, inside=tuple(each for each in insides if is_inside(each.path, options.only or ROOT)), held=entries, unheld=unheld,
                    scopes=scopes, mounts=further, private=private,
-                   in_hosts_namespace=tuple(sorted(in_hosts_namespace(look, insides, scopes))),
-                   notes=(*found.notes, *looks.failed))
+                   in_hosts_namespace=tuple(sorted(in_hosts_namespace(inspection, insides, scopes))),
+                   notes=(*found.notes, *attempts.failed))
 
 
-def in_hosts_namespace(look: Optional[inside.Look], insides: Iterable[Inside], scopes: Iterable[Scope]) -> Iterable[CgroupPath]:
+def in_hosts_namespace(inspection: Optional[inside.Inspection], insides: Iterable[Inside], scopes: Iterable[Scope]) -> Iterable[CgroupPath]:
     """The containers of root's that have the host's own cgroup namespace, whose processes may be anybody's."""
     of_root = {each.path for each in scopes if each.holder is None and each.engine != containers.POD}
-    shared = set(look.in_hosts_namespace(of_root) if look else ())
+    shared = set(inspection.in_hosts_namespace(of_root) if inspection else ())
     others = {each.path for each in insides if not each.has_own_namespace}
     return shared.union(path for path in others if shared.isdisjoint((path, *ancestors(path))))
 
@@ -257,9 +257,9 @@ def gids_in(cgroups: Cgroups) -> Set[int]:
 
 def look_at_processes(options: Options, charged_user: ChargedUser, gids: Container[int]) -> Reader:
     """Processes, as far as they can be read, each with those of its groups that matter."""
-    looks, reader = Looks(), Reader(options.proc, charged_user, gids)
-    looks.at("processes", reader.look, reader)
-    reader.failed += looks.failed
+    attempts, reader = Attempts(), Reader(options.proc, charged_user, gids)
+    attempts.at("processes", reader.look, reader)
+    reader.failed += attempts.failed
     return reader
 
 
@@ -270,9 +270,9 @@ def all_that_changes(_: Snapshot, changing: walk.Whys) -> Iterable[CgroupPath]:
 
 def value_of(snapshot: Snapshot, path: CgroupPath, name: str) -> Optional[str]:
     """What a file has that isn't a limit of every text: as the tree tells it, or now, or as the text has it."""
-    told = snapshot.tree.rows[path].values.get(name)
-    if told is not None:
-        return str(told)
+    value = snapshot.tree.rows[path].values.get(name)
+    if value is not None:
+        return str(value)
     if snapshot.source.file is not None:
         carried = snapshot.source.carried
         return carried.values.get((path, name)) if carried else None

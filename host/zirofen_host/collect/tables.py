@@ -1,4 +1,7 @@
-"""Tables of descriptors: threads of a process share one, unless a thread left it (`unshare(CLONE_FILES)`)."""
+"""From the threads of a process to their tables of descriptors.
+
+They share one, unless a thread left it (`unshare(CLONE_FILES)`).
+"""
 import ctypes
 import os
 from typing import Callable, Dict, FrozenSet, Iterable, List, Optional, Tuple

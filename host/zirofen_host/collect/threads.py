@@ -1,4 +1,4 @@
-"""Threads of a process, as /proc tells of them: where each runs, what it is permitted, and one that lives where the first has ended."""
+"""From what /proc has of a process's threads to where each runs, what it is permitted, and one that lives."""
 import re
 from typing import Iterable, List, Mapping, NamedTuple, Optional, Sequence, Tuple
 
@@ -31,7 +31,7 @@ class Threads(NamedTuple):
     places: Tuple[CgroupPath, ...] = ()
 
 
-class Told(NamedTuple):
+class ThreadStatus(NamedTuple):
     """What the status of one thread tells."""
     is_living: bool
     permitted: int
@@ -69,15 +69,16 @@ class ThreadReader:
                 found = found._replace(left=found.number - place)
                 break
             spent.take(uid)
-            told = self.told(pid, number, uid)
-            if told:
-                living = number if found.living is None and found.is_headless and told.is_living else found.living
-                found = found._replace(permitted=found.permitted | told.permitted, bounding=found.bounding | told.bounding, living=living)
+            status = self.status_of(pid, number, uid)
+            if status:
+                living = number if found.living is None and found.is_headless and status.is_living else found.living
+                found = found._replace(permitted=found.permitted | status.permitted, bounding=found.bounding | status.bounding,
+                                       living=living)
         places = self.places(pid, uid, numbers)
         # all threads move at once, but a walk over them is none: where they differ they are asked again
         return found._replace(places=self.places(pid, uid, numbers) if len(places) > 1 else ())
 
-    def told(self, pid: int, number: int, uid: int) -> Optional[Told]:
+    def status_of(self, pid: int, number: int, uid: int) -> Optional[ThreadStatus]:
         try:
             read = bounded.read_file(f"{self.proc}/{pid}/task/{number}/status", bounded.STATUS)
         except OSError:
@@ -85,7 +86,7 @@ class ThreadReader:
             return None
         self.read.take(uid, len(read.data))
         words = {key: word.decode("ascii", "replace") for key, word in _STATUS.findall(read.data)}
-        return Told(words.get(b"State", "R") not in ENDED, int(words.get(b"CapPrm", "0"), 16), int(words.get(b"CapBnd", ALL), 16))
+        return ThreadStatus(words.get(b"State", "R") not in ENDED, int(words.get(b"CapPrm", "0"), 16), int(words.get(b"CapBnd", ALL), 16))
 
     def places(self, pid: int, uid: int, numbers: Iterable[int]) -> Tuple[CgroupPath, ...]:
         """The place of the first thread, and behind it where else threads run, as far as it can be read."""

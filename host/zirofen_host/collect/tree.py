@@ -1,4 +1,4 @@
-"""A tree text: what is in it, and its spelling."""
+"""From a tree text to the tree in it, and from a tree to its text."""
 import json
 import sys
 from typing import Callable, Iterable, List, Mapping, Sequence, Tuple, Type, TypeVar
@@ -36,7 +36,7 @@ def file_line(row: Row, file: str) -> List[str]:
 
 
 def further_line(row: Row, file: str) -> str:
-    """The line of a further limit file: as it is, where no value is told."""
+    """The line of a further limit file: as it is, where no value is known."""
     parts = entry_parts(row.entry(file), FILE_MODE)
     if file in row.values:
         # what is printable ASCII is in JSON as in TOML
@@ -79,8 +79,8 @@ def in_order(paths: Iterable[CgroupPath]) -> List[CgroupPath]:
 
 def head_text(tree: Tree, head: Iterable[str]) -> str:
     """What stands before the cgroups. Of a format that takes more bytes than the others the first line tells it."""
-    told, comments = f"format = {tree.format.number}", [f"# {line}" for line in head]
-    first = [*comments, "", told] if tree.format.number == 2 else [told, *comments, ""]
+    format_line, comments = f"format = {tree.format.number}", [f"# {line}" for line in head]
+    first = [*comments, "", format_line] if tree.format.number == 2 else [format_line, *comments, ""]
     return "\n".join([*first, f"controllers = [{names(tree.controllers, tree.format)}]", ""])
 
 

@@ -1,4 +1,7 @@
-"""With whom the time of a run goes: with the person of whom something is read or asked, and with the host where it is no one's."""
+"""From whose turn it is in a run to the seconds that went to each person.
+
+What is read or asked of no one goes to the host.
+"""
 import time
 from typing import Dict, List, NamedTuple, Tuple
 
@@ -40,7 +43,7 @@ def shares() -> Tuple[Share, ...]:
     return tuple(sorted(found, key=lambda share: (-share.seconds, share.person))[:NAMED])
 
 
-def told() -> str:
+def shares_text() -> str:
     """With whom the time went to, as it stands behind `of N seconds`."""
     found = shares()
     return ", ".join(f"{share.seconds} went to what uid {share.person} holds" for share in found) or "none went to what one user holds"

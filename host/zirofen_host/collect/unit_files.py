@@ -1,4 +1,4 @@
-"""Units of systemd as their files have them: sections with settings in their order, drop-ins of the system's folders, and specifiers."""
+"""From unit files of systemd to units: sections with settings in their order, with drop-ins and specifiers."""
 import os
 import re
 from dataclasses import dataclass

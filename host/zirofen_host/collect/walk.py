@@ -1,7 +1,6 @@
-"""Walking over a cgroup v2 mount, or over a folder of plain files that looks like one: what goes in is the mount, and what comes out are
-its cgroups as they were read.
+"""From a cgroup v2 mount, or a folder of plain files that looks like one, to its cgroups as they were read.
 
-What changes during the walk, or can't be read, is told of alone: the rest of what was found stands.
+What changes during the walk, or can't be read, is listed by itself: the rest of what was found stands.
 """
 import contextlib
 import errno
@@ -54,7 +53,7 @@ class TooMuch(LeftOut):
     """Somebody has more than is looked at."""
 
 
-class Hold(NamedTuple):
+class ChargedTop(NamedTuple):
     """The topmost cgroup of somebody's own, and whose."""
     path: CgroupPath
     uid: int
@@ -88,15 +87,15 @@ class Walk:
         # each file by which something is set, by its device and inode
         self.places: Dict[FilePlace, Tuple[CgroupPath, str]] = {}
         # whose each cgroup is that was left out or not found again, where it is somebody's
-        self.holds: Dict[CgroupPath, Hold] = {}
-        self.hold: Optional[Hold] = None
+        self.charged_tops: Dict[CgroupPath, ChargedTop] = {}
+        self.charged: Optional[ChargedTop] = None
         self.once = Once()
 
     def walk(self) -> None:
-        waiting: List[Tuple[CgroupPath, Optional[Hold]]] = [(ROOT, None)]
+        waiting: List[Tuple[CgroupPath, Optional[ChargedTop]]] = [(ROOT, None)]
         while waiting:
-            path, self.hold = waiting.pop()
-            if self.hold and self.hold.path in self.unread:
+            path, self.charged = waiting.pop()
+            if self.charged and self.charged.path in self.unread:
                 continue
             try:
                 self.found[path], children = self.read(path)
@@ -108,26 +107,26 @@ class Walk:
                 continue
             except TooMuch as over:
                 # all of it is given up at once, and what was read of it is dropped at last
-                self.unread[self.hold.path if self.hold else path] = over.reason
+                self.unread[self.charged.path if self.charged else path] = over.reason
                 continue
             finally:
-                if self.hold:
-                    self.holds[path] = self.hold
-            waiting += [(child, self.hold) for child in children]
+                if self.charged:
+                    self.charged_tops[path] = self.charged
+            waiting += [(child, self.charged) for child in children]
             progress.tell(f"{len(self.found)} cgroups read, {len(waiting)} known to be left")
         if self.unread:
             self.without(self.unread)
 
-    def hold_at(self, path: CgroupPath, uid: int) -> None:
+    def note_owner(self, path: CgroupPath, uid: int) -> None:
         """Whose a cgroup is, by the owner of its directory."""
         person = self.charged_user(uid) if uid else 0
-        if path != ROOT and person and (self.hold is None or self.hold.uid != person):
-            self.hold = Hold(path, person)
+        if path != ROOT and person and (self.charged is None or self.charged.uid != person):
+            self.charged = ChargedTop(path, person)
 
     def charge(self, spent: Spent, amount: int = 1) -> None:
         """Charges whose cgroup is read."""
-        if self.hold and not spent.take(self.hold.uid, amount):
-            raise TooMuch(spent.budget.exceeded_by(self.hold.uid))
+        if self.charged and not spent.take(self.charged.uid, amount):
+            raise TooMuch(spent.budget.exceeded_by(self.charged.uid))
 
     def full_name(self, path: CgroupPath, name: str) -> bytes:
         """A file of a cgroup by its path from the mount."""
@@ -145,7 +144,7 @@ class Walk:
             if self.is_covered(path, status):
                 raise Unread(MountedOver(self.below.get(path, "")))
             directory = owned_of(status)
-            self.hold_at(path, directory[0])
+            self.note_owner(path, directory[0])
             self.charge(self.cgroups)
             self.charge(self.bytes, len(path))
             self.charge(self.levels, path.count(b"/"))
@@ -248,7 +247,7 @@ class Walk:
 
     def children(self, path: CgroupPath, folder: int, names: Iterable[bytes]) -> List[CgroupPath]:
         """The paths below that are to be walked; the others are written down as left out."""
-        if self.hold and not self.shallow.isdisjoint((self.hold.uid, EVERYBODY)):
+        if self.charged and not self.shallow.isdisjoint((self.charged.uid, EVERYBODY)):
             return []
         is_on_the_way = path in self.on_the_way
         children = []
@@ -269,10 +268,10 @@ class Walk:
             uid = os.stat(name, dir_fd=folder, follow_symlinks=False).st_uid
         except OSError:
             return 1
-        uid = uid or (self.hold.uid if self.hold else 0)
+        uid = uid or (self.charged.uid if self.charged else 0)
         count = bounded.count_folders(folder, name, max(self.cgroups.left(uid), 0) if uid else self.cgroups.budget.most)
-        if not self.cgroups.take(uid, count) and self.hold and self.charged_user(uid) == self.hold.uid:
-            raise TooMuch(self.cgroups.budget.exceeded_by(self.hold.uid))
+        if not self.cgroups.take(uid, count) and self.charged and self.charged_user(uid) == self.charged.uid:
+            raise TooMuch(self.cgroups.budget.exceeded_by(self.charged.uid))
         return count
 
     def covers(self, path: CgroupPath) -> bool:
@@ -301,7 +300,7 @@ class Walk:
         self.gone = {path for path in self.gone if not later.covers(path)} | later.gone
         self.places.update(later.places)
         self.covered = {**{each: kind for each, kind in self.covered.items() if not later.covers(each[0])}, **later.covered}
-        self.holds.update(later.holds)
+        self.charged_tops.update(later.charged_tops)
         self.without(())
 
     def without(self, paths: Collection[CgroupPath]) -> None:
@@ -347,7 +346,7 @@ def key_of(found: Cgroup) -> Tuple[object, ...]:
 @contextlib.contextmanager
 def still_listed() -> Iterator[None]:
     """Looks at files that a folder has: one that went since then is no file that can't be read, as whoever enables its controller and
-    disables it again and again has it go in each walk. The cgroup is told of as one that went, until it stays as it is."""
+    disables it again and again has it go in each walk. The cgroup counts as one that went, until it stays as it is."""
     try:
         yield
     except OSError as error:

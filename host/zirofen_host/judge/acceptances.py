@@ -1,4 +1,7 @@
-"""Findings that somebody accepted by a file of theirs: each by its place and whom it lets in, with a reason and an end."""
+"""From a file of findings that somebody accepts, and a report, to the report in which these don't count.
+
+Each is named by its place and whom it lets in, with a reason and an end.
+"""
 import datetime
 import errno
 import os
@@ -84,15 +87,15 @@ def somebody_in(word: str) -> Named:
 
 def read(file: str) -> Optional[Tuple[Given, ...]]:
     """What a file accepts, or None where there is no such file. Root reads one that root alone can have written."""
-    told = f"the acceptances {shown(file)}"
+    source = f"the acceptances {shown(file)}"
     try:
         text = bytes_of(file).text()
     except FileNotFoundError:
         return None
     except OSError as error:
-        raise Fault(f"can't read {told}: {error.strerror}") from None
+        raise Fault(f"can't read {source}: {error.strerror}") from None
     except UnicodeDecodeError:
-        raise Fault(f"{told} aren't UTF-8") from None
+        raise Fault(f"{source} aren't UTF-8") from None
     reader = toml_reader("a file of acceptances")
     try:
         document = reader(text)
@@ -100,8 +103,8 @@ def read(file: str) -> Optional[Tuple[Given, ...]]:
         if set(document) - {"accept"}:
             raise ValueError
     except (AttributeError, TypeError, ValueError, RecursionError):
-        raise Fault(f"{told} are no TOML with tables [[accept]] alone") from None
-    return tuple(given_in(row, f"{told}: [[accept]] {number}") for number, row in enumerate(rows, 1))
+        raise Fault(f"{source} are no TOML with tables [[accept]] alone") from None
+    return tuple(given_in(row, f"{source}: [[accept]] {number}") for number, row in enumerate(rows, 1))
 
 
 def bytes_of(file: str) -> bounded.Read:
@@ -189,7 +192,7 @@ def why_of(found: Finding, granted: Why) -> Union[str, Absent]:
 
 
 def entry_key(found: Finding) -> str:
-    """What of findings at one place is told apart; programs of several users by whose they are too."""
+    """By what findings at one place differ; programs of several users by whose they are too."""
     return f"{found.entry} {found.whom[0].id}" if found.rule.word in (RUNS, HELD, *PREMISES) else found.entry
 
 
@@ -199,9 +202,10 @@ def standing(each: Given, found: Optional[Finding], beside: Iterable[Finding], g
     # the same entry first
     others.sort(key=lambda other: other.entry != each.entry)
     state = OVER if today > each.until else ACCEPTED if found else WORSE if others else UNMET
-    told = found or (others[0] if others else None)
-    name: Union[str, Absent] = told.name if told and told.name and each.path == told.path else ABSENT
-    return Acceptance(each.what, each.path, each.entry, each.whom, each.reason, str(each.until), state, told.line if told else None, name)
+    nearest = found or (others[0] if others else None)
+    name: Union[str, Absent] = nearest.name if nearest and nearest.name and each.path == nearest.path else ABSENT
+    return Acceptance(each.what, each.path, each.entry, each.whom, each.reason, str(each.until), state,
+                      nearest.line if nearest else None, name)
 
 
 def kind_of(rule: Rule) -> str:

@@ -1,4 +1,4 @@
-"""What to change: the program is asked for advice once in each text, of all pairs that are told of there."""
+"""From the pairs of each text that aren't contained to what to change: the program is asked for advice once in each."""
 from collections import defaultdict
 from dataclasses import dataclass
 from itertools import chain, zip_longest
@@ -18,7 +18,7 @@ from zirofen_host.profile import CgroupPath, path_of
 @dataclass(frozen=True)
 class Advised:
     """What to change of each entry, for all whom it lets in; the pairs of which no advice was given, by why; and of how many
-    entries nothing is told."""
+    entries nothing is advised."""
     changes: Mapping[Place, Sequence[Change]]
     faults: Mapping[Tuple[User, str], Sequence[CgroupPath]]
     unasked: int = 0

@@ -1,4 +1,4 @@
-"""Between a report's dataclasses and JSON: one key for each field, in their order."""
+"""From a report's dataclasses to JSON, and back: one key for each field, in their order."""
 import dataclasses
 import functools
 import json
@@ -69,7 +69,7 @@ def part_of(hint: object, value: Json, place: str, lacking: Lacking) -> object:
     origin, within = typing.get_origin(hint), typing.get_args(hint)
     if origin is Annotated:
         part = part_of(within[0], value, place, lacking)
-        if not within[1].holds(part):
+        if not within[1].admits(part):
             raise Wrong(place)
         return part
     if origin is Union:
@@ -86,7 +86,7 @@ def part_of(hint: object, value: Json, place: str, lacking: Lacking) -> object:
 
 
 def one_of(hints: Tuple[object, ...], value: Json, place: str, lacking: Lacking) -> object:
-    """The first of some types that a value has; the fault of the first is told where it has none."""
+    """The first of some types that a value has; the fault of the first is raised where it has none."""
     wrong = []
     for hint in hints:
         if hint is not Absent:

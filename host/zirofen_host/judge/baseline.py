@@ -1,4 +1,4 @@
-"""What is new, worse, gone or changed since an earlier report."""
+"""From a report and an earlier one to what is new, worse, gone or changed since then."""
 import dataclasses
 import json
 from itertools import chain
@@ -12,7 +12,7 @@ from zirofen_host.judge import as_json
 from zirofen_host.judge.finding_lines import (MOUNT_OPTIONS, above_line, differs_line, entry_line, fault_line, inside_line, opened_line,
                                               premise_line, version_1_line)
 from zirofen_host.judge.host_model import ABSENT, Absent, PlaceNames
-from zirofen_host.judge.severity import ACCEPTED as HOLDS
+from zirofen_host.judge.severity import ACCEPTED as IN_FORCE
 from zirofen_host.judge.severity import Severity, of_answer, of_fault, worst
 from zirofen_host.judge.standing import accepted_subtrees, is_empty
 from zirofen_host.collect.notes import FAILED
@@ -23,7 +23,7 @@ from zirofen_host.judge.saved import LACKING
 from zirofen_host.profile import shown
 
 KINDS = ("new", "worse", "stand", "changed", "gone")
-# findings that are told as accepted; where there are more, it is told how many
+# findings that are shown as accepted; where there are more, it is shown how many
 ACCEPTED = 64
 # a finding by its kind, where it stands, and what it is of
 Key = Tuple[str, str, str]
@@ -37,7 +37,7 @@ class Found(NamedTuple):
     mended: Union[EntryFinding, OpenedFinding, DiffersFinding, RootInside, Finding, None] = None
     # whose own making it is
     within: Within = ABSENT
-    # it is accepted by itself, and told so
+    # it is accepted by itself, and reported so
     is_accepted: bool = False
     # its line, with the names of containers in place of their paths
     named: str = ""
@@ -128,9 +128,9 @@ def found_by_path(report: Report) -> Dict[Key, Found]:
             Severity.CONTAINED, differs_line(differs), frozenset((name,) for name in differs.entries), differs)
     for above in report.above:
         found["above", above.handed, above.who] = Found(Severity.CONTAINED, above_line(above), within=above.within)
-    for told in (*report.unseen, *report.snapshot):
-        if told.kind == FAILED:
-            found[FAILED, told.place, told.text] = Found(Severity.FAULT, told.line)
+    for note in (*report.unseen, *report.snapshot):
+        if note.kind == FAILED:
+            found[FAILED, note.place, note.text] = Found(Severity.FAULT, note.line)
     if report.version_1:
         found["version-1", "", ""] = Found(Severity.NOT_LOOKED_AT, version_1_line(report.version_1))
     return found
@@ -141,8 +141,8 @@ def subtree_found(subtree: Subtree, is_accepted: bool) -> Found:
     if not subtree.answers:
         return Found(Severity.CONTAINED, f"{subtree.path}: held by root alone", within=subtree.within)
     severities = [Severity.CONTAINED if each.is_above else of_answer(each.word) for each in subtree.answers]
-    told = "; ".join(f"{each.lines[0]}, by {each.who} who holds it" for each in subtree.answers)
-    return Found(worst(severities), f"{subtree.path}: {told}", within=subtree.within, is_accepted=is_accepted)
+    answers = "; ".join(f"{each.lines[0]}, by {each.who} who holds it" for each in subtree.answers)
+    return Found(worst(severities), f"{subtree.path}: {answers}", within=subtree.within, is_accepted=is_accepted)
 
 
 def let_in(whom: Iterable[Whom], subtrees: Iterable[str]) -> FrozenSet[Tuple[object, ...]]:
@@ -169,7 +169,7 @@ def compared(report: Report, before: Report, file: str) -> Comparison:
             differing[kind].append(difference(key, now.get(key), then.get(key)))
     differing["changed"] += changes_of_host(report, before)
     if not isinstance(report.acceptances, Absent):
-        severities += [Severity.STALE for each in report.acceptances if each.state != HOLDS]
+        severities += [Severity.STALE for each in report.acceptances if each.state != IN_FORCE]
     if is_empty(report) and not is_empty(before):
         severities.append(Severity.NOTHING_ASKED)
     new, worse, stand, changed, gone = (tuple(differing[kind]) for kind in KINDS)
@@ -178,7 +178,7 @@ def compared(report: Report, before: Report, file: str) -> Comparison:
 
 def is_standing(key: Key, now: Found, is_accepted: bool) -> bool:
     """Whether a finding that was there already counts: a fault always does, and others where nobody accepted them. A subtree's
-    row is told by the entries that it rests on."""
+    row is reported by the entries that it rests on."""
     if now.is_accepted or now.severity is Severity.CONTAINED or key[0] == "subtree":
         return False
     return not is_accepted or key[0] in ("fault", FAILED)
@@ -204,6 +204,6 @@ def kind_of(now: Optional[Found], then: Optional[Found]) -> Optional[str]:
 
 def difference(key: Key, now: Optional[Found], then: Optional[Found]) -> Difference:
     mended = now.mended if now else None
-    told = now or then
-    return Difference(key[0], told.line if told else "", then.line if now and then else None, now.severity.status if now else CONTAINED,
-                      mended.changes if mended else (), mended.setting if mended else None, told.within if told else ABSENT)
+    either = now or then
+    return Difference(key[0], either.line if either else "", then.line if now and then else None, now.severity.status if now else CONTAINED,
+                      mended.changes if mended else (), mended.setting if mended else None, either.within if either else ABSENT)

@@ -1,4 +1,7 @@
-"""Processes that pass over owners: those of a user who holds something, or inside of what somebody holds, take an answer back."""
+"""From the capabilities of processes to findings of those that pass over owners, and take an answer back.
+
+These are processes of a user who holds something, or inside of what somebody holds.
+"""
 from collections import defaultdict
 from typing import DefaultDict, Dict, Iterator, List, NamedTuple, Tuple
 

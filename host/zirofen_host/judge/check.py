@@ -1,4 +1,4 @@
-"""A snapshot, everybody asked of everything in it, and the report that the answers come to."""
+"""From a snapshot to a report: everybody is asked of everything in it, and the answers are judged."""
 from collections import defaultdict
 from dataclasses import replace
 from typing import Dict, FrozenSet, List, Optional, Tuple
@@ -10,7 +10,7 @@ from zirofen_host.ask.program import CONTAINED
 from zirofen_host.ask.questions import unit_of
 from zirofen_host.collect.accounts import Accounts, accounts_of
 from zirofen_host.collect.makers import makers_in
-from zirofen_host.collect.looks import Looks
+from zirofen_host.collect.attempts import Attempts
 from zirofen_host.collect.model import GROUP, OWNER, Scope, Snapshot, User
 from zirofen_host.collect.notes import Note
 from zirofen_host.fault import Fault
@@ -25,7 +25,7 @@ from zirofen_host.judge.judged import Own, judge
 from zirofen_host.judge.limits import limits_of
 from zirofen_host.judge.lists import shown_lists
 from zirofen_host.judge.marked import marked
-from zirofen_host.judge.model import VERSION, HeldBy, HolderAnswer, Report, Subtree, Told
+from zirofen_host.judge.model import VERSION, HeldBy, HolderAnswer, Report, ReportNote, Subtree
 from zirofen_host.judge.names import names_of
 from zirofen_host.judge.settings import Settings
 from zirofen_host.options import Options
@@ -36,9 +36,9 @@ NO_SETTINGS: Settings = {}
 
 def ask(snapshot: Snapshot, options: Options, folder: str, settings: Settings) -> Checked:
     """Everybody asked of everything, with texts that stand in a folder."""
-    looks = Looks()
-    accounts = looks.at("accounts", lambda: accounts_of(options.accounts, snapshot), Accounts(), True)
-    snapshot = replace(snapshot, notes=(*snapshot.notes, *looks.failed))
+    attempts = Attempts()
+    accounts = attempts.at("accounts", lambda: accounts_of(options.accounts, snapshot), Accounts(), True)
+    snapshot = replace(snapshot, notes=(*snapshot.notes, *attempts.failed))
     found = ask_all(snapshot, accounts, options, folder)
     answers = found.answers
     asked_of: Dict[CgroupPath, List[FrozenSet[User]]] = defaultdict(list)
@@ -76,8 +76,8 @@ def answers_of(checked: Checked, subtree: CgroupPath) -> Tuple[HolderAnswer, ...
 
 
 def contained(checked: Checked, uid: int, subtree: CgroupPath) -> Optional[Own]:
-    """The answer of a uid that was asked of a subtree and isn't told, by the longest list of groups."""
-    asked = [user for user in checked.asked.get(uid, ()) if checked.questions.holds(user, subtree)
+    """The answer of a uid that was asked of a subtree and isn't reported, by the longest list of groups."""
+    asked = [user for user in checked.asked.get(uid, ()) if checked.questions.is_holder(user, subtree)
              and any(user in users for users in checked.asked_of[subtree])]
     return Own(max(asked, key=lambda user: len(user.gids)), Answer(CONTAINED, ("contained",)), False) if asked else None
 
@@ -96,43 +96,45 @@ def answer_of(checked: Checked, subtree: CgroupPath, lines: Tuple[str, ...], is_
 
 def name_of(checked: Checked, uid: int) -> str:
     """A uid by its account, or with the range that it is of."""
-    told = checked.names.range_of(uid)
-    return checked.names.user(uid) if uid in checked.names.users else f"{uid} ({told})" if told else str(uid)
+    range_name = checked.names.range_of(uid)
+    return checked.names.user(uid) if uid in checked.names.users else f"{uid} ({range_name})" if range_name else str(uid)
 
 
 def report_of(checked: Checked, is_whole: bool) -> Report:
-    """The report on a host that was asked. What fails of it is told, and all else stands."""
-    snapshot, about, answers, looks = checked.snapshot, checked.snapshot.about, checked.answers, checked.looks
-    looks.failed += checked.programs.failed
-    advised = looks.at("advice", lambda: advise(checked), Advised({}, checked.judged.faults))
-    subtrees = looks.each("answers", checked.questions.subtrees, lambda path: subtree_of(checked, path))
-    entries = entry_findings(checked, advised, looks)
-    opened = dict(looks.all("opened", lambda: opened_findings(checked)))
-    faults = looks.all("faults", lambda: fault_findings(checked, advised))
-    differs = looks.all("differs", lambda: differs_findings(checked, opened))
-    above = looks.all("above", lambda: above_findings(checked))
-    told = unseen.lines(checked, advised, looks)
-    runs = looks.all("threads", lambda: running.findings(checked))
-    entries_held = looks.all("descriptors", lambda: held.findings(checked))
-    premises = (*looks.all("hierarchy", lambda: hierarchy.findings(checked)), *looks.all("capabilities", lambda: capable.findings(checked)))
+    """The report on a host that was asked. What fails of it is reported, and all else stands."""
+    snapshot, about, answers, attempts = checked.snapshot, checked.snapshot.about, checked.answers, checked.attempts
+    attempts.failed += checked.programs.failed
+    advised = attempts.at("advice", lambda: advise(checked), Advised({}, checked.judged.faults))
+    subtrees = attempts.each("answers", checked.questions.subtrees, lambda path: subtree_of(checked, path))
+    entries = entry_findings(checked, advised, attempts)
+    opened = dict(attempts.all("opened", lambda: opened_findings(checked)))
+    faults = attempts.all("faults", lambda: fault_findings(checked, advised))
+    differs = attempts.all("differs", lambda: differs_findings(checked, opened))
+    above = attempts.all("above", lambda: above_findings(checked))
+    unseen_notes = unseen.lines(checked, advised, attempts)
+    runs = attempts.all("threads", lambda: running.findings(checked))
+    entries_held = attempts.all("descriptors", lambda: held.findings(checked))
+    premises = (*attempts.all("hierarchy", lambda: hierarchy.findings(checked)),
+                *attempts.all("capabilities", lambda: capable.findings(checked)))
     notes = tuple(noted(checked, note) for note in snapshot.notes)
     made = Report(
         VERSION, answers.version, about.host or "", about.kernel or "",
         about.time or "", snapshot.mount, checked.is_asked, answers.has_advise,
         subtrees=marked(subtrees, runs, entries_held, premises),
         entries=entries, opened=tuple(opened.values()), faults=faults, differs=differs, above=above,
-        unseen=told, snapshot=notes, status=CONTAINED, version_1=snapshot.version_1,
-        lists=looks.all("lists", lambda: shown_lists(checked, subtrees, entries)),
-        root_inside=looks.all("root-inside", lambda: inside.findings(checked)) or ABSENT,
-        scopes=looks.each("containers", snapshot.scopes, lambda each: named_scope(checked, each)) or ABSENT,
+        unseen=unseen_notes, snapshot=notes, status=CONTAINED, version_1=snapshot.version_1,
+        lists=attempts.all("lists", lambda: shown_lists(checked, subtrees, entries)),
+        root_inside=attempts.all("root-inside", lambda: inside.findings(checked)) or ABSENT,
+        scopes=attempts.each("containers", snapshot.scopes, lambda each: named_scope(checked, each)) or ABSENT,
         runs_elsewhere=runs or ABSENT, held_entries=entries_held or ABSENT, premises=premises or ABSENT,
-        limits=tuple(limits_of(checked, [*snapshot.notes, *(each.note for each in told if each.note)])),
-        options=checked.options.carried, helper=version.told(), wanted={text_of(path): wanted for path, wanted in checked.wanted.items()})
+        limits=tuple(limits_of(checked, [*snapshot.notes, *(each.note for each in unseen_notes if each.note)])),
+        options=checked.options.carried, helper=version.helper_line(),
+        wanted={text_of(path): wanted for path, wanted in checked.wanted.items()})
     if is_whole:
-        made = replace(made, users=looks.all("users", lambda: whole.users_of(checked)),
-                       groups=looks.all("groups", lambda: whole.groups_of(checked)), cgroups=whole.cgroups_of(checked, looks),
-                       processes=looks.all("processes", lambda: whole.processes_of(checked)))
-    made = replace(made, unseen=(*(noted(checked, note) for note in looks.failed), *told))
+        made = replace(made, users=attempts.all("users", lambda: whole.users_of(checked)),
+                       groups=attempts.all("groups", lambda: whole.groups_of(checked)), cgroups=whole.cgroups_of(checked, attempts),
+                       processes=attempts.all("processes", lambda: whole.processes_of(checked)))
+    made = replace(made, unseen=(*(noted(checked, note) for note in attempts.failed), *unseen_notes))
     return replace(made, status=severity_of(made).status)
 
 
@@ -143,10 +145,10 @@ def named_scope(checked: Checked, each: Scope) -> NamedScope:
                       ABSENT if each.name is None or word is None else word)
 
 
-def noted(checked: Checked, note: Note) -> Told:
-    # a name that isn't shown as it is stands quoted, as what is told of alone
+def noted(checked: Checked, note: Note) -> ReportNote:
+    # a name that isn't shown as it is stands quoted, as what stands alone
     place = note.place[2:] if note.place[:2] in ("b'", 'b"') else note.place
-    return Told.of(note, checked.within(path_of(place)))
+    return ReportNote.of(note, checked.within(path_of(place)))
 
 
 def report(snapshot: Snapshot, options: Options, is_whole: bool, settings: Settings = NO_SETTINGS) -> Report:

@@ -1,4 +1,4 @@
-"""A host that was asked, on its way to a report: who was asked of what, and what the answers come to."""
+"""From a snapshot and answers to what findings are made of: who was asked of what, and what the answers come to."""
 from collections import defaultdict
 from dataclasses import dataclass, field
 from functools import cached_property
@@ -7,10 +7,10 @@ from typing import DefaultDict, FrozenSet, Iterable, List, Mapping, Optional, Se
 from zirofen_host.ask.model import Answers
 from zirofen_host.ask.questions import Questions
 from zirofen_host.ask.texts import Programs
+from zirofen_host.collect.attempts import Attempts
 from zirofen_host.collect.causes import Found, look
 from zirofen_host.collect.containers import word_of
 from zirofen_host.collect.makers import Makers
-from zirofen_host.collect.looks import Looks
 from zirofen_host.collect.model import Entry, Scope, Snapshot, User
 from zirofen_host.files import Kind, kind_of
 from zirofen_host.judge.host_model import ABSENT, Absent, Wanted
@@ -18,7 +18,7 @@ from zirofen_host.judge.judged import Judged, LetIn, Place
 from zirofen_host.judge.model import Within
 from zirofen_host.judge.names import Names
 from zirofen_host.judge.opened import find_openings
-from zirofen_host.judge.settings import CGROUP, LOOK, Agreed, Settings, agreed_at, systemctl_of
+from zirofen_host.judge.settings import CGROUP, ATTEMPT, Agreed, Settings, agreed_at, systemctl_of
 from zirofen_host.judge.shell import Change, change_commands
 from zirofen_host.judge.wanted import unit_at, wanted_by
 from zirofen_host.options import Options
@@ -44,7 +44,7 @@ class Checked:
     # of units, before the host was looked at
     settings: Settings
     # of which some fail
-    looks: Looks = field(default_factory=Looks)
+    attempts: Attempts = field(default_factory=Attempts)
 
     @cached_property
     def openings(self) -> List[Tuple[Place, Entry, List[LetIn]]]:
@@ -66,7 +66,7 @@ class Checked:
         matter = {path: unit for path, unit in self.units.items() if self.is_limit_open(path) or path in self.questions.holders}
         if not matter:
             return {}
-        return self.looks.at(LOOK, lambda: agreed_at(self.snapshot, matter, systemctl_of(self.options), self.settings), {})
+        return self.attempts.at(ATTEMPT, lambda: agreed_at(self.snapshot, matter, systemctl_of(self.options), self.settings), {})
 
     @cached_property
     def wanted(self) -> Mapping[CgroupPath, Mapping[str, Wanted]]:
@@ -86,7 +86,7 @@ class Checked:
 
     @property
     def units(self) -> Mapping[CgroupPath, str]:
-        """The units that settings are told of, by their cgroups. What somebody made may have the name of another unit, unless the manager
+        """The units whose settings are known, by their cgroups. What somebody made may have the name of another unit, unless the manager
         says that the unit is there."""
         named = {path: unit_at(path) for path in self.snapshot.cgroups} if self.settings else {}
         return {path: unit for path, unit in named.items() if unit is not None and unit in self.settings

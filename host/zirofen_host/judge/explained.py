@@ -1,4 +1,4 @@
-"""Why one user and one subtree are answered so: what each guard asks, and by what it holds or fails, in words and with names.
+"""From one user and one subtree to why they are answered so: what each guard asks, in words and with names.
 
 All of it is what the program's `explain` prints. Its second row of guards, and the answer that may stand on it, rest on every cgroup of
 the host: where the text hasn't all of them they are left out.
@@ -67,8 +67,8 @@ def is_further(line: str) -> bool:
     return line.split(" ")[1:2] in [[kind] for kind in FURTHER]
 
 
-def told_of(at: Standing, lines: Sequence[str]) -> Answer:
-    """What is told of a pair, behind the line that names it: the last line is the answer."""
+def answer_in(at: Standing, lines: Sequence[str]) -> Answer:
+    """What is said of a pair, behind the line that names it: the last line is the answer."""
     if at.is_whole:
         return Answer(WORDS[lines[-1].split(" ")[0]], tuple(lines))
     first = [line for line in lines[:-1] if not is_further(line)]
@@ -85,19 +85,19 @@ def answer(at: Standing, user: User, too_many: int) -> Answer:
         if len(ended.lines) < 2 or ended.lines[0] != f"pair {user_word(user)} {text_of(one.path)}":
             raise Refused(f"an answer that wasn't asked for: {ended.lines[0]!r}", False)
         answer_of(ended.status, ended.lines[-1:])
-        return told_of(at, ended.lines[1:])
+        return answer_in(at, ended.lines[1:])
     except Refused as refused:
         return Answer(FAULT, (str(refused), *refused.help_lines))
 
 
 def lines_of(at: Standing, answers: Dict[User, Answer]) -> Iterator[str]:
-    """What is told of each list of groups that somebody was seen with."""
+    """What is said of each list of groups that somebody was seen with."""
     names = names_of(at.accounts)
     for user, each in answers.items():
         groups = f", groups {','.join(map(str, user.gids))}" if user.gids else ""
         yield f"{names.who(user)}{groups} in {text_of(at.one.path)}:"
-        *told, last = each.lines if each.status != FAULT else (each.lines[0],)
-        yield from (f"    {line_of(names, line)}" for line in told)
+        *reasons, last = each.lines if each.status != FAULT else (each.lines[0],)
+        yield from (f"    {line_of(names, line)}" for line in reasons)
         yield last
     if not at.is_whole:
         yield "# the text hasn't every cgroup of this host: what else may keep a subtree, where a guard fails, isn't told"
@@ -109,4 +109,4 @@ def explain(snapshot: Snapshot, options: AskOptions, warn: Warn) -> Tuple[List[s
         raise Fault("this zirofen has no explain")
     with standing(snapshot, options, warn) as at:
         answers = {user: answer(at, user, count) for user, count in at.users.items()}
-        return at.told(answers, lines_of(at, answers))
+        return at.lines_and_status(answers, lines_of(at, answers))

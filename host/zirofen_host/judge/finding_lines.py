@@ -1,4 +1,4 @@
-"""The one line of each finding, as a report and a comparison of two have it."""
+"""From a finding to its one line, as a report and a comparison of two have it."""
 import json
 import shlex
 from typing import Iterable, Optional, Sequence
@@ -128,8 +128,8 @@ def acceptance_line(each: Acceptance) -> str:
         by_name = "" if isinstance(each.name, Absent) else f"; path = {json.dumps(each.name)} holds too when it is made again"
         return f"accepted: {each.line}: {each.reason}, until {each.until}{by_name}"
     what = " ".join(filter(None, (each.what, each.path, each.entry))) + f" by {', '.join(each.whom)}: {each.reason}, until {each.until}"
-    told = {"over": "is over", "worse": "doesn't hold, it got worse", "unmet": "meets nothing"}[each.state]
-    return f"an acceptance {told}: {what}" + (f"; now: {each.line}" if each.line else "")
+    state = {"over": "is over", "worse": "doesn't hold, it got worse", "unmet": "meets nothing"}[each.state]
+    return f"an acceptance {state}: {what}" + (f"; now: {each.line}" if each.line else "")
 
 
 def version_1_line(controllers: Iterable[str]) -> str:

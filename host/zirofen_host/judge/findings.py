@@ -1,4 +1,4 @@
-"""The findings of a report, made of what the answers come to."""
+"""From judged answers to the findings of a report."""
 from collections import Counter, defaultdict
 from typing import DefaultDict, Dict, Iterable, Iterator, List, Mapping, Optional, Set, Tuple, Union
 
@@ -6,6 +6,7 @@ from zirofen_host.ask.in_time import NotInTime
 from zirofen_host.ask.program import ESCAPES
 from zirofen_host.ask.questions import unit_of
 from zirofen_host.ask.reasons import TextRefused, TooLargeForText
+from zirofen_host.collect.attempts import Attempts
 from zirofen_host.collect.model import GROUP, OTHERS, OWNER, Entry, User
 from zirofen_host.collect.reasons import OverBudget, Reason
 from zirofen_host.collect.tree import in_order, row_text
@@ -14,7 +15,6 @@ from zirofen_host.judge import long_lists
 from zirofen_host.judge.advised import Advised
 from zirofen_host.judge.checked import Checked
 from zirofen_host.judge.finding_lines import some
-from zirofen_host.collect.looks import Looks
 from zirofen_host.judge.host_model import ABSENT, Absent, Owner
 from zirofen_host.judge.judged import LetIn, LetsIn, Place
 from zirofen_host.judge.model import AboveFinding, DiffersFinding, EntryFinding, Example, FaultFinding, OpenedFinding, Whom, word_of
@@ -48,17 +48,17 @@ def whom_of(names: Names, let_in: Iterable[LetIn]) -> Tuple[Whom, ...]:
                       tuple(names.member(uid) for uid in sorted(each.uids)) if each.by == GROUP else (), each.uids) for each in let_in)
 
 
-def entry_findings(checked: Checked, advised: Advised, looks: Looks) -> Tuple[EntryFinding, ...]:
-    closing = looks.at("closing", lambda: closing_of_directories(checked), NO_CLOSING)
-    return looks.each("entries", [found for _, found in sorted(checked.judged.entries.items())],
-                      lambda found: entry_finding(checked, advised, found, closing.get(found.place.path, ())))
+def entry_findings(checked: Checked, advised: Advised, attempts: Attempts) -> Tuple[EntryFinding, ...]:
+    closing = attempts.at("closing", lambda: closing_of_directories(checked), NO_CLOSING)
+    return attempts.each("entries", [found for _, found in sorted(checked.judged.entries.items())],
+                         lambda found: entry_finding(checked, advised, found, closing.get(found.place.path, ())))
 
 
 def entry_finding(checked: Checked, advised: Advised, found: LetsIn, closing: Tuple[str, ...]) -> EntryFinding:
     """An entry with what to change of it, and what closes the directory beside it."""
     (user, subtree), place, lines = found.worst, found.place, found.answer.lines
     # an entry of others is everybody's; who of them was asked is among the users
-    is_own, path = checked.questions.holds(user, subtree), text_of(place.path)
+    is_own, path = checked.questions.is_holder(user, subtree), text_of(place.path)
     kept = long_lists.kept(lines, user.uid, text_of(subtree), checked.options.carried)
     example = None if is_own else Example(checked.names.who(user), user.uid, user.gids, text_of(subtree), kept)
     changes = checked.commands(advised.changes_of(found))
@@ -150,7 +150,7 @@ def fault_findings(checked: Checked, advised: Advised) -> Iterable[FaultFinding]
 
 def faults_of_budgets(checked: Checked) -> Iterable[FaultFinding]:
     """Whoever has more processes than are looked at may have groups that aren't known: a fault of what they hold. So is it where more
-    lets somebody in to what they made than is told."""
+    lets somebody in to what they made than is reported."""
     holders, spent = checked.questions.holders, checked.judged.spent
     for person, why in sorted(checked.snapshot.over.items()):
         held = held_by(checked, person, checked.questions.subtrees)
@@ -235,10 +235,10 @@ def faults_of_pairs(names: Names, advised: Advised) -> Iterable[FaultFinding]:
 
 def differs_findings(checked: Checked, opened: Iterable[Place]) -> Iterable[DiffersFinding]:
     """What else isn't as the manager leaves it where its mark stands."""
-    told = {*opened, *checked.judged.entries}
+    reported = {*opened, *checked.judged.entries}
     for path, by in checked.questions.meant.items():
         differs = what_differs(checked.snapshot, path) if by == MANAGERS_MARK else {}
-        differs = {name: entry for name, entry in differs.items() if Place(path, name) not in told}
+        differs = {name: entry for name, entry in differs.items() if Place(path, name) not in reported}
         if differs:
             yield DiffersFinding(text_of(path), tuple(sorted(differs)), setting_of(path),
                                  closing_commands(checked.snapshot.mount, text_of(path), differs), checked.causes(path))

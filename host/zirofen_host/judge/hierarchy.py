@@ -1,4 +1,4 @@
-"""The hierarchy itself: the options that it is mounted with, where else it is mounted, and what is mounted over files of it.
+"""From the mounts of the hierarchy to findings: its options, where else it is mounted, and what covers its files.
 
 Seen on the host, and not proved.
 """
@@ -29,7 +29,7 @@ EVERYBODY = Whom(OTHERS, None, "everybody", ())
 
 
 def is_since(snapshot: Snapshot, version: Tuple[int, int]) -> bool:
-    """Whether a kernel is of a version or later, or isn't told."""
+    """Whether a kernel is of a version or later, or isn't known."""
     found = _RELEASE.search(snapshot.about.kernel or "")
     return found is None or (int(found[1]), int(found[2])) >= version
 
@@ -40,7 +40,7 @@ def is_systemds(snapshot: Snapshot) -> bool:
 
 
 def missing_options(snapshot: Snapshot) -> Sequence[str]:
-    """The options with which the manager mounts the hierarchy, and that it hasn't; none where they aren't told."""
+    """The options with which the manager mounts the hierarchy, and that it hasn't; none where they aren't known."""
     if not snapshot.mount_options or not is_systemds(snapshot):
         return ()
     has_one = NSDELEGATE in snapshot.mount_options
@@ -60,15 +60,15 @@ def findings(checked: Checked) -> Iterator[PremiseFinding]:
     if missing:
         sharing = [checked.container_text(path) for path in snapshot.in_hosts_namespace]
         lets = "; ".join(WITHOUT[each] for each in missing)
-        told = [f"{' and '.join(missing)} {'are' if len(missing) > 1 else 'is'} off, so that {lets}", CAUSES,
-                *([f"{some(sharing)} {'has' if len(sharing) == 1 else 'have'} that namespace now"] if sharing else [])]
-        yield PremiseFinding(MOUNT_OPTIONS, "/", " ".join(missing), (EVERYBODY,), ". ".join(told), (), (remount(snapshot),), EFFECT)
+        sentences = [f"{' and '.join(missing)} {'are' if len(missing) > 1 else 'is'} off, so that {lets}", CAUSES,
+                     *([f"{some(sharing)} {'has' if len(sharing) == 1 else 'have'} that namespace now"] if sharing else [])]
+        yield PremiseFinding(MOUNT_OPTIONS, "/", " ".join(missing), (EVERYBODY,), ". ".join(sentences), (), (remount(snapshot),), EFFECT)
     for each in snapshot.covered:
         place = f"{'' if is_root(each.path) else text_of(each.path)}/{each.file}"
-        told_type = f" ({each.type})" if each.type else ""
+        of_type = f" ({each.type})" if each.type else ""
         yield PremiseFinding(
             MOUNTED_OVER, text_of(each.path), each.file, (EVERYBODY,),
-            f"something is mounted over {shown(snapshot.mount + place)}{told_type}: what the cgroup has there isn't known", (),
+            f"something is mounted over {shown(snapshot.mount + place)}{of_type}: what the cgroup has there isn't known", (),
             (f"umount {shlex.quote(snapshot.mount + place)}",), None, checked.within(each.path))
 
 

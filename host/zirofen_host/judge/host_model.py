@@ -1,5 +1,7 @@
-"""The host itself as a report has it, beside what was asked: users, groups, cgroups and processes, containers by their names, and what
-settings of units say. Its JSON has the keys and the order of these fields."""
+"""The host itself as a report has it: users, groups, cgroups and processes, containers, and settings of units.
+
+Its JSON has the keys and the order of these fields.
+"""
 import re
 from dataclasses import dataclass
 from enum import Enum
@@ -25,7 +27,7 @@ class Matching:
     """A text that a pattern matches."""
     pattern: str
 
-    def holds(self, text: str) -> bool:
+    def admits(self, text: str) -> bool:
         return re.fullmatch(self.pattern, text) is not None
 
 
@@ -33,7 +35,7 @@ class Matching:
 class Filled:
     """A list with something in it."""
 
-    def holds(self, parts: Tuple[object, ...]) -> bool:
+    def admits(self, parts: Tuple[object, ...]) -> bool:
         return bool(parts)
 
 

@@ -1,4 +1,4 @@
-"""What the answers come to: the holders' own, what is expected of whoever is above, and the entries that let somebody in."""
+"""From answers to what they come to: the holders' own, what is expected above, and entries that let somebody in."""
 from collections import defaultdict
 from dataclasses import dataclass
 from typing import DefaultDict, Dict, FrozenSet, Iterable, List, Mapping, NamedTuple, Optional, Sequence, Set, Tuple
@@ -65,19 +65,19 @@ class Judged:
     own: Mapping[Tuple[int, CgroupPath], Own]
     # those that some entry lets in, to be advised of
     let_in: Sequence[Pair]
-    # what is told of entries, by whose making it is
+    # what is reported of entries, by whose making it is
     spent: Spent
 
 
 def judge(questions: Questions, answers: Answers) -> Judged:
     found, spent = uncontained(questions, answers), Spent(bounded.ENTRIES, questions.accounts.charged_user)
-    let_in = [each for each in found if each.answer.status != FAULT and not each.handed and is_told(questions, each.pair, spent)]
+    let_in = [each for each in found if each.answer.status != FAULT and not each.handed and is_reported(questions, each.pair, spent)]
     return Judged(entries_of(questions, let_in), faults_of(found), above_of(questions, answers, found), own_of(questions, found),
                   [each.pair for each in let_in], spent)
 
 
-def is_told(questions: Questions, pair: Pair, spent: Spent) -> bool:
-    """Whether what lets somebody in to a subtree is told: of what somebody made there may be any number."""
+def is_reported(questions: Questions, pair: Pair, spent: Spent) -> bool:
+    """Whether what lets somebody in to a subtree is reported: of what somebody made there may be any number."""
     maker = questions.makers.within(pair.subtree)
     return maker is None or not spent.is_over(maker) and spent.take(maker, len(failing(questions, pair)))
 
@@ -152,7 +152,7 @@ def own_of(questions: Questions, found: Iterable[Uncontained]) -> Mapping[Tuple[
     """The worst answer of each uid that holds a subtree."""
     own: Dict[Tuple[int, CgroupPath], Own] = {}
     for pair, answer, handed in found:
-        if questions.holds(*pair):
+        if questions.is_holder(*pair):
             key, of_pair = (pair.user.uid, pair.subtree), Own(pair.user, answer, handed is not None)
             own[key] = worse_of(own[key], of_pair) if key in own else of_pair
     return own
@@ -166,7 +166,7 @@ def worse_of(before: Own, own: Own) -> Own:
 
 
 def failing(questions: Questions, pair: Pair) -> List[Tuple[Place, Optional[Entry]]]:
-    """The entries that a guard stands on and that a user reaches; what the program told rests on one of these."""
+    """The entries that a guard stands on and that a user reaches; what the program answered rests on one of these."""
     found: List[Tuple[Place, Optional[Entry]]] = []
     for each in questions.guarded(pair.subtree):
         entry = questions.delegations.entry(each.path, each.name)

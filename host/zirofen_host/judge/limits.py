@@ -1,4 +1,4 @@
-"""What narrows what a report answers: from the options of the run, and what was left out, to one list, which each form tells."""
+"""From the options of a run, and what was left out, to one list of what narrows its answers."""
 from collections import Counter
 from typing import Iterable, Iterator, List, Mapping, Tuple
 
@@ -32,10 +32,10 @@ def limits_of(checked: Checked, notes: Iterable[Note]) -> Iterator[AnswerLimit]:
         yield AnswerLimit(TIME, f"it isn't whole: there was no time to ask of {late} subtree{'' if late == 1 else 's'}")
     yield from of_text(checked)
     found = list(notes)
-    for kind, told in OF_NOTES.items():
+    for kind, sentence in OF_NOTES.items():
         counts = Counter(each.kind for each in found if each.narrows == kind)
         if counts:
-            yield AnswerLimit(kind, f"{told} ({', '.join(f'{word} {count}' for word, count in sorted(counts.items()))})")
+            yield AnswerLimit(kind, f"{sentence} ({', '.join(f'{word} {count}' for word, count in sorted(counts.items()))})")
     if checked.snapshot.version_1:
         yield of_version_1(checked.snapshot.version_1)
 

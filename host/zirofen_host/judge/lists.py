@@ -1,5 +1,8 @@
-"""Lists of operations as they can be tried: a kernel may refuse to move a process that has capabilities, or that is its own, so that
-another of the same cgroup stands in its place. The program's own list stays as it is in a report's lines."""
+"""From an escape's operations to a list that can be tried, with other processes where these can't be moved.
+
+A kernel may refuse to move a process that has capabilities, or that is its own: another of the same cgroup stands in its place. The
+program's own list stays as it is in a report's lines.
+"""
 from typing import Dict, Iterable, Iterator, List, NamedTuple, Optional, Sequence, Set, Tuple
 
 from zirofen_host.ask.program import Program, Refused
@@ -17,7 +20,7 @@ OF_PROCESSES = ("move", "fork", "exit")
 class Tried(NamedTuple):
     """A list as it can be tried, with what is said of it where it isn't the program's own as it was."""
     lines: Tuple[str, ...]
-    told: Optional[str]
+    why: Optional[str]
 
 
 def tried(snapshot: Snapshot, program: Program, user: User, subtree: CgroupPath, lines: Sequence[str]) -> Tried:
@@ -89,8 +92,8 @@ def shown_lists(checked: Checked, subtrees: Iterable[Subtree], entries: Iterable
             continue
         seen.add((path, lines))
         found = tried(checked.snapshot, checked.programs.of[subtree], user, subtree, lines[1:])
-        if found.told:
-            yield ShownList(path, lines, (lines[0], *found.lines), found.told)
+        if found.why:
+            yield ShownList(path, lines, (lines[0], *found.lines), found.why)
 
 
 def escapes_in(checked: Checked, subtrees: Iterable[Subtree],

@@ -1,4 +1,4 @@
-"""Lists of operations that may be long: what a report keeps of them, and what is shown."""
+"""From a list of operations that may be long to what a report keeps of it, and what is shown."""
 import re
 from typing import Iterator, Sequence, Tuple
 

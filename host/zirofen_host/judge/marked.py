@@ -1,4 +1,4 @@
-"""Answers that take for granted what isn't so: each is marked, wherever it is told."""
+"""From what answers take for granted and isn't so to the marks of these answers."""
 from dataclasses import replace
 from typing import Iterable, Iterator, Optional, Set, Tuple, Union
 
@@ -37,7 +37,7 @@ class Broken:
 def marked(subtrees: Iterable[Subtree], running: Tuple[RunsElsewhere, ...], held: Tuple[HeldFinding, ...],
            premises: Iterable[PremiseFinding]) -> Tuple[Subtree, ...]:
     """Subtrees with marks: of those with a process that runs elsewhere or passes over owners, or with something mounted over what they
-    rest on, and of answers that are changed by what somebody holds or can."""
+    rest on, and of answers that are changed by what somebody has open or can."""
     broken = Broken(premises)
     return tuple(replace(each, answers=tuple(answer_of(each, answer, held, broken) for answer in each.answers),
                          marks=tuple(marks_of(each, running, broken)) or ABSENT) for each in subtrees)

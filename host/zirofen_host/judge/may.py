@@ -1,5 +1,7 @@
-"""What one user may do with a subtree at all: the entries of it, and of those that its guards stand on, that they own or write, and
-what follows of each. It is read off the owners and modes, and no answer of the program's is asked for."""
+"""From one user and one subtree to what they may do there at all, by the owners and modes of entries.
+
+The entries are those of it, and those that its guards stand on. No answer of the program's is asked for.
+"""
 from collections import defaultdict
 from typing import DefaultDict, Dict, Iterable, Iterator, List, NamedTuple, Sequence, Tuple
 
@@ -16,7 +18,7 @@ from zirofen_host.judge.one import Warn, is_known, users_of
 from zirofen_host.options import AskOptions
 from zirofen_host.profile import CgroupPath, ancestors, is_inside, path_of, shown, text_of
 
-# kinds of cgroups that are told; where there are more, it is told how many
+# kinds of cgroups that are named; where there are more, it is said how many
 MOST = 64
 
 
@@ -102,12 +104,12 @@ def may(snapshot: Snapshot, options: AskOptions, warn: Warn) -> List[str]:
     for place in sorted(place for place in snapshot.changing if is_inside(place, path)):
         warn(f"{shown(place)} isn't looked at: {snapshot.changing[place]}")
     name = names_of(accounts).user(users[0].uid)
-    told = {user: list(lines_of(delegations, user, path)) for user in sorted(set(users))}
-    if len({tuple(lines) for lines in told.values()}) == 1:
-        told = {users[0]: next(iter(told.values()))}
+    by_user = {user: list(lines_of(delegations, user, path)) for user in sorted(set(users))}
+    if len({tuple(lines) for lines in by_user.values()}) == 1:
+        by_user = {users[0]: next(iter(by_user.values()))}
     found: List[str] = []
-    for user, lines in told.items():
-        found += [f"# uid {user.uid}, groups {','.join(map(str, user.gids)) or '-'}"] if len(told) > 1 else []
+    for user, lines in by_user.items():
+        found += [f"# uid {user.uid}, groups {','.join(map(str, user.gids)) or '-'}"] if len(by_user) > 1 else []
         found += [f"{name} in {shown(options.path)}, by owners and modes:", *lines] if lines else [
             f"{name} owns and writes no entry of {shown(options.path)}, and none above it that a guard stands on"]
     return found

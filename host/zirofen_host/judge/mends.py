@@ -1,7 +1,7 @@
-"""What mends findings so that it stays: the entries are given back, and limits get what root's settings say.
+"""From findings to what mends them so that it stays: entries are given back, and limits get what root's settings say.
 
-No drop-in is written. What a file of a cgroup has says nothing of who wrote it, and an entry that was taken back by one script is root's at
-the next: a setting that would keep such a value, or hand something over for good, is told with its reason.
+No drop-in is written. What a file of a cgroup has says nothing of who wrote it, and an entry that was taken back by one script is root's
+at the next: a setting that would keep such a value, or hand something over for good, is given with its reason.
 """
 import re
 import shlex
@@ -71,12 +71,12 @@ class Withheld:
 @dataclass(frozen=True)
 class Mend:
     """What mends what is found at one cgroup."""
-    # the findings, or what else is told
+    # the findings, or what else is reported
     lines: Tuple[str, ...]
     # commands that mend it now
     changes: Tuple[str, ...]
     # what stays, in words
-    told: Tuple[str, ...]
+    remarks: Tuple[str, ...]
     withheld: Tuple[Withheld, ...] = ()
 
 
@@ -159,7 +159,7 @@ class Place:
     @property
     def gone(self) -> Mapping[str, LostLimit]:
         """The limits that the next start doesn't bring back, by their files."""
-        return {limit.file: limit for told in self.restarts for limit in told.limits}
+        return {limit.file: limit for restart in self.restarts for limit in restart.limits}
 
     def value(self, file: str) -> Union[int, str, None]:
         """What a file has; of one that is root's alone, which the report's rows don't have, what its unit's next start loses."""
@@ -212,7 +212,7 @@ class Place:
         yield ("it is the value of now, and a cgroup's file doesn't tell who wrote it: what was open and taken back is root's too",
                [file for file in self.files if file not in known])
 
-    def told(self) -> Iterator[str]:
+    def remarks(self) -> Iterator[str]:
         """What stays, in words."""
         entries = {each.entry for each in self.found if each.rule.id in ACCEPTABLE}
         if OVER in entries:
@@ -221,14 +221,14 @@ class Place:
         if UNKNOWN in entries:
             yield "nothing is known to make it: report it"
         if entries - {OVER, UNKNOWN} or any(each.rule.id == DIFFERS for each in self.found):
-            yield from self.told_of_causes()
-        yield from self.told_of_settings()
+            yield from self.remarks_on_causes()
+        yield from self.remarks_on_settings()
         if any(setting_of(file) and not settings_for(file, self.row) and is_set(file, self.row) for file in self.files):
             yield "a setting brings a limit of a device by its name, which a cgroup doesn't tell: set it by hand in the unit"
         if self.restarts and not any(map(setting_of, self.gone)):
             yield "no setting brings these limits: what sets them has to at each start, as ExecStartPost=+"
 
-    def told_of_causes(self) -> Iterator[str]:
+    def remarks_on_causes(self) -> Iterator[str]:
         """What gives the entries away, as far as it was looked for and found."""
         looked = [each.causes for each in self.found if not isinstance(each.causes, Absent)]
         causes = dict.fromkeys(cause for of in looked for cause in of)
@@ -238,7 +238,7 @@ class Place:
             unit = self.unit if len(paths) < 2 else Unit(f"these {len(paths)} scopes")
             yield f"{NOT_FOUND if looked else NOT_LOOKED}. {where_to_look(self.path, unit)}"
 
-    def told_of_settings(self) -> Iterator[str]:
+    def remarks_on_settings(self) -> Iterator[str]:
         """What root's settings say of the limits."""
         limits = [file for file in self.files if setting_of(file) and (is_in(file, self.row) or file in self.gone)]
         own = dict.fromkeys(self.wanted[file].setting for file in limits if file in self.wanted and self.wanted[file].is_set)
@@ -332,9 +332,9 @@ def mends_of(report: Report, found: Iterable[Finding]) -> Tuple[Mend, ...]:
         else:
             others.append(each)
     restarts: DefaultDict[str, List[Restart]] = defaultdict(list)
-    for told in report.unseen:
-        if isinstance(told.note, Restart):
-            restarts[told.place].append(told.note)
+    for note in report.unseen:
+        if isinstance(note.note, Restart):
+            restarts[note.place].append(note.note)
     rows: Mapping[str, ReportCgroup] = {} if isinstance(report.cgroups, Absent) else {each.path: each for each in report.cgroups}
     # what is above first: whoever writes it takes back what was written below
     places = [Place(path, report, rows, by_path.get(path, ()), restarts.get(path, ()))
@@ -358,7 +358,7 @@ def alike_together(places: Iterable[Place]) -> Iterable[Place]:
 
 def mend_at(place: Place) -> Mend:
     lines = (*(each.line for each in place.found), *(each.line for each in place.restarts))
-    return Mend(lines, place.changes(), tuple(place.told()), tuple(place.withheld()))
+    return Mend(lines, place.changes(), tuple(place.remarks()), tuple(place.withheld()))
 
 
 def mend_of_maker(uid: int, found: Sequence[Finding]) -> Mend:

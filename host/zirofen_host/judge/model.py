@@ -1,5 +1,8 @@
-"""A report: the third form of what is told. Its JSON has the keys and the order of these fields, of which those that are ABSENT
-have no key; the paths in it are texts, as they are shown."""
+"""A report: the third form of the data, of which text, JSON, page and all other forms are made.
+
+Its JSON has the keys and the order of these fields, of which those that are ABSENT have no key; the paths in it are texts, as they are
+shown.
+"""
 from dataclasses import dataclass, field
 from typing import Annotated, FrozenSet, Mapping, Optional, Tuple, Union
 
@@ -241,7 +244,7 @@ class ShownList:
 
 
 @dataclass(frozen=True)
-class Told:
+class ReportNote:
     """What no answer looks at, or what a tree text leaves out."""
     kind: str
     place: str
@@ -253,7 +256,7 @@ class Told:
     note: Optional[Note] = field(default=None, compare=False, metadata=NO_KEY)
 
     @classmethod
-    def of(cls, note: Note, within: Within = ABSENT) -> "Told":
+    def of(cls, note: Note, within: Within = ABSENT) -> "ReportNote":
         return cls(note.kind, note.place, note.text, within, note.fact if isinstance(note, JoinedNote) else ABSENT, note)
 
     @property
@@ -325,8 +328,8 @@ class Report:
     faults: Tuple[FaultFinding, ...]
     differs: Tuple[DiffersFinding, ...]
     above: Tuple[AboveFinding, ...]
-    unseen: Tuple[Told, ...]
-    snapshot: Tuple[Told, ...]
+    unseen: Tuple[ReportNote, ...]
+    snapshot: Tuple[ReportNote, ...]
     status: int
     # the controllers whose limits are those of version 1, which aren't looked at
     version_1: Tuple[str, ...]
@@ -384,7 +387,7 @@ class Report:
 
     @property
     def given(self) -> Tuple[str, ...]:
-        """The options of the run, as far as they are told."""
+        """The options of the run, as far as they are known."""
         return () if isinstance(self.options, Absent) else self.options
 
     @property

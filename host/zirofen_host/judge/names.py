@@ -1,4 +1,4 @@
-"""Users and groups by name, as a line can show them."""
+"""From uids and gids to names, as a line can show them."""
 from dataclasses import dataclass
 from typing import Callable, Mapping, Optional, Sequence
 
@@ -31,7 +31,7 @@ class Names:
         found = next((each.owner for each in self.ranges if each.first <= uid < each.first + each.count), None)
         if found is not None:
             return f"a subordinate id of {shown(found)}'s"
-        return next((told for told, first, last in RANGES if first <= uid <= last), None)
+        return next((name for name, first, last in RANGES if first <= uid <= last), None)
 
     def user(self, uid: int) -> str:
         return f"{shown(self.users[uid])}({uid})" if uid in self.users else f"uid {uid}"

@@ -1,4 +1,4 @@
-"""Notes of what no answer looks at, a class for each: who and where it is, what was seen and how many, and the text made of that."""
+"""From what no answer looks at to a note of it, a class for each kind, and the text of a note."""
 from dataclasses import dataclass
 from typing import Iterable, Mapping, Optional, Tuple
 
@@ -15,7 +15,7 @@ def numbers(found: Iterable[int]) -> str:
 
 @dataclass(frozen=True)
 class UnlookedDescriptors(Note):
-    """What processes of a user, or of root's in a container, hold and wasn't looked at."""
+    """What processes of a user, or of root's in a container, have open and wasn't looked at."""
     kind = "descriptor"
     narrows = BUDGETS
     meaning = "What was opened before is still written through, and this wasn't looked at."
@@ -114,9 +114,9 @@ class Capable(Note):
 
     @property
     def text(self) -> str:
-        told = "; ".join(f"process {numbers(pids)} of {self.who} has {' '.join('CAP_' + name for name in names)}"
-                         for names, pids in self.processes)
-        return f"{'inside' if self.is_inside else 'beside'}: {told}, and passes over owners"
+        capabilities = "; ".join(f"process {numbers(pids)} of {self.who} has {' '.join('CAP_' + name for name in names)}"
+                                 for names, pids in self.processes)
+        return f"{'inside' if self.is_inside else 'beside'}: {capabilities}, and passes over owners"
 
 
 @dataclass(frozen=True)
@@ -169,7 +169,7 @@ class OwnersMark(JoinedNote):
 
 @dataclass(frozen=True)
 class LeftOutGroups(Note):
-    """Groups of a user that the program wasn't told."""
+    """Groups of a user that the program wasn't given."""
     kind = "groups"
     meaning = f"The program takes {MOST_GROUPS} groups of a user."
     count: int
@@ -238,7 +238,7 @@ class NoCause(Note):
 
 @dataclass(frozen=True)
 class NotPlanned(Note):
-    """What of a plan isn't told, and no answer rests on as far as is known."""
+    """What of a plan isn't known, and no answer rests on as far as is known."""
     kind = "not-told"
     meaning = "A plan tells what follows from a unit's settings, and not what is carried out."
     said: str
@@ -253,15 +253,15 @@ class OfText(Note):
     """What a text doesn't tell: one that carries something of its host or nothing, with accounts beside it or without."""
     kind = "elsewhere"
     is_carried: bool
-    # it carries where threads run and what processes hold
+    # it carries where threads run and what processes have open
     has_descriptors: bool
     has_accounts: bool
 
     @property
     def text(self) -> str:
         if self.is_carried:
-            untold = "" if self.has_descriptors else "where threads run, open descriptors and "
-            return f"this is judged by a text: {untold}the settings of units aren't told by it"
+            more = "" if self.has_descriptors else "where threads run, open descriptors and "
+            return f"this is judged by a text: {more}the settings of units aren't told by it"
         by_number = "" if self.has_accounts else (
             ", and so it is judged by number: names, who is in which group and whose ids are subordinate aren't known, which "
             "--accounts FOLDER tells too")
@@ -353,7 +353,7 @@ class WithoutProcesses(Note):
 
 @dataclass(frozen=True)
 class NotAdvised(Note):
-    """Entries of which it isn't told what to change, and how often the program is asked."""
+    """Entries without advice on what to change, and how often the program is asked."""
     kind = "advice"
     entries: int
     most: int

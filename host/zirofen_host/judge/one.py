@@ -1,4 +1,4 @@
-"""One user and one subtree, by name."""
+"""From one user and one subtree, by name, to their answer and its status."""
 import contextlib
 import os
 import pwd
@@ -12,8 +12,8 @@ from zirofen_host.ask.held import movers
 from zirofen_host.ask.model import Answer, Holders, Pair
 from zirofen_host.ask.program import Program, Refused, abilities_of, answer_of, user_words, worst
 from zirofen_host.ask.questions import holders_of, with_groups
-from zirofen_host.ask.spoiled import changed_in, is_spared
 from zirofen_host.ask.texts import Programs, texts_of, write
+from zirofen_host.ask.unanswerable import changed_in, is_spared
 from zirofen_host.collect.accounts import Accounts, accounts_of, is_id
 from zirofen_host.collect.model import OTHERS, Snapshot, Tree, User
 from zirofen_host.fault import FAULT, Fault
@@ -80,8 +80,8 @@ def program_for(snapshot: Snapshot, options: AskOptions, folder: str, delegation
     """The program, with a text that has the subtree; where there is none, the program says so of the root alone."""
     path, tree, changed = path_of(options.path), snapshot.tree, changed_in(snapshot, delegations.accounts)
     for place in (path, *ancestors(path)) if options.path.startswith("/") else ():
-        if place in snapshot.spoiled and not is_spared(snapshot, delegations.accounts, changed, holders_at(delegations, place), place):
-            raise Fault(f"nothing is asked of {shown(options.path)}: {snapshot.spoiled[place]}")
+        if place in snapshot.unanswerable and not is_spared(snapshot, delegations.accounts, changed, holders_at(delegations, place), place):
+            raise Fault(f"nothing is asked of {shown(options.path)}: {snapshot.unanswerable[place]}")
     if path not in tree.rows or is_root(path):
         root = path_of("/")
         tree = replace(tree, rows={root: tree.rows[root]}, processes=())
@@ -156,7 +156,7 @@ class Standing:
     # statuses besides those of answers
     statuses: AbstractSet[int]
 
-    def told(self, answers: Mapping[User, Answer], lines: Iterable[str]) -> Tuple[List[str], int]:
+    def lines_and_status(self, answers: Mapping[User, Answer], lines: Iterable[str]) -> Tuple[List[str], int]:
         """The lines and the worst status; a fault where nobody has an answer."""
         if all(each.status == FAULT for each in answers.values()):
             line, *help_lines = next(iter(answers.values())).lines
@@ -178,7 +178,7 @@ def standing(snapshot: Snapshot, options: AskOptions, warn: Warn) -> Iterator[St
             warn(note.text)
         is_whole = has_all_cgroups(snapshot, options, programs.texts)
         is_moving = any(user.uid in movers(snapshot, accounts) for user in users)
-        for line in premises.told(snapshot, accounts, users, path_of(options.path)):
+        for line in premises.lines_of(snapshot, accounts, users, path_of(options.path)):
             warn(line)
         one = One(path_of(options.path), snapshot.mount, delegations, programs.of[path_of(options.path)],
                   "settle" if is_whole and not is_moving and abilities_of(options.program).has_settle else "check")
@@ -190,4 +190,4 @@ def ask(snapshot: Snapshot, options: AskOptions, warn: Warn) -> Tuple[List[str],
     """The report of one user and one subtree, and its status."""
     with standing(snapshot, options, warn) as at:
         answers = {user: answer(at.one, user, count) for user, count in at.users.items()}
-        return at.told(answers, lines_of(at.one, answers))
+        return at.lines_and_status(answers, lines_of(at.one, answers))

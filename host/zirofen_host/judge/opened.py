@@ -1,8 +1,8 @@
-"""Limits that somebody sets at a cgroup that isn't theirs, and directories in which a manager will make what it starts: seen by
-the helper on the host, and not proved.
+"""From entries of cgroups to findings of limits that somebody sets at a cgroup that isn't theirs.
 
-The answers speak of the limit files that a tree text tells of at subtrees that are asked of. Everything else by which something is
-set is looked at here.
+So it goes over directories in which a manager will make what it starts. All of it is seen by the helper on the host, and not proved. The
+answers speak of the limit files that a tree text has at subtrees that are asked of; everything else by which something is set is looked
+at here.
 """
 from collections import Counter, defaultdict
 from dataclasses import dataclass, replace
@@ -99,7 +99,7 @@ def is_theirs(snapshot: Snapshot, questions: Questions, user: User, place: Place
         return True
     if place.name == "dir":
         is_handed = place.path in questions.meant and questions.holders[place.path].by != OTHERS
-        return is_handed and questions.holds(user, place.path)
+        return is_handed and questions.is_holder(user, place.path)
     return place.name in snapshot.kernel_list and bool(questions.has_directory(user, place.path))
 
 

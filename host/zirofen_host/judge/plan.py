@@ -1,4 +1,4 @@
-"""A tree with changes of root's made before these are: the text of it, and what it would be answered beside the tree as it is."""
+"""From a tree and root's changes to the text behind them, and what that is answered beside the tree as it is."""
 import contextlib
 import dataclasses
 import os
@@ -19,7 +19,7 @@ from zirofen_host.collect.model import Snapshot
 from zirofen_host.fault import FAULT, Fault
 from zirofen_host.judge import baseline, check, limits, settings, units
 from zirofen_host.judge.host_model import ABSENT
-from zirofen_host.judge.model import NOTHING_ASKED, AnswerLimit, Comparison, Report, Told
+from zirofen_host.judge.model import NOTHING_ASKED, AnswerLimit, Comparison, Report, ReportNote
 from zirofen_host.judge.notes import NotPlanned
 from zirofen_host.options import PlanOptions
 from zirofen_host.profile import text_of
@@ -49,7 +49,7 @@ def as_read(text: str) -> Iterator[str]:
 
 def carried(of: Snapshot, folder: Optional[str]) -> Iterator[str]:
     """What a text has beside its tree; one that carries nothing carries nothing behind changes either."""
-    yield from fitting.told_changing(of)
+    yield from fitting.changing_lines(of)
     yield from elsewhere.narrowing(of.source.options)
     if of.source.file is None or of.source.carried:
         yield from elsewhere.carried(of, accounts_of(folder, of))
@@ -73,7 +73,7 @@ def version_of(options: PlanOptions) -> int:
 
 
 class Planned(NamedTuple):
-    """The changes that are asked about, what of them isn't told, and what of that may give entries away."""
+    """The changes that are asked about, what of them isn't known, and what of that may give entries away."""
     lines: str
     named: Sequence[str] = ()
     may_give: Sequence[str] = ()
@@ -125,7 +125,7 @@ def before(options: PlanOptions) -> Accepted:
 
 
 def text_behind(found: Accepted, planned: Planned, options: PlanOptions) -> Tuple[str, Planned]:
-    """The text of the tree behind the changes, and what of them it has no place for, told with what else isn't."""
+    """The text of the tree behind the changes, and what of them it has no place for, listed with what else isn't known."""
     changed, unplaced = changes.carried_out(elsewhere.read(found, options.mount), planned.lines)
     named, may_give = list(planned.named), list(planned.may_give)
     if unplaced.idle:
@@ -143,26 +143,26 @@ def report(found: Accepted, options: PlanOptions) -> Report:
 
 def compared(found: Accepted, text: str, options: PlanOptions, planned: Planned = Planned("")) -> Report:
     """What is answered behind the changes, with what is new or worse than before; what was there before counts as accepted, but for
-    faults. What isn't told and may give entries away narrows it."""
+    faults. What isn't known and may give entries away narrows it."""
     was, now = report(found, options), report(accept(text, options), options)
     comparison = dataclasses.replace(baseline.compared(now, dataclasses.replace(was, accepted=True), AS_IT_IS), time="")
-    told = tuple(Told.of(NotPlanned("", each)) for each in planned.named if each not in planned.may_give)
+    notes = tuple(ReportNote.of(NotPlanned("", each)) for each in planned.named if each not in planned.may_give)
     # the text that was asked is gone, and no command can name it
-    now = dataclasses.replace(now, unseen=(*told, *now.unseen), options=ABSENT, baseline=comparison)
+    now = dataclasses.replace(now, unseen=(*notes, *now.unseen), options=ABSENT, baseline=comparison)
     return narrowed(now, comparison, planned.may_give) if planned.may_give else now
 
 
 def narrowed(now: Report, comparison: Comparison, may_give: Sequence[str]) -> Report:
-    """A report of a plan of which not all is told that may give entries away: what escapes and faults stay what they are."""
+    """A report of a plan of which not all is known that may give entries away: what escapes and faults stay what they are."""
     text = f"what may give entries away isn't told: {'; '.join(may_give)}"
     differing = {kind: tuple(dataclasses.replace(each, line=each.line + limits.MARK) if each.what == "subtree" else each
                              for each in vars(comparison)[kind]) for kind in ("new", "worse", "changed")}
-    comparison = dataclasses.replace(comparison, **differing, status=at_least_untold(comparison.status))
+    comparison = dataclasses.replace(comparison, **differing, status=at_least_unsettled(comparison.status))
     return dataclasses.replace(now, limits=(*limits.narrowing(now), AnswerLimit(limits.PLAN, text)), baseline=comparison,
-                               status=at_least_untold(now.status))
+                               status=at_least_unsettled(now.status))
 
 
-def at_least_untold(status: int) -> int:
+def at_least_unsettled(status: int) -> int:
     return status if status in (ESCAPES, FAULT) else UNSETTLED
 
 

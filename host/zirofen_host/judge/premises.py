@@ -1,4 +1,4 @@
-"""What an answer for one user and one subtree takes for granted and isn't so, as far as a host tells."""
+"""From one user and one subtree to lines of what their answer takes for granted and isn't so on this host."""
 from typing import Iterable, Iterator
 
 from zirofen_host.ask.held import held_in
@@ -8,9 +8,9 @@ from zirofen_host.judge.running import is_one_domain
 from zirofen_host.profile import CgroupPath, is_inside, shown
 
 
-def told(snapshot: Snapshot, accounts: Accounts, users: Iterable[User], subtree: CgroupPath) -> Iterator[str]:
+def lines_of(snapshot: Snapshot, accounts: Accounts, users: Iterable[User], subtree: CgroupPath) -> Iterator[str]:
     """A line for each process that runs in the subtree or is listed there, and not both, and for each entry that one of these users
-    holds and couldn't open now."""
+    has open and couldn't open now."""
     for process in sorted(snapshot.processes.values(), key=lambda each: each.pid):
         places = process.places
         if any(is_inside(place, subtree) for place in places) and not is_one_domain(snapshot.cgroups, places):

@@ -1,4 +1,4 @@
-"""Operations as commands of a user on this host, with processes that can be moved."""
+"""From operations to commands of a user on this host, with processes that can be moved."""
 from typing import List, Optional
 
 from zirofen_host import output
@@ -26,12 +26,12 @@ def commands(options: CommandsOptions, text: str, user: User) -> List[str]:
         return shell.commands(options.mount, text, user)
     found = looked_for(options, user, subtree, operations)
     changed = dict(zip(operations, found.lines))
-    told = [f"# {found.told}"] if found.told else []
-    return told + shell.commands(options.mount, "\n".join(changed.get(line, line) for line in lines), user)
+    comment = [f"# {found.why}"] if found.why else []
+    return comment + shell.commands(options.mount, "\n".join(changed.get(line, line) for line in lines), user)
 
 
 def looked_for(options: CommandsOptions, user: User, subtree: Optional[str], operations: List[str]) -> Tried:
-    """The list as it can be tried here; where that can't be found out it stands, and it is told why."""
+    """The list as it can be tried here; where that can't be found out it stands as it is, with why."""
     if subtree is None:
         return Tried(tuple(operations), "these are the program's own processes: no subtree is named, by --subtree or in the list")
     asked = AskOptions(options.mount, proc=options.proc, plain_folder=options.plain_folder, accounts=options.accounts,

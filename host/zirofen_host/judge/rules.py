@@ -1,4 +1,4 @@
-"""What a finding can be: each kind by its id, in one table, and the findings of a report one by one."""
+"""From a report to its findings one by one; what a finding can be is one table, each kind by its id."""
 from dataclasses import dataclass, replace
 from typing import Dict, Iterator, Optional, Tuple, Union
 
@@ -45,7 +45,7 @@ class Rule:
         return f"{self.word}/{self.at}" if self.at else self.word
 
     @property
-    def told(self) -> str:
+    def description(self) -> str:
         return f"{self.what} {self.more}" if self.more else self.what
 
 
@@ -170,8 +170,8 @@ def of_held(each: HeldFinding) -> Finding:
 
 def of_premise(each: PremiseFinding) -> Finding:
     """What answers take to be otherwise."""
-    told = (processes_text(each.processes),) if each.processes else ()
-    return Finding(RULES[each.what], each.path, each.entry, premise_line(each), each.whom, example=told, changes=each.changes,
+    example = (processes_text(each.processes),) if each.processes else ()
+    return Finding(RULES[each.what], each.path, each.entry, premise_line(each), each.whom, example=example, changes=each.changes,
                    accepted=each.accepted, within=each.within)
 
 
@@ -194,9 +194,9 @@ def unnamed_findings(report: Report) -> Iterator[Finding]:
     for fault in report.faults:
         rule = RULES["fault" if of_fault(fault) is Severity.FAULT else "fault/own"]
         yield from (Finding(rule, path, "", fault_line(fault, [path])) for path in fault.subtrees)
-    for told in (*report.unseen, *report.snapshot):
-        if told.kind == FAILED:
-            yield Finding(RULES[FAILED], "", "", told.line)
+    for note in (*report.unseen, *report.snapshot):
+        if note.kind == FAILED:
+            yield Finding(RULES[FAILED], "", "", note.line)
     if report.version_1:
         yield Finding(RULES[VERSION_1], "", "", version_1_line(report.version_1))
     yield from map(of_differs, report.differs)

@@ -1,4 +1,4 @@
-"""Processes that run elsewhere than their first thread, by which they are listed: seen by the helper, and not proved."""
+"""From where threads run to findings of processes that run elsewhere than listed: seen by the helper, and not proved."""
 from collections import defaultdict
 from typing import DefaultDict, Iterable, Iterator, List, Mapping, NamedTuple, Optional, Sequence, Tuple
 

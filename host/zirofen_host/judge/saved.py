@@ -1,4 +1,7 @@
-"""A report as zirofen-host check --json saves it, read back: what isn't one is a fault, and nothing else of it is believed."""
+"""From a file that zirofen-host check --json wrote to its report: what isn't one is a fault.
+
+Nothing else of it is believed.
+"""
 import json
 from typing import Iterator, Optional
 
@@ -63,9 +66,9 @@ def check(value: as_json.Json, name: str) -> Report:
                 raise as_json.Wrong(f"report.{key}")
     except as_json.Wrong as wrong:
         raise Fault(f"{name}: {wrong} isn't what a report has there") from None
-    told = wrong_places(report)
-    if told:
-        raise Fault(f"{name}: {told}")
+    places = wrong_places(report)
+    if places:
+        raise Fault(f"{name}: {places}")
     return report
 
 

@@ -1,6 +1,6 @@
-"""The settings of units, as systemctl tells them, and the limits that a unit's next start doesn't bring back.
+"""From what systemctl says to the settings of units, and the limits that a unit's next start doesn't bring back.
 
-Settings are asked for before and behind the walk, and what they don't agree on is told by nobody.
+Settings are asked for before and behind the walk, and what they don't agree on isn't used.
 """
 import os
 import shutil
@@ -29,12 +29,12 @@ CGROUP = "ControlGroup"
 SHARE, NO_SHARE = "cpu.max", "max "
 # that systemctl has, which asks the manager about unit after unit
 SECONDS = 120
-# what is told of where it fails
-LOOK = "settings of units"
+# what is named where it fails
+ATTEMPT = "settings of units"
 
 
 class Agreed(NamedTuple):
-    """What the limits of a unit have, and its settings, which were told the same before that and behind it."""
+    """What the limits of a unit have, and its settings, which were the same before that and behind it."""
     unit: str
     values: Mapping[str, Optional[Value]]
     settings: Shown
@@ -68,8 +68,8 @@ def agreed(before: Settings, behind: Settings) -> Settings:
 
 def values_of(snapshot: Snapshot, path: CgroupPath) -> Dict[str, Optional[Value]]:
     """What the limits of a cgroup have: of the tree's at the walk, and of others now, with the share of processors whoever's it is."""
-    told = snapshot.tree.rows[path].values
-    values: Dict[str, Optional[Value]] = {name: told[name] for name in LIMIT_FILES if name in told}
+    carried = snapshot.tree.rows[path].values
+    values: Dict[str, Optional[Value]] = {name: carried[name] for name in LIMIT_FILES if name in carried}
     others = {name for name in snapshot.cgroups[path].files if kind_of(name) is Kind.LIMIT and name not in LIMIT_FILES}
     values.update({name: value_of(snapshot, path, name) for name in sorted(others | {SHARE})})
     return values

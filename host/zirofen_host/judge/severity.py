@@ -1,4 +1,7 @@
-"""How grave what is told is: the one order, by which everything is counted, sorted, coloured and summed, and the status of each."""
+"""From an answer, a fault or a word to its severity, which is one order of all, and from that to a status.
+
+By that order everything is counted, sorted, coloured and summed.
+"""
 from enum import Enum
 from typing import Dict, Iterable, Mapping, Tuple, Union
 
@@ -7,7 +10,7 @@ from zirofen_host.fault import FAULT
 from zirofen_host.judge.host_model import ABSENT, Absent
 from zirofen_host.judge.model import NOTHING_ASKED, FaultFinding
 
-# how an acceptance stands that holds
+# how an acceptance stands that is in force
 ACCEPTED = "accepted"
 
 

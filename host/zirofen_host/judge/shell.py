@@ -1,4 +1,4 @@
-"""Shell commands for a mount: of operations, and of what to change."""
+"""From operations, and from what to change, to shell commands for a mount."""
 import re
 import shlex
 from typing import Callable, Dict, Iterable, List, Mapping, Optional, Sequence, Tuple

@@ -1,4 +1,4 @@
-"""How each subtree of a report stands, and how the report does: from what is told in it to severities, and to what the status is by."""
+"""From a report to the severity of each subtree and of all of it, and to what its status is by."""
 from collections import Counter, defaultdict
 from typing import AbstractSet, DefaultDict, Dict, FrozenSet, Iterable, Iterator, Optional, Set, Tuple, Union
 
@@ -70,7 +70,7 @@ def walked_down(paths: Iterable[str], accepted: AbstractSet[str], others: Abstra
 
 
 def of_answers(subtree: Subtree) -> Set[Severity]:
-    """What those who hold a subtree were answered; what lies in their own isn't told where something else is."""
+    """What those who hold a subtree were answered; what lies in their own isn't listed where something else is."""
     found = {Severity.ABOVE if each.is_above else of_answer(each.word) for each in subtree.answers}
     return found - {Severity.ABOVE} if len(found) > 1 else found
 
@@ -105,9 +105,9 @@ class Premises:
             self.at[mark, path].add(severity)
 
     def of(self, subtree: Subtree) -> Iterator[Severity]:
-        """What a subtree's marks stand for; a mark of which nothing else is told stands for what its kind may be."""
+        """What a subtree's marks stand for; a mark of which nothing else is known stands for what its kind may be."""
         for mark in () if isinstance(subtree.marks, Absent) else subtree.marks:
-            # what is mounted over a file is told below it too
+            # what is mounted over a file is reported below it too
             above = (subtree.path, *ancestors(subtree.path)) if mark == COVERED else ()
             found = {severity for path in above for severity in self.covered.get(path, ())} | self.at.get((mark, subtree.path), set())
             yield from found or {otherwise(mark)}
@@ -126,7 +126,7 @@ def otherwise(mark: str) -> Severity:
     return Severity.UNSETTLED if mark in (CAPABLE, COVERED) else Severity.OPENED
 
 
-def told_at(report: Report) -> Iterator[Tuple[str, Severity]]:
+def severities_at(report: Report) -> Iterator[Tuple[str, Severity]]:
     """What findings tell of places: of subtrees, and of cgroups where something is seen beside the answers."""
     for entry in report.entries:
         yield from ((path, unless(entry.accepted, of_answer(entry.answer))) for path in entry.subtrees)
@@ -146,10 +146,10 @@ def delegations(report: Report) -> Set[str]:
 
 
 def standings(report: Report) -> Dict[str, Severity]:
-    """How each subtree stands, by the gravest that is told of it."""
+    """How each subtree stands, by the gravest that is found of it."""
     accepted, premises, asked = accepted_subtrees(report), Premises(report), delegations(report)
     found: DefaultDict[str, Set[Severity]] = defaultdict(set)
-    for path, severity in told_at(report):
+    for path, severity in severities_at(report):
         if path in asked:
             found[path].add(severity)
     for each in report.subtrees:
@@ -201,8 +201,8 @@ def cause_of(report: Report, severity: Severity) -> str:
     counts = Counter(kind for kind, found in findings_in(report) if found is severity)
     if not counts and severity.status:
         counts["answer"] = sum(each is severity for each in standings(report).values())
-    told = [CAUSES[kind, severity][number > 1].format(number) for kind, number in counts.items()]
-    return " and ".join([", ".join(told[:-1]), told[-1]] if len(told) > 1 else told)
+    causes = [CAUSES[kind, severity][number > 1].format(number) for kind, number in counts.items()]
+    return " and ".join([", ".join(causes[:-1]), causes[-1]] if len(causes) > 1 else causes)
 
 
 def status_text(report: Report) -> str:

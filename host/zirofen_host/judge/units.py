@@ -1,4 +1,4 @@
-"""What the system's service manager makes of units when it starts them, as changes to a tree, and what of them can't be told."""
+"""From units to the changes that their manager makes to a tree when it starts them, and what isn't known of these."""
 import re
 from collections import Counter
 from dataclasses import dataclass, field
@@ -39,7 +39,7 @@ CARRIED_OUT = {"User", "Group", "DynamicUser", "Delegate", "DelegateSubgroup", "
 _SIZE = re.compile(r"([0-9]+)\s*([BKMGTPE]?)\Z")
 _SLICE = re.compile(r"[A-Za-z0-9:_.\\-]+\.slice\Z")
 _WORD = re.compile(r"[!-~]+\Z")
-# what the answers lack where it isn't told: who else runs there, and with what
+# what the answers lack where it isn't known: who else runs there, and with what
 UNANSWERED = ("PAMName", "SupplementaryGroups", "AmbientCapabilities", "PermissionsStartOnly", "User", "Group", "Delegate", "Slice")
 # programs that carry out a script
 INTERPRETERS = re.compile(r"(ba|da|k|z|fi)?sh|env|python[0-9.]*|perl|ruby|lua|awk|busybox")
@@ -56,7 +56,7 @@ Words = Tuple[str, ...]
 
 @dataclass
 class Plan:
-    """The lines for some units, and what of these isn't told."""
+    """The lines for some units, and what of these isn't known."""
     snapshot: Snapshot
     accounts: AccountLists
     systemd: int
@@ -95,7 +95,7 @@ class Plan:
         return self.snapshot.source.file is None or self.snapshot.source.carried is not None
 
     def further(self, path: CgroupPath) -> List[str]:
-        """The further limit files that are told of at a cgroup, as far as the cgroup above still brings them."""
+        """The further limit files that a text has of a cgroup, as far as the cgroup above still brings them."""
         row, parent = self.snapshot.tree.rows.get(path), parent_of(path)
         brought = self.enabled[parent] if parent else ()
         return [file for file in row.further if FURTHER_FILES[file].is_brought_by(brought)] if row else []
@@ -323,7 +323,7 @@ class Started:
                 yield name
 
     def tell_the_rest(self) -> None:
-        """Each setting of what it has or who runs in it that can't be told here."""
+        """Each setting of what it has or who runs in it that can't be known here."""
         for _, name, value, *_ in self.unit.settings:
             if not value or name in CARRIED_OUT or ACCOUNTING.match(name):
                 continue
@@ -390,7 +390,7 @@ def of_text(file: str, value: str) -> Optional[str]:
 
 def planned(snapshot: Snapshot, accounts: AccountLists, units: Sequence[UnitFile], systemd: int, known: Mapping[str, str],
             slices: Callable[[str], Optional[UnitFile]] = lambda _: None, is_script: Callable[[str], bool] = lambda _: False) -> Plan:
-    """The changes that starting units comes to, one after another, slices first; and what of them isn't told."""
+    """The changes that starting units comes to, one after another, slices first; and what of them isn't known."""
     plan = Plan(snapshot, accounts, systemd, known, slices, is_script)
     in_turn: Callable[[UnitFile], bool] = lambda unit: unit.name.kind != SLICE
     for unit in sorted(units, key=in_turn):

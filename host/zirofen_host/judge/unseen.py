@@ -1,10 +1,10 @@
-"""What no answer looks at, as far as a host tells of it: a line each, of a user, a cgroup or the host."""
+"""From a host that was asked to notes of what no answer looks at: of a user, a cgroup or the host."""
 from bisect import bisect_left
 from collections import Counter, defaultdict
 from typing import DefaultDict, FrozenSet, Iterator, List, Set, Tuple
 
 from zirofen_host.collect import bounded
-from zirofen_host.collect.looks import Looks
+from zirofen_host.collect.attempts import Attempts
 from zirofen_host.collect.model import OWNER
 from zirofen_host.collect.notes import Note
 from zirofen_host.collect.walk import MANAGERS_MARK, OWNERS_MARK
@@ -13,7 +13,7 @@ from zirofen_host.judge.advised import Advised
 from zirofen_host.judge.checked import Checked
 from zirofen_host.judge.finding_lines import some
 from zirofen_host.judge.findings import texts_of
-from zirofen_host.judge.model import Told
+from zirofen_host.judge.model import ReportNote
 from zirofen_host.judge.notes import (Capable, ClaimedName, Deputy, GroupClass, LeftOutGroups, MakesAbove, MountedByThem,
                                       MountedElsewhere, NoCause, NotAdvised, OfText, Outside, OwnersMark, OwnContainers, Subordinate,
                                       UnaskedUsers, UnknownFiles, UnlookedDescriptors, UnlookedProcesses, UnlookedThreads,
@@ -22,27 +22,27 @@ from zirofen_host.judge.opened import unknown_files
 from zirofen_host.profile import ANYBODY, CgroupPath, ancestors, is_inside, path_of, shown, text_of
 
 
-def of_user(checked: Checked, uid: int, note: Note) -> Told:
+def of_user(checked: Checked, uid: int, note: Note) -> ReportNote:
     """A note of a user, charged to whose uid it is."""
-    return Told.of(note, checked.makers.charged_user(uid))
+    return ReportNote.of(note, checked.makers.charged_user(uid))
 
 
-def of_cgroup(checked: Checked, path: CgroupPath, note: Note) -> Told:
+def of_cgroup(checked: Checked, path: CgroupPath, note: Note) -> ReportNote:
     """A note of a cgroup, charged to whose making it is."""
-    return Told.of(note, checked.within(path))
+    return ReportNote.of(note, checked.within(path))
 
 
-def lines(checked: Checked, advised: Advised, looks: Looks) -> Tuple[Told, ...]:
-    """Looks at a host once, each look by itself."""
-    found: List[Told] = []
-    for look in (descriptors, makers_above, group_class, subordinates, deputies, outside, capabilities, search_bits, marks, groups,
+def lines(checked: Checked, advised: Advised, attempts: Attempts) -> Tuple[ReportNote, ...]:
+    """Goes over a host once, each function by itself."""
+    found: List[ReportNote] = []
+    for find in (descriptors, makers_above, group_class, subordinates, deputies, outside, capabilities, search_bits, marks, groups,
                  everybody, unknown, restarts, causes, about_the_mount, processes, containers_seen):
-        found += looks.all(look.__name__, lambda: look(checked))
+        found += attempts.all(find.__name__, lambda: find(checked))
     return (*found, *not_advised(advised))
 
 
-def descriptors(checked: Checked) -> Iterator[Told]:
-    """What of what processes hold open wasn't looked at."""
+def descriptors(checked: Checked) -> Iterator[ReportNote]:
+    """What of what processes have open wasn't looked at."""
     for each in checked.snapshot.unheld:
         if each.path is None:
             yield of_user(checked, each.uid, UnlookedDescriptors(checked.names.user(each.uid), each.why))
@@ -50,7 +50,7 @@ def descriptors(checked: Checked) -> Iterator[Told]:
             yield of_cgroup(checked, each.path, UnlookedDescriptors(text_of(each.path), each.why))
 
 
-def makers_above(checked: Checked) -> Iterator[Told]:
+def makers_above(checked: Checked) -> Iterator[ReportNote]:
     """Who makes cgroups further above a subtree of another's than a guard stands: a threaded one there makes the subtree's cgroup
     invalid, and no process can be moved into it."""
     delegations, charged_user = checked.questions.delegations, checked.makers.charged_user
@@ -69,7 +69,7 @@ def makers_above(checked: Checked) -> Iterator[Told]:
         yield of_user(checked, uid, MakesAbove(checked.names.user(uid), text_of(place), texts_of(subtrees)))
 
 
-def group_class(checked: Checked) -> Iterator[Told]:
+def group_class(checked: Checked) -> Iterator[ReportNote]:
     """What only a group keeps its members from is no wall where they can drop it: a line for each group at a cgroup."""
     walls: DefaultDict[Tuple[CgroupPath, int], Set[str]] = defaultdict(set)
     for subtree in checked.questions.subtrees:
@@ -81,7 +81,7 @@ def group_class(checked: Checked) -> Iterator[Told]:
         yield of_cgroup(checked, path, GroupClass(text_of(path), checked.names.group(gid), tuple(sorted(names))))
 
 
-def subordinates(checked: Checked) -> Iterator[Told]:
+def subordinates(checked: Checked) -> Iterator[ReportNote]:
     asked = sorted({user.uid for user in checked.answers.plan.users} - {ANYBODY})
     for uid in sorted(checked.held):
         for each in checked.questions.accounts.subordinate_to(uid):
@@ -90,7 +90,7 @@ def subordinates(checked: Checked) -> Iterator[Told]:
             yield of_user(checked, uid, Subordinate(checked.names.user(uid), each.first, last, tuple(found)))
 
 
-def deputies(checked: Checked) -> Iterator[Told]:
+def deputies(checked: Checked) -> Iterator[ReportNote]:
     """The manager acts as root for whoever has a unit of their own; a group has no manager."""
     for uid, paths in sorted(checked.held.items()):
         found = [path for path in paths if path in checked.questions.meant and checked.questions.holders[path].by == OWNER]
@@ -98,7 +98,7 @@ def deputies(checked: Checked) -> Iterator[Told]:
             yield of_user(checked, uid, Deputy(checked.names.user(uid), texts_of(found)))
 
 
-def outside(checked: Checked) -> Iterator[Told]:
+def outside(checked: Checked) -> Iterator[ReportNote]:
     """Processes of a user who holds something in none of their subtrees; cron and others start them."""
     held = {uid: set(paths) for uid, paths in checked.held.items()}
     places: DefaultDict[int, Set[CgroupPath]] = defaultdict(set)
@@ -109,7 +109,7 @@ def outside(checked: Checked) -> Iterator[Told]:
         yield of_user(checked, uid, Outside(checked.names.user(uid), tuple(dict.fromkeys(map(checked.container_text, sorted(found))))))
 
 
-def capabilities(checked: Checked) -> Iterator[Told]:
+def capabilities(checked: Checked) -> Iterator[ReportNote]:
     """Processes that pass over owners, but for those that take an answer back, which are findings."""
     for each in capable.capable_users(checked):
         if not capable.takes_back(checked, each):
@@ -122,7 +122,7 @@ def capabilities(checked: Checked) -> Iterator[Told]:
         yield of_user(checked, uid, UnlookedThreads(checked.names.user(uid), count, bounded.THREADS.most, over))
 
 
-def search_bits(checked: Checked) -> Iterator[Told]:
+def search_bits(checked: Checked) -> Iterator[ReportNote]:
     seen: Set[Tuple[int, CgroupPath]] = set()
     for uid, paths in sorted(checked.held.items()):
         for user in checked.questions.delegations.users("uid", uid):
@@ -132,60 +132,60 @@ def search_bits(checked: Checked) -> Iterator[Told]:
         yield of_user(checked, uid, Unsearched(checked.names.user(uid), text_of(place), hierarchy.around(checked, text_of(place), uid)))
 
 
-def marks(checked: Checked) -> Iterator[Told]:
+def marks(checked: Checked) -> Iterator[ReportNote]:
     for path, found in sorted(checked.questions.marks.items()):
         if OWNERS_MARK in found and MANAGERS_MARK not in found:
             owner = checked.names.user(checked.snapshot.cgroups[path].directory.uid)
             yield of_cgroup(checked, path, OwnersMark(text_of(path), OWNERS_MARK, owner))
 
 
-def groups(checked: Checked) -> Iterator[Told]:
+def groups(checked: Checked) -> Iterator[ReportNote]:
     for uid, count in sorted(checked.answers.plan.left_out.items()):
         if count:
             yield of_user(checked, uid, LeftOutGroups(checked.names.user(uid), count))
 
 
-def everybody(checked: Checked) -> Iterator[Told]:
+def everybody(checked: Checked) -> Iterator[ReportNote]:
     """Users who weren't asked of what everybody is let in to."""
     counts = set(checked.answers.not_asked.values())
     if counts:
-        yield Told.of(UnaskedUsers(some(texts_of(checked.answers.not_asked)), tuple(sorted(counts))))
+        yield ReportNote.of(UnaskedUsers(some(texts_of(checked.answers.not_asked)), tuple(sorted(counts))))
 
 
-def unknown(checked: Checked) -> Iterator[Told]:
+def unknown(checked: Checked) -> Iterator[ReportNote]:
     """Files of names that aren't in the table of them."""
     files = tuple(unknown_files(checked.snapshot).items())
     if files:
-        yield Told.of(UnknownFiles("", files))
+        yield ReportNote.of(UnknownFiles("", files))
 
 
-def restarts(checked: Checked) -> Iterator[Told]:
+def restarts(checked: Checked) -> Iterator[ReportNote]:
     """Limits that a service's settings don't bring, and that are gone when it is started anew."""
     asked = {path: each for path, each in checked.agreed.items() if path in checked.questions.holders and each.unit.endswith(".service")}
     for note in settings.restarts(asked):
         yield of_cgroup(checked, path_of(note.place), note)
 
 
-def causes(checked: Checked) -> Iterator[Told]:
+def causes(checked: Checked) -> Iterator[ReportNote]:
     """Where somebody is let in, and nothing of root's files is known to do that."""
     paths = {place.path for place in (*checked.judged.entries, *(place for place, _, _ in checked.openings))}
     without = [path for path in sorted(paths) if checked.causes(path) == ()]
     if without and checked.found_in_files:
-        yield Told.of(NoCause("", texts_of(without), checked.found_in_files.unread))
+        yield ReportNote.of(NoCause("", texts_of(without), checked.found_in_files.unread))
 
 
-def about_the_mount(checked: Checked) -> Iterator[Told]:
+def about_the_mount(checked: Checked) -> Iterator[ReportNote]:
     """What is different about a text, and about how the hierarchy is mounted."""
     if checked.snapshot.source.file is not None:
         carried = checked.snapshot.source.carried
         has_descriptors = carried is not None and carried.has_descriptors
-        yield Told.of(OfText("", carried is not None, has_descriptors, checked.options.accounts is not None))
+        yield ReportNote.of(OfText("", carried is not None, has_descriptors, checked.options.accounts is not None))
     for mount in checked.snapshot.mounts:
-        yield Told.of(MountedElsewhere(text_of(mount.top), shown(mount.place), hierarchy.reached_by(checked, mount)))
+        yield ReportNote.of(MountedElsewhere(text_of(mount.top), shown(mount.place), hierarchy.reached_by(checked, mount)))
     yield from mounted_by_users(checked)
 
 
-def mounted_by_users(checked: Checked) -> Iterator[Told]:
+def mounted_by_users(checked: Checked) -> Iterator[ReportNote]:
     """What users have mounted in namespaces of their own, but for containers, each of which has a name or a line of its own."""
     found: DefaultDict[int, List[Tuple[str, str]]] = defaultdict(list)
     for each in checked.snapshot.private:
@@ -195,7 +195,7 @@ def mounted_by_users(checked: Checked) -> Iterator[Told]:
         yield of_user(checked, uid, MountedByThem(checked.names.user(uid), tuple(sorted(mounts))))
 
 
-def processes(checked: Checked) -> Iterator[Told]:
+def processes(checked: Checked) -> Iterator[ReportNote]:
     """Users of whom not all processes were looked at, where no answer of theirs hangs on it: they hold nothing."""
     holders = {checked.makers.charged_user(uid) for uid in checked.held}
     for person, why in sorted(checked.snapshot.over.items()):
@@ -206,7 +206,7 @@ def processes(checked: Checked) -> Iterator[Told]:
         yield of_cgroup(checked, path, WithoutProcesses(text_of(path), count))
 
 
-def containers_seen(checked: Checked) -> Iterator[Told]:
+def containers_seen(checked: Checked) -> Iterator[ReportNote]:
     """Containers of users, which are inside of what these hold, and names that two have."""
     own: DefaultDict[int, List[str]] = defaultdict(list)
     words: DefaultDict[str, List[str]] = defaultdict(list)
@@ -223,6 +223,6 @@ def containers_seen(checked: Checked) -> Iterator[Told]:
             yield of_cgroup(checked, path_of(paths[0]), ClaimedName(word, tuple(paths)))
 
 
-def not_advised(advised: Advised) -> Iterator[Told]:
+def not_advised(advised: Advised) -> Iterator[ReportNote]:
     if advised.unasked:
-        yield Told.of(NotAdvised("", advised.unasked, bounded.ADVICE))
+        yield ReportNote.of(NotAdvised("", advised.unasked, bounded.ADVICE))

@@ -1,4 +1,4 @@
-"""What root's settings say that the limits of units have: by systemctl's words the text that is written into each file."""
+"""From systemctl's words to what root's settings say that the limits of units have, as each file has it."""
 import re
 from dataclasses import dataclass
 from typing import Callable, Dict, Iterator, Mapping, Optional, Tuple, Union
@@ -36,7 +36,7 @@ class LostLimit:
     """A limit that isn't there behind a unit's next start, and the setting that it has then, or none."""
     file: str
     value: str
-    # how a setting is told, and whether nothing is set
+    # how a setting is shown, and whether nothing is set
     why: str
     # what the unit's settings say, where they say something
     wanted: Optional[Wanted] = None
@@ -121,13 +121,13 @@ PROPERTIES = tuple(dict.fromkeys((*map(asked_by, BROUGHT), QUOTA_PERIOD)))
 
 
 def wanted_by(shown: Shown) -> Mapping[str, Wanted]:
-    """What the settings of a unit say of each limit that they bring, as far as they are told."""
+    """What the settings of a unit say of each limit that they bring, as far as they are known."""
     found = {}
     for limit in BROUGHT:
         setting = asked_by(limit)
-        told = READERS[limit.form](shown, limit) if setting in shown else None
-        if told:
-            found[limit.name] = Wanted(told[0], f"{setting}={shown[setting]}", told[1])
+        read = READERS[limit.form](shown, limit) if setting in shown else None
+        if read:
+            found[limit.name] = Wanted(read[0], f"{setting}={shown[setting]}", read[1])
     return found
 
 

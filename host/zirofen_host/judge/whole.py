@@ -1,14 +1,14 @@
-"""The host itself in a report: users, groups, cgroups and processes, from which a page or a tree can be drawn."""
+"""From a host that was asked to the host itself in a report, of which a page or a tree can be drawn."""
 from typing import Iterable, Tuple
 
 from zirofen_host.ask.questions import unit_of
+from zirofen_host.collect.attempts import Attempts
 from zirofen_host.collect.model import Entry
 from zirofen_host.collect.snapshot import value_of
 from zirofen_host.collect.tree import in_order
 from zirofen_host.files import CONTROL_FILES, WITHOUT_VALUE, is_other_limit
 from zirofen_host.judge.checked import Checked
 from zirofen_host.judge.findings import owner_of
-from zirofen_host.collect.looks import Looks
 from zirofen_host.judge.host_model import ABSENT, FileValue, ReportCgroup, ReportFile, ReportGroup, ReportProcess, ReportUser
 from zirofen_host.profile import CgroupPath, shown, text_of
 
@@ -22,8 +22,8 @@ def groups_of(checked: Checked) -> Iterable[ReportGroup]:
     return (ReportGroup(gid, shown(name)) for gid, name in sorted(checked.names.groups.items()))
 
 
-def cgroups_of(checked: Checked, looks: Looks) -> Tuple[ReportCgroup, ...]:
-    return looks.each("cgroups", in_order(checked.snapshot.cgroups), lambda path: cgroup_of(checked, path))
+def cgroups_of(checked: Checked, attempts: Attempts) -> Tuple[ReportCgroup, ...]:
+    return attempts.each("cgroups", in_order(checked.snapshot.cgroups), lambda path: cgroup_of(checked, path))
 
 
 def cgroup_of(checked: Checked, path: CgroupPath) -> ReportCgroup:

@@ -1,1 +1,1 @@
-"""What each command does with what it was asked for: a module for each, which is imported where the command is run."""
+"""From the options of a command to what it writes: a module for each, which is imported where the command is run."""

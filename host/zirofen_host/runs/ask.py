@@ -1,4 +1,4 @@
-"""Asks of one user and one subtree."""
+"""From the options of `ask` to the answer of one user and one subtree."""
 import argparse
 import dataclasses
 
@@ -20,6 +20,6 @@ def run(given: argparse.Namespace) -> int:
         fault.write_lines(may.may(taken, options, lambda line: fault.warn(f"{NAME} ask: {line}")))
         return 0
     asking = explained.explain if options.explain else one.ask
-    told, status = asking(taken, options, lambda line: fault.warn(f"{NAME} ask: {line}"))
-    fault.write_lines(told)
+    lines, status = asking(taken, options, lambda line: fault.warn(f"{NAME} ask: {line}"))
+    fault.write_lines(lines)
     return status

@@ -1,4 +1,4 @@
-"""Asks of everybody, and writes a report in each way that was asked for."""
+"""From the options of `check` to everybody's answers, as a report in each form that was asked for."""
 import argparse
 import dataclasses
 import functools
@@ -11,7 +11,7 @@ from zirofen_host.ask import accepted, named
 from zirofen_host.ask.program import program_at
 from zirofen_host.ask.questions import subtrees_by
 from zirofen_host.collect import turns
-from zirofen_host.collect.looks import Looks, why_of
+from zirofen_host.collect.attempts import Attempts, why_of
 from zirofen_host.installed import NAME
 from zirofen_host.judge import acceptances, baseline, check, ended, settings
 from zirofen_host.judge.host_model import Absent
@@ -61,10 +61,10 @@ def report_of(options: CheckOptions, ways: Iterable[Way]) -> Found:
     granted = acceptances_of(options)
     is_first = bool(options.baseline) and before is None
     is_whole = bool(formats.is_whole(ways) or options.html or options.baseline_update or is_first)
-    looks = Looks()
-    before_the_walk = looks.at(settings.LOOK, lambda: settings.read(settings.systemctl_of(options)), check.NO_SETTINGS)
+    attempts = Attempts()
+    before_the_walk = attempts.at(settings.ATTEMPT, lambda: settings.read(settings.systemctl_of(options)), check.NO_SETTINGS)
     taken = accepted.take(options, subtrees_by(options))
-    taken = dataclasses.replace(taken, notes=(*taken.notes, *looks.failed))
+    taken = dataclasses.replace(taken, notes=(*taken.notes, *attempts.failed))
     report = check.report(taken, options, is_whole, before_the_walk)
     if granted is not None:
         report = acceptances.applied(report, granted, datetime.now(timezone.utc).date())

@@ -1,4 +1,4 @@
-"""Writes operations as commands."""
+"""From the options of `commands` and operations to shell commands."""
 import argparse
 
 from zirofen_host import fault

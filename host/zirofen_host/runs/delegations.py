@@ -1,4 +1,4 @@
-"""Lists who was handed what in a tree."""
+"""From a tree text to the list of who was handed what."""
 import argparse
 
 from zirofen_host import fault

@@ -1,4 +1,4 @@
-"""Tells of many hosts by their reports."""
+"""From the options of `fleet` to what the reports of many hosts come to."""
 import argparse
 
 from zirofen_host.options import FleetOptions

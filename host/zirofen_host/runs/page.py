@@ -1,4 +1,4 @@
-"""Draws reports that were kept."""
+"""From reports that were kept to one page."""
 import argparse
 from typing import List
 

@@ -1,4 +1,4 @@
-"""Tells what changes would come to."""
+"""From the options of `plan` to what the changes would be answered."""
 import argparse
 import dataclasses
 

@@ -1,4 +1,4 @@
-"""Writes a host as a tree text."""
+"""From the options of `snapshot` to the tree text of this host."""
 import argparse
 from typing import Iterator
 
@@ -17,7 +17,7 @@ def run(given: argparse.Namespace) -> int:
     accounts = accounts_of(options.accounts, taken) if options.with_host else None
 
     def carried(of: Snapshot) -> Iterator[str]:
-        yield from fitting.told_changing(of)
+        yield from fitting.changing_lines(of)
         yield from elsewhere.narrowing(options)
         if accounts:
             yield from elsewhere.carried(of, accounts)

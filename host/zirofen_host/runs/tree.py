@@ -1,4 +1,4 @@
-"""Draws a host or a report in a terminal."""
+"""From a host or a report to a tree in a terminal."""
 import argparse
 import dataclasses
 import sys

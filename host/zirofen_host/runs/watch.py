@@ -1,4 +1,4 @@
-"""Watches a host: it is checked once, and asked again when something happened."""
+"""From the options of `watch` to a watch: a host is checked once, and asked again when something happened."""
 import argparse
 import dataclasses
 import functools
@@ -15,7 +15,7 @@ from zirofen_host.options import WatchOptions, Way
 from zirofen_host.runs.check import write_all
 from zirofen_host.show import formats
 from zirofen_host.show.run import Run
-from zirofen_host.watch import known, numbers, told
+from zirofen_host.watch import known, messages, numbers
 from zirofen_host.watch.hooks import Hooks
 from zirofen_host.watch.journal import JOURNAL, Datagrams, Manager, datagram, entry_of
 from zirofen_host.watch.loop import Loop, Outside
@@ -50,9 +50,9 @@ def outside_of(options: WatchOptions, ways: Tuple[Way, ...]) -> Outside:
     hooks = Hooks(options.exec) if options.exec else None
     manager = Manager()
 
-    def tell(each: told.Told) -> None:
+    def tell(each: messages.Message) -> None:
         if journal is None or not journal.send(datagram(entry_of(each))):
-            fault.write_lines(told.lines_of(each))
+            fault.write_lines(messages.lines_of(each))
         if hooks and each.is_counted:
             hooks.add(each)
 

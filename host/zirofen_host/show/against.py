@@ -1,11 +1,11 @@
-"""What speaks against trusting the sum of a host: it stands in the page's first view."""
+"""From a host to what speaks against trusting its sum, which stands in the page's first view."""
 from collections import Counter
 from typing import Iterator, Sequence
 
 from zirofen_host.collect.notes import FAILED
 from zirofen_host.judge.finding_lines import acceptance_line
 from zirofen_host.judge.severity import ACCEPTED as STANDS
-from zirofen_host.judge.model import Told
+from zirofen_host.judge.model import ReportNote
 from zirofen_host.show import insides, words
 from zirofen_host.show.finding import Place, id_of
 from zirofen_host.show.markup import code, items, text
@@ -33,21 +33,21 @@ def accepted(host: Host, at: Place) -> Iterator[str]:
     """What isn't counted since somebody accepted it, and acceptances that don't hold."""
     known = [number for number, each in enumerate(host.findings) if each.kind == ACCEPTED]
     if known:
-        told = words.count(len(known), "finding")
-        yield f'<a href="#{id_of(at, known[0])}">{told}</a> {"was" if len(known) == 1 else "were"} accepted, and not counted.'
+        findings = words.count(len(known), "finding")
+        yield f'<a href="#{id_of(at, known[0])}">{findings}</a> {"was" if len(known) == 1 else "were"} accepted, and not counted.'
     yield from (f"{text(acceptance_line(each))}." for each in present(host.report.acceptances) if each.state != STANDS)
 
 
-def counted(at: Place, what: str, found: Sequence[Told]) -> Iterator[str]:
+def counted(at: Place, what: str, found: Sequence[ReportNote]) -> Iterator[str]:
     """How many there are of each kind, with a link to them."""
     if found:
         kinds = Counter(each.kind for each in found)
-        told = ", ".join(f"{text(kind)} {number}" for kind, number in kinds.items())
-        yield f'{what}: <a href="#{at.id}-unseen">{told}</a>.'
+        kinds_text = ", ".join(f"{text(kind)} {number}" for kind, number in kinds.items())
+        yield f'{what}: <a href="#{at.id}-unseen">{kinds_text}</a>.'
 
 
 def html(host: Host, at: Place) -> str:
-    told = list(against(host, at))
-    if not told:
+    points = list(against(host, at))
+    if not points:
         return '<p class="against">Nothing was seen beside these answers that speaks against them.</p>'
-    return f'<div class="against"><p>What speaks against trusting this sum:</p><ul>\n{items(told)}\n</ul></div>'
+    return f'<div class="against"><p>What speaks against trusting this sum:</p><ul>\n{items(points)}\n</ul></div>'

@@ -1,4 +1,4 @@
-"""The tree of a host in the page: what isn't contained with whom it lets in, and what is, by its names alone."""
+"""From a host to its tree in the page: what isn't contained with whom it lets in, and the rest by names alone."""
 from dataclasses import dataclass
 from functools import cached_property
 from typing import Iterator, List, Sequence, Set, Tuple, Union
@@ -11,7 +11,7 @@ from zirofen_host.show.markup import code, css, items, text
 from zirofen_host.show.view import HELD, PREMISES, RUNNING, Host, entry_of, whom_of
 from zirofen_host.show.words import ACCEPTED, QUIET, SIGNS
 
-# so many cgroups beside one another of which nothing is to be told aren't folded: of delegations, and of others
+# so many cgroups beside one another of which nothing is to be shown aren't folded: of delegations, and of others
 FEW, FEW_OTHERS = 4, 1
 
 
@@ -24,7 +24,7 @@ class Below:
 
 @dataclass(frozen=True)
 class Quiet:
-    """Cgroups beside one another that are left to write, of which nothing is to be told."""
+    """Cgroups beside one another that are left to write, of which nothing is to be shown."""
     paths: Sequence[str]
 
 
@@ -40,7 +40,7 @@ class Branches:
 
     @cached_property
     def loud(self) -> Set[str]:
-        """The cgroups of which something is to be told, and what is above them."""
+        """The cgroups of which something is to be shown, and what is above them."""
         found = {path for path, kinds in self.host.standing.items() if kinds[0][0] not in QUIET} | set(self.host.notes)
         return {"/", *found, *(above for path in found for above in ancestors(path))}
 
@@ -60,7 +60,7 @@ class Branches:
         path = each.path
         below = self.all_below(path) if each.is_plain else self.below(path)
         head = f'<span class="at"><code>{text(path.rpartition("/")[2] or "/")}</code>{self.standing(path)}'
-        head += "".join(f'<span class="told">{told}</span>' for told in self.told(path)) + "</span>"
+        head += "".join(f'<span class="told">{detail}</span>' for detail in self.details(path)) + "</span>"
         if not below:
             return f'<li class="leaf">{head}', [], "</li>"
         if each.is_plain:
@@ -72,20 +72,20 @@ class Branches:
         return [Below(each, True) for each in self.host.children[path]]
 
     def below(self, path: str) -> List[Left]:
-        """What is to be told below a cgroup, and what is folded there."""
+        """What is to be shown below a cgroup, and what is folded there."""
         shown, folded = self.host.split(path)
         quiet = [each for each in shown if each not in self.loud]
         if len(quiet) <= (FEW if any(map(self.has_standing, quiet)) else FEW_OTHERS):
             quiet = []
-        told: List[Left] = [Below(each) for each in shown if not quiet or each in self.loud]
-        return [*told, *([Quiet(quiet)] if quiet else []), *([folded] if folded else [])]
+        items: List[Left] = [Below(each) for each in shown if not quiet or each in self.loud]
+        return [*items, *([Quiet(quiet)] if quiet else []), *([folded] if folded else [])]
 
     def has_standing(self, path: str) -> bool:
         """Whether a cgroup, or one in it, is a delegation or marked as one."""
         return not self.host.standing.keys().isdisjoint(self.host.below(path))
 
     def quiet(self, paths: Sequence[str]) -> Tuple[str, List[Left], str]:
-        """What opens the item of cgroups of which nothing is to be told, these, and what closes it."""
+        """What opens the item of cgroups of which nothing is to be shown, these, and what closes it."""
         within = [each for path in paths for each in self.host.below(path)]
         held = sum(each in self.host.delegations for each in within)
         kinds = {kind for path in within for kind, _ in self.host.standing.get(path, ())}
@@ -103,7 +103,7 @@ class Branches:
                          f'<a class="{css(kind)}" href="#{id_of(self.at, number)}">{sign}</a>')
         return "".join(f" {mark}" for mark in marks)
 
-    def told(self, path: str) -> Iterator[str]:
+    def details(self, path: str) -> Iterator[str]:
         """Whom its entries let in; to whom delegations were handed, and their limits, is in the table."""
         if path in self.host.standing and path not in self.host.delegations:
             limits = self.host.limits(path)
@@ -114,9 +114,9 @@ class Branches:
                 yield f'<a class="{css(finding.kind)}" href="#{id_of(self.at, number)}">root inside</a>'
             if finding.key in (RUNNING, HELD, PREMISES):
                 first = finding.parts[0]
-                told = ("runs elsewhere" if finding.key == RUNNING else f"{first.what}: {first.entry}" if isinstance(first, PremiseFinding)
-                        else f"{entry_of(first)} held open")
-                yield f'<a class="{css(finding.kind)}" href="#{id_of(self.at, number)}">{text(told)}</a>'
+                label = ("runs elsewhere" if finding.key == RUNNING else f"{first.what}: {first.entry}" if isinstance(first, PremiseFinding)
+                         else f"{entry_of(first)} held open")
+                yield f'<a class="{css(finding.kind)}" href="#{id_of(self.at, number)}">{text(label)}</a>'
             if finding.key == "entries":
                 names = ", ".join(map(entry_of, finding.parts))
                 let_in = f"{names} let{'s' if len(finding.parts) == 1 else ''} in {words.who(whom_of(finding.parts[0]))}"

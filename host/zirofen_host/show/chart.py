@@ -1,7 +1,8 @@
-"""A picture of a whole host: its cgroups as boxes in one another, the larger the more are inside, as SVG for the page.
+"""From a host to one picture of all of it, as SVG for the page: its cgroups as boxes in one another.
 
-Delegations have a dashed edge, and the colour and the sign of their answer; what is alike and of which nothing is to be told stands
-together, as a stack. An arrow is an escape. The page's style has the colours, by the classes that are named here.
+The larger a box the more is inside. Delegations have a dashed edge, and the colour and the sign of their answer; what is alike and of
+which nothing is to be shown stands together, as a stack. An arrow is an escape. The page's style has the colours, by the classes that are
+named here.
 """
 from dataclasses import dataclass
 from functools import cached_property
@@ -21,7 +22,7 @@ SIZES = (("wide", 960, 500), ("tall", 360, 500))
 LINE, PAD, GAP = 16, 5, 4
 # the width of a letter of the page's fixed type in this size, and of a box that has a text
 LETTER, LEAST_WIDTH, LEAST_HEIGHT = 6.7, 30, 17
-# delegations beside one another of which nothing is to be told, and other cgroups, that are drawn one by one
+# delegations beside one another of which nothing is to be shown, and other cgroups, that are drawn one by one
 FEW, FEW_OTHERS = 3, 1
 # areas go by this power of the number of cgroups, and no box has less than a part of what it lies in
 POWER, LEAST_PART = 0.6, 1 / 50
@@ -94,7 +95,7 @@ class Chart:
     def escapes(self) -> List[Article]:
         """The escapes, each once."""
         return [each for each in articles(self.host, self.at)
-                if each.finding.kind == ESCAPES and each.broken and each.steps and not each.broken.told_before]
+                if each.finding.kind == ESCAPES and each.broken and each.steps and not each.broken.shown_before]
 
     @cached_property
     def arrows(self) -> List[Arrow]:
@@ -190,8 +191,8 @@ class Drawn:
             self.rectangle(Rectangle(room.left + number * step, room.top + number * step, room.width - 2 * step,
                                      room.height - 2 * step), name)
         stand = words.listed(words.standing_text(each, host.report) for each in STANDINGS if each in kinds)
-        told = f"{len(within)} {stand}" if within else f"{box.weight} others"
-        self.text(room, f"{SIGNS[kind][0]} " if kind else "", told, css(kind))
+        description = f"{len(within)} {stand}" if within else f"{box.weight} others"
+        self.text(room, f"{SIGNS[kind][0]} " if kind else "", description, css(kind))
 
     def rectangle(self, room: Rectangle, name: str) -> None:
         self.parts.append(f'<rect class="{name}" x="{room.left:.0f}" y="{room.top:.0f}" width="{max(room.width, 1):.0f}" '
@@ -232,11 +233,11 @@ class Drawn:
     def svg(self, name: str, size: str) -> str:
         width, height = self.size
         return (f'<svg class="chart {size}" viewBox="0 0 {width} {height}" role="img" aria-labelledby="{name}">'
-                f'<title id="{name}">{escape(told(self.chart))}</title>{"".join(self.parts)}'
+                f'<title id="{name}">{escape(description(self.chart))}</title>{"".join(self.parts)}'
                 f'{"".join(map(self.arrow, self.chart.arrows))}</svg>')
 
 
-def told(chart: Chart) -> str:
+def description(chart: Chart) -> str:
     """What the picture shows, for who doesn't see it."""
     delegations, contained, _ = chart.host.numbers
     arrows, mark = words.count(len(chart.arrows), "arrow"), limits.mark_of(chart.host.report)

@@ -1,4 +1,4 @@
-"""Containers in the lines of a report: those of root's that are alike are told once, and what root alone holds in one row."""
+"""From containers to lines of a report: root's that are alike are one, and what root alone holds is one row."""
 from typing import Dict, Hashable, List, Sequence, Set
 
 from zirofen_host.judge.finding_lines import inside_count, inside_line, inside_text, some
@@ -59,5 +59,5 @@ def roots_alone(report: Report, paths: Sequence[str]) -> str:
     labels = Labels(report)
     others = [labels.of(path) for path in paths if path not in above]
     count = len(paths) - len(others)
-    told = [*([some(others)] if others else []), *([f"{count} with a container of root's, told below"] if count else [])]
-    return f"{len(paths)} cgroups: {', and '.join(told)}"
+    parts = [*([some(others)] if others else []), *([f"{count} with a container of root's, told below"] if count else [])]
+    return f"{len(paths)} cgroups: {', and '.join(parts)}"

@@ -1,4 +1,4 @@
-"""A finding as an article of the page."""
+"""From a finding to an article of the page."""
 from dataclasses import dataclass, replace
 from typing import Dict, Iterator, List, Optional
 
@@ -31,10 +31,10 @@ class Place:
 
 @dataclass(frozen=True)
 class Broken:
-    """How a subtree is broken: an escape, carried out in words where operations were found, and where it is told already."""
+    """How a subtree is broken: an escape, carried out in words where operations were found, and where it is shown already."""
     escape: Escape
     steps: Optional[Steps]
-    told_before: Optional[str]
+    shown_before: Optional[str]
 
 
 @dataclass(frozen=True)
@@ -55,9 +55,9 @@ class Article:
         return self.broken.steps if self.broken else None
 
     def html(self) -> str:
-        """All that is told of it, but for its title."""
+        """All that is shown of it, but for its title."""
         return filled("finding.html", what=self.accepted() + self.what(), of=self.of() + self.why(), picture=self.picture(),
-                      steps=self.told_steps(), change=self.change(), try_it=self.try_it())
+                      steps=self.steps_html(), change=self.change(), try_it=self.try_it())
 
     def accepted(self) -> str:
         """Why it isn't counted, where somebody accepted it."""
@@ -104,8 +104,8 @@ class Article:
         ids = [f"{self.at.id}-{self.finding.key}-{number + 1}" for number in self.finding.numbers]
         if len(ids) == 1:
             return f'<p id="{ids[0]}">{self.part(self.finding.parts[0])}</p>'
-        told = "\n".join(f'<li id="{name}">{self.part(part)}</li>' for name, part in zip(ids, self.finding.parts))
-        return paragraph(self.lead()) + f"<ul>\n{told}\n</ul>"
+        parts = "\n".join(f'<li id="{name}">{self.part(part)}</li>' for name, part in zip(ids, self.finding.parts))
+        return paragraph(self.lead()) + f"<ul>\n{parts}\n</ul>"
 
     def lead(self) -> str:
         """Whom the entries below it let in, and where."""
@@ -122,14 +122,14 @@ class Article:
         if isinstance(part, DiffersFinding):
             return f"Who owns or writes these isn't as it leaves them: {', '.join(map(code, part.entries))}."
         if isinstance(part, RootInside):
-            told = "; ".join(part.why)
-            return f"{text(told[:1].upper() + told[1:])}. {text(inside_count(part))}."
+            description = "; ".join(part.why)
+            return f"{text(description[:1].upper() + description[1:])}. {text(inside_count(part))}."
         if isinstance(part, (RunsElsewhere, HeldFinding)):
             line = runs_line(part) if isinstance(part, RunsElsewhere) else held_line(part)
             return f"{text(line.partition(': ')[2].capitalize())} ({text(processes_text(part.processes))})."
         if isinstance(part, PremiseFinding):
-            told = "; ".join(filter(None, (part.told, processes_text(part.processes) if part.processes else None)))
-            return f"{text(capital(told))}."
+            description = "; ".join(filter(None, (part.told, processes_text(part.processes) if part.processes else None)))
+            return f"{text(capital(description))}."
         entry = entry_of(part)
         if entry in GUARDS:
             return f"{text(GUARDS[entry].no_entry)}: {code(part.path)}, {text(words.who(part.whom))}."
@@ -140,11 +140,11 @@ class Article:
     def of(self) -> str:
         """The subtrees that it opens, where the title doesn't name the one, and what an unsettled guard means."""
         subtrees = subtrees_of(self.finding.parts[0])
-        told = f"<p>The subtrees are {places(subtrees)}.</p>" if len(subtrees) > 1 else ""
+        paragraphs = f"<p>The subtrees are {places(subtrees)}.</p>" if len(subtrees) > 1 else ""
         if self.finding.answer == UNSETTLED and self.broken:
             guard = text(words.guard(self.broken.escape.lines[0]))
-            told += f"<p>No operations were found that break it, and it isn't shown to hold: {guard}.</p>"
-        return told
+            paragraphs += f"<p>No operations were found that break it, and it isn't shown to hold: {guard}.</p>"
+        return paragraphs
 
     def why(self) -> str:
         """The command that says what each guard asks of who breaks it."""
@@ -155,27 +155,27 @@ class Article:
         return f"<p>What each guard asks, and by what it holds or fails: {code(command)}.</p>"
 
     def picture(self) -> str:
-        """The escape as it was told already, or its picture."""
+        """The escape as it was shown already, or its picture."""
         if not self.broken or not self.broken.steps:
             return ""
-        if self.broken.told_before:
-            return f'<p>It is done as by <a href="#{self.broken.told_before}">the finding above</a>, which names another entry.</p>'
+        if self.broken.shown_before:
+            return f'<p>It is done as by <a href="#{self.broken.shown_before}">the finding above</a>, which names another entry.</p>'
         entries = [each for each in self.finding.parts if isinstance(each, EntryFinding)]
         shown = picture.Shown(self.host, self.broken.escape, self.broken.steps.breaks, entries)
         caption = f"Dashed: the subtree's edge. Marked: what lets {text(self.broken.escape.who)} in."
         return f"<figure>{picture.svg(shown, f'{self.id}-picture')}<figcaption>{caption}</figcaption></figure>"
 
-    def told_here(self) -> Optional[Steps]:
-        """The steps, where they are told for the first time and there are some."""
-        return self.steps if self.broken and not self.broken.told_before and self.steps and self.steps.told else None
+    def steps_here(self) -> Optional[Steps]:
+        """The steps, where they are shown for the first time and there are some."""
+        return self.steps if self.broken and not self.broken.shown_before and self.steps and self.steps.sentences else None
 
-    def told_steps(self) -> str:
-        steps = self.told_here()
+    def steps_html(self) -> str:
+        steps = self.steps_here()
         if not self.broken or not steps:
             return ""
         heading = self.at.level(4)
         return (f"<{heading}>What {text(self.broken.escape.who)} can do</{heading}>"
-                f"<ol>\n{items(map(sentence, steps.told))}\n</ol>{paragraph(text(capital(self.broken.escape.told)))}")
+                f"<ol>\n{items(map(sentence, steps.sentences))}\n</ol>{paragraph(text(capital(self.broken.escape.why_shown)))}")
 
     def changes(self) -> List[str]:
         """The commands that mend it."""
@@ -199,13 +199,13 @@ class Article:
 
     def of_container(self, part: RootInside) -> str:
         """What holds a container: on the host, and where it is started."""
-        told = f"<p>What its manager sets for it: {text(part.setting)}.</p>" if part.setting else ""
+        setting = f"<p>What its manager sets for it: {text(part.setting)}.</p>" if part.setting else ""
         heading = self.at.level(4)
-        return f'<div class="change"><{heading}>What to change</{heading}>{commands(self.changes())}{told}</div>'
+        return f'<div class="change"><{heading}>What to change</{heading}>{commands(self.changes())}{setting}</div>'
 
     def try_it(self) -> str:
         """The escape as commands, as far as the lines of the report are operations."""
-        if not self.broken or not self.told_here():
+        if not self.broken or not self.steps_here():
             return ""
         escape = self.broken.escape
         user = None if escape.uid is None else User(escape.uid, escape.gids)
@@ -230,11 +230,11 @@ def place_text(part: Part) -> str:
 def shortened(steps: Steps, escape: Escape) -> Steps:
     """The first steps of a list, and how many more there are."""
     more = list(long_lists.shown(escape.lines))[long_lists.SHOWN:]
-    return replace(steps, told=(*steps.told[:long_lists.SHOWN], *([line] for line in more)))
+    return replace(steps, sentences=(*steps.sentences[:long_lists.SHOWN], *([line] for line in more)))
 
 
 def articles(host: Host, at: Place) -> Iterator[Article]:
-    """The findings in their order; an escape is told at the first that it is of."""
+    """The findings in their order; an escape is shown at the first that it is of."""
     first: Dict[Escape, int] = {}
     for number, finding in enumerate(host.findings):
         part, broken = finding.parts[0], None

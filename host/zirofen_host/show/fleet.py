@@ -1,4 +1,4 @@
-"""Many hosts by the reports in a folder, read one after another and each as hostile: of each a row is kept, and no more."""
+"""From a folder of reports, read one after another and each as hostile, to a row for each host, and no more."""
 import hashlib
 import itertools
 import json
@@ -9,7 +9,7 @@ from typing import Callable, Iterable, Iterator, List, Mapping, Optional, Sequen
 
 from zirofen_host import version
 from zirofen_host.collect import bounded
-from zirofen_host.collect.looks import why_of
+from zirofen_host.collect.attempts import why_of
 from zirofen_host.collect.notes import FAILED
 from zirofen_host.fault import FAULT, Fault
 from zirofen_host.judge import limits, saved
@@ -36,7 +36,7 @@ NO_REPORT = "no report"
 
 @dataclass(frozen=True)
 class Row:
-    """What is told of a host, by its name; why its report doesn't count, where it doesn't."""
+    """What is known of a host, by its name; why its report doesn't count, where it doesn't."""
     name: str
     why: Optional[str]
     status: int
@@ -61,7 +61,7 @@ class Row:
     limits: Optional[Tuple[str, ...]] = ()
     # what stands behind an answer of it
     mark: str = ""
-    # the helper that made its report, where that is told
+    # the helper that made its report, where that is known
     helper: Optional[str] = None
 
     def place(self) -> Tuple[int, int, str]:
@@ -94,7 +94,7 @@ class Fleet:
         return min(self.rows, key=Row.place).status if self.rows else FAULT
 
     @property
-    def untold_limits(self) -> int:
+    def unknown_limits(self) -> int:
         """How many hosts there are of which it isn't known what narrows their reports."""
         return sum(row.limits is None for row in self.rows)
 
@@ -193,10 +193,10 @@ def row_of(name: str, host: Host, is_listed: bool) -> Row:
         if number < MOST_LINES:
             lines.append(cut(found[0], LONGEST_LINE))
     of = None if is_of(name, report.host) else cut(report.host, LONGEST_NAME)
-    told = None if isinstance(report.limits, Absent) else tuple(each.kind for each in report.limits)
+    kinds = None if isinstance(report.limits, Absent) else tuple(each.kind for each in report.limits)
     return Row(name, None, severity.status, severity.value, delegations, contained, open_findings, cut(report.time, 20), of, is_listed,
                tuple(cut(each, LONGEST_LINE) for each in notes), tuple(lines), len(host.findings), alike.digest(),
-               told, limits.mark_of(report), None if isinstance(report.helper, Absent) else cut(report.helper, LONGEST_NAME))
+               kinds, limits.mark_of(report), None if isinstance(report.helper, Absent) else cut(report.helper, LONGEST_NAME))
 
 
 def is_of(name: str, host: str) -> bool:
@@ -230,7 +230,7 @@ class Rules:
 
 
 def rows(folder: str, names: Iterable[str], rules: Rules, draw: Callable[[str, Report], None]) -> Iterator[Row]:
-    """The rows of the hosts that have a file. Each whose report counts is drawn, and what goes wrong with one is told of it alone."""
+    """The rows of the hosts that have a file. Each whose report counts is drawn, and what goes wrong with one is reported of it alone."""
     for name in names:
         try:
             report = report_in(os.path.join(folder, name + ENDING))
@@ -282,4 +282,4 @@ def value_of(fleet: Fleet) -> Mapping[str, object]:
         for row in fleet.rows]
     alike = [{"hosts": [row.name for row in group.rows], "answer": group.first.kind, "why": group.first.why,
               "findings": group.first.findings} for group in fleet.groups() if len(group.rows) > 1]
-    return {"version": 1, "helper": version.told(), "status": fleet.status, "hosts": hosts, "alike": alike}
+    return {"version": 1, "helper": version.helper_line(), "status": fleet.status, "hosts": hosts, "alike": alike}

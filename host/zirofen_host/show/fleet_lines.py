@@ -1,4 +1,4 @@
-"""Many hosts as lines: a table with the worst on top, in which hosts that are alike are one row."""
+"""From the rows of many hosts to lines: a table with the worst on top, in which hosts that are alike are one row."""
 from collections import Counter
 from typing import Iterator, List, Sequence, Tuple
 
@@ -38,7 +38,7 @@ def contained(rows: Sequence[Row]) -> str:
     return some([row.contained for row in rows]) + rows[0].mark
 
 
-def told(alike: Alike) -> Iterator[str]:
+def details(alike: Alike) -> Iterator[str]:
     """What stands below a row: why a report doesn't count, or the findings."""
     first, is_one = alike.first, len(alike.rows) == 1
     if first.why is not None:
@@ -67,8 +67,8 @@ def names(alike: Alike) -> str:
 def sum_line(fleet: Fleet) -> str:
     counts = Counter(row.kind for row in fleet.rows)
     others = f"; {words.count(fleet.others, 'other file')} passed over" if fleet.others else ""
-    if fleet.untold_limits:
-        others += f"; of {words.count(fleet.untold_limits, 'host')} it isn't known whether all of it was asked about"
+    if fleet.unknown_limits:
+        others += f"; of {words.count(fleet.unknown_limits, 'host')} it isn't known whether all of it was asked about"
     return f"{words.count(len(fleet.rows), 'host')}: " + ", ".join(f"{counts[kind]} {kind}" for kind in ORDER if counts[kind]) + others
 
 
@@ -80,8 +80,8 @@ def lines_of(fleet: Fleet, is_each: bool) -> Iterator[str]:
     for at, row in enumerate(table):
         yield "  ".join(word.ljust(width) for word, width in zip(row, widths)).rstrip()
         if at:
-            yield from (f"    {line}" for line in told(groups[at - 1]))
+            yield from (f"    {line}" for line in details(groups[at - 1]))
             if len(groups[at - 1].rows) > 1:
                 yield f"    {names(groups[at - 1])}"
-    yield f"made with {version.told()}"
+    yield f"made with {version.helper_line()}"
     yield sum_line(fleet)

@@ -1,4 +1,7 @@
-"""Many hosts as Prometheus' text format: sums over all of them, under labels of this module's making, and never a host's name."""
+"""From the rows of many hosts to Prometheus' text format: sums over all of them, and never a host's name.
+
+Labels are of this module's making.
+"""
 from collections import Counter
 from datetime import datetime, timezone
 from typing import Iterator

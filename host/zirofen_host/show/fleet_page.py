@@ -1,4 +1,4 @@
-"""Many hosts as pages in a folder: an index with the worst on top, and a page of each host beside it."""
+"""From the rows of many hosts to pages in a folder: an index with the worst on top, and a page of each host."""
 import hashlib
 import os
 import re
@@ -8,7 +8,7 @@ from zirofen_host import output, version
 from zirofen_host.judge.model import Report
 from zirofen_host.show import page, words
 from zirofen_host.show.fleet import LONGEST_NAME, NO_REPORT, ORDER, Alike, Fleet, Row, cut
-from zirofen_host.show.fleet_lines import contained, some, sum_line, times, told
+from zirofen_host.show.fleet_lines import contained, details, some, sum_line, times
 from zirofen_host.show.markup import code, css, filled, text
 from zirofen_host.show.words import FAULT, SIGNS
 
@@ -16,10 +16,10 @@ INDEX = "index.html"
 # a host's name that is a file's as it is; any other has a file by its sum
 _PLAIN = re.compile(r"[A-Za-z0-9_][A-Za-z0-9_.@-]{0,99}")
 _SUM = re.compile(r"index|host-[0-9a-f]{16}")
-# of a time what is told behind its minute
+# of a time what stands behind its minute
 _SECOND = re.compile(r"T([0-9]{2}:[0-9]{2}):[0-9]{2}Z")
-# letters of all that is told below the rows of an index: the rows behind have their numbers alone
-MOST_TOLD = 500_000
+# letters of all that stands below the rows of an index: the rows behind have their numbers alone
+LONGEST_DETAILS = 500_000
 # hosts of one row that aren't folded
 FEW = 6
 COLUMNS = ("Answer", "Host", "Delegations", "Contained", "Open", "Taken", "What is found")
@@ -46,7 +46,7 @@ class Index:
     """Writes the index, row by row."""
 
     def __init__(self, fleet: Fleet) -> None:
-        self.fleet, self.left = fleet, MOST_TOLD
+        self.fleet, self.left = fleet, LONGEST_DETAILS
 
     def row(self, alike: Alike) -> str:
         first, rows = alike.first, alike.rows
@@ -58,13 +58,13 @@ class Index:
         numbers = ["", "", "", ""] if first.why is not None else [
             some([row.delegations for row in rows]), contained(rows), some([row.open for row in rows]),
             _SECOND.sub(r" \1", times(alike))]
-        cells = "".join(f"<td>{each}</td>" for each in (sign, who, *map(text, numbers), self.told(alike)))
+        cells = "".join(f"<td>{each}</td>" for each in (sign, who, *map(text, numbers), self.details(alike)))
         return f'<tr class="{css(kind)}">{cells}</tr>' if first.why is None else f'<tr class="lost">{cells}</tr>'
 
-    def told(self, alike: Alike) -> str:
+    def details(self, alike: Alike) -> str:
         """What is found, as long as there is room for it."""
         lines = "<br>".join(text(line) if alike.first.why is not None else code(line) if line in alike.first.lines else text(line)
-                            for line in told(alike))
+                            for line in details(alike))
         self.left -= len(lines.encode())
         return lines if self.left > 0 else "its page tells" if alike.first.why is None else ""
 
@@ -78,7 +78,7 @@ class Index:
         head = "".join(f'<th scope="col">{each}</th>' for each in COLUMNS)
         worst = FAULT if kinds[0] == NO_REPORT else kinds[0]
         return filled("fleet.html", title=words.count(len(rows), "host"), kind=css(worst), sign=SIGNS[worst][0],
-                      sentence=text(sum_line(self.fleet)), made=text(version.told()), head=head, rows="".join(self.parts()))
+                      sentence=text(sum_line(self.fleet)), made=text(version.helper_line()), head=head, rows="".join(self.parts()))
 
 
 def write_index(folder: str, fleet: Fleet) -> None:

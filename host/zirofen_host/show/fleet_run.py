@@ -1,4 +1,4 @@
-"""What `zirofen-host fleet` does: reads the reports of a folder one after another, and writes what it was asked for."""
+"""From the options of `fleet` and a folder of reports to what it was asked to write."""
 import functools
 import json
 import time

@@ -1,4 +1,7 @@
-"""What somebody can make any number of, in so many lines: what is alike is one with a number, and the gravest stands first."""
+"""From parts of which somebody can make any number to few lines: what is alike is one with a number.
+
+The gravest stands first.
+"""
 from collections import Counter
 from dataclasses import dataclass
 from typing import Dict, Hashable, Iterable, Iterator, List, Optional, Sequence, Tuple
@@ -9,7 +12,7 @@ from zirofen_host.judge import severity
 
 @dataclass(frozen=True)
 class Part:
-    """Something that is told of what one person made."""
+    """Something that is reported of what one person made."""
     within: int
     # what it has in common with others that are alike
     alike: Hashable
@@ -22,7 +25,7 @@ class Part:
 
 @dataclass(frozen=True)
 class Run:
-    """Parts that are alike, of which the first is told."""
+    """Parts that are alike, of which the first is shown."""
     first: Part
     count: int
 

@@ -1,4 +1,4 @@
-"""A report in each way that was asked for."""
+"""From a run to its report in each form that was asked for."""
 import functools
 import importlib
 from typing import Callable, Iterable, Iterator, Mapping, Tuple
@@ -51,8 +51,8 @@ def text_parts(run: Run, is_each: bool) -> Iterator[str]:
     """The lines that are printed, which harm no terminal."""
     from zirofen_host.show import lines
     report, compared = run.report, run.comparison
-    told = lines.comparison_lines(report, compared, is_each) if compared else lines.lines_of(report, is_each)
-    return (f"{fault.plain(line)}\n" for line in told)
+    printed = lines.comparison_lines(report, compared, is_each) if compared else lines.lines_of(report, is_each)
+    return (f"{fault.plain(line)}\n" for line in printed)
 
 
 def json_parts(run: Run) -> Iterator[str]:

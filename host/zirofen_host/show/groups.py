@@ -1,4 +1,4 @@
-"""The findings of a host in groups: those that differ in nothing but names are told once, with the names of all."""
+"""From the findings of a host to groups: those that differ in names alone are one, with the names of all."""
 import re
 from dataclasses import dataclass
 from typing import Dict, Hashable, Iterator, List, Sequence
@@ -37,12 +37,12 @@ def part_in_common(part: Part) -> Hashable:
 
 
 def in_common(article: Article) -> Hashable:
-    """What findings have in common that are told together."""
+    """What findings have in common that are shown together."""
     finding, broken = article.finding, article.broken
     how: Hashable = None
     if broken:
         steps = tuple(words.operation(line) for line in broken.escape.lines)
-        how = steps, broken.steps.breaks.kind if broken.steps else None, broken.told_before is None
+        how = steps, broken.steps.breaks.kind if broken.steps else None, broken.shown_before is None
     first = finding.parts[0]
     parts = tuple(map(part_in_common, finding.parts))
     return finding.kind, accepted_of(first), finding.key, parts, len(subtrees_of(first)) > 1, how
@@ -50,7 +50,7 @@ def in_common(article: Article) -> Hashable:
 
 @dataclass(frozen=True)
 class Group:
-    """Findings that are alike, of which the first is told whole."""
+    """Findings that are alike, of which the first is shown whole."""
     members: Sequence[Article]
 
     def html(self, is_open: bool) -> str:
@@ -59,9 +59,9 @@ class Group:
         return filled("group.html", kind=css(kind), id=f' id="{first.id}"' if not others else "", open=" open" if is_open else "",
                       heading=first.at.level(3), sign=SIGNS[kind][0] if kind in SIGNS else "~", word=kind,
                       title=first.title() + (f", and {others} more {'is' if others == 1 else 'are'} alike" if others else ""),
-                      told=self.told() if others else first.html())
+                      details=self.details() if others else first.html())
 
-    def told(self) -> str:
+    def details(self) -> str:
         """All of them: each behind a fold of its own, and what mends them all at the end."""
         shown = "\n".join(self.member(each) for each in self.members[:SHOWN])
         rest = "\n".join(f'<li class="member" id="{each.id}">{each.what()}</li>' for each in self.members[SHOWN:])

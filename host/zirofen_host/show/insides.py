@@ -1,4 +1,4 @@
-"""The containers of root's in the page: how each stands, and what that says."""
+"""From the containers of root's in a report to their part of the page: how each stands, and what that means."""
 from typing import Iterator
 
 from zirofen_host.judge.finding_lines import INSIDE_MEANS, inside_count, inside_text
@@ -18,8 +18,8 @@ def link(host: Host, at: Place, each: RootInside) -> str:
 
 def lines(host: Host, at: Place) -> Iterator[str]:
     for number, each in enumerate(host.report.containers, 1):
-        told = f'<span id="{at.id}-held-{number}">{text(inside_text(each))}</span>' if each.held else link(host, at, each)
-        yield f"{code(each.path)}{text(beside(host.scopes, each.path))}: {told} ({text(inside_count(each))})"
+        state = f'<span id="{at.id}-held-{number}">{text(inside_text(each))}</span>' if each.held else link(host, at, each)
+        yield f"{code(each.path)}{text(beside(host.scopes, each.path))}: {state} ({text(inside_count(each))})"
 
 
 def html(host: Host, at: Place) -> str:
@@ -36,6 +36,6 @@ def against(host: Host, at: Place) -> Iterator[str]:
     found = host.report.containers
     if found:
         open_ones = sum(not each.held for each in found)
-        told = f"{open_ones} of them not held" if open_ones else "all held"
-        yield (f'<a href="#{at.id}-inside">Root inside of {words.count(len(found), "container")}</a>, {told}: '
+        state = f"{open_ones} of them not held" if open_ones else "all held"
+        yield (f'<a href="#{at.id}-inside">Root inside of {words.count(len(found), "container")}</a>, {state}: '
                f"{text(INSIDE_MEANS)}.")

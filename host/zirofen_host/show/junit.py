@@ -1,4 +1,4 @@
-"""A report as JUnit's XML: a case for each subtree and whoever was asked of it, for what stands open and for what was accepted."""
+"""From a run to JUnit's XML: a case for each answer, for what stands open and for what was accepted."""
 import time
 from collections import defaultdict
 from dataclasses import dataclass, field
@@ -24,7 +24,7 @@ OF_SEVERITY: Dict[Severity, str] = {
     **dict.fromkeys((Severity.ESCAPES, Severity.OPENED, Severity.UNSETTLED, Severity.NOT_LOOKED_AT, Severity.STALE), FAILURE),
     Severity.CONTAINED: PASSED}
 HOST = "the host"
-# what is told of the host as a whole has a case in each report
+# what is found of the host as a whole has a case in each report
 OF_HOST = {NOTHING_ASKED: "something is asked", VERSION_1: "no limits are v1's"}
 
 
@@ -59,7 +59,7 @@ def outcome_of(found: Finding) -> str:
     return OF_SEVERITY.get(found.rule.severity, ERROR) if isinstance(found.accepted, Absent) else SKIPPED
 
 
-def told(found: Finding) -> List[str]:
+def details(found: Finding) -> List[str]:
     """All that is said of a finding, with what mends it."""
     accepted = [] if isinstance(found.accepted, Absent) else [f"accepted: {found.accepted}"]
     setting = [f"setting, at the next start: {found.setting}"] if found.setting else []
@@ -81,7 +81,7 @@ def holder_case(cases: Cases, subtree: Subtree, by_subtree: Mapping[str, List[Fi
             continue
         is_accepted = bool(behind) and not any(isinstance(found.accepted, Absent) for found in behind)
         outcome = SKIPPED if is_accepted else OF_SEVERITY.get(severity, ERROR)
-        case.add(outcome, each.word, [*each.lines, *(line for found in behind for line in told(found))])
+        case.add(outcome, each.word, [*each.lines, *(line for found in behind for line in details(found))])
     if not subtree.answers:
         cases.at(subtree.path, "held by root alone")
 
@@ -97,7 +97,7 @@ def entry_cases(cases: Cases, found: Finding, subtrees: Dict[str, Subtree]) -> N
     for whom in found.whom:
         for path in found.subtrees:
             if not is_holders(subtrees.get(path), whom.by, whom.id):
-                cases.at(path, f"let in: {whom.name}").add(outcome_of(found), found.rule.id, told(found))
+                cases.at(path, f"let in: {whom.name}").add(outcome_of(found), found.rule.id, details(found))
 
 
 def place_of(found: Finding) -> Tuple[str, str]:
@@ -132,29 +132,29 @@ def cases_of(run: Run) -> Iterable[Case]:
         cases.at(HOST, "nothing else stands open")
     for each in limits.narrowing(run.report):
         cases.at(HOST, "all of it is asked about").add(SKIPPED, f"limits/{each.kind}", [f"{limits.HEAD}: {each.text}"])
-    for told_of in run.report.unseen:
-        if told_of.kind == Outside.kind:
-            cases.at(HOST, "processes outside of what their users hold").add(PASSED, told_of.kind, [told_of.line])
+    for note in run.report.unseen:
+        if note.kind == Outside.kind:
+            cases.at(HOST, "processes outside of what their users hold").add(PASSED, note.kind, [note.line])
     for found in run.findings:
         if found.subtrees:
             entry_cases(cases, found, subtrees)
         else:
-            cases.at(*place_of(found)).add(outcome_of(found), found.rule.id, told(found))
+            cases.at(*place_of(found)).add(outcome_of(found), found.rule.id, details(found))
     return cases.found.values()
 
 
 def add_case(suite: ElementTree.Element, case: Case, subject: str) -> None:
     names = {"classname": plain(subject), "name": plain(case.name), "time": "0"}
-    told = "\n".join(map(plain, dict.fromkeys(case.lines)))
+    output = "\n".join(map(plain, dict.fromkeys(case.lines)))
     element = ElementTree.SubElement(suite, "testcase", names)
-    if not told:
+    if not output:
         return
     if case.outcome == SKIPPED:
         ElementTree.SubElement(element, SKIPPED, message=plain(case.lines[-1]))
     if case.outcome in (PASSED, SKIPPED):
-        ElementTree.SubElement(element, "system-out").text = told
+        ElementTree.SubElement(element, "system-out").text = output
     else:
-        ElementTree.SubElement(element, case.outcome, type=case.kind, message=plain(case.lines[0])).text = told
+        ElementTree.SubElement(element, case.outcome, type=case.kind, message=plain(case.lines[0])).text = output
 
 
 def parts_of(run: Run) -> Iterator[str]:

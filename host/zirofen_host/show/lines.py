@@ -1,4 +1,4 @@
-"""A report as it is printed, made of it alone."""
+"""From a report to the lines that are printed of it."""
 import itertools
 from collections import Counter
 from typing import Callable, Dict, Iterable, Iterator, List, Mapping, Optional, Sequence, Tuple, TypeVar, Union
@@ -13,7 +13,7 @@ from zirofen_host.judge.finding_lines import (INSIDE_MEANS, NOTHING_ASKED, PREMI
 from zirofen_host.judge.host_model import ABSENT, Absent, NamedScope
 from zirofen_host.judge.marked import marks_text
 from zirofen_host.judge.model import (AboveFinding, Comparison, Difference, DiffersFinding, EntryFinding, HeldFinding, HolderAnswer,
-                                      OpenedFinding, PremiseFinding, Report, RootInside, RunsElsewhere, Subtree, Told)
+                                      OpenedFinding, PremiseFinding, Report, ReportNote, RootInside, RunsElsewhere, Subtree)
 from zirofen_host.judge.notes import JOINED
 from zirofen_host.judge.severity import Severity
 from zirofen_host.judge.standing import cause_of, is_empty, standings, status_text
@@ -28,7 +28,7 @@ WIDEST = (20, 24, 48)
 # who holds what root alone does, and its answer
 NOBODY, ROOT_ALONE = "-", "held by root alone"
 # lines of each kind of what no answer looks at, for what one person made
-TOLD = 4
+LINES_OF_KIND = 4
 # what a comparison's status may be by
 COUNTED = {"new": "new", "worse": "worse", "stand": "that stand since then"}
 # what brings changes and a setting
@@ -207,18 +207,18 @@ def premise_lines(report: Report, is_each: bool = False) -> Iterator[str]:
                        if not isinstance(within, Absent)), is_each)
 
 
-def told_lines(found: Iterable[Told], is_each: bool) -> Iterator[str]:
+def note_lines(found: Iterable[ReportNote], is_each: bool) -> Iterator[str]:
     """What no answer looks at; of what somebody made, so many lines of each kind."""
-    told = list(found)
-    listed = [each for each in told if is_each or each.kind not in JOINED]
+    notes = list(found)
+    listed = [each for each in notes if is_each or each.kind not in JOINED]
     yield from (each.line for each in listed if each.within is ABSENT)
-    yield from joined_lines(each for each in told if not is_each and each.kind in JOINED)
+    yield from joined_lines(each for each in notes if not is_each and each.kind in JOINED)
     for kind in sorted({each.kind for each in listed}):
         yield from folded((Part(each.within, (number,), each.kind, None, [each.line]) for number, each in enumerate(listed)
-                           if each.kind == kind and not isinstance(each.within, Absent)), is_each, TOLD)
+                           if each.kind == kind and not isinstance(each.within, Absent)), is_each, LINES_OF_KIND)
 
 
-def joined_lines(found: Iterable[Told]) -> Iterator[str]:
+def joined_lines(found: Iterable[ReportNote]) -> Iterator[str]:
     """What is one fact of several, in one line."""
     for of in joined(found):
         if len(of) < 2:
@@ -245,16 +245,16 @@ def asked_line(report: Report) -> str:
     """How many subtrees were asked of, and how many of them stand how; what a limited answer holds to be contained has its mark."""
     counts = Counter(each.value for each in standings(report).values())
     roots = counts.pop(NOT_ASKED, 0)
-    told = ", ".join(f"{counts[word]} {standing_text(word, report)}" for word in STANDINGS if counts[word])
-    asked = (f"{sum(counts.values())} asked: {told or 'nothing'}", f"{roots} {ROOT_ALONE}" if roots else "")
+    counted = ", ".join(f"{counts[word]} {standing_text(word, report)}" for word in STANDINGS if counts[word])
+    asked = (f"{sum(counts.values())} asked: {counted or 'nothing'}", f"{roots} {ROOT_ALONE}" if roots else "")
     return "; ".join(filter(None, (*asked, inside_sum(report), limits.line_of(report))))
 
 
 def inside_sum(report: Report) -> str:
     """How many containers of root's there are, and how they stand."""
     counts = Counter("accepted" if each.accepted is not ABSENT else "held" if each.held else "not held" for each in report.containers)
-    told = ", ".join(f"{counts[word]} {word}" for word in ("not held", "accepted", "held") if counts[word])
-    return f"{sum(counts.values())} with root inside: {told}" if counts else ""
+    counted = ", ".join(f"{counts[word]} {word}" for word in ("not held", "accepted", "held") if counts[word])
+    return f"{sum(counts.values())} with root inside: {counted}" if counts else ""
 
 
 def lines_of(report: Report, is_each: bool = False) -> Iterator[str]:
@@ -288,10 +288,10 @@ def lines_of(report: Report, is_each: bool = False) -> Iterator[str]:
         yield from above_lines(report.above, is_each)
     yield ""
     yield f"What none of these answers looks at ({MANUAL}):"
-    yield from told_lines(report.unseen, is_each)
+    yield from note_lines(report.unseen, is_each)
     # what is version 1's is said in the sum
     snapshot = (each for each in report.snapshot if each.kind != LimitsOfVersion1.kind)
-    yield from (f"snapshot: {line}" for line in told_lines(snapshot, is_each))
+    yield from (f"snapshot: {line}" for line in note_lines(snapshot, is_each))
     if not report.unseen and not report.snapshot:
         yield "this host tells of nothing"
     yield from made_lines(report)
@@ -312,10 +312,10 @@ def by_kind(compared: Comparison) -> Iterator[Tuple[str, Tuple[Difference, ...]]
 
 def standing_line(compared: Comparison) -> str:
     """What stands since a baseline, and was accepted by nobody."""
-    told = "; ".join(each.line for each in compared.stand[:SHOWN])
+    lines = "; ".join(each.line for each in compared.stand[:SHOWN])
     more = f"; and {len(compared.stand) - SHOWN} more" if len(compared.stand) > SHOWN else ""
     verb = "finding stands" if len(compared.stand) == 1 else "findings stand"
-    return f"{len(compared.stand)} {verb} since {compared.time or compared.file}: {told}{more}"
+    return f"{len(compared.stand)} {verb} since {compared.time or compared.file}: {lines}{more}"
 
 
 def comparison_lines(report: Report, compared: Comparison, is_each: bool = False) -> Iterator[str]:
@@ -344,9 +344,9 @@ def comparison_lines(report: Report, compared: Comparison, is_each: bool = False
 def compared_line(report: Report, compared: Comparison) -> str:
     """The status of a comparison, and what it is by: what is new or worse, and what stands since then and nobody accepted."""
     counts = {word: sum(each.status == compared.status for each in found) for word, found in by_kind(compared)}
-    told = [f"{counts[kind]} {word}" for kind, word in COUNTED.items() if counts[kind]] if compared.status else []
+    counted = [f"{counts[kind]} {word}" for kind, word in COUNTED.items() if counts[kind]] if compared.status else []
     other = Severity.NOTHING_ASKED if compared.status == Severity.NOTHING_ASKED.status else Severity.STALE
-    by = listed(told) or (cause_of(report, other) if compared.status else "")
+    by = listed(counted) or (cause_of(report, other) if compared.status else "")
     return "; ".join(filter(None, (f"{compared.status} by {by}" if by else str(compared.status), limits.line_of(report))))
 
 

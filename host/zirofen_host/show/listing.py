@@ -1,4 +1,4 @@
-"""The delegations of a tree as lines."""
+"""From the delegations of a tree to lines."""
 from typing import Dict
 
 from zirofen_host.ask.delegations import Delegations

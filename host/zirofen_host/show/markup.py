@@ -1,4 +1,4 @@
-"""Markup of a page. Every text of a report goes through `text` or `code` into it, and no other way: names are hostile."""
+"""From texts of a report to markup of a page, into which they go by `text` or `code` alone: names are hostile."""
 import functools
 import os
 from html import escape
@@ -29,14 +29,14 @@ def filled(name: str, **values: Union[str, int]) -> str:
     return Template(read(name)).substitute(values).rstrip("\n")
 
 
-def sentence(told: Iterable[Union[str, Tuple[str, str]]]) -> str:
+def sentence(parts: Iterable[Union[str, Tuple[str, str]]]) -> str:
     """A list of plain texts, and of pairs of a type and a text, as markup."""
-    return "".join(code(each[1]) if isinstance(each, tuple) else text(each) for each in told)
+    return "".join(code(each[1]) if isinstance(each, tuple) else text(each) for each in parts)
 
 
-def capital(told: str) -> str:
+def capital(sentence: str) -> str:
     """A sentence's beginning; a user's name stays as it is."""
-    return told[0].upper() + told[1:] if told.startswith(("anybody", "everybody", "a member", "members")) else told
+    return sentence[0].upper() + sentence[1:] if sentence.startswith(("anybody", "everybody", "a member", "members")) else sentence
 
 
 def items(markup: Iterable[str]) -> str:

@@ -1,4 +1,4 @@
-"""What mends findings so that it stays, to be read first: what to look at, with drop-ins that somebody may want, or a script."""
+"""From what mends findings so that it stays to what root reads first: where to look, with drop-ins, or a script."""
 from typing import Iterator
 
 from zirofen_host.fault import plain
@@ -13,7 +13,7 @@ NOTHING = "# nothing is to mend"
 def about(mend: Mend) -> Iterator[str]:
     """What is found and what stays of its mend, as comments."""
     yield from (f"# {line}" for line in mend.lines)
-    yield from (f"#   {line}" for line in mend.told)
+    yield from (f"#   {line}" for line in mend.remarks)
     for each in mend.withheld:
         yield f"#   not written, since {each.why}:"
         yield from (f"#     {line}" for line in (each.unit.drop_in, f"[{each.unit.section}]", *each.settings))

@@ -1,5 +1,7 @@
-"""A report as Prometheus' text format, for node_exporter's textfile collector: numbers alone, under labels of this module's making, and
-which helper and program they are of."""
+"""From a run to Prometheus' text format, for node_exporter's textfile collector: numbers alone.
+
+Labels are of this module's making, and say which helper and program made it.
+"""
 from collections import Counter
 from typing import Dict, Iterator, Mapping, NamedTuple, Tuple
 
@@ -12,7 +14,7 @@ from zirofen_host.judge.rules import RULES, Rule
 from zirofen_host.judge.standing import standings
 from zirofen_host.show.run import Run
 
-# what isn't a finding of an entry is a fault, or told by the status
+# what isn't a finding of an entry is a fault, or shown by the status
 FAULTS: Dict[str, str] = {"fault": "anybody", "fault/own": "holders", "failed": "look"}
 NAMES: Dict[Severity, str] = {
     Severity.ESCAPES: "escapes", Severity.OPENED: "escapes", Severity.UNSETTLED: "unsettled", Severity.CONTAINED: "contained",
@@ -26,7 +28,7 @@ ALONE: Tuple[Tuple[str, str], ...] = ()
 class Gauge(NamedTuple):
     """A metric with its values by labels."""
     name: str
-    told: str
+    help: str
     values: Values
 
 
@@ -74,10 +76,10 @@ def gauges(run: Run) -> Iterator[Gauge]:
 
 
 def lines_of(gauge: Gauge) -> Iterator[str]:
-    yield f"# HELP {gauge.name} {gauge.told}\n# TYPE {gauge.name} gauge\n"
+    yield f"# HELP {gauge.name} {gauge.help}\n# TYPE {gauge.name} gauge\n"
     for labels, value in gauge.values.items():
-        told = ",".join(f"{name}={quoted(word)}" for name, word in labels)
-        yield f"{gauge.name}{{{told}}} {value}\n" if told else f"{gauge.name} {value}\n"
+        pairs = ",".join(f"{name}={quoted(word)}" for name, word in labels)
+        yield f"{gauge.name}{{{pairs}}} {value}\n" if pairs else f"{gauge.name} {value}\n"
 
 
 def parts_of(run: Run) -> Iterator[str]:

@@ -1,4 +1,4 @@
-"""Reports of hosts as one page in one file, which loads nothing and works without its script."""
+"""From reports of hosts to one page in one file, which loads nothing and works without its script."""
 import base64
 import hashlib
 from dataclasses import dataclass
@@ -8,7 +8,7 @@ from typing import Dict, List, NamedTuple, Sequence, Tuple
 from zirofen_host import output
 from zirofen_host.judge import limits
 from zirofen_host.judge.host_model import Absent
-from zirofen_host.judge.model import Difference, Report, RootInside, Told
+from zirofen_host.judge.model import Difference, Report, ReportNote, RootInside
 from zirofen_host.judge.notes import MEANINGS as WHAT_NO_ANSWER_SEES
 from zirofen_host.show import against, chart, groups, insides, words
 from zirofen_host.show.branches import Branches
@@ -32,9 +32,9 @@ class Unread(NamedTuple):
     why: str
 
 
-def capital(told: str) -> str:
+def capital(sentence: str) -> str:
     """A sentence of these words; names in it stay as they are."""
-    return told[:1].upper() + told[1:]
+    return sentence[:1].upper() + sentence[1:]
 
 
 def difference(each: Difference) -> str:
@@ -51,7 +51,7 @@ class HostPage:
 
     @property
     def kind(self) -> str:
-        """The gravest that is told of it."""
+        """The gravest that is found of it."""
         return self.host.severity.value
 
     @property
@@ -62,9 +62,9 @@ class HostPage:
         """What it was made of, as far as a report tells."""
         report = self.host.report
         time = f'at <time datetime="{text(report.time)}">{text(report.time)}</time>' if report.time else "at a time that isn't told"
-        told = (f'<span class="name">{text(self.name)}</span>', text(report.kernel), time,
-                f"with {text(words.listed(words.made_by(report)))}" if report.program else "")
-        return ", ".join(filter(None, told))
+        parts = (f'<span class="name">{text(self.name)}</span>', text(report.kernel), time,
+                 f"with {text(words.listed(words.made_by(report)))}" if report.program else "")
+        return ", ".join(filter(None, parts))
 
     def sentence(self) -> str:
         """How the host stands, at once, and what that leaves out."""
@@ -76,7 +76,7 @@ class HostPage:
         number = sum(any(kind == self.kind for kind, _ in self.host.standing[path]) for path in self.host.delegations)
         every, one = words.count(len(self.host.delegations), "delegation"), number == 1
         is_, has, stands, it = ("is", "has", "stands", "it") if one else ("are", "have", "stand", "they")
-        told = {
+        sentences = {
             ESCAPES: f"{number} of {every} can be broken by somebody whom {it} should hold.",
             OPENED: f"{self.opened()}, and {self.contained()}.",
             UNSETTLED: f"{number} of {every} {is_} not settled: an entry stands open, and nothing was found that breaks the subtree.",
@@ -87,7 +87,7 @@ class HostPage:
             ACCEPTED: f"{number} of {every} {stands} open by what somebody accepted, and {self.contained(False)}.",
             NOT_ASKED: f"{self.nobodys()}, and {words.count(len(self.host.root_inside), 'container')} of root's.",
             NOTHING_ASKED: "Nothing was found to ask: no subtree and user of which containment could be asked."}
-        return told.get(self.kind) or self.all_contained()
+        return sentences.get(self.kind) or self.all_contained()
 
     def nobodys(self) -> str:
         """What was found where nobody but root was handed anything."""
@@ -123,8 +123,8 @@ class HostPage:
 
     def open_kinds(self) -> str:
         kinds = [(kind, sum(each.kind == kind for each in self.host.findings)) for kind in COUNTED]
-        told = ", ".join(f"{kind} {number}" for kind, number in kinds if number)
-        return f" ({told})" if told else ""
+        counts = ", ".join(f"{kind} {number}" for kind, number in kinds if number)
+        return f" ({counts})" if counts else ""
 
     def html(self) -> str:
         delegations, contained, open_findings = self.host.numbers
@@ -148,18 +148,18 @@ class HostPage:
         found = self.host.report.baseline
         if isinstance(found, Absent):
             return ""
-        second, third, told = self.at.level(2), self.at.level(3), []
+        second, third, sections = self.at.level(2), self.at.level(3), []
         for kind, differ in by_kind(found):
             parts = [f'<li id="{self.at.id}-{kind}-{number}">{difference(each)}</li>' for number, each in enumerate(differ, 1)]
-            told += [f"<{third}>{kind.capitalize()}</{third}><ul>", *parts, "</ul>"] if parts else []
+            sections += [f"<{third}>{kind.capitalize()}</{third}><ul>", *parts, "</ul>"] if parts else []
         return (f'<section id="{self.at.id}-baseline"><{second}>Since {text(found.time or found.file)}</{second}>\n'
-                + "\n".join(told or ["<p>Nothing is new, worse, changed or gone.</p>"]) + "\n</section>")
+                + "\n".join(sections or ["<p>Nothing is new, worse, changed or gone.</p>"]) + "\n</section>")
 
     def signs(self) -> str:
         seen = {kind for kinds in self.host.standing.values() for kind, _ in kinds}
         report = self.host.report
-        told = ((css(kind), f"{SIGNS[kind][0]} {standing_text(kind, report)}", MEANINGS[kind]) for kind in STANDINGS if kind in seen)
-        return "\n".join(f'<dt class="{kind} standing">{sign}</dt><dd>{meaning}</dd>' for kind, sign, meaning in told)
+        signs = ((css(kind), f"{SIGNS[kind][0]} {standing_text(kind, report)}", MEANINGS[kind]) for kind in STANDINGS if kind in seen)
+        return "\n".join(f'<dt class="{kind} standing">{sign}</dt><dd>{meaning}</dd>' for kind, sign, meaning in signs)
 
     def expected(self) -> str:
         """What lies below what was handed to somebody."""
@@ -167,16 +167,16 @@ class HostPage:
         if not above:
             return ""
         second = self.at.level(2)
-        told = "\n".join(f'<li id="{self.at.id}-above-{number}">{text(each.who)}, below {code(each.handed)}: '
-                         f'{places(each.subtrees)}</li>' for number, each in enumerate(above, 1))
+        items = "\n".join(f'<li id="{self.at.id}-above-{number}">{text(each.who)}, below {code(each.handed)}: '
+                          f'{places(each.subtrees)}</li>' for number, each in enumerate(above, 1))
         return (f'<section id="{self.at.id}-above"><{second}>Expected, and not counted</{second}>'
-                f"<p>What lies below what was handed to somebody is open to them.</p><ul>\n{told}\n</ul></section>")
+                f"<p>What lies below what was handed to somebody is open to them.</p><ul>\n{items}\n</ul></section>")
 
     def unseen(self) -> str:
         """The lines by their kind, each kind with what it means."""
         kinds: Dict[Tuple[str, str], List[str]] = {}
-        told = (("unseen", self.host.report.unseen), ("snapshot", self.host.report.snapshot))
-        for key, found in told:
+        notes = (("unseen", self.host.report.unseen), ("snapshot", self.host.report.snapshot))
+        for key, found in notes:
             numbers = {id(each): number for number, each in enumerate(found, 1)}
             for of in joined(found):
                 in_order = sorted(of, key=lambda each: numbers[id(each)])
@@ -200,13 +200,13 @@ class HostPage:
                 f"{open_findings} {of_what}</li>")
 
 
-def item_of(of: Sequence[Tuple[str, Told]]) -> str:
+def item_of(of: Sequence[Tuple[str, ReportNote]]) -> str:
     """Notes with one fact, or a note alone, each with its id."""
-    (first, told), *others = of
+    (first, head), *others = of
     if not others:
-        return f'<li id="{first}">{code(told.place) + ": " if told.place else ""}{text(told.text)}</li>'
+        return f'<li id="{first}">{code(head.place) + ": " if head.place else ""}{text(head.text)}</li>'
     parts = (f'<span id="{each}">{code(note.place) + " " if note.place else ""}{text(rest_of(note))}</span>' for each, note in of)
-    return f'<li id="{first}-together">{text(fact_of(told) or "")}: {"; ".join(parts)}</li>'
+    return f'<li id="{first}-together">{text(fact_of(head) or "")}: {"; ".join(parts)}</li>'
 
 
 def sum_of(inline: str) -> str:
@@ -241,7 +241,7 @@ def unread_row(each: Unread) -> str:
 
 
 def page(reports: Sequence[Report], unread: Sequence[Unread] = (), above: str = "") -> str:
-    """The page of one report or more, with what stands above it; reports that couldn't be read are told first."""
+    """The page of one report or more, with what stands above it; reports that couldn't be read stand first."""
     hosts = [host_of(report) for report in reports]
     is_alone = len(hosts) == 1 and not unread
     pages = sorted((HostPage(host, Place(f"host-{number}", is_alone)) for number, host in enumerate(hosts, 1)), key=severity)

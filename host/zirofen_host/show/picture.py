@@ -1,7 +1,7 @@
-"""A picture of an escape: the cgroups from the root to the subtree as boxes in one another, as SVG for the page.
+"""From an escape to a picture as SVG for the page: the cgroups from the root to the subtree as boxes in one another.
 
-The subtree's edge is dashed, the entries that let somebody in are marked, and so is what they break: an arrow for a process
-that crosses the edge, or what becomes of a limit. The page's style has the colours, by the classes that are named here.
+The subtree's edge is dashed, the entries that let somebody in are marked, and so is what they break: an arrow for a process that crosses
+the edge, or what becomes of a limit. The page's style has the colours, by the classes that are named here.
 """
 from dataclasses import dataclass, field
 from html import escape
@@ -95,7 +95,7 @@ class Shown:
             return []
         return [("mark", f"✗ {how}")] + [("entry", f"   {name}") for name in words.some(names, MOST_ENTRIES)]
 
-    def told(self) -> str:
+    def description(self) -> str:
         """What the picture shows, for who doesn't see it."""
         start = f"Boxes from the root to {self.escape.subtree}, whose edge is dashed. Marked: " + words.listed(
             f"{words.named(each.entry)} of {each.path}" for each in self.entries)
@@ -166,9 +166,9 @@ def svg(shown: Shown, name: str) -> str:
     drawn = Drawn(shown.escape.subtree, shown.breaks)
     drawn.draw(top, 2, 2, WIDTH - 2)
     return (f'<svg class="picture" viewBox="0 0 {WIDTH} {top.height() + 4}" role="img" aria-labelledby="{name}">'
-            f'<title id="{name}">{escape(shown.told())}</title>{"".join(drawn.parts)}{drawn.arrow()}</svg>')
+            f'<title id="{name}">{escape(shown.description())}</title>{"".join(drawn.parts)}{drawn.arrow()}</svg>')
 
 
-def value(file: str, told: Optional[Value]) -> str:
+def value(file: str, found: Optional[Value]) -> str:
     """A limit's value, or that it has none, since nobody has set it or its file isn't there."""
-    return "no limit file" if told is None else "not set" if told == "" else words.size(file, told)
+    return "no limit file" if found is None else "not set" if found == "" else words.size(file, found)

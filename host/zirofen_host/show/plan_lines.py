@@ -1,4 +1,4 @@
-"""What changes to a tree would be answered, beside the tree as it is."""
+"""From what changes to a tree would be answered, beside the tree as it is, to lines."""
 from typing import Iterator
 
 from zirofen_host import fault
@@ -26,7 +26,7 @@ def lines_of(report: Report, compared: Comparison) -> Iterator[str]:
 
 
 def status_text(report: Report, compared: Comparison) -> str:
-    """The status, and what it is by: what is new or worse, a fault that stands, and what can't be told."""
+    """The status, and what it is by: what is new or worse, a fault that stands, and what can't be known."""
     status = status_of(compared, report)
     if not status:
         return str(status)

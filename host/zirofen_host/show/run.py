@@ -1,4 +1,4 @@
-"""A run of a check: its report, and what isn't in it."""
+"""A run of a check, of which each form is made: its report, and what isn't in it."""
 from dataclasses import dataclass, replace
 from functools import cached_property
 from typing import Mapping, Optional, Tuple

@@ -1,4 +1,4 @@
-"""A report as SARIF 2.1.0 (OASIS): what a gate of code reads, with the lines of a tree text or the cgroups of a host as places."""
+"""From a run to SARIF 2.1.0 (OASIS), which gates of code read: places are lines of a tree text, or cgroups of a host."""
 import hashlib
 import json
 import os
@@ -41,9 +41,9 @@ def level_of(severity: Severity) -> str:
 
 
 def rule_object(rule: Rule) -> Object:
-    told = {"text": f"{rule.told} What to do: {PAGE}, section {rule.id}.",
-            "markdown": f"{rule.told}\n\nWhat to do: *{PAGE}*, section `{rule.id}`."}
-    return {"id": rule.id, "shortDescription": {"text": rule.what}, "fullDescription": {"text": rule.told}, "help": told,
+    help_text = {"text": f"{rule.description} What to do: {PAGE}, section {rule.id}.",
+                 "markdown": f"{rule.description}\n\nWhat to do: *{PAGE}*, section `{rule.id}`."}
+    return {"id": rule.id, "shortDescription": {"text": rule.what}, "fullDescription": {"text": rule.description}, "help": help_text,
             "defaultConfiguration": {"level": level_of(rule.severity)}}
 
 

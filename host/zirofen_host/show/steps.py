@@ -1,4 +1,7 @@
-"""An escape told in words: its operations one by one, as far as what they say needs it carried out, and what it breaks."""
+"""From an escape's operations to sentences, one for each, and to what the escape breaks.
+
+The operations are carried out as far as the sentences need it.
+"""
 from dataclasses import dataclass
 from typing import Callable, Dict, List, Mapping, NamedTuple, Optional, Sequence, Tuple, Union
 
@@ -44,22 +47,22 @@ class Breaks:
 @dataclass(frozen=True)
 class Steps:
     breaks: Breaks
-    told: Tuple[Sentence, ...]
+    sentences: Tuple[Sentence, ...]
 
 
-class Teller:
-    """Where processes stand and what is broken, while operations are told."""
+class Describer:
+    """Where processes stand and what is broken, while operations are described."""
 
     def __init__(self, host: Host, subtree: str) -> None:
         self.host, self.subtree = host, subtree
         self.at: Dict[int, str] = {}
         self.breaks = Breaks(UNKNOWN)
 
-    def tell(self, words: List[str]) -> Sentence:
+    def describe(self, words: List[str]) -> Sentence:
         """One operation; what is none stands as it is."""
-        tell = TELLS.get(words[0])
+        describe = DESCRIPTIONS.get(words[0])
         try:
-            return tell(self, words[1:]) if tell else [("code", " ".join(words))]
+            return describe(self, words[1:]) if describe else [("code", " ".join(words))]
         except (ValueError, IndexError):
             return [("code", " ".join(words))]
 
@@ -75,11 +78,11 @@ class Teller:
         self.at[int(pid)] = path
         name = f" ({process.name})" if process else ""
         start: Sentence = [" from ", ("code", before)] if before else []
-        told: Sentence = [f"move process {pid}{name}", *start, " to ", ("code", path)]
+        sentence: Sentence = [f"move process {pid}{name}", *start, " to ", ("code", path)]
         if before and is_inside(before, self.subtree) != is_inside(path, self.subtree):
             self.breaks = Breaks(CROSSED, Move(int(pid), before, path))
-            told.append(f": it goes {'into' if is_inside(path, self.subtree) else 'out of'} the subtree")
-        return told
+            sentence.append(f": it goes {'into' if is_inside(path, self.subtree) else 'out of'} the subtree")
+        return sentence
 
     def set(self, words: Sequence[str]) -> Sentence:
         path, file, *parts = words
@@ -99,8 +102,8 @@ class Teller:
                 for file, limit in LIMIT_FILES.items() if limit.controller in names))
         on = listed(each[1:] for each in changes if each[0] == "+")
         off = listed(each[1:] for each in changes if each[0] == "-")
-        told = listed([*([f"enable {on}"] if on else []), *([f"disable {off}"] if off else [])])
-        return [told, " in ", ("code", path), ": limits of what is below come or go"]
+        changed = listed([*([f"enable {on}"] if on else []), *([f"disable {off}"] if off else [])])
+        return [changed, " in ", ("code", path), ": limits of what is below come or go"]
 
     def make(self, words: Sequence[str]) -> Sentence:
         path, = words
@@ -121,13 +124,13 @@ class Teller:
         return [f"end process {pid}"]
 
 
-TELLS: Mapping[str, Callable[[Teller, Sequence[str]], Sentence]] = {
-    "chmod": Teller.chmod, "move": Teller.move, "set": Teller.set, "control": Teller.control, "mkdir": Teller.make,
-    "rmdir": Teller.remove, "fork": Teller.fork, "exit": Teller.exit}
+DESCRIPTIONS: Mapping[str, Callable[[Describer, Sequence[str]], Sentence]] = {
+    "chmod": Describer.chmod, "move": Describer.move, "set": Describer.set, "control": Describer.control, "mkdir": Describer.make,
+    "rmdir": Describer.remove, "fork": Describer.fork, "exit": Describer.exit}
 
 
 def steps_of(host: Host, subtree: str, lines: Sequence[str]) -> Steps:
     """The operations by which a subtree is broken; without any it is over its own limits."""
-    teller = Teller(host, subtree)
-    told = tuple(teller.tell(line.split(" ")) for line in lines)
-    return Steps(teller.breaks if lines else Breaks(OVER), told)
+    describer = Describer(host, subtree)
+    sentences = tuple(describer.describe(line.split(" ")) for line in lines)
+    return Steps(describer.breaks if lines else Breaks(OVER), sentences)

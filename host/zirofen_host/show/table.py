@@ -1,4 +1,7 @@
-"""The delegations of a host as a table of the page, the gravest first; a page's script filters it, and all of it is there without."""
+"""From the delegations of a host to a table of the page, the gravest first.
+
+A page's script filters it, and all of it is there without.
+"""
 from collections import Counter
 from dataclasses import dataclass
 from functools import cached_property
@@ -52,8 +55,8 @@ class Table:
     def folded(self, rows: Sequence[str]) -> str:
         """The rest of the table behind a fold, which says what is in it."""
         answers = Counter(map(self.answer, self.paths[self.shown:]))
-        told = ", ".join(f"{answers[kind]} {words.standing_text(kind, self.host.report)}" for kind in STANDINGS if answers[kind])
-        return f'<details class="rest"><summary>{len(rows)} more: {told}</summary>\n{table(rows)}\n</details>'
+        counts = ", ".join(f"{answers[kind]} {words.standing_text(kind, self.host.report)}" for kind in STANDINGS if answers[kind])
+        return f'<details class="rest"><summary>{len(rows)} more: {counts}</summary>\n{table(rows)}\n</details>'
 
     def usual(self) -> str:
         """What stands for the usual entries, where it does."""

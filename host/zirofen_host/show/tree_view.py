@@ -1,4 +1,4 @@
-"""The hierarchy of a report as a tree of lines, for a terminal."""
+"""From a report to its hierarchy as a tree of lines, for a terminal."""
 import os
 import shlex
 import shutil
@@ -66,8 +66,8 @@ class Drawer:
         if only not in self.host.rows:
             raise Fault(f"there is no cgroup {only!a} in the report")
         report = self.host.report
-        told = words.name_of(report), report.kernel, report.time, *words.made_by(report)
-        yield self.cut_end(", ".join(filter(None, told)), self.drawing.width)
+        head = words.name_of(report), report.kernel, report.time, *words.made_by(report)
+        yield self.cut_end(", ".join(filter(None, head)), self.drawing.width)
         left: List[Left] = [(only, "", "")]
         while left:
             path, first, rest = left.pop()
@@ -92,7 +92,7 @@ class Drawer:
         return first + self.coloured(self.cut_end(text, self.left_of(first)), DIM)
 
     def cgroup_lines(self, path: str, first: str, rest: str) -> Iterator[str]:
-        """A cgroup's own line with how it stands, and what is to be told of it."""
+        """A cgroup's own line with how it stands, and what is to be shown of it."""
         first, rest = self.short(first), self.short(rest)
         name = path if is_root(path) or path == self.drawing.only else path.rpartition("/")[2]
         kinds = [kind for kind, _ in self.host.standing.get(path, ())]
@@ -101,8 +101,8 @@ class Drawer:
         room = self.left_of(first)
         is_beside = not kinds or room is None or room - len(standing) - 2 >= min(len(name), LEAST_NAME)
         name = self.cut_front(name, room if room is None or not kinds or not is_beside else room - len(standing) - 2)
-        told = self.coloured(standing, COLOURS[kinds[0]]) if kinds else ""
-        yield first + name + (f"  {told}" if kinds and is_beside else "")
+        state = self.coloured(standing, COLOURS[kinds[0]]) if kinds else ""
+        yield first + name + (f"  {state}" if kinds and is_beside else "")
         bar = rest + (self.glyphs.bar if self.host.children[path] else self.glyphs.gap)
         if not is_beside:
             yield from self.wrapped(bar, standing, COLOURS[kinds[0]])

@@ -1,4 +1,4 @@
-"""A report by its places: how each delegation stands, to whom it was handed, and the findings from the gravest on."""
+"""From a report to a view by its places: how each delegation stands, to whom it was handed, and the findings."""
 import dataclasses
 from collections import defaultdict
 from dataclasses import dataclass
@@ -53,7 +53,7 @@ class Escape:
     subtree: str
     # as they are shown, and what is said of it where they aren't the program's or may not run
     lines: Tuple[str, ...]
-    told: str = ""
+    why_shown: str = ""
 
 
 DIFFERS, RUNNING, HELD, PREMISES = "differs", "runs_elsewhere", "held_entries", "premises"
@@ -203,7 +203,7 @@ class Host:
 
     @cached_property
     def severity(self) -> Severity:
-        """The gravest that is told of it."""
+        """The gravest that is found of it."""
         return severity_of(self.report)
 
     @cached_property
@@ -243,7 +243,7 @@ class Host:
         return found
 
     @cached_property
-    def told(self) -> Set[str]:
+    def unfolded(self) -> Set[str]:
         """The cgroups that aren't folded: delegations with what is inside them, marks, findings, containers of root's, and what is
         above these."""
         return {"/", *self.standing, *self.notes, *self.ways, *self.inside, *self.root_inside}
@@ -264,9 +264,9 @@ class Host:
         return {each.path: each for each in self.report.containers}
 
     def split(self, path: str) -> Tuple[List[str], List[str]]:
-        """What is told below a cgroup, and all that is folded there."""
-        shown = [each for each in self.children[path] if each in self.told]
-        folded = [each for each in self.children[path] if each not in self.told]
+        """What is shown below a cgroup, and all that is folded there."""
+        shown = [each for each in self.children[path] if each in self.unfolded]
+        folded = [each for each in self.children[path] if each not in self.unfolded]
         return shown, [below for each in folded for below in self.below(each)]
 
     def below(self, path: str) -> List[str]:
@@ -339,7 +339,7 @@ class Host:
     def as_shown(self, escape: Escape) -> Escape:
         """An escape with the processes that can be moved, where the report has such a list."""
         found = next((each for each in self.report.lists if (each.subtree, each.lines) == (escape.subtree, escape.lines)), None)
-        return dataclasses.replace(escape, lines=found.shown, told=found.told) if found else escape
+        return dataclasses.replace(escape, lines=found.shown, why_shown=found.told) if found else escape
 
 
 def host_of(report: Report, shown: Callable[[str], str] = visible) -> Host:

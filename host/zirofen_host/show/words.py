@@ -1,4 +1,4 @@
-"""What a report's words mean, said in sentences: answers, guards, and whom an entry lets in."""
+"""From a report's words to what they mean, in sentences: answers, guards, and whom an entry lets in."""
 from typing import Iterable, List, Mapping, Optional, Sequence
 
 from zirofen_host.ask.guards import GUARDS
@@ -15,7 +15,7 @@ STANDINGS = (FAULT, ESCAPES, OPENED, UNSETTLED, OWN_FAULT, NOTHING_ASKED, NOT_LO
              CONTAINED) = tuple(each.value for each in Severity)
 # what counts
 COUNTED = tuple(each.value for each in Severity if each.status)
-# of which nothing is to be told but where they stand
+# of which nothing is to be shown but where they stand
 QUIET = (LIMITED, NOT_ASKED, ABOVE, CONTAINED)
 # each with a sign of UTF-8 and one of ASCII
 SIGNS = {FAULT: ("∅", "0"), ESCAPES: ("✗", "X"), OPENED: ("!", "!"), UNSETTLED: ("?", "?"), OWN_FAULT: ("∅", "0"),
@@ -38,7 +38,7 @@ SIZES = (("T", 2**40), ("G", 2**30), ("M", 2**20), ("K", 2**10))
 
 
 def standing_text(kind: str, report: Report) -> str:
-    """How something stands, as it is told: what a limited answer holds to be contained, with its mark."""
+    """How something stands, as it is shown: what a limited answer holds to be contained, with its mark."""
     return CONTAINED + limits.mark_of(report) if kind == LIMITED else kind
 
 
@@ -48,9 +48,9 @@ def name_of(report: Report) -> str:
 
 
 def makers(report: Report) -> Mapping[str, str]:
-    """What made a report, as far as it is told: the program, and the helper."""
-    told = {"program": report.program, "helper": None if isinstance(report.helper, Absent) else report.helper}
-    return {name: line for name, line in told.items() if line}
+    """What made a report, as far as it is known: the program, and the helper."""
+    found = {"program": report.program, "helper": None if isinstance(report.helper, Absent) else report.helper}
+    return {name: line for name, line in found.items() if line}
 
 
 def made_by(report: Report) -> Iterable[str]:

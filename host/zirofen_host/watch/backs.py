@@ -1,13 +1,13 @@
-"""What opened and closed between two checks: told from its events, since nobody could be asked of it."""
+"""From the events between two checks to what opened and closed meanwhile, since nobody could be asked of it."""
 from typing import AbstractSet, Dict, Iterator, List, Mapping, Tuple
 
 from zirofen_host.profile import CgroupPath, is_inside, path_of, shown, text_of
 from zirofen_host.watch.checks import ENTRIES, Guarded, Result
 from zirofen_host.watch.kernel import ATTRIB, CREATE, DELETE
 from zirofen_host.watch.lanes import DIRECTORY, Asked, Place, Touched
-from zirofen_host.watch.told import BACK, Told
+from zirofen_host.watch.messages import BACK, Message
 
-# cgroups of which owners and modes are kept; of more nothing is told from events alone
+# cgroups of which owners and modes are kept; of more nothing is reported from events alone
 MOST = 65536
 
 
@@ -45,7 +45,7 @@ def entry_in(entries: Mapping[CgroupPath, Tuple[Guarded, ...]], place: Place) ->
     return tuple(each for each in entries.get(place[0], ()) if each[0] == place[1])
 
 
-def backs(before: Entries, made: Result, asked: Asked, said: AbstractSet[Place]) -> Iterator[Told]:
+def backs(before: Entries, made: Result, asked: Asked, said: AbstractSet[Place]) -> Iterator[Message]:
     """What stands as it stood, though it was changed, and cgroups that came, were changed and went."""
     for place, touched in asked.touched.items():
         path, entry = place
@@ -53,9 +53,9 @@ def backs(before: Entries, made: Result, asked: Asked, said: AbstractSet[Place])
             continue
         then, now = before.of(place), entry_in(made.entries, place)
         if touched.mask & ATTRIB and not touched.mask & (CREATE | DELETE) and entry in (*ENTRIES, DIRECTORY) and then and then == now:
-            yield told_of(place, touched, "changed and back")
+            yield message_of(place, touched, "changed and back")
         elif entry == DIRECTORY and touched.mask & CREATE and touched.mask & DELETE and not then and not now and is_changed(path, asked):
-            yield told_of(place, touched, "made, changed and gone")
+            yield message_of(place, touched, "made, changed and gone")
 
 
 def is_changed(path: CgroupPath, asked: Asked) -> bool:
@@ -63,8 +63,8 @@ def is_changed(path: CgroupPath, asked: Asked) -> bool:
     return any(each.mask & ATTRIB and is_inside(place, path) for (place, _), each in asked.touched.items())
 
 
-def told_of(place: Place, touched: Touched, what: str) -> Told:
+def message_of(place: Place, touched: Touched, what: str) -> Message:
     path, entry = text_of(place[0]), place[1]
     where = shown(path) if what.endswith("gone") else f"{shown(path)} {shown(entry)}"
-    return Told(BACK, f"{where}: {what} within {touched.last - touched.first:.1f} s; not asked", touched.last, (), touched.doers,
-                "entry", path, entry)
+    return Message(BACK, f"{where}: {what} within {touched.last - touched.first:.1f} s; not asked", touched.last, (), touched.doers,
+                   "entry", path, entry)

@@ -1,4 +1,7 @@
-"""Checks of a part of a host, each in a process of its own: what it costs is known, nothing is left of it, and nothing waits for it."""
+"""From a part of a host to a check of it, in a process of its own.
+
+What it costs is known, nothing is left of it, and nothing waits for it.
+"""
 import contextlib
 import dataclasses
 import gc
@@ -17,7 +20,7 @@ from zirofen_host.ask import accepted
 from zirofen_host.ask.questions import subtrees_by
 from zirofen_host.collect import bounded, turns
 from zirofen_host.collect.accounts import accounts_here, charged_user_of
-from zirofen_host.collect.looks import Looks, why_of
+from zirofen_host.collect.attempts import Attempts, why_of
 from zirofen_host.collect.model import Cgroup, Snapshot
 from zirofen_host.collect.mount import mounts_of_folder, mounts_of_host
 from zirofen_host.collect.processes import Reader
@@ -49,7 +52,7 @@ class Result(NamedTuple):
     inodes: Dict[CgroupPath, int]
     has_containers: bool
     status: int
-    told: str
+    sum_line: str
     metrics: str
 
 
@@ -96,10 +99,10 @@ def look(options: WatchOptions, part: CgroupPath, shallow: Sequence[int], write:
     turns.begin()
     began, is_whole = time.monotonic(), is_root(part)
     options = dataclasses.replace(options, only=None if is_whole else part, shallow=tuple(shallow))
-    looks = Looks()
-    before = looks.at(settings.LOOK, lambda: settings.read(settings.systemctl_of(options)), check.NO_SETTINGS) if is_whole else {}
+    attempts = Attempts()
+    before = attempts.at(settings.ATTEMPT, lambda: settings.read(settings.systemctl_of(options)), check.NO_SETTINGS) if is_whole else {}
     taken = accepted.take(options, subtrees_by(options))
-    taken = dataclasses.replace(taken, notes=(*taken.notes, *looks.failed))
+    taken = dataclasses.replace(taken, notes=(*taken.notes, *attempts.failed))
     report = report_of(options, taken, is_full, before)
     seconds = time.monotonic() - began
     if write:
@@ -120,7 +123,7 @@ def sum_of_processes(options: WatchOptions) -> str:
     return hashlib.sha256(repr((users, elsewhere, lists)).encode()).hexdigest()
 
 
-def mounts_told(options: WatchOptions) -> Tuple[object, ...]:
+def mounts_seen(options: WatchOptions) -> Tuple[object, ...]:
     """What of a host's mounts an answer or a look rests on."""
     mounts = mounts_of_folder(options.proc) if options.plain_folder else mounts_of_host()
     return (tuple(mounts.further(options.mount)), tuple(sorted(mounts.below(options.mount).items())),

@@ -1,4 +1,4 @@
-"""Who did something, as far as the process is still there when its event is read."""
+"""From the process of an event to who did it, as far as it is still there when its event is read."""
 import os
 from typing import NamedTuple, Optional
 
@@ -22,8 +22,8 @@ class Doer(NamedTuple):
     @property
     def text(self) -> str:
         more = (f"uid {self.uid}" if self.uid is not None else "", shown(self.program) if self.program else "", self.unit)
-        told = ", ".join(filter(None, more))
-        return f"pid {self.pid} ({told})" if told else f"pid {self.pid}, which has ended"
+        details = ", ".join(filter(None, more))
+        return f"pid {self.pid} ({details})" if details else f"pid {self.pid}, which has ended"
 
 
 def doer_of(proc: str, pid: int) -> Doer:
@@ -47,7 +47,7 @@ def unit_in(proc: str, pid: int) -> str:
         return ""
     for place in (path, *ancestors(path)):
         scope = containers.known(place)
-        told = f"{scope.engine}:{scope.id[:containers.SHORT_ID]}" if scope else unit_at(place)
-        if told:
-            return told
+        name = f"{scope.engine}:{scope.id[:containers.SHORT_ID]}" if scope else unit_at(place)
+        if name:
+            return name
     return f"cgroup {shown(os.fsdecode(path))}"

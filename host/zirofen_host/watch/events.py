@@ -1,4 +1,4 @@
-"""What a kernel tells, read as it comes, and given to the lane of whose folder it is in."""
+"""From what a kernel tells, read as it comes, to the lane of whose folder it is in."""
 import time
 from typing import Dict, Iterable, List, Mapping, NamedTuple, Optional
 

@@ -1,10 +1,10 @@
-"""A program of root's that is started where something new or worse counts: without a shell, and told by its environment."""
+"""From messages that are new or worse to runs of a program of root's, without a shell, by its environment."""
 import os
 import subprocess
 import time
 from typing import List, NamedTuple
 
-from zirofen_host.watch.told import Told, fields_of
+from zirofen_host.watch.messages import Message, fields_of
 
 # so many run at once, and so many wait
 AT_ONCE, WAITING = 4, 64
@@ -19,20 +19,20 @@ class Running(NamedTuple):
 
 
 class Hooks:
-    """What is started for each thing that is told, one after another."""
+    """What is started for each message, one after another."""
 
     def __init__(self, program: str) -> None:
         self.program = program
-        self.waiting: List[Told] = []
+        self.waiting: List[Message] = []
         self.running: List[Running] = []
         self.left_out = 0
         self.failed = ""
 
-    def add(self, told: Told) -> None:
+    def add(self, message: Message) -> None:
         if len(self.waiting) >= WAITING:
             self.left_out += 1
         else:
-            self.waiting.append(told)
+            self.waiting.append(message)
 
     def go_on(self) -> None:
         """Starts what waits, as far as it may, and ends what takes too long."""
@@ -42,9 +42,9 @@ class Hooks:
                 each.process.kill()
         self.running = [each for each in self.running if each.process.poll() is None]
         while self.waiting and len(self.running) < AT_ONCE:
-            told = self.waiting.pop(0)
+            message = self.waiting.pop(0)
             try:
-                self.running.append(Running(subprocess.Popen([self.program], env=environment(told), stdin=subprocess.DEVNULL,
+                self.running.append(Running(subprocess.Popen([self.program], env=environment(message), stdin=subprocess.DEVNULL,
                                                              stdout=subprocess.DEVNULL, stderr=subprocess.DEVNULL, cwd="/"),
                                             now + SECONDS))
             except OSError as error:
@@ -56,6 +56,6 @@ class Hooks:
                 each.process.terminate()
 
 
-def environment(told: Told) -> "dict[str, str]":
+def environment(message: Message) -> "dict[str, str]":
     kept = {name: os.environ[name] for name in ("PATH", "LANG", "LC_ALL") if name in os.environ}
-    return {**kept, **{f"{PREFIX}{name}": value.replace("\0", "") for name, value in fields_of(told).items()}}
+    return {**kept, **{f"{PREFIX}{name}": value.replace("\0", "") for name, value in fields_of(message).items()}}

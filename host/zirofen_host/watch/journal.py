@@ -1,11 +1,11 @@
-"""The journal by its native protocol, and the service manager by its own: a datagram each."""
+"""From messages to the journal, and from a state to the service manager: a datagram each, by their own protocols."""
 import os
 import socket
 from typing import Mapping, Optional
 
 from zirofen_host.fault import plain
 from zirofen_host.installed import NAME
-from zirofen_host.watch.told import Told, fields_of
+from zirofen_host.watch.messages import Message, fields_of
 
 JOURNAL = "/run/systemd/journal/socket"
 # by which all that watches tell is found: journalctl MESSAGE_ID=..
@@ -14,10 +14,10 @@ MESSAGE = "8e0a1c6b5d2f4f7c9b3e7a40c1d25f96"
 ERROR, WARNING, NOTICE, INFORMATION = 3, 4, 5, 6
 
 
-def priority_of(told: Told) -> int:
-    if told.is_counted:
-        return ERROR if told.status == 1 else WARNING
-    return NOTICE if told.kind in ("new", "worse", "mended", "gone", "back", "limit") else INFORMATION
+def priority_of(message: Message) -> int:
+    if message.is_counted:
+        return ERROR if message.status == 1 else WARNING
+    return NOTICE if message.kind in ("new", "worse", "mended", "gone", "back", "limit") else INFORMATION
 
 
 def datagram(fields: Mapping[str, str]) -> bytes:
@@ -25,10 +25,10 @@ def datagram(fields: Mapping[str, str]) -> bytes:
     return "".join(f"{name}={plain(value)}\n" for name, value in fields.items()).encode("ascii")
 
 
-def entry_of(told: Told) -> Mapping[str, str]:
-    who = f", by {told.doers[0].text}" if told.doers else ""
-    return {"MESSAGE": f"{told.kind}: {told.line}{who}", "PRIORITY": str(priority_of(told)), "SYSLOG_IDENTIFIER": NAME,
-            "MESSAGE_ID": MESSAGE, **{f"ZIROFEN_{name}": value for name, value in fields_of(told).items()}}
+def entry_of(message: Message) -> Mapping[str, str]:
+    who = f", by {message.doers[0].text}" if message.doers else ""
+    return {"MESSAGE": f"{message.kind}: {message.line}{who}", "PRIORITY": str(priority_of(message)), "SYSLOG_IDENTIFIER": NAME,
+            "MESSAGE_ID": MESSAGE, **{f"ZIROFEN_{name}": value for name, value in fields_of(message).items()}}
 
 
 class Datagrams:
@@ -53,10 +53,10 @@ class Manager:
 
     def __init__(self) -> None:
         self.to = Datagrams(os.environ.pop("NOTIFY_SOCKET", None))
-        told = os.environ.pop("WATCHDOG_USEC", "")
+        microseconds = os.environ.pop("WATCHDOG_USEC", "")
         is_mine = os.environ.pop("WATCHDOG_PID", str(os.getpid())) == str(os.getpid())
         # seconds within which it wants to hear of it
-        self.within = int(told) / 2e6 if told.isdigit() and is_mine and self.to.place else None
+        self.within = int(microseconds) / 2e6 if microseconds.isdigit() and is_mine and self.to.place else None
 
     def tell(self, *words: str) -> None:
         self.to.send("\n".join(map(plain, words)).encode("ascii"))

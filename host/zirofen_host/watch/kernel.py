@@ -1,4 +1,4 @@
-"""What a kernel tells of a hierarchy while it changes: events by fanotify, with the process, or by inotify, without it."""
+"""From a hierarchy that changes to its events: by fanotify, with the process, or by inotify, without it."""
 import ctypes
 import os
 import time
@@ -45,7 +45,7 @@ Record = Tuple[bytes, bytes, int, int]
 Records = Dict[Record, int]
 
 
-class Told(NamedTuple):
+class Batch(NamedTuple):
     """Events, each of its kind once, with how many there were, and whether others were lost; and those of folders that aren't known."""
     counts: Dict[Event, int]
     is_lost: bool
@@ -100,18 +100,18 @@ class Fanotify:
             if number >= 0:
                 os.close(number)
 
-    def take(self) -> Told:
+    def take(self) -> Batch:
         """What is there to be read now, at most one part of it."""
         counts, is_lost = records_of(bounded.read_ready(self.opened, PART))
-        told: Dict[Event, int] = {}
+        events: Dict[Event, int] = {}
         unknown: Records = {}
         for record, count in counts.items():
             event = self.event_of(record)
             if event is not None:
-                told[event] = told.get(event, 0) + count
+                events[event] = events.get(event, 0) + count
             elif not self.may_look:
                 unknown[record] = count
-        return Told(told, is_lost, unknown)
+        return Batch(events, is_lost, unknown)
 
     def event_of(self, record: Record) -> Optional[Event]:
         """What happened where, as far as that folder is known, or may be looked up."""
@@ -227,7 +227,7 @@ class Inotify:
         """Knows no more of a folder that went; a kernel takes its watch away."""
         self.paths.pop(self.watches.pop(path, -1), None)
 
-    def take(self) -> Told:
+    def take(self) -> Batch:
         data = bounded.read_ready(self.opened, PART)
         counts: Dict[Event, int] = {}
         place, is_lost = 0, False
@@ -242,7 +242,7 @@ class Inotify:
             elif number in self.paths and mask & WANTED:
                 event = Event(self.paths[number], name, mask & (WANTED | IS_FOLDER), None)
                 counts[event] = counts.get(event, 0) + 1
-        return Told(counts, is_lost, {})
+        return Batch(counts, is_lost, {})
 
     def know(self, inodes: Mapping[CgroupPath, int]) -> None:
         """Nothing: folders are known by their watches."""
@@ -286,7 +286,7 @@ Source = Union[Fanotify, Inotify]
 
 
 def source_of(mount: str, is_plain: bool, refused: Callable[[str], None]) -> Source:
-    """What tells events: fanotify, or inotify where the mark is refused; why it was is told."""
+    """What tells events: fanotify, or inotify where the mark is refused; why it was is given."""
     if not is_plain:
         try:
             return Fanotify(mount)

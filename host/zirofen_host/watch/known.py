@@ -1,4 +1,4 @@
-"""What is known to stand open while a host is watched, and what differs once a part of it was asked again, as a baseline is compared."""
+"""From what was known to stand open, and a part that was asked again, to what differs, as a baseline is compared."""
 from typing import Dict, FrozenSet, Iterable, List, NamedTuple, Optional, Set, Tuple
 
 from zirofen_host.judge.baseline import Found, Key, difference, found_by_path, kind_of
@@ -80,7 +80,7 @@ def items_of(report: Report) -> Items:
 
 
 def mounted_elsewhere(report: Report) -> Dict[Key, Found]:
-    """The hierarchy's other mounts, of which no answer speaks: one that comes is told."""
+    """The hierarchy's other mounts, of which no answer speaks: one that comes is reported."""
     return {(each.kind, each.place, each.text): Found(Severity.CONTAINED, each.line) for each in report.unseen
             if each.kind == MountedElsewhere.kind}
 
@@ -121,7 +121,7 @@ def kind_above(now: Optional[Item], then: Optional[Item]) -> Optional[str]:
 def compared(known: Items, now: Items, part: Part) -> Compared:
     """What differs from what was known, and what is known then. Of a part what is unsettled may be contained by the whole host."""
     kept, changes, needs_whole = dict(known), [], False
-    told: Set[str] = set()
+    reported: Set[str] = set()
     for key in sorted({*known, *now}):
         mine, then = now.get(key), known.get(key)
         if any(each is not None and part.is_old(each.path) for each in (mine, then)):
@@ -141,21 +141,21 @@ def compared(known: Items, now: Items, part: Part) -> Compared:
             needs_whole = True
         if kind:
             changes.append(change_of(kind, key, mine, then))
-            told.update(() if key[0] == "subtree" else told_by(mine, then))
-    # of a subtree's row all that differs is told by what it rests on, where that is told
-    changes = [each for each in changes if each.difference.what != "subtree" or each.path not in told]
+            reported.update(() if key[0] == "subtree" else reported_with(mine, then))
+    # of a subtree's row all that differs is reported with what it rests on, where that is reported
+    changes = [each for each in changes if each.difference.what != "subtree" or each.path not in reported]
     return Compared(tuple(changes), kept, needs_whole and not part.is_whole)
 
 
-def told_by(*items: Optional[Item]) -> Iterable[str]:
-    """The subtrees of which something tells."""
+def reported_with(*items: Optional[Item]) -> Iterable[str]:
+    """The subtrees that something concerns."""
     return (path for each in items if each for path in (each.path, *subtrees_in(each.found)))
 
 
 def change_of(kind: str, key: Key, now: Optional[Item], then: Optional[Item]) -> Change:
     there = now or then
-    told = difference(key, now.found if now else None, then.found if then else None)
-    return Change(kind, there.path if there else "", key[2], told)
+    differs = difference(key, now.found if now else None, then.found if then else None)
+    return Change(kind, there.path if there else "", key[2], differs)
 
 
 def is_counted(change: Change) -> bool:
@@ -164,6 +164,6 @@ def is_counted(change: Change) -> bool:
 
 
 def standing(known: Items) -> List[str]:
-    """The lines of what stands open, without rows of subtrees, which are told by what they rest on."""
+    """The lines of what stands open, without rows of subtrees, for which stands what they rest on."""
     return [each.found.line for key, each in sorted(known.items())
             if key[0] != "subtree" and each.found.severity.status and not each.found.is_accepted]

@@ -1,7 +1,7 @@
-"""Whose events start which checks: each person who owns folders has a lane of their own, and a tenth of a processor; root's is one more.
+"""From whose events they are to the checks that they start: each person who owns folders has a lane of their own.
 
-What happens is counted for the owner of the folder in which it is, found from the mount on: what is root's inside of what somebody holds
-is theirs.
+A lane has a tenth of a processor, and root's is one more. What happens is counted for the owner of the folder in which it is, found from
+the mount on: what is root's inside of what somebody holds is theirs.
 """
 import os
 from collections import Counter

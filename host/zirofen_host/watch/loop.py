@@ -1,4 +1,4 @@
-"""The watch itself: what a kernel tells is read, what it concerns is asked again, and what differs is told."""
+"""From events to checks of what they concern, and from these to messages of what differs: the watch itself."""
 import functools
 import os
 import select
@@ -10,7 +10,7 @@ from typing import Callable, Dict, List, NamedTuple, Optional, Sequence, Set, Tu
 from zirofen_host import fault
 from zirofen_host.collect import bounded
 from zirofen_host.collect.accounts import charged_user_of
-from zirofen_host.collect.looks import why_of
+from zirofen_host.collect.attempts import why_of
 from zirofen_host.judge.model import Report
 from zirofen_host.options import EVERYBODY, WatchOptions
 from zirofen_host.profile import ROOT, CgroupPath, path_of, shown, text_of
@@ -20,8 +20,8 @@ from zirofen_host.watch.events import Events
 from zirofen_host.watch.findings import Findings
 from zirofen_host.watch.kernel import CREATE, FolderWatch, source_of
 from zirofen_host.watch.lanes import Asked, Lane, Lanes
+from zirofen_host.watch.messages import LIMIT, WATCH, Message
 from zirofen_host.watch.numbers import Numbers
-from zirofen_host.watch.told import LIMIT, WATCH, Told
 
 # seconds from one reading of processes, and from one check of the whole host, to the next
 MINUTE, HOUR = 60.0, 3600.0
@@ -42,7 +42,7 @@ Write = Callable[[Report, float], None]
 
 class Outside(NamedTuple):
     """Where a watch tells of what it found, and of how it goes."""
-    tell: Callable[[Told], None]
+    tell: Callable[[Message], None]
     # the forms of a report, for who asks for them by a signal, and at the end
     write: Write
     is_written_at_end: bool
@@ -76,7 +76,7 @@ class Loop:
         # what was asked while another check runs that began before, with when
         self.done: List[Tuple[float, known.Asked]] = []
         self.reading: Optional["Child[str]"] = None
-        self.processes, self.mounts = "", checks.mounts_told(options)
+        self.processes, self.mounts = "", checks.mounts_seen(options)
         self.has_begun = self.is_ending = self.is_asked_for_forms = self.is_listening = self.has_surveyed = False
         now = time.monotonic()
         self.next_minute, self.next_hour = now + MINUTE, now + HOUR
@@ -103,10 +103,10 @@ class Loop:
         if self.mountinfo >= 0:
             self.poll.register(self.mountinfo, select.POLLPRI)
 
-    # what is told
+    # messages
 
     def say(self, kind: str, line: str) -> None:
-        self.outside.tell(Told(kind, line, time.time()))
+        self.outside.tell(Message(kind, line, time.time()))
 
     def limit(self, what: str, line: str) -> None:
         """What narrows the answers, once in an hour."""
@@ -186,7 +186,7 @@ class Loop:
         self.lanes.host.ask_whole(time.monotonic(), why, False)
 
     def look_at_mounts(self) -> None:
-        found = checks.mounts_told(self.options)
+        found = checks.mounts_seen(self.options)
         if found != self.mounts:
             self.mounts = found
             self.ask_whole("mounts changed")
@@ -296,10 +296,10 @@ class Loop:
             self.begin_with(self.lanes.deep, True)
         else:
             self.has_begun = True
-            self.say(WATCH, f"{len(made.part.there)} cgroups were asked of; {made.told}")
+            self.say(WATCH, f"{len(made.part.there)} cgroups were asked of; {made.sum_line}")
 
     def failed(self, run: Running, failed: Failed) -> None:
-        """A check that found nothing is told, and its part is asked once more; the first has to find something."""
+        """A check that found nothing is reported, and its part is asked once more; the first has to find something."""
         if not self.has_surveyed:
             raise fault.Fault(failed.why)
         if not self.is_there(run.asked.part):
@@ -310,7 +310,7 @@ class Loop:
         run.lane.add(run.asked.part, time.monotonic() + MINUTE)
 
     def compare(self, run: Running, made: Result) -> None:
-        """Has what differs told, and asks more where that takes it."""
+        """Reports what differs, and asks more where that takes it."""
         is_first = run.lane.person == lanes.HOST and not self.has_surveyed or run.lane.person == lanes.DEEP and not self.has_begun
         then = self.findings.take(run.asked, made, is_first)
         self.events.know(made.inodes, then.gone, run.began)
@@ -320,7 +320,7 @@ class Loop:
             self.lanes.deep.give_back(run.asked)
             self.lanes.deep.ask_whole(max(time.monotonic(), self.next_deep), "a check of the whole host")
             self.next_deep = time.monotonic() + AFTER_DEEP
-        elif then.has_told and not made.part.is_whole and self.outside.leave_numbers:
+        elif then.has_reported and not made.part.is_whole and self.outside.leave_numbers:
             run.lane.ask_whole(time.monotonic(), "a check that counts what stands", False)
 
     def watch_all(self, run: Running, made: Result) -> None:

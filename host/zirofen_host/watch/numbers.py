@@ -1,4 +1,4 @@
-"""Metrics of a watch, behind those of the last check of the whole host."""
+"""From a watch to its metrics, behind those of the last check of the whole host."""
 from collections import Counter
 from typing import Iterator, NamedTuple
 
@@ -7,8 +7,8 @@ from zirofen_host.watch.known import KINDS
 
 
 class Numbers(NamedTuple):
-    """When something happened last, and what was told since the watch began: seconds since 1970."""
-    told: "Counter[str]"
+    """When something happened last, and what was reported since the watch began: seconds since 1970."""
+    reported: "Counter[str]"
     standing: int
     last_event: float
     last_check: float
@@ -20,7 +20,7 @@ class Numbers(NamedTuple):
 
 def gauges(numbers: Numbers) -> Iterator[Gauge]:
     yield Gauge("zirofen_watch_told", "What was told since the watch began, by kind.",
-                {(("kind", kind),): numbers.told[kind] for kind in (*KINDS, "back")})
+                {(("kind", kind),): numbers.reported[kind] for kind in (*KINDS, "back")})
     yield Gauge("zirofen_watch_standing", "Findings that stand and aren't accepted, by the watch.", {ALONE: numbers.standing})
     yield Gauge("zirofen_watch_last_event_timestamp_seconds", "When a kernel told of an event last; 0 before the first.",
                 {ALONE: round(numbers.last_event)})

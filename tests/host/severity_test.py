@@ -1,4 +1,4 @@
-"""Tests of the one order of gravity: whatever tells of a host, by whichever form, tells of the same status and the same numbers."""
+"""Tests of the one order of severities: whatever is made of a report, in whichever form, has the same status and the same numbers."""
 import itertools
 import json
 import os
@@ -17,8 +17,8 @@ from shown import made, value_of
 from zirofen_host.arguments import DESCRIPTIONS
 from zirofen_host.judge import acceptances, check, limits
 from zirofen_host.judge.host_model import ABSENT, Owner, ReportCgroup
-from zirofen_host.judge.model import (Acceptance, AnswerLimit, EntryFinding, FaultFinding, HeldBy, HeldFinding, HolderAnswer, OpenedFinding,
-                                      Report, RootInside, RunsElsewhere, Subtree, Told, Whom)
+from zirofen_host.judge.model import (Acceptance, AnswerLimit, EntryFinding, FaultFinding, HeldBy, HeldFinding, HolderAnswer,
+                                      OpenedFinding, Report, ReportNote, RootInside, RunsElsewhere, Subtree, Whom)
 from zirofen_host.ask.guards import GUARD_AT
 from zirofen_host.judge.severity import STATUSES, Severity
 from zirofen_host.judge.standing import severity_of, standings
@@ -93,7 +93,7 @@ class Drawn:
             FaultFinding("uid 1000", 1000, (), "odd", (path,), "uid 1000") for path in paths if self.one == "own")
 
     def failed(self):
-        return (Told("failed", "accounts", "a look that failed") for _ in self.some(1))
+        return (ReportNote("failed", "accounts", "a look that failed") for _ in self.some(1))
 
     def limits(self):
         kinds = [AnswerLimit("only", "nothing but /s0 was asked about")] if self.chance.random() < 0.2 else []

@@ -1,4 +1,4 @@
-"""Which subtrees have no answer since something in them, or above them, changed all the time or can't be read."""
+"""From a snapshot and its questions to the subtrees without an answer, as something there changed or can't be read."""
 from collections import defaultdict
 from dataclasses import dataclass
 from typing import DefaultDict, Dict, FrozenSet, Mapping, Optional, Set
@@ -35,11 +35,11 @@ def maker_of(snapshot: Snapshot, accounts: Accounts, place: CgroupPath) -> int:
     return snapshot.makers.get(place) or accounts.charged_user(next((uid for uid in uids if uid), 0))
 
 
-def spoiled(snapshot: Snapshot, questions: Questions) -> Dict[CgroupPath, Reason]:
+def unanswerable(snapshot: Snapshot, questions: Questions) -> Dict[CgroupPath, Reason]:
     """The subtrees of which nothing is asked, each with why. What somebody else made inside of one is left out of it, and changes
     no answer of it but of how much there may be."""
     changed = changed_in(snapshot, questions.accounts)
-    return {path: why for path, why in snapshot.spoiled.items()
+    return {path: why for path, why in snapshot.unanswerable.items()
             if not is_spared(snapshot, questions.accounts, changed, questions.holders.get(path), path)}
 
 

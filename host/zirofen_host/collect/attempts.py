@@ -1,4 +1,4 @@
-"""Looks that stand alone: where one fails, a line says which and why, and all others are told."""
+"""From calls that may fail to what they give: of each that fails a note says which and why, and all others stand."""
 from typing import Callable, Iterable, List, Tuple, TypeVar
 
 from zirofen_host.collect.notes import Failed
@@ -17,34 +17,34 @@ def why_of(error: Exception) -> str:
     return repr(error)
 
 
-class Looks:
+class Attempts:
     """What failed so far."""
 
     def __init__(self) -> None:
         self.failed: List[Failed] = []
 
-    def at(self, what: str, look: Callable[[], Made], instead: Made, is_asked_for: bool = False) -> Made:
-        """What a look gives, or something instead where it fails. A fault of what was asked for isn't kept back."""
+    def at(self, what: str, attempt: Callable[[], Made], instead: Made, is_asked_for: bool = False) -> Made:
+        """What a call gives, or something instead where it fails. A fault of what was asked for isn't kept back."""
         try:
-            return look()
+            return attempt()
         except Exception as error:
             if is_asked_for and isinstance(error, Fault):
                 raise
             self.failed.append(Failed(what, why_of(error)))
             return instead
 
-    def all(self, what: str, look: Callable[[], Iterable[Made]]) -> Tuple[Made, ...]:
-        """All that a look gives, as far as it gets."""
+    def all(self, what: str, attempt: Callable[[], Iterable[Made]]) -> Tuple[Made, ...]:
+        """All that a call gives, as far as it gets."""
         found: List[Made] = []
 
         def gather() -> None:
-            for each in look():
+            for each in attempt():
                 found.append(each)
         self.at(what, gather, None)
         return tuple(found)
 
     def each(self, what: str, items: Iterable[Item], make: Callable[[Item], Made]) -> Tuple[Made, ...]:
-        """What is made of each of some items; those of which none can be are told together, with why the first can't."""
+        """What is made of each of some items; those of which none can be are one note, with why the first can't."""
         made, wrong = [], []
         for item in items:
             try:

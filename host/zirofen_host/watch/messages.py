@@ -1,4 +1,4 @@
-"""What is told while a host is watched: what differs, when that happened and who did it; as lines, and as fields with names."""
+"""From what differs while a host is watched to messages of it: as lines, and as fields with names."""
 import time
 from typing import Dict, Iterable, Iterator, List, Mapping, NamedTuple, Optional, Tuple
 
@@ -18,8 +18,8 @@ IN_AN_HOUR = 256
 LONGEST = 2048
 
 
-class Told(NamedTuple):
-    """One thing that is told."""
+class Message(NamedTuple):
+    """One thing that is reported."""
     kind: str
     line: str
     when: float
@@ -32,7 +32,7 @@ class Told(NamedTuple):
     status: int = 0
     # it is new or worse, and counts
     is_counted: bool = False
-    # what it was found by, where no event told of it
+    # what it was found by, where no event names it
     by: str = ""
 
 
@@ -40,45 +40,46 @@ def stamp(when: float) -> str:
     return time.strftime("%Y-%m-%dT%H:%M:%S", time.gmtime(when)) + f".{int(when * 1000) % 1000:03d}Z"
 
 
-def lines_of(told: Told) -> Iterator[str]:
+def lines_of(message: Message) -> Iterator[str]:
     """The lines that are printed."""
-    yield f"{stamp(told.when)} {told.kind}: {told.line}"[:LONGEST]
-    yield from (f"    by {doer.text}" for doer in told.doers)
-    if told.by:
-        yield f"    no event told of it: {told.by}"
-    yield from (line[:LONGEST] for line in told.more)
+    yield f"{stamp(message.when)} {message.kind}: {message.line}"[:LONGEST]
+    yield from (f"    by {doer.text}" for doer in message.doers)
+    if message.by:
+        yield f"    no event told of it: {message.by}"
+    yield from (line[:LONGEST] for line in message.more)
 
 
-def fields_of(told: Told) -> Mapping[str, str]:
+def fields_of(message: Message) -> Mapping[str, str]:
     """The same by names; of several who did it, of the first."""
-    fields = {"KIND": told.kind, "LINE": told.line[:LONGEST], "TIME": stamp(told.when), "WHAT": told.what, "CGROUP": told.path,
-              "ENTRY": told.entry, "STATUS": str(told.status), "FOUND_BY": told.by}
-    if told.doers:
-        doer = told.doers[0]
+    fields = {"KIND": message.kind, "LINE": message.line[:LONGEST], "TIME": stamp(message.when), "WHAT": message.what,
+              "CGROUP": message.path, "ENTRY": message.entry, "STATUS": str(message.status), "FOUND_BY": message.by}
+    if message.doers:
+        doer = message.doers[0]
         fields.update({"DOER_PID": str(doer.pid), "DOER_UID": "" if doer.uid is None else str(doer.uid),
                        "DOER_PROGRAM": doer.program, "DOER_UNIT": doer.unit})
     return {name: value for name, value in fields.items() if value}
 
 
-def of_change(change: Change, touched: Optional[Touched], when: float, by: str) -> Told:
-    """What is told of what differs; `when` it was found where no event told of it."""
-    told = change.difference
-    _, *more = difference_lines(change.kind, told)
-    return Told(change.kind, told.line, touched.last if touched else when, tuple(more), touched.doers if touched else (), told.what,
-                change.path, change.entry, told.status if change.kind in (NEW, WORSE) else 0, is_counted(change), "" if touched else by)
+def of_change(change: Change, touched: Optional[Touched], when: float, by: str) -> Message:
+    """The message of what differs; `when` it was found where no event names it."""
+    difference = change.difference
+    _, *more = difference_lines(change.kind, difference)
+    return Message(change.kind, difference.line, touched.last if touched else when, tuple(more), touched.doers if touched else (),
+                   difference.what, change.path, change.entry, difference.status if change.kind in (NEW, WORSE) else 0, is_counted(change),
+                   "" if touched else by)
 
 
 class Folding:
-    """How much is told of what persons made inside of their own: so much of one check, and so much in an hour."""
+    """How much is reported of what persons made inside of their own: so much of one check, and so much in an hour."""
 
     def __init__(self) -> None:
-        self.told: Dict[int, int] = {}
+        self.reported: Dict[int, int] = {}
 
     def begin_hour(self) -> None:
-        self.told.clear()
+        self.reported.clear()
 
     def kept(self, changes: Iterable[Change]) -> Tuple[List[Change], Mapping[int, int]]:
-        """The changes that are told, and by person how many more there are."""
+        """The changes that are reported, and by person how many more there are."""
         kept: List[Change] = []
         here: Dict[int, int] = {}
         more: Dict[int, int] = {}
@@ -88,8 +89,8 @@ class Folding:
                 kept.append(change)
                 continue
             here[person] = here.get(person, 0) + 1
-            if here[person] <= bounded.LINES.most and self.told.get(person, 0) < IN_AN_HOUR:
-                self.told[person] = self.told.get(person, 0) + 1
+            if here[person] <= bounded.LINES.most and self.reported.get(person, 0) < IN_AN_HOUR:
+                self.reported[person] = self.reported.get(person, 0) + 1
                 kept.append(change)
             else:
                 more[person] = more.get(person, 0) + 1
@@ -97,6 +98,6 @@ class Folding:
 
 
 def touched_of(asked: Asked, change: Change) -> Optional[Touched]:
-    """What events told of where something differs."""
+    """What events say of where something differs."""
     entry = change.entry.split(" ")[0] if change.entry else "dir"
     return asked.at(path_of(change.path), entry) if change.path.startswith("/") else None
