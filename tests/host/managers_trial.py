@@ -5,9 +5,9 @@
     tests/host/managers_trial.py HOST_FOLDER [--only PART,PART] [--times 10]
 
 HOST_FOLDER has zirofen-host. Containers are made of busybox, since no image can be fetched; Docker, podman (root's and a user's), LXC,
-systemd-nspawn, libvirt's LXC and Slurm are used as far as they are there. Parts: names in each form and command; what is tried inside of
-whatever runs then; the lines of a host of default containers; acceptances of what is made again; options of the hierarchy; what is mounted
-over; causes; plans; a capability. Status 1 says that something is otherwise.
+systemd-nspawn, libvirt's LXC and Slurm are used as far as they are there; podman's pods need the package catatonit. Parts: names in each
+form and command; what is tried inside of whatever runs then; the lines of a host of default containers; acceptances of what is made again;
+options of the hierarchy; what is mounted over; causes; plans; a capability. Status 1 says that something is otherwise.
 """
 import argparse
 import contextlib
