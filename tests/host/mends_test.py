@@ -87,7 +87,7 @@ class MendsTest(HostTest):
                          ("/etc/systemd/system/a.service.d/60-zirofen.conf", "Service", ("MemoryMax=8192",),
                           "it is the value of now, which alice(1000) could write"))
         self.assertEqual(found.remarks, (LOOK_AT_SERVICE.format("a.service"), "what the settings of a.service say isn't told here: its "
-                                          "next start brings that, and no value is written"))
+                                         "next start brings that, and no value is written"))
 
     def test_a_service_that_was_handed_over_by_hand(self):
         self.host.cgroup("/")
