@@ -120,7 +120,8 @@ def spelled():
     yield ["advise", "--uid", "1000", "--uid", "1001", "--gid", "5", "--subtree", "/c0"], True
     yield ["advise", "--uid", "1000", "--gid", "5", "--subtree", "/c0", "--subtree", "/c1"], False
     pairs = ["advise", "--pairs", os.devnull]
-    yield pairs, False
+    for command in "advise", "audit", "explain":
+        yield [command, *pairs[1:]], False
     yield ["advise", "--tree", DELEGATION, "--pairs", "-"], False
     yield ["audit", "--settle", "--uid", "1000", "--uid", "1001", "--subtree", "/c0"], False
     yield ["audit", "--all", "--settle", "--uid", "1000", "--subtree", "/c0"], False
@@ -130,7 +131,9 @@ def spelled():
     yield from ((words, True) for words in (
         ["advise"], ["advise", "--uid", "1000"], ["advise", "--subtree", "/c0"], ["advise", "--gid", "5", "--subtree", "/c0"],
         ["advise", "--pairs", "-"], ["advise", "--tree", "-", "--pairs", "-"], [*pairs, "--uid", "1000"], [*pairs, "--gid", "5"],
-        [*pairs, "--subtree", "/c0"], [*pairs, "--settle"], [*pairs, *pairs[1:]], [*pairs, "--uid", "1000", "--subtree", "/c0"], ["audit", *pairs[1:]]))
+        [*pairs, "--subtree", "/c0"], [*pairs, "--settle"], [*pairs, *pairs[1:]], [*pairs, "--uid", "1000", "--subtree", "/c0"],
+        ["audit", *pairs[1:], "--uid", "1000"], ["explain", *pairs[1:], "--subtree", "/c0"], ["audit", *pairs[1:], "--settle"],
+        ["may", *pairs[1:]]))
     for word in NOT_LISTED:
         yield ["audit", "--uid", word, "--subtree", "/c0"], True
         yield ["advise", "--uid", word, "--subtree", "/c0"], True
