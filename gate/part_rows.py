@@ -11,10 +11,12 @@ from dataclasses import dataclass
 
 # PROGRAM stands for the program's path, in words and among what is read
 PROGRAM = "PROGRAM"
+# OBJECT and OTHER_OBJECT for the paths of its objects, for x86-64 and arm64, and OTHER_PROGRAM for the program for arm64
+OBJECT, OTHER_OBJECT, OTHER_PROGRAM = "OBJECT", "OTHER_OBJECT", "OTHER_PROGRAM"
 # SOURCES stands for src/ of the crates below the program
 SOURCES = "SOURCES"
 # what ./zirofen needs to see that a program is of these sources
-WRAPPER = ("zirofen", "tools/program.py", "gate/kit.py", "gate/crates.py", "crates.txt", SOURCES, PROGRAM)
+WRAPPER = ("zirofen", "tools/program.py", "tools/linked.py", "runtime", "gate/kit.py", "gate/crates.py", "crates.txt", SOURCES, PROGRAM)
 # CRATE NAME stands for all of a crate and of those below it, but for their mutants, and for the lines of these in crates.txt
 CRATE = "CRATE "
 BASE = ("bash", "coreutils", "findutils", "grep", "sed", "gawk", "mawk", "tar", "gzip", "libc6", "procps", "util-linux", "dash")
@@ -48,6 +50,12 @@ def of_program(words, *reads, packages=(), is_fresh=False):
 
 def program_tests(name, *reads):
     return of_program(f"tests/program/{name}.py", *WRAPPER, "tests/program/case.py", "examples", *reads)
+
+
+def of_object(words, *reads, packages=()):
+    """A test of the program's object, once that is built and linked with more."""
+    linked = ("tools/linked.py", "runtime", "gate/kit.py", "gate/crates.py")
+    return Part("objects", words, (words.split()[0], *linked, *reads), packages, needs_toolchain=True)
 
 
 def of_model(words, *reads, **more):
@@ -91,6 +99,7 @@ USERS = ("/etc/passwd", "/etc/group", "/etc/subuid", "/etc/subgid", "/etc/localt
 READERS = {"debian_readers.py": ("prometheus", "prometheus-node-exporter", "python3-jsonschema", "python3-junitparser"), "browser.py": ("chromium", "chromium-common")}
 PACKAGING = ("tests/packaging/*.py", "tools", "host", "examples", "docs", "*.md", *WRAPPER)
 MODEL = ("tests/model/[!d]*",)
+DEVICES = ("tests/program/case.py", "tests/program/device_rows.py", "tests/program/failing.c", "examples")
 MAKERS = ("lintian", "groff", "mandoc", "man-db", "fish", "zsh", "ansible-core", "python3-pip", "python3-setuptools", "python3-wheel")
 PARTS = [
     Part("released", "tools/released", ("tools/released", *WRAPPER)),
@@ -108,8 +117,8 @@ PARTS = [
     program_tests("migrations"),
     program_tests("words"),
     program_tests("help"),
-    of_program("tests/program/devices.py PROGRAM", PROGRAM, "tests/program/case.py", "tests/program/device_rows.py", "tests/program/failing.c", "examples",
-               packages=COMPILER),
+    program_tests("surroundings"),
+    of_object("tests/program/devices.py PROGRAM OBJECT", PROGRAM, OBJECT, *DEVICES),
     of_model("run PROGRAM --seed 51 --cases 7500 --blind --table --kept"),
     of_model("run PROGRAM --cases 1000", is_fresh=True),
     of_model("fuzz PROGRAM"),
@@ -121,6 +130,7 @@ PARTS = [
     of_folder("tests/tools", "tests/tools", "tests/model/trials", "tests/model/second", "tests/program/*.py", "tools", "gate", "crates.txt", "crates", "docs", "CHANGELOG.md",
               "host/zirofen_host",
               "examples", "zirofen", PROGRAM),
+    of_folder("tests/runtime", "tests/runtime", "runtime", packages=COMPILER),
     *host_tests(),
     Part("unit_tests", "host/lint", ("host", "tests/host"), ("mypy", "flake8")),
     of_folder("tests/model/tests", *MODEL, "gate/kept.py", "examples", "tools/bench", PROGRAM),

@@ -7,7 +7,7 @@ import unittest
 
 from checkout import TOP, read, write
 
-ROWS = '''from part_rows_of_gate import BASE, CRATE, PROGRAM, SOURCES, Part
+ROWS = '''from part_rows_of_gate import BASE, CRATE, OBJECT, OTHER_OBJECT, OTHER_PROGRAM, PROGRAM, SOURCES, Part
 
 PARTS = [
     Part("group", "tests/one PROGRAM", ("tests/one", "data", "list/*.txt", PROGRAM), ("some-package",)),
@@ -16,6 +16,7 @@ PARTS = [
     Part("random", "tests/random", ("tests/random",), is_fresh=True),
     Part("crates", "tests/list", ("tests/list", f"{CRATE}middle")),
     Part("helpers", "tests/helpers", ("tests/helpers", "host")),
+    Part("objects", "tests/list OBJECT", ("tests/list", OBJECT, OTHER_OBJECT, OTHER_PROGRAM)),
 ]
 '''
 # writes what it sees and its environment, and passes unless data/row says otherwise
@@ -28,7 +29,7 @@ if grep -q wrong data/row; then echo '1 passed, 1 failed'; exit 1; fi
 echo '2 passed, 0 failed'
 """
 TWO = "#!/bin/sh\necho '3 passed, 0 failed'\n"
-LIST = "#!/bin/sh\nfind crates -type f | sort\ncat crates.txt\necho '1 passed, 0 failed'\n"
+LIST = "#!/bin/sh\necho \"given $*\"\nfind crates release -type f | sort\ncat crates.txt\necho '1 passed, 0 failed'\n"
 HELPERS = "#!/bin/sh\nls -d host/*.py host/*/*.py host/__pycache__ host/deep/__pycache__\necho '1 passed, 0 failed'\n"
 DPKG = "#!/bin/sh\ncat \"$0.versions\"\n"
 
