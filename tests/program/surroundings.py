@@ -29,6 +29,7 @@ CALLS = [
     Call("delegation", ["replay", "--uid", "1000", "--ops", f"{EXAMPLES}/delegation-filled.ops"]),
     Call("service-limits", ["upgrade"]),
     Call("delegation-ancestor-owned", ["advise", "--uid", "1000", "--subtree", "/c0"]),
+    Call("delegation-over-limit", ["check", "--uid", "1000", "--subtree", "/c0"]),
     Call("delegation", ["check", "--uid", "x"]),
     Call("delegation", ["frobnicate"]),
     Call("delegation", ["--help"]),
@@ -48,10 +49,15 @@ def is_closed(file, closed):
 
 
 def started(program, call, before=lambda: None, **streams):
-    """Starts a call on its tree."""
+    """Starts a call on its tree, with signals as they are by themselves: a shell starts with some ignored what it doesn't wait for."""
+    def begin():
+        for it in ENDING + PASSED_OVER:
+            signal.signal(it, signal.SIG_DFL)
+        before()
+
     with open(f"{EXAMPLES}/{call.tree}.toml", "rb") as tree:
         how = {"stdin": tree, "stdout": subprocess.PIPE, "stderr": subprocess.PIPE, **streams}
-        return subprocess.Popen([program, *call.words], preexec_fn=before, **how)
+        return subprocess.Popen([program, *call.words], preexec_fn=begin, **how)
 
 
 def ended(program, call, before=lambda: None, **streams):
@@ -123,7 +129,7 @@ class Runs:
 
     def signals(self):
         """A signal ends it while it waits for its tree, or is passed over, and the answer is the one of the tree."""
-        for (call, right), it in itertools.product(list(zip(CALLS, self.right))[:9], ENDING + PASSED_OVER):
+        for (call, right), it in itertools.product(list(zip(CALLS, self.right))[:10], ENDING + PASSED_OVER):
             child = started(self.program, call, stdin=subprocess.PIPE)
             waiting(child.pid)
             child.send_signal(it)
