@@ -12,7 +12,8 @@ RUNTIME = f"{TOP}/runtime/runtime.c"
 COMPILED = ("-std=c11", "-O2", "-ffreestanding", "-fno-builtin", "-nostdinc", "-fPIE", "-fvisibility=hidden", "-fno-stack-protector",
             "-fno-asynchronous-unwind-tables", "-Wall", "-Wextra", "-Werror")
 # at a place that each run draws; nothing is left to be found at a start but where that is
-LINKED = ("-static", "-pie", "--no-dynamic-linker", "--strip-all", "--build-id=none", "-z", "text", "-z", "now", "-z", "relro", "-z", "noexecstack")
+LINKED = ("-static", "-pie", "--no-dynamic-linker", "--strip-all", "--build-id=none", "-z", "text", "-z", "now", "-z", "relro",
+          "-z", "noexecstack")
 
 
 @dataclass(frozen=True)
@@ -29,8 +30,9 @@ MACHINES = {"x86_64": Machine("x86_64-unknown-linux-gnu", "amd64", 4096), "aarch
 
 def compile_c(machine, file, to):
     """Compiles a file of C for a processor, without a C library; paths are no part of what that gives."""
-    words = [f"{kit.folder()}/toolchain/bin/clang", f"--target={MACHINES[machine].target}", *COMPILED, "-c", os.path.basename(file), "-o", os.path.abspath(to)]
-    subprocess.run(words, cwd=os.path.dirname(os.path.abspath(file)), check=True, stdin=subprocess.DEVNULL)
+    words = [f"{kit.folder()}/toolchain/bin/clang", f"--target={MACHINES[machine].target}", *COMPILED, "-c", os.path.basename(file)]
+    at = os.path.dirname(os.path.abspath(file))
+    subprocess.run([*words, "-o", os.path.abspath(to)], cwd=at, check=True, stdin=subprocess.DEVNULL)
 
 
 def link(machine, built, program, *more):
@@ -38,8 +40,8 @@ def link(machine, built, program, *more):
     page = f"max-page-size={MACHINES[machine].page}", f"common-page-size={MACHINES[machine].page}"
     with tempfile.TemporaryDirectory() as room:
         compile_c(machine, RUNTIME, f"{room}/runtime.o")
-        words = [f"{kit.folder()}/toolchain/bin/ld.lld", *LINKED, "-z", page[0], "-z", page[1], "-o", f"{room}/program", built, f"{room}/runtime.o", *more]
-        subprocess.run(words, check=True, stdin=subprocess.DEVNULL)
+        words = [f"{kit.folder()}/toolchain/bin/ld.lld", *LINKED, "-z", page[0], "-z", page[1], "-o", f"{room}/program"]
+        subprocess.run([*words, built, f"{room}/runtime.o", *more], check=True, stdin=subprocess.DEVNULL)
         # as a whole: the program that stands there may be running
         os.replace(copied(f"{room}/program", f"{program}.begun"), program)
 

@@ -31,7 +31,8 @@ def setUpModule():
     for name, given, result in (("memmove", (pointer, pointer, size), pointer), ("memset", (pointer, ctypes.c_int, size), pointer),
                                 ("memcpy", (pointer, pointer, size), pointer), ("rattle_alloc", (size, size), Tried),
                                 ("rattle_realloc", (pointer, size, size, size), Tried), ("rattle_dealloc", (pointer,), None),
-                                ("read", (ctypes.c_int, pointer, size), ctypes.c_long), ("open", (ctypes.c_char_p, ctypes.c_int), ctypes.c_int),
+                                ("read", (ctypes.c_int, pointer, size), ctypes.c_long),
+                                ("open", (ctypes.c_char_p, ctypes.c_int), ctypes.c_int),
                                 ("statx", (ctypes.c_int, ctypes.c_char_p, ctypes.c_int, ctypes.c_uint, pointer), ctypes.c_int),
                                 ("__xpg_strerror_r", (ctypes.c_int, pointer, size), ctypes.c_int)):
         getattr(runtime, name).argtypes, getattr(runtime, name).restype = given, result
@@ -53,7 +54,8 @@ class Blocks:
         self.test, self.drawn, self.all = test, drawn, {}
 
     def size(self):
-        return self.drawn.choice((self.drawn.randint(1, 200), self.drawn.randint(1, 1100), 1 << self.drawn.randint(0, 18), self.drawn.randint(1, 1 << 18)))
+        drawn = self.drawn.randint
+        return self.drawn.choice((drawn(1, 200), drawn(1, 1100), 1 << drawn(0, 18), drawn(1, 1 << 18)))
 
     def add(self, tried, size):
         self.test.assertTrue(tried.ok)
@@ -189,7 +191,8 @@ class RuntimeTest(unittest.TestCase):
             has_begun = library.prctl(38, 1, 0, 0, 0) == 0 and library.prctl(22, 2, program) == 0
             about, kinds = ctypes.create_string_buffer(256), []
             for path in (FILE, TOP, "/dev/null"):
-                kinds.append(runtime.statx(-100, path.encode(), 0, 0xfff, about) == 0 and about.raw[28:30] == os.stat(path).st_mode.to_bytes(2, "little"))
+                given, kind = runtime.statx(-100, path.encode(), 0, 0xfff, about), os.stat(path).st_mode.to_bytes(2, "little")
+                kinds.append(given == 0 and about.raw[28:30] == kind)
             is_missing = runtime.statx(-100, b"/none", 0, 0xfff, about) == -1 and runtime.rattle_errno() == errno.ENOENT
             os._exit(0 if has_begun and all(kinds) and is_missing else 1)
         self.assertEqual(os.waitpid(child, 0)[1], 0)
