@@ -164,17 +164,36 @@ void (*__sysv_signal(int number, void (*handler)(int)))(int) {
     return (void (*)(int))(given == 0 ? before[0] : -1UL);
 }
 
-/* strerror(3): a number in place of a name, since the program shows no such text; EINVAL where there is little room */
+#include "errors.h"
+
+/* strerror(3). It gives 0, EINVAL of a number without a name, or ERANGE where there is no room. */
 int __xpg_strerror_r(int number, char *into, size_t room) {
-    char digits[12] = {0}, *digit = digits + 11;
-    for (unsigned left = (unsigned)number; left > 0 || !*digit; left /= 10) {
-        *--digit = (char)('0' + left % 10);
+    char made[28] = "Unknown error ", *at = made + 14;
+    const char *name = names;
+    size_t length = 0;
+    for (int i = 0; i < number && name < names + sizeof(names) - 1; i++) {
+        while (*name++) {
+        }
     }
-    if (room < sizeof(digits)) {
-        return 22;
+    if (number < 0 || !*name) {
+        unsigned left = number < 0 ? 0 - (unsigned)number : (unsigned)number, scale = 1000000000;
+        *at = '-';
+        at += number < 0;
+        for (; scale > 0; scale /= 10) {
+            *at = (char)('0' + left / scale % 10);
+            at += left >= scale;
+        }
+        *at = 0;
+        name = made;
     }
-    memcpy(into, digit, (size_t)(digits + 12 - digit));
-    return 0;
+    while (name[length]) {
+        length++;
+    }
+    if (length >= room) {
+        return 34;
+    }
+    memcpy(into, name, length + 1);
+    return name == made ? 22 : 0;
 }
 
 /* Memory, malloc(3). Blocks of up to 32 KiB are cut from spans, each of blocks of one size; a larger one is mapped by itself. A span

@@ -8,7 +8,7 @@ import tempfile
 
 TOP = os.path.dirname(os.path.dirname(os.path.abspath(__file__)))
 FILES = ("zirofen", "tools/build", "tools/program.py", "tools/linked.py", "tools/released", "gate/from_nothing", "gate/kit.py",
-         "gate/crates.py", "runtime/runtime.c")
+         "gate/crates.py", "runtime/errors.h", "runtime/runtime.c")
 MACHINES = ("",)
 KIT = "some-kit logic 1"
 

@@ -21,7 +21,7 @@ SHOWN = re.compile(r"so far:|rt: (waiting|chose --jobs)")
 VERSIONED = f"{TOP}/crates/zirofen/src/version.rt"
 SAYS = re.compile(r'"(\d+\.\d+\.\d+) \(([0-9a-f]{12})\)"')
 # beside the crates
-LINKING = ("runtime/runtime.c", "tools/linked.py")
+LINKING = ("runtime/errors.h", "runtime/runtime.c", "tools/linked.py")
 # the kinds of processors that a release is for, as `uname -m` calls them, and this one
 MACHINES = ("x86_64",)
 MACHINE = os.uname().machine

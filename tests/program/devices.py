@@ -24,7 +24,7 @@ sys.path[:0] = [f"{TOP}/tools"]
 import linked
 
 QEMU = "qemu-aarch64-static"
-WRAPPED = ("main", "read", "write", "rattle_alloc", "rattle_realloc", "__xpg_strerror_r")
+WRAPPED = ("main", "read", "write", "rattle_alloc", "rattle_realloc")
 KINDS = (("alloc", "refused"), ("read", "refused"), ("read", "short"), ("read", "interrupted"), ("write", "refused"),
          ("write", "none"), ("write", "short"), ("write", "interrupted"))
 EACH_TO, EACH_TO_EMULATED = 1200, 30
@@ -41,7 +41,8 @@ Ended = collections.namedtuple("Ended", "status out err")
 
 def built(machine, made, folder):
     """The program whose calls fail, linked of its object."""
-    failing, program = f"{folder}/failing.o", f"{folder}/failing"
+    # it shows its own name
+    failing, program = f"{folder}/failing.o", f"{folder}/zirofen"
     linked.compile_c(machine, f"{TOP}/tests/program/failing.c", failing)
     linked.link(machine, made, program, failing, *(f"--wrap={it}" for it in WRAPPED))
     return program

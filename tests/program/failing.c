@@ -7,7 +7,7 @@
    FAILING_TOLD    the number of an open file, to which a byte goes once the call has failed, so that it is known that it came, or
                    where none does, at the end, how many calls there were
 
-   A short call of one byte isn't counted: it can't be shorter. No text of an error is asked for: whoever does is ended. */
+   A short call of one byte isn't counted: it can't be shorter. */
 typedef unsigned long size_t;
 
 enum call { NO_CALL, ALLOC, READ, WRITE };
@@ -121,9 +121,4 @@ long __wrap_write(int file, const void *from, size_t size) {
         return __real_write(file, from, size);
     }
     return how == SHORT ? __real_write(file, from, 1) : refusal();
-}
-
-int __wrap___xpg_strerror_r(int given, char *into, size_t room) {
-    (void)given, (void)into, (void)room;
-    __builtin_trap();
 }

@@ -197,11 +197,17 @@ class RuntimeTest(unittest.TestCase):
             os._exit(0 if has_begun and all(kinds) and is_missing else 1)
         self.assertEqual(os.waitpid(child, 0)[1], 0)
 
-    def test_numbers_of_errors(self):
-        got, named = ctypes.create_string_buffer(b"." * 64, 64), getattr(runtime, "__xpg_strerror_r")
-        for number in (0, 2, 133, 2147483647):
-            self.assertEqual((named(number, got, 64), got.value), (0, str(number).encode()))
-        self.assertEqual((named(5, got, 11), got.value), (errno.EINVAL, b"2147483647"))
+    def test_names_of_errors(self):
+        """As the C library of this machine has them."""
+        library = ctypes.CDLL(None, use_errno=True)
+        got, wanted = (ctypes.create_string_buffer(b"." * 64, 64) for _ in range(2))
+        numbers = [*range(-20, 300), 1000, 4095, 2147483647, -2147483648]
+        for number in numbers:
+            given = getattr(runtime, "__xpg_strerror_r")(number, got, 64), getattr(library, "__xpg_strerror_r")(number, wanted, 64)
+            self.assertEqual((given[0], got.value), (given[1], wanted.value), number)
+        got = ctypes.create_string_buffer(b"." * 64, 64)
+        self.assertEqual((getattr(runtime, "__xpg_strerror_r")(5, got, 18), got.value), (errno.ERANGE, b"." * 64))
+        self.assertEqual((getattr(runtime, "__xpg_strerror_r")(5, got, 19), got.value), (0, b"Input/output error"))
 
 
 if __name__ == "__main__":
