@@ -335,7 +335,7 @@ class PackageTest(unittest.TestCase):
     def test_the_copyright_names_the_toolchain_of_the_program(self):
         for name in ("zirofen", "zirofen-host"):
             legal = next(file for file in package.legal_files(self.program, name) if file.path.endswith("/copyright"))
-            self.assertIn(f"\nwith, {self.program.manifest['kit'].split(' ')[0]}, and uses", legal.data.decode())
+            self.assertIn(f"\nwith, {self.program.manifest['kit'].split(' ')[0]}, and with no C library", legal.data.decode())
 
     def test_the_version_is_the_first_of_the_changes(self):
         with open(f"{TOP}/CHANGELOG.md", encoding="ascii") as text:
