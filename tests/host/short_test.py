@@ -94,6 +94,19 @@ class ShortTest(InsideTest):
             self.assertIn(word, text)
         self.assertEqual((len(report.containers), sum(each.path.endswith(".service") for each in report.subtrees)), (13, 4))
 
+    def test_no_container_that_root_alone_holds_lacks_its_name(self):
+        """Where other places, whose paths come first, are more than a row has."""
+        scopes = []
+        for number in range(12):
+            self.host.cgroup(f"/a{number:02}.scope", marks=("trusted.delegate",))
+            path = f"/system.slice/docker-{number:012x}.scope"
+            self.host.cgroup(path, marks=("trusted.delegate",))
+            scopes.append(Scope(path_of(path), "docker", f"{number:012x}", f"d{number}", None))
+        report, lines = self.told(tuple(scopes))
+        row = next(line for line in lines if "held by root alone" in line)
+        self.assertTrue(row.endswith(f"{len(report.subtrees)} cgroups: {' '.join(f'docker:d{number}' for number in range(12))} "
+                                     f"and {len(report.subtrees) - 12} more"), row)
+
     def test_each_tells_each(self):
         report, lines = self.told(self.default_host(), True)
         told = [line for line in lines if line.startswith("root-inside")]

@@ -23,9 +23,9 @@ PREMISES_MEAN = "seen and not proved"
 INSIDE_MEANS = "held speaks of cgroup files alone, and is seen and not proved"
 
 
-def some(names: Sequence[str]) -> str:
-    more = f" and {len(names) - SHOWN} more" if len(names) > SHOWN else ""
-    return " ".join(names[:SHOWN]) + more
+def some(names: Sequence[str], most: int = SHOWN) -> str:
+    more = f" and {len(names) - most} more" if len(names) > most else ""
+    return " ".join(names[:most]) + more
 
 
 def whom_text(whom: Iterable[Whom]) -> str:

@@ -1,7 +1,7 @@
 """From containers to lines of a report: root's that are alike are one, and what root alone holds is one row."""
 from typing import Dict, Hashable, List, Sequence, Set
 
-from zirofen_host.judge.finding_lines import inside_count, inside_line, inside_text, some
+from zirofen_host.judge.finding_lines import SHOWN, inside_count, inside_line, inside_text, some
 from zirofen_host.judge.host_model import ABSENT
 from zirofen_host.judge.model import Report, RootInside
 from zirofen_host.profile import ancestors
@@ -54,10 +54,12 @@ def line_of(labels: Labels, of: Sequence[RootInside], beside: str) -> str:
 
 
 def roots_alone(report: Report, paths: Sequence[str]) -> str:
-    """What root alone holds, in few words: what has a container of root's has a line of its own."""
+    """What root alone holds, in few words: containers by their names before what else there is; what has a container of root's has a
+    line of its own."""
     above: Set[str] = {place for each in report.containers if each.accepted is ABSENT for place in (each.path, *ancestors(each.path))}
     labels = Labels(report)
-    others = [labels.of(path) for path in paths if path not in above]
+    others = sorted((path for path in paths if path not in above), key=lambda path: path not in labels.scopes)
     count = len(paths) - len(others)
-    parts = [*([some(others)] if others else []), *([f"{count} with a container of root's, told below"] if count else [])]
+    most = max(SHOWN, min(NAMED, sum(path in labels.scopes for path in others)))
+    parts = [*([some([labels.of(path) for path in others], most)] if others else []), *([f"{count} with a container of root's, told below"] if count else [])]
     return f"{len(paths)} cgroups: {', and '.join(parts)}"
