@@ -61,5 +61,7 @@ def roots_alone(report: Report, paths: Sequence[str]) -> str:
     others = sorted((path for path in paths if path not in above), key=lambda path: path not in labels.scopes)
     count = len(paths) - len(others)
     most = max(SHOWN, min(NAMED, sum(path in labels.scopes for path in others)))
-    parts = [*([some([labels.of(path) for path in others], most)] if others else []), *([f"{count} with a container of root's, told below"] if count else [])]
+    parts = [some([labels.of(path) for path in others], most)] if others else []
+    if count:
+        parts.append(f"{count} with a container of root's, told below")
     return f"{len(paths)} cgroups: {', and '.join(parts)}"

@@ -334,6 +334,8 @@ MAKERS = {"may": may_words, "check": check_words, "audit": audit_words, "audit -
 WEIGHTS = {"may": 14, "check": 30, "audit": 12, "audit --all": 12, "advise": 14, "advise --pairs": 12, "settle": 24,
            "audit --settle": 14, "advise --settle": 8, "explain": 18, "replay": 28, "replay alone": 6, "upgrade": 7,
            "audit --pairs": 10, "explain --pairs": 5}
+# commands that came when a seed was fixed by which mutants are told apart: fresh cases have them
+LATER = frozenset({"audit --pairs", "explain --pairs"})
 
 
 # Operations

@@ -136,11 +136,6 @@ OF_COMMANDS = {
     "words are tested before files are read": ("    tree = files.get(named)\n", "    test_arguments(call, call.subtrees())\n    tree = files.get(named)\n"),
     "of the subtrees the root is a fault first": (
         "for word in subtrees]\n    return", 'for word in sorted(subtrees, key=lambda word: word != "/")]\n    return'),
-    "audit asks once of a pair that is named again": ("return list(zip(call.users, tops))", "return list(dict.fromkeys(zip(call.users, tops)))"),
-    "audit asks each user of pairs of each subtree": ("return list(zip(call.users, tops))", "return list(itertools.product(call.users, tops))"),
-    "audit goes by subtree first where pairs are named": (
-        "return list(zip(call.users, tops))", "return sorted(zip(call.users, tops), key=lambda pair: tops.index(pair[1]))"),
-    "audit lists the first of some pairs alone": ('listed = bool(call.given.keys() & {"--all", "--pairs"})', 'listed = "--all" in call.given'),
     "advises all users of pairs with all their subtrees": ('zip(call.users, tops) if "--pairs" in call.given else ', ""),
     "a line is a pair's that begins with the word": ('line.startswith(b"pair ")', 'line.startswith(b"pair")'),
     "a line of pairs that is cut is passed over": (
