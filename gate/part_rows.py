@@ -99,6 +99,7 @@ USERS = ("/etc/passwd", "/etc/group", "/etc/subuid", "/etc/subgid", "/etc/localt
 READERS = {"debian_readers.py": ("prometheus", "prometheus-node-exporter", "python3-jsonschema", "python3-junitparser"), "browser.py": ("chromium", "chromium-common")}
 PACKAGING = ("tests/packaging/*.py", "tools", "host", "examples", "docs", "*.md", *WRAPPER)
 MODEL = ("tests/model/[!d]*",)
+EMULATOR = ("qemu-user-static",)
 DEVICES = ("tests/program/case.py", "tests/program/device_rows.py", "tests/program/failing.c", "examples")
 MAKERS = ("lintian", "groff", "mandoc", "man-db", "fish", "zsh", "ansible-core", "python3-pip", "python3-setuptools", "python3-wheel")
 PARTS = [
@@ -118,7 +119,10 @@ PARTS = [
     program_tests("words"),
     program_tests("help"),
     program_tests("surroundings"),
+    of_program("tests/program/emulated.py OTHER_PROGRAM", OTHER_PROGRAM, "tests/program", "tests/model/run", "gate/kept.py", "tests/model/second",
+               "tests/model/trials", "examples", "host/zirofen_host", SOURCES, "crates.txt", "gate/crates.py", packages=EMULATOR),
     of_object("tests/program/devices.py PROGRAM OBJECT", PROGRAM, OBJECT, *DEVICES),
+    of_object("tests/program/devices.py PROGRAM OTHER_OBJECT --emulated", PROGRAM, OTHER_OBJECT, *DEVICES, packages=EMULATOR),
     of_model("run PROGRAM --seed 51 --cases 7500 --blind --table --kept"),
     of_model("run PROGRAM --cases 1000", is_fresh=True),
     of_model("fuzz PROGRAM"),

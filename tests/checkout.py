@@ -9,7 +9,7 @@ import tempfile
 TOP = os.path.dirname(os.path.dirname(os.path.abspath(__file__)))
 FILES = ("zirofen", "tools/build", "tools/program.py", "tools/linked.py", "tools/released", "gate/from_nothing", "gate/kit.py",
          "gate/crates.py", "runtime/errors.h", "runtime/runtime.c")
-MACHINES = ("",)
+MACHINES = ("", "-aarch64")
 KIT = "some-kit logic 1"
 
 CRATES = """# name: the libraries that it uses

@@ -23,7 +23,7 @@ SAYS = re.compile(r'"(\d+\.\d+\.\d+) \(([0-9a-f]{12})\)"')
 # beside the crates
 LINKING = ("runtime/errors.h", "runtime/runtime.c", "tools/linked.py")
 # the kinds of processors that a release is for, as `uname -m` calls them, and this one
-MACHINES = ("x86_64",)
+MACHINES = (*linked.MACHINES,)
 MACHINE = os.uname().machine
 # a function of the wrapper
 IN_WRAPPER = ["bash", "-p", "-c", '. "$1"; "${@:2}"', "zirofen", f"{TOP}/zirofen"]

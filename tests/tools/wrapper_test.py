@@ -11,7 +11,7 @@ SHELL = """z=$PWD/zirofen r=release/zirofen out=crates/zirofen/out kept=.chosen
 low() { printf %s "$1" >crates/low/src/lib.rt; }
 alone() { PATH=/usr/bin:/bin "$@"; }
 of_sums() { sed -i "s/^program .*/program $(sha256sum <$r | cut -c1-64)/" release/MANIFEST; }
-objects() { mkdir -p ../built && cp $r ../built/zirofen-x86_64.o; }
+objects() { mkdir -p ../built && cp $r ../built/zirofen-x86_64.o && cp $r-aarch64 ../built/zirofen-aarch64.o; }
 digits() { sed -n 's/^sources \\(.\\{12\\}\\).*/\\1/p' release/MANIFEST; }
 played() { printf '%s\\n' '#!/bin/sh' "case \\$1 in --version) echo 'zirofen 0.3.1 ($(digits))'; exit;; esac" "$1" >$r; of_sums; }
 builds() { [ "$(wc -l <"$PLAYED/starts")" = "$1" ] || echo "not $1 builds" >&2; }
@@ -131,7 +131,7 @@ ROWS = {
         ("rm $PLAYED/fails; echo >$PLAYED/changes; low x; tools/build", 1, "proving", "waiting", "so far", "a source was changed meanwhile"),
         ("low x; alone $z may", 70, SOURCE, NO_RT)),
     "a release is written": (
-        ("low x; tools/build --release 2>/dev/null; rm -r $out; ls -A release | tr '\\n' , | grep -qx MANIFEST,zirofen, && alone $z may",
+        ("low x; tools/build --release 2>/dev/null; rm -r $out; ls -A release | tr '\\n' , | grep -qx MANIFEST,zirofen,zirofen-aarch64, && alone $z may",
          "built"),
         ("tools/build --other 2>/dev/null", 2)),
     "a status of its own is passed on, and all else is no answer": (
@@ -154,9 +154,10 @@ ROWS = {
     "a release is of these sources": (
         ("tools/released >&2", 0, PASSED), ("objects; tools/released --as ../built >&2", 0, PASSED),
         *((f"objects; {it}; tools/released --as ../built >&2", 1, f"isn't what these sources give. {MEND}", FAILED)
-          for it in ("rm ../built/*64.o", "echo >>../built/zirofen-x86_64.o")),
+          for it in ("rm ../built/*64.o", "echo >>../built/zirofen-x86_64.o", "rm ../built/*aarch64.o", "echo >>../built/zirofen-aarch64.o")),
         ("objects; cp $r ../was; echo >>$r; tools/released --as ../built >&2; s=$?; cp ../was $r; exit $s",
          1, "the released program for x86_64 isn't what these sources give", FAILED),
+        ("echo >>$r-aarch64; alone $z may", "released"), ("tools/released >&2", 1, OTHER_BYTES, FAILED), ("cp $r $r-aarch64; alone $z may", "released"),
         *((f"sed -i 's/^kit .*/kit {made}/' release/MANIFEST; echo '{here}' >$PLAYED/kit; tools/released >&2", 0, PASSED)
           for made, here in ((TRIED[0], TRIED[1]), (TRIED[1], TRIED[0]), (TRIED[0], KIT))),
         *((f"cp release/MANIFEST ..; sed -i '{it}' release/MANIFEST; tools/released >&2; s=$?; cp ../MANIFEST release; exit $s",
