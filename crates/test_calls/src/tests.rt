@@ -11,7 +11,6 @@ mod check;
 mod explain;
 mod input;
 mod may;
-mod pairs;
 mod readers;
 mod replay;
 mod replay_ends;

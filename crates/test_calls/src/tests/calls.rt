@@ -6,11 +6,9 @@ use cg_cli::advise_settle::advise_settled_bytes;
 use cg_cli::arguments::UserIds;
 use cg_cli::audit::audit_bytes;
 use cg_cli::audit_all::audit_all_bytes;
-use cg_cli::audit_pairs::audit_pairs_bytes;
 use cg_cli::audit_settle::{audit_all_settled_bytes, audit_settled_bytes};
 use cg_cli::check::check_bytes;
 use cg_cli::explain::explain_bytes;
-use cg_cli::explain_pairs::explain_pairs_bytes;
 use cg_cli::may::may_bytes;
 use cg_cli::pairs::PairIds;
 use cg_cli::replay::{replay_bytes, replay_from};
@@ -32,8 +30,6 @@ pub enum Call<'a> {
     AuditAllSettled(&'a [UserIds<'a>], &'a [&'a str]),
     Advise(&'a [UserIds<'a>], &'a [&'a str]),
     AdvisePairs(&'a [PairIds<'a>]),
-    AuditPairs(&'a [PairIds<'a>]),
-    ExplainPairs(&'a [PairIds<'a>]),
     AdviseSettled(&'a [UserIds<'a>], &'a [&'a str]),
     Upgrade,
     Replay(UserIds<'a>, Option<&'a str>, &'a [u8]),
@@ -65,8 +61,6 @@ impl Call<'_> {
                 alloc, tree, users, subtrees, stranger, out,
             ),
             Call::AdvisePairs(pairs) => advise_pairs_bytes(alloc, tree, pairs, out),
-            Call::AuditPairs(pairs) => audit_pairs_bytes(alloc, tree, pairs, out),
-            Call::ExplainPairs(pairs) => explain_pairs_bytes(alloc, tree, pairs, out),
             Call::AdviseSettled(users, subtrees) => {
                 advise_settled_bytes(alloc, tree, users, subtrees, stranger, out)
             }
