@@ -1,5 +1,5 @@
 #!/usr/bin/env python3
-"""Runs what the trees of examples/ say at their heads, the examples of the program's help, and those of two pages. The last line
+"""Runs what the trees of examples/ say at their heads, the examples of the program's help, and those of pages. The last line
 is 'N passed, M failed'.
 
 A head is the comment that a tree begins with. In it a line '#     ./zirofen ..' is a command, which may go on behind a
@@ -18,7 +18,7 @@ from case import TOP
 
 HEAD_INDENT = "#     "
 HELP_INDENT = "  "
-PAGES, PAGE_INDENT = ("README.md", "docs/FORMATS.md"), "    "
+PAGES, PAGE_INDENT = ("README.md", "docs/FORMATS.md", "docs/QUESTIONS.md"), "    "
 SAMPLE = "examples/user-manager.toml"
 STATUS = {"granted": 0, "contained": 0, "kept": 0, "ok": 0, "refused": 1, "escapes": 1, "broken": 1, "pair": 1,
           "unsettled": 2, "fails": 1, "fault:": 3}
