@@ -250,7 +250,7 @@ class PackageTest(unittest.TestCase):
 
     def test_pages_are_manual_pages(self):
         """By mandoc and man, in 78 columns, with the sections that one looks for and no mark of Markdown."""
-        for path in ("man1/zirofen.1", "man5/zirofen-tree.5", "man8/zirofen-host.8"):
+        for path in ("man1/zirofen.1", "man5/zirofen-tree.5", "man5/zirofen-report.5", "man8/zirofen-host.8"):
             with self.subTest(path):
                 file = f"{self.folder.name}/{os.path.basename(path)}"
                 with open(file, "w", encoding="ascii") as out:
@@ -261,7 +261,7 @@ class PackageTest(unittest.TestCase):
                 self.assertEqual((said.returncode, said.stderr), (0, ""))
                 self.assertEqual([line for line in said.stdout.splitlines() if len(line) > 78], [])
                 self.assertNotRegex(said.stdout, r"`|\*\*|\*(Means|Stays|Subtrees)\*|\]\(")
-                if path != "man5/zirofen-tree.5":
+                if "man5" not in path:
                     wanted = ["SYNOPSIS", "DESCRIPTION", "OPTIONS", "EXIT STATUS", "ENVIRONMENT", "FILES", "EXAMPLES"]
                     self.assertEqual([head for head in re.findall(r"^([A-Z ]+)$", said.stdout, re.M) if head in wanted], wanted)
         self.assertIn("hugetlb.*", self.shown("man8/zirofen-host.8"))
