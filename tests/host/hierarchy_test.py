@@ -231,6 +231,9 @@ class PrivateMountsTest(HierarchyTest):
         own = Scope(path_of("/a/libpod-1.scope"), "podman", "1", "app", 1000)
         private = tuple(PrivateMount(uid, place, path_of(top)) for uid, place, top in (
             (1000, "/mnt", "/a/in"), (1000, "/sys/fs/cgroup", "/a/libpod-1.scope/container"), (1001, "/h\x1b", "/")))
+        # as a manager mounts memory.pressure for a service
+        in_place = PrivateMount(1000, self.of().mount + "/a/memory.pressure", path_of("/a/memory.pressure"))
+        self.assertEqual(self.lines(private=(in_place,)), [])
         self.assertEqual(self.lines(private=private, scopes=(own,)), [
             "mount: mounted in mount namespaces of theirs too, where whoever is inside goes by these: alice(1000) /a/in at /mnt; "
             "bob(1001) / at '/h\\x1b'"])

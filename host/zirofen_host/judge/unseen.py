@@ -186,10 +186,12 @@ def about_the_mount(checked: Checked) -> Iterator[ReportNote]:
 
 
 def mounted_by_users(checked: Checked) -> Iterator[ReportNote]:
-    """What users have mounted in namespaces of their own, but for containers, each of which has a name or a line of its own."""
+    """What users have mounted in namespaces of their own, but for containers, each of which has a name or a line of its own, and for
+    what stands where the host has it, as what managers mount for a service."""
     found: DefaultDict[int, List[Tuple[str, str]]] = defaultdict(list)
     for each in checked.snapshot.private:
-        if checked.scopes.keys().isdisjoint((each.top, *ancestors(each.top))):
+        is_in_place = each.place == checked.snapshot.mount + text_of(each.top)
+        if not is_in_place and checked.scopes.keys().isdisjoint((each.top, *ancestors(each.top))):
             found[each.uid].append((shown(text_of(each.top)), shown(each.place)))
     for uid, mounts in sorted(found.items()):
         yield of_user(checked, uid, MountedByThem(checked.names.user(uid), tuple(sorted(mounts))))
