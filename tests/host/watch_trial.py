@@ -2,14 +2,19 @@
 """Opens entries of this machine's hierarchy in many ways while it is watched, and says how soon each is told, as what, and by whom. By
 hand, as root, on a machine that may be thrown away:
 
-  watch_trial.py HOST_FOLDER [--rounds N] [--within SECONDS] [--hostile] [--only WORD]
+  watch_trial.py HOST_FOLDER [--rounds N] [--within SECONDS] [--pause SECONDS] [--service] [--hostile] [--only WORD]
+  watch_trial.py HOST_FOLDER --churn MINUTES [--service]
 
-With --hostile a user makes and removes cgroups and toggles modes in a loop meanwhile. The last line is 'N passed, M failed'.
+With --service it is zirofen-watch.service that watches, as installed, and what it writes to the journal is read. With --hostile a user
+makes and removes cgroups and toggles modes in a loop meanwhile. A pause between any two has root's part of a processor fill again, which
+an emulated machine needs. With --churn services are started and ended in a loop, and the memory after the first thousand changes is held
+against that after the last, and what stands then against a check. The last line is 'N passed, M failed'.
 """
 import argparse
 import contextlib
 import os
 import queue
+import re
 import shutil
 import signal
 import subprocess
@@ -39,15 +44,25 @@ def run(*words):
 class Watch:
     """A watch that runs, and the lines that it says."""
 
-    def __init__(self, host, mount, word, *more):
-        self.process = subprocess.Popen([sys.executable, f"{host}/zirofen-host", "watch", "--mount", mount, *more], text=True,
-                                        stdout=subprocess.PIPE)
+    def __init__(self, words, word):
         self.lines = queue.Queue()
+        # events name who did it
+        self.has_pids = True
+        # what was new or worse, and wasn't mended or gone since
+        self.standing = set()
+        self.start(words)
         threading.Thread(target=self.read, daemon=True).start()
-        self.said = self.wait(lambda line: " watch: " in line and word in line, 120)
+        self.said = self.wait(lambda line: " watch: " in line and word in line, 600)
+
+    def start(self, words):
+        self.reader = self.process = subprocess.Popen(words, text=True, stdout=subprocess.PIPE)
 
     def read(self):
-        for line in self.process.stdout:
+        for line in self.reader.stdout:
+            self.has_pids &= "without who does it" not in line
+            found = re.search(r" (new|worse|mended|gone): (.*?)(, by pid .*)?$", line.rstrip("\n"))
+            if found:
+                (self.standing.add if found[1] in ("new", "worse") else self.standing.discard)(found[2])
             self.lines.put((time.monotonic(), line.rstrip("\n")))
 
     def wait(self, is_it, seconds):
@@ -70,13 +85,41 @@ class Watch:
         while not self.lines.empty():
             self.lines.get()
 
+    @property
+    def pid(self):
+        return self.process.pid
+
     def memory(self):
-        with open(f"/proc/{self.process.pid}/status", encoding="ascii") as text:
+        with open(f"/proc/{self.pid}/status", encoding="ascii") as text:
             return next(int(line.split()[1]) for line in text if line.startswith("VmRSS"))
 
     def end(self):
         self.process.send_signal(signal.SIGTERM)
         return self.process.wait(30)
+
+
+class Service(Watch):
+    """The packaged unit, by what it writes to the journal."""
+    unit = "zirofen-watch.service"
+
+    def start(self, words):
+        self.reader = subprocess.Popen(["journalctl", "--follow", "--lines=0", "--output=short-iso", "--unit", self.unit], text=True,
+                                       stdout=subprocess.PIPE)
+        subprocess.run(["systemctl", "restart", self.unit], check=True)
+
+    def shown(self, name):
+        return subprocess.run(["systemctl", "show", f"--property={name}", "--value", self.unit], capture_output=True, text=True,
+                              check=True).stdout.strip()
+
+    @property
+    def pid(self):
+        return self.shown("MainPID")
+
+    def end(self):
+        restarts = self.shown("NRestarts")
+        subprocess.run(["systemctl", "stop", self.unit], check=True)
+        self.reader.terminate()
+        return f"{self.shown('ExecMainStatus')} ({self.shown('Result')}, {restarts} restarts)"
 
 
 class Ways:
@@ -122,6 +165,19 @@ class Ways:
         file = f"{held}/cgroup.max.depth"
         yield "mounted-over", ("mount", "--bind", "/dev/null", file), ("umount", file)
         yield "group", self.group, self.group_back
+        if os.path.isdir("/run/systemd/system"):
+            yield "unit-started", self.unit_started, ("systemctl", "stop", f"{TOP}.service")
+        if shutil.which("docker") and os.path.exists("/run/docker.sock"):
+            yield "container-started", ("docker", "run", "-d", "--privileged", "--network", "none", "--name", TOP, "busy", "sleep", "1d"), (
+                "docker", "rm", "-f", TOP)
+
+    def unit_started(self):
+        """A unit whose own hook opens a limit; the PID of the hook."""
+        kept, file = f"{self.room}/pid", f"{self.mount}/system.slice/{TOP}.service/memory.max"
+        subprocess.run(["systemd-run", "--quiet", f"--unit={TOP}", "--property=User=daemon", "--property=MemoryMax=100M",
+                        f"--property=ExecStartPost=+/bin/sh -c 'echo $$$$ >{kept} && exec chmod 666 {file}'", "sleep", "1d"], check=True)
+        with open(kept, encoding="ascii") as text:
+            return int(text.read())
 
     def group(self):
         """Somebody gets into a group that has an entry."""
@@ -136,10 +192,9 @@ class Ways:
 def do(what):
     """The PID of what did it, where that is one process alone."""
     if callable(what):
-        what()
-        return None
+        return what()
     pid = run(*what)
-    return None if what[0] in ("sh", "mount", "umount") else pid
+    return pid if what[0].startswith("ch") or what[0] == "rmdir" else None
 
 
 def hostile(mount):
@@ -168,7 +223,7 @@ def hostile(mount):
 
 
 def told(watch, pid, name, kinds, within):
-    """Opens or mends, and says what came of it."""
+    """Whether something that was done is told as that in time, with whom, and says it."""
     def is_it(line):
         return any(f" {kind}: " in line for kind in kinds)
     began = time.monotonic()
@@ -176,33 +231,98 @@ def told(watch, pid, name, kinds, within):
     if not found:
         print(f"{name}: not told within {within} s", flush=True)
         return False
-    doer = next((line.strip() for line in found[2] if line.startswith("    by pid")), "")
-    is_right = pid is None or f"pid {pid}" in doer
-    print(f"{name}: {found[0] - began:.2f} s, {found[1][25:110]}, {doer or 'no doer'}{'' if is_right else f', not {pid}'}", flush=True)
+    doer = next(iter(re.findall("by pid .*", "\n".join((found[1], *found[2])))), "")
+    is_right = pid is None or not watch.has_pids or f"pid {pid}" in doer
+    whom = f"{doer or 'no doer'}{'' if is_right else f', not {pid}'}"
+    print(f"{name}: {max(found[0] - began, 0):.2f} s, {found[1][25:110]}, {whom}", flush=True)
     return is_right
 
 
-def main():
+CHURNED = """[Unit]
+StartLimitIntervalSec=0
+[Service]
+User=daemon
+Delegate=yes
+MemoryMax=100M
+ExecStart=/bin/sleep infinity
+"""
+
+
+def check(host, *words):
+    return subprocess.run([sys.executable, f"{host}/zirofen-host", "check", *words], capture_output=True, text=True).stdout
+
+
+def churn(watch, given, room):
+    """Starts and ends services in a loop; whether the watch takes no more memory after the last thousand changes than after the first, and
+    says of what is left what a check says."""
+    base, units, seen, changes = f"{room}/base", [f"zirofen-churn@{number}.service" for number in range(10)], [], 0
+    with open("/run/systemd/system/zirofen-churn@.service", "w", encoding="ascii") as out:
+        out.write(CHURNED)
+    check(given.host, "--baseline-update", base)
+    subprocess.run(["systemctl", "daemon-reload"], check=True)
+    until = time.monotonic() + 60 * given.churn
+    while time.monotonic() < until or changes < 2000:
+        subprocess.run(["systemctl", "restart", *units], check=True)
+        changes += 2 * len(units)
+        if changes % 1000 == 0:
+            seen.append(watch.memory())
+            print(f"{changes} changes: {seen[-1]} KiB", flush=True)
+    print(f"{changes} changes, {seen[-1] / seen[0]:.3f} of the memory after the first thousand", flush=True)
+    subprocess.run(["systemctl", "stop", *units[5:]], check=True)
+    os.chmod(f"{mount_here()}/system.slice/system-zirofen\\x2dchurn.slice/{units[0]}/memory.max", 0o666)
+    time.sleep(120)
+    lines = check(given.host, "--baseline", base).splitlines()
+    found = {line.partition(": ")[2] for line in lines if line.startswith(("new: ", "worse: "))}
+    print(f"what stands of it: {len(found)} lines of a check, {len(watch.standing)} of the watch", flush=True)
+    for line in sorted(found ^ watch.standing):
+        print(f"  the {'check' if line in found else 'watch'} alone: {line}")
+    subprocess.run(["systemctl", "stop", *units[:5]], check=True)
+    return seen[-1] <= 1.05 * seen[0] and found == watch.standing
+
+
+def openings(watch, ways, given):
+    """Opens and mends in each way, so many times; how many were told in time and how many weren't."""
+    counts = [0, 0]
+    for name, opened, mended in [way for _ in range(given.rounds) for way in ways.all() if given.only in way[0]]:
+        for what, kinds in ((opened, ("new", "worse")), (mended, ("mended", "gone"))):
+            watch.drain()
+            pid = do(what)
+            counts[not told(watch, pid, f"{name} {kinds[0]}", kinds, given.within)] += 1
+            time.sleep(given.pause)
+    return counts
+
+
+def words_of(given, mount):
+    return [sys.executable, f"{given.host}/zirofen-host", "watch", "--mount", mount]
+
+
+def arguments():
     parser = argparse.ArgumentParser()
     parser.add_argument("host")
     parser.add_argument("--rounds", type=int, default=1)
     parser.add_argument("--within", type=float, default=2.0)
+    parser.add_argument("--pause", type=float, default=0.5)
+    parser.add_argument("--churn", type=float, metavar="MINUTES", default=0.0)
+    parser.add_argument("--service", action="store_true")
     parser.add_argument("--hostile", action="store_true")
     parser.add_argument("--only", default="")
-    given = parser.parse_args()
-    counts, mount = [0, 0], mount_here()
+    return parser.parse_args()
+
+
+def main():
+    given, mount = arguments(), mount_here()
     with tempfile.TemporaryDirectory() as room:
         ways = Ways(mount, room)
         ways.make()
         enemy = hostile(mount) if given.hostile else None
-        watch = Watch(given.host, mount, "is watched" if given.hostile else "were asked of")
+        kind = Service if given.service else Watch
+        watch = kind(words_of(given, mount), "is watched" if given.hostile else "were asked of")
+        counts = [0, 1]
         try:
-            for name, opened, mended in [way for _ in range(given.rounds) for way in ways.all() if given.only in way[0]]:
-                for what, kinds in ((opened, ("new", "worse")), (mended, ("mended", "gone"))):
-                    watch.drain()
-                    pid = do(what)
-                    counts[not told(watch, pid, f"{name} {kinds[0]}", kinds, given.within)] += 1
-                    time.sleep(0.5)
+            if given.churn:
+                counts = [1, 0] if churn(watch, given, room) else [0, 1]
+            else:
+                counts = openings(watch, ways, given)
         finally:
             print(f"memory: {watch.memory()} KiB; ended with {watch.end()}")
             if enemy:
