@@ -239,6 +239,8 @@ class PackageTest(unittest.TestCase):
                                      ("man8/zirofen-host.8", package.host_help, package.helpers())):
             shown = self.shown(path)
             for name in names:
+                if "man8" in path:
+                    shown += self.shown(f"man8/zirofen-host-{name}.8")
                 said = package.helps.parsed(help_of(name))
                 self.assertTrue(said.usage and said.paragraphs and said.status and said.lists["options"], name)
                 told = [word for entries in said.lists.values() for entry in entries for word in entry]
@@ -250,7 +252,8 @@ class PackageTest(unittest.TestCase):
 
     def test_pages_are_manual_pages(self):
         """By mandoc and man, in 78 columns, with the sections that one looks for and no mark of Markdown."""
-        for path in ("man1/zirofen.1", "man5/zirofen-tree.5", "man5/zirofen-report.5", "man8/zirofen-host.8"):
+        of_commands = [f"man8/zirofen-host-{name}.8" for name in package.helpers()]
+        for path in ("man1/zirofen.1", "man5/zirofen-tree.5", "man5/zirofen-report.5", "man8/zirofen-host.8", *of_commands):
             with self.subTest(path):
                 file = f"{self.folder.name}/{os.path.basename(path)}"
                 with open(file, "w", encoding="ascii") as out:
@@ -261,7 +264,7 @@ class PackageTest(unittest.TestCase):
                 self.assertEqual((said.returncode, said.stderr), (0, ""))
                 self.assertEqual([line for line in said.stdout.splitlines() if len(line) > 78], [])
                 self.assertNotRegex(said.stdout, r"`|\*\*|\*(Means|Stays|Subtrees)\*|\]\(")
-                if "man5" not in path:
+                if path in ("man1/zirofen.1", "man8/zirofen-host.8"):
                     wanted = ["SYNOPSIS", "DESCRIPTION", "OPTIONS", "EXIT STATUS", "ENVIRONMENT", "FILES", "EXAMPLES"]
                     self.assertEqual([head for head in re.findall(r"^([A-Z ]+)$", said.stdout, re.M) if head in wanted], wanted)
         self.assertIn("hugetlb.*", self.shown("man8/zirofen-host.8"))
@@ -287,18 +290,18 @@ class PackageTest(unittest.TestCase):
             wanted = set(re.findall(r"^  (?:-\w, )?(--[\w-]+)", package.host_help(name).split("options:")[1], re.M))
             self.assertEqual({it.name for it in options}, wanted)
 
-    def complete(self, shell, *words):
+    def complete(self, shell, *words, program="zirofen"):
         """What a shell offers behind these words of a command line."""
         files = {it: path for path in self.files for it in ("bash", "zsh", "fish")
-                 if f"/{it}" in path and "completions" in path and "host" not in path}
+                 if f"/{it}" in path and "completions" in path and ("host" in path) == ("host" in program)}
         source = f"{self.folder.name}/{shell}"
         with open(source, "wb") as out:
             out.write(self.files[files[shell]].data)
         if shell == "fish":
-            said = run("fish", "-c", f"source {source}; complete -C 'zirofen {' '.join(words)}'").stdout
+            said = run("fish", "-c", f"source {source}; complete -C '{program} {' '.join(words)}'").stdout
             return {line.split("\t")[0] for line in said.splitlines()}
-        listed = " ".join(f"'{it}'" for it in ("zirofen", *words))
-        code = f". {source}; COMP_WORDS=({listed}); COMP_CWORD={len(words)}; _zirofen; printf '%s\\n' \"${{COMPREPLY[@]}}\""
+        listed = " ".join(f"'{it}'" for it in (program, *words))
+        code = f". {source}; COMP_WORDS=({listed}); COMP_CWORD={len(words)}; _{program.replace('-', '_')}; printf '%s\\n' \"${{COMPREPLY[@]}}\""
         return set(run("bash", "-c", code).stdout.split())
 
     def test_completions_are_offered_by_real_shells(self):
@@ -307,6 +310,12 @@ class PackageTest(unittest.TestCase):
                 self.assertLessEqual({"may", "check", "audit", "replay"}, self.complete(shell, ""))
                 self.assertLessEqual({"--uid", "--subtree", "--tree"}, self.complete(shell, "check", "--"))
                 self.assertNotIn("--subtree", self.complete(shell, "may", "--"))
+                values = {("check", "--format", ""): {"text", "json", "sarif", "junit", "metrics"}, ("fleet", "--format", ""): {"text", "json", "metrics"},
+                          ("check", "--mends", ""): {"shell", "systemd"}, ("plan", "--print", ""): {"lines", "text"},
+                          ("check", "--tree-format", ""): {"2", "4"}, ("tree", "--colour", ""): {"auto", "always", "never"}}
+                for typed, wanted in values.items():
+                    self.assertEqual(self.complete(shell, *typed, program="zirofen-host"), wanted, typed)
+                self.assertIn("root", self.complete(shell, "ask", "ro", program="zirofen-host"))
         for path in (path for path in self.files if "zsh" in path):
             with open(f"{self.folder.name}/_zirofen", "wb") as out:
                 out.write(self.files[path].data)

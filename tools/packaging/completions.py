@@ -10,8 +10,23 @@ OPTION = re.compile(r"\s+(?:(-\w), )?(--[\w-]+)(?: <([^>]*)>)?(?:\.\.\.)?(?:\s\s
 HELPERS_OPTION = re.compile(r"(?:-\w, )?(--[\w-]+)(?: ([A-Z]+|\{[^}]*\}))?(?:, --[\w-]+(?: \S+)?)?")
 FILES = ("FILE", "FOLDER", "PROGRAM")
 
-# value: what is named after it, or nothing; FILE is completed by names of files
-Option = namedtuple("Option", "name value told")
+# options whose value is a cgroup's path, and the command whose first word is a user
+PATHS, OF_USERS = ("--only", "--subtree"), "ask"
+MOUNT = "/sys/fs/cgroup"
+
+
+class Option(namedtuple("Option", "name value told")):
+    """value: what is named after it, or nothing; FILE is completed by names of files."""
+
+    @property
+    def choices(self):
+        """The words that it takes, where these are all: as {A,B} in place of a value, or of a KIND in what is said of it."""
+        if self.value.startswith("{"):
+            return self.value.strip("{}").split(",")
+        if self.value != "KIND":
+            return []
+        listed = re.match(r"((?:\w+, )+)or KIND=FILE", self.told)
+        return listed[1].rstrip(", ").split(", ") if listed else re.findall(r"\((\w+)\)", self.told)
 
 
 def commands_of(said):
@@ -45,6 +60,18 @@ def read(help_of):
     return {name: (told, options_of(help_of(name))) for name, told in commands_of(help_of()).items() if name != "help"}
 
 
+def bash_values(commands):
+    """The cases of options that take one of some words, a cgroup's path, or a user."""
+    cases = [f"        '{name} {it.name}') mapfile -t COMPREPLY < <(compgen -W '{' '.join(it.choices)}' -- \"$word\"); return ;;"
+             for name, (_, options) in commands.items() for it in options if it.choices]
+    paths = "|".join(f"*' {name}'" for name in PATHS)
+    cases.append(f"        {paths}) mapfile -t COMPREPLY < <(compgen -d -- \"{MOUNT}$word\"); "
+                 f"COMPREPLY=(\"${{COMPREPLY[@]#{MOUNT}}}\"); return ;;")
+    if OF_USERS in commands:
+        cases.append(f"        '{OF_USERS} {OF_USERS}') mapfile -t COMPREPLY < <(compgen -u -- \"$word\"); return ;;")
+    return "\n".join(cases)
+
+
 def bash(program, commands):
     cases = []
     for name, (_, options) in commands.items():
@@ -58,6 +85,9 @@ _{program.replace("-", "_")}() {{
         mapfile -t COMPREPLY < <(compgen -W '{" ".join(commands)} help --help --version' -- "$word")
         return
     fi
+    case "${{COMP_WORDS[1]}} $before" in
+{bash_values(commands)}
+    esac
     case $before in
         {"|".join(files) or "--"}) mapfile -t COMPREPLY < <(compgen -f -- "$word"); return ;;
         {"|".join(it for it in values if it not in files) or "--"}) return ;;
@@ -76,6 +106,13 @@ def quoted(text):
     return "'" + text.replace("'", "'\\''") + "'"
 
 
+def zsh_values(option):
+    """What completes an option's value."""
+    if option.choices:
+        return f"({' '.join(option.choices)})"
+    return f"_path_files -P / -W {MOUNT} -/" if option.name in PATHS else "_files" if option.value == "FILE" else " "
+
+
 def zsh(program, commands):
     listed = "\n".join(f"        {quoted(name + ':' + told.replace(':', chr(92) + ':'))}" for name, (told, _) in commands.items())
     cases = []
@@ -83,8 +120,9 @@ def zsh(program, commands):
         words = []
         for it in options:
             told = it.told.replace("[", "(").replace("]", ")").replace(":", "\\:")
-            action = f":{it.value.lower().replace('[', '').replace(']', '').replace(':', ' ')}:" if it.value else ""
-            words.append(quoted(f"*{it.name}[{told}]{action}{'_files' if it.value == 'FILE' else ' ' if action else ''}"))
+            action = f":{re.sub('[^a-z]', ' ', it.value.lower())}:" if it.value else ""
+            words.append(quoted(f"*{it.name}[{told}]{action}{zsh_values(it) if action else ''}"))
+        words += [quoted("1:user:_users")] if name == OF_USERS else []
         cases.append(f"        {name}) _arguments {' '.join(words)} ;;")
     return f"""#compdef {program}
 # completions of {program} for zsh, written from its --help
@@ -108,11 +146,18 @@ _{program.replace("-", "_")} "$@"
 """
 
 
+FISH_PATHS = f"(for it in {MOUNT}(commandline -ct)*/; string replace {MOUNT} '' -- $it; end)"
+
+
 def fish(program, commands):
     lines = [f"# completions of {program} for fish, written from its --help", f"complete -c {program} -f"]
     for name, (told, options) in commands.items():
         lines.append(f"complete -c {program} -n __fish_use_subcommand -a {name} -d {quoted(told)}")
         for it in options:
             value = " -r -F" if it.value == "FILE" else " -x" if it.value else ""
+            if it.choices or it.name in PATHS:
+                value += f" -a {quoted(' '.join(it.choices) or FISH_PATHS)}"
             lines.append(f"complete -c {program} -n '__fish_seen_subcommand_from {name}' -l {it.name[2:]}{value} -d {quoted(it.told)}")
+    if OF_USERS in commands:
+        lines.append(f"complete -c {program} -n '__fish_seen_subcommand_from {OF_USERS}' -a '(__fish_complete_users)'")
     return "\n".join(lines) + "\n"

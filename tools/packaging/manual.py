@@ -186,3 +186,34 @@ def from_helps(known, about):
         rows = [entry for kind, rows in said.lists.items() if kind != "commands" for entry in rows]
         out += [f".SS {escaped(name)}", *listed(rows)]
     return [*out, ".SH EXIT STATUS", *listed((name, said.status) for name, said in known.items())]
+
+
+def options_of(said):
+    """The options of a help, and what it takes without one."""
+    return [entry for kind, rows in said.lists.items() if kind != "commands" for entry in rows]
+
+
+def shared_options(known):
+    """The options that several commands have, in the same words, each once."""
+    rows = [entry for said in known.values() for entry in options_of(said)]
+    return [entry for entry in dict.fromkeys(rows) if rows.count(entry) > 1]
+
+
+def overview(program, known, abouts, about):
+    """The page of a program whose commands have pages of their own: what each does, and the options that several have."""
+    out = [".SH SYNOPSIS", f"\\fB{escaped(program)}\\fR \\fICOMMAND\\fR ..", ".SH DESCRIPTION", *from_markdown(about, 2), ".SH COMMANDS"]
+    out += listed((f"{program}-{name}(8)", told) for name, told in abouts.items())
+    out += [".SH OPTIONS", "Of several commands; the page of each has its own.", *listed(shared_options(known))]
+    return [*out, ".SH EXIT STATUS", *listed((name, said.status) for name, said in known.items())]
+
+
+def of_command(program, said, shared):
+    """The page of one of its commands."""
+    own = [entry for entry in options_of(said) if entry not in shared]
+    others = [f"\\fB{escaped(tag.split(' ')[0].rstrip(','))}\\fR" for tag, _ in options_of(said) if (tag, _) in shared]
+    out = [".SH SYNOPSIS", *flowed(escaped(said.usage)), ".SH DESCRIPTION"]
+    out += [line for it in said.paragraphs for line in (".PP", *flowed(plain(it)))]
+    out += [".SH OPTIONS", *listed(own)]
+    if others:
+        out += [".PP", *flowed(f"{escaped(program)}(8) has what these do: {', '.join(others)}.")]
+    return [*out, ".SH EXIT STATUS", *flowed(plain(said.status)), ".SH SEE ALSO", f".BR {escaped(program)} (8),", ".BR zirofen\\-report (5)"]
