@@ -5,6 +5,8 @@ CHANGE = "/sys/fs/cgroup"
 CONTROL = ("cgroup.procs", "cgroup.subtree_control")
 VALUES = {"memory.max": "max", "pids.max": "max"}
 SIZE = 2**30
+# a crowd of so many has a note on each user
+NOTED = 1000
 KINDS = ("limit", "parent", "group", "opened", "fault", "differs")
 
 
@@ -129,6 +131,10 @@ def report(count, length=0, depth=1):
     for number in range(count):
         crowd.one(10000 + number, KINDS[number // 10 % len(KINDS)] if number % 10 == 0 else None)
     made = crowd.report
+    if count >= NOTED:
+        fact = "the service manager moves their processes, from anywhere, on request"
+        made["unseen"] = [{"kind": "deputy", "place": f"user{each['uid']}({each['uid']})", "fact": fact, "text": f"{fact}: into some unit"}
+                          for each in made["users"]]
     for key in ("subtrees", "entries", "opened", "differs"):
         made[key].sort(key=lambda each: each["path"].split("/"))
     return made

@@ -8,7 +8,7 @@ import paper
 from page_reader import PageReader
 from shown import made
 from zirofen_host.judge import saved
-from zirofen_host.show import page
+from zirofen_host.show import page, words
 
 MANY, MOST = 300, 2000
 LONGEST, DEEPEST = 95, 15
@@ -97,6 +97,18 @@ class WholeTest(CrowdedTest):
         self.assertEqual((self.number("querySelectorAll('.finding figure').length"), len(self.shown(".finding figure"))), (10, 2))
         self.assertEqual([self.number(f"querySelector('svg.{size}').checkVisibility()") for size in ("wide", "tall")], [True, False])
         self.assertEqual(len(self.shown(".member")), 30)
+
+    def test_two_thousand_on_a_screen_and_on_paper(self):
+        """With a note on each of them: notes and rows that hold are folded."""
+        self.open("most")
+        self.assertLessEqual(self.number("documentElement.scrollHeight"), 15000)
+        self.assertEqual(len(self.shown("#host-1-unseen span")), 12)
+        self.open("most", 794, media="print")
+        self.browser.printed(f"{self.folder}/most.pdf")
+        self.assertLessEqual(len(paper.filled(f"{self.folder}/most.pdf")), 45)
+
+    def test_names_are_put_in_order_by_their_numbers(self):
+        self.assertLess(words.in_order("/a9.slice/b"), words.in_order("/a10.slice/b"))
 
 
 class CostTest(CrowdedTest):

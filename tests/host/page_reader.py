@@ -5,7 +5,7 @@ EMPTY = {"meta", "link", "br", "input"}
 TAGS = {*EMPTY, "html", "head", "title", "style", "body", "script", "header", "footer", "section", "article", "nav", "p",
         "h1", "h2", "h3", "h4", "h5", "ul", "ol", "li", "dl", "dt", "dd", "strong", "span", "a", "code", "pre", "details",
         "summary", "figure", "figcaption", "time", "label", "svg", "rect", "text", "circle", "path", "div", "table", "thead", "tbody",
-        "tr", "th", "td", "select", "option", "button", "output", "tspan"}
+        "tr", "th", "td", "main", "caption", "select", "option", "button", "output", "tspan"}
 ATTRIBUTES = {"id", "class", "href", "lang", "charset", "content", "name", "http-equiv", "rel", "src", "type", "for", "hidden",
               "open", "tabindex", "aria-hidden", "aria-label", "aria-labelledby", "role", "datetime", "viewbox", "d", "x", "y",
               "cx", "cy", "r", "rx", "width", "height", "scope", "value"}

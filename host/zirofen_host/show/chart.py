@@ -221,7 +221,8 @@ class Drawn:
         start, end = self.place(arrow.before), self.place(arrow.behind)
         (x, y), (to_x, to_y) = start.middle, end.middle
         if start == end:
-            to_y = min(start.top + start.height + GAP + 3, self.size[1] - 2)
+            # over its own edge, and not into what is below
+            to_y = min(start.top + start.height + GAP, self.size[1] - 2)
         length = max(((to_x - x) ** 2 + (to_y - y) ** 2) ** 0.5, 1)
         along_x, along_y = (to_x - x) / length, (to_y - y) / length
         base_x, base_y = to_x - 9 * along_x, to_y - 9 * along_y

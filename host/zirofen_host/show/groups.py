@@ -6,7 +6,7 @@ from typing import Dict, Hashable, Iterator, List, Sequence
 from zirofen_host.judge.model import DiffersFinding, EntryFinding, FaultFinding, HeldFinding, PremiseFinding, RootInside, RunsElsewhere
 from zirofen_host.show import words
 from zirofen_host.show.finding import Article, Place, articles
-from zirofen_host.show.markup import commands, css, filled
+from zirofen_host.show.markup import commands, css, filled, fold
 from zirofen_host.show.view import Host, Part, accepted_of, subtrees_of, whom_of
 from zirofen_host.show.words import SIGNS
 
@@ -65,7 +65,8 @@ class Group:
         """All of them: each behind a fold of its own, and what mends them all at the end."""
         shown = "\n".join(self.member(each) for each in self.members[:SHOWN])
         rest = "\n".join(f'<li class="member" id="{each.id}">{each.what()}</li>' for each in self.members[SHOWN:])
-        return f'<ul class="members">\n{shown}\n{rest}</ul>\n{self.change()}'
+        more = fold(f"{len(self.members) - SHOWN} more", f'<ul class="members">\n{rest}\n</ul>') if rest else ""
+        return f'<ul class="members">\n{shown}\n</ul>\n{more}{self.change()}'
 
     def member(self, each: Article) -> str:
         return f'<li class="member" id="{each.id}"><details><summary>{each.title()}</summary>\n{each.html()}\n</details></li>'
@@ -73,8 +74,11 @@ class Group:
     def change(self) -> str:
         """What mends all of them, a line or more for each."""
         changes = [line for each in self.members for line in each.changes()]
-        heading = self.members[0].at.level(4)
-        return f"<{heading}>What to change, for all {len(self.members)}</{heading}>{commands(changes)}" if changes else ""
+        heading = f"What to change, for all {len(self.members)}"
+        if len(changes) > SHOWN:
+            return fold(heading, commands(changes))
+        level = self.members[0].at.level(4)
+        return f"<{level}>{heading}</{level}>{commands(changes)}" if changes else ""
 
 
 def groups(host: Host, at: Place) -> Iterator[Group]:

@@ -53,6 +53,11 @@ def paragraph(markup: str) -> str:
     return f"<p>{markup}</p>" if markup else ""
 
 
+def fold(summary: str, inside: str, kind: str = "rest") -> str:
+    """What is behind a fold."""
+    return f'<details class="{kind}"><summary>{summary}</summary>{inside}</details>'
+
+
 def commands(lines: List[str]) -> str:
     """Commands to copy: a click takes all of them."""
     return f'<pre tabindex="0">{text(chr(10).join(lines))}</pre>' if lines else ""

@@ -3,7 +3,7 @@ import base64
 import hashlib
 from dataclasses import dataclass
 from string import Template
-from typing import Dict, List, NamedTuple, Sequence, Tuple
+from typing import Callable, Dict, List, NamedTuple, Sequence, Tuple
 
 from zirofen_host import output
 from zirofen_host.judge import limits
@@ -15,15 +15,15 @@ from zirofen_host.show.branches import Branches
 from zirofen_host.show.finding import Place
 from zirofen_host.show.joined import fact_of, joined, rest_of
 from zirofen_host.show.lines import by_kind
-from zirofen_host.show.markup import code, css, filled, paragraph, places, read, text
+from zirofen_host.show.markup import code, css, filled, fold, paragraph, places, read, text
 from zirofen_host.show.table import Table
 from zirofen_host.show.view import Host, host_of
 from zirofen_host.show.words import (ACCEPTED, COUNTED, ESCAPES, FAULT, MEANINGS, NOT_ASKED, NOT_LOOKED_AT, NOTHING_ASKED, OPENED,
                                      OWN_FAULT, SIGNS, STALE, STANDINGS, UNSETTLED, standing_text, visible)
 
 
-# reports on one page
-MOST_REPORTS = 20
+# reports on one page, and notes of a kind that aren't folded
+MOST_REPORTS, NOTES = 20, 12
 
 
 class Unread(NamedTuple):
@@ -186,7 +186,7 @@ class HostPage:
             return "<p>This host tells of nothing.</p>"
         heading = self.at.level(3)
         return "\n".join(f"<{heading}>{'Left out of the tree text: ' if key == 'snapshot' else ''}{text(kind)}</{heading}>"
-                         f"{paragraph(WHAT_NO_ANSWER_SEES.get(kind, ''))}<ul>\n{chr(10).join(lines)}\n</ul>"
+                         f"{paragraph(WHAT_NO_ANSWER_SEES.get(kind, ''))}{list_of(lines)}"
                          for (key, kind), lines in kinds.items())
 
     def overview(self) -> str:
@@ -201,12 +201,23 @@ class HostPage:
 
 
 def item_of(of: Sequence[Tuple[str, ReportNote]]) -> str:
-    """Notes with one fact, or a note alone, each with its id."""
+    """Notes with one fact, or a note alone, each with its id; of many with one fact the first, and the others behind a fold."""
     (first, head), *others = of
     if not others:
         return f'<li id="{first}">{code(head.place) + ": " if head.place else ""}{text(head.text)}</li>'
-    parts = (f'<span id="{each}">{code(note.place) + " " if note.place else ""}{text(rest_of(note))}</span>' for each, note in of)
-    return f'<li id="{first}-together">{text(fact_of(head) or "")}: {"; ".join(parts)}</li>'
+    parts = [f'<span id="{each}">{code(note.place) + " " if note.place else ""}{text(rest_of(note))}</span>' for each, note in of]
+    return f'<li id="{first}-together">{text(fact_of(head) or "")}: {"; ".join(parts[:NOTES])}{more(parts[NOTES:], "; ".join)}</li>'
+
+
+def more(parts: Sequence[str], put_together: Callable[[Sequence[str]], str]) -> str:
+    """What isn't among the first, behind a fold that says how many they are."""
+    return fold(f"{len(parts)} more", put_together(parts)) if parts else ""
+
+
+def list_of(items: Sequence[str]) -> str:
+    """Items of a list, the first of which are always seen."""
+    rest = more(items[NOTES:], lambda parts: "<ul>\n" + "\n".join(parts) + "\n</ul>")
+    return "<ul>\n" + "\n".join(items[:NOTES]) + f"\n</ul>{rest}"
 
 
 def sum_of(inline: str) -> str:

@@ -5,18 +5,20 @@ A page's script filters it, and all of it is there without.
 from collections import Counter
 from dataclasses import dataclass
 from functools import cached_property
-from typing import Iterator, List, Optional, Sequence
+from typing import Dict, Iterable, Iterator, List, Mapping, Optional, Sequence
 
 from zirofen_host.files import HANDED_OVER
 from zirofen_host.show import words
 from zirofen_host.show.finding import Place, id_of
 from zirofen_host.show.lines import beside
-from zirofen_host.show.markup import code, css, text
+from zirofen_host.show.markup import code, css, fold, text
 from zirofen_host.show.view import Host
 from zirofen_host.show.words import QUIET, SIGNS, STANDINGS
 
 # rows that are never folded, those that a long table shows at least, and at most
-FEW, LEAST, MOST = 30, 10, 60
+FEW, LEAST, MOST = 30, 10, 40
+# of more folded rows paper has how many there are in each slice
+ON_PAPER = 500
 COLUMNS = ("Answer", "Where", "Handed to", "By what", "Limits")
 # the usual entries, in few words
 ALL_THREE = "all three"
@@ -31,7 +33,7 @@ class Table:
     @cached_property
     def paths(self) -> List[str]:
         standing = self.host.standing
-        return sorted(self.host.delegations, key=lambda path: (STANDINGS.index(standing[path][0][0]), path.split("/")))
+        return sorted(self.host.delegations, key=lambda path: (STANDINGS.index(standing[path][0][0]), words.in_order(path)))
 
     def answer(self, path: str) -> str:
         """The gravest answer of a delegation."""
@@ -49,14 +51,24 @@ class Table:
             return "<p>There are none.</p>"
         numbers = {each.path: number for number, each in enumerate(self.host.report.subtrees, 1)}
         rows = [self.row(path, numbers.get(path)) for path in self.paths]
-        folded = self.folded(rows[self.shown:]) if rows[self.shown:] else ""
-        return table(rows[:self.shown]) + folded + self.usual()
+        folded = self.folded(dict(zip(self.paths[self.shown:], rows[self.shown:]))) if rows[self.shown:] else ""
+        return table(rows[:self.shown], "The gravest first") + folded + self.usual()
 
-    def folded(self, rows: Sequence[str]) -> str:
-        """The rest of the table behind a fold, which says what is in it."""
-        answers = Counter(map(self.answer, self.paths[self.shown:]))
-        counts = ", ".join(f"{answers[kind]} {words.standing_text(kind, self.host.report)}" for kind in STANDINGS if answers[kind])
-        return f'<details class="rest"><summary>{len(rows)} more: {counts}</summary>\n{table(rows)}\n</details>'
+    def folded(self, rows: Mapping[str, str]) -> str:
+        """The rest of the table behind a fold, which says what is in it; of many rows those of each slice behind one of their own."""
+        slices: Dict[str, List[str]] = {}
+        for path in rows:
+            slices.setdefault("/" + path.split("/")[1], []).append(path)
+        kind = "slice closed" if len(rows) > ON_PAPER else "slice"
+        inside = (table(list(rows.values()), "The others") if len(rows) <= MOST else
+                  "\n".join(fold(f"{len(paths)} in {code(top)}: {self.counts(paths)}", table([rows[path] for path in paths], top), kind)
+                            for top, paths in slices.items()))
+        return fold(f"{len(rows)} more: {self.counts(rows)}", inside)
+
+    def counts(self, paths: Iterable[str]) -> str:
+        """How many of these stand how."""
+        answers = Counter(map(self.answer, paths))
+        return ", ".join(f"{answers[kind]} {words.standing_text(kind, self.host.report)}" for kind in STANDINGS if answers[kind])
 
     def usual(self) -> str:
         """What stands for the usual entries, where it does."""
@@ -90,6 +102,7 @@ class Table:
         return ", ".join(f"{text(file)} {text(value)}" for file, value in self.host.limits(path))
 
 
-def table(rows: Sequence[str]) -> str:
+def table(rows: Sequence[str], caption: str) -> str:
     head = "".join(f'<th scope="col">{each}</th>' for each in COLUMNS)
-    return f'<table class="delegations"><thead><tr>{head}</tr></thead><tbody>\n' + "\n".join(rows) + "\n</tbody></table>"
+    return (f'<table class="delegations"><caption>{text(caption)}</caption><thead><tr>{head}</tr></thead><tbody>\n'
+            + "\n".join(rows) + "\n</tbody></table>")

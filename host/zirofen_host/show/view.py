@@ -168,7 +168,7 @@ class Host:
     @cached_property
     def children(self) -> Mapping[str, List[str]]:
         found: Dict[str, List[str]] = defaultdict(list)
-        for path in sorted(self.rows, key=lambda path: path.split("/")):
+        for path in sorted(self.rows, key=words.in_order):
             above = parent_of(path)
             if above is not None:
                 found[above].append(path)

@@ -1,5 +1,6 @@
 """From a report's words to what they mean, in sentences: answers, guards, and whom an entry lets in."""
-from typing import Iterable, List, Mapping, Optional, Sequence
+import re
+from typing import Iterable, List, Mapping, Optional, Sequence, Union
 
 from zirofen_host.ask.guards import GUARDS
 from zirofen_host.collect.model import Value
@@ -35,6 +36,11 @@ MEANINGS = {
 }
 SHOWN_USERS = 8
 SIZES = (("T", 2**40), ("G", 2**30), ("M", 2**20), ("K", 2**10))
+
+
+def in_order(path: str) -> List[List[Union[str, int]]]:
+    """By what cgroups are put in order: name by name, with numbers in them as numbers."""
+    return [[int(part) if at % 2 else part for at, part in enumerate(re.split("([0-9]+)", name))] for name in path.split("/")]
 
 
 def standing_text(kind: str, report: Report) -> str:

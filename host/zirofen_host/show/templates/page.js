@@ -63,7 +63,7 @@ for (const box of document.querySelectorAll(".search")) {
 }
 
 for (const box of document.querySelectorAll(".filters")) {
-  const section = box.closest("section"), said = box.querySelector("output"), rest = section.querySelector(".rest");
+  const section = box.closest("section"), said = box.querySelector("output"), folds = [...section.querySelectorAll(".rest, .slice")];
   const rows = [...section.querySelectorAll("tbody tr")], fields = [...box.querySelectorAll("select, input")];
   if (rows.length < 2) continue;
   const isByWhom = fields.length > 2, whose = rows.map((row) => (isByWhom ? row.cells[2].textContent : "")), names = rows.map((row) => row.cells[1].textContent.toLowerCase());
@@ -81,7 +81,7 @@ for (const box of document.querySelectorAll(".filters")) {
       row.classList.toggle("miss", !isKept);
       kept += isKept;
     });
-    if (rest && isAny) rest.open = true;
+    if (isAny) folds.forEach((each) => { each.open = true; });
     said.textContent = isAny ? `${kept || "none"} of ${rows.length}` : "";
   });
 }
