@@ -1,10 +1,9 @@
 """From a subcommand's name to the parser of its command line, and what its --help says."""
 import argparse
 import os
-from typing import Callable, Dict, Sequence, Type
+from typing import Callable, Dict, Sequence
 
 from zirofen_host.fault import Parser
-from zirofen_host.parsing import StableParser
 from zirofen_host.installed import MANUAL, NAME, PROGRAM_IN_HELP, default_program
 from zirofen_host.options import MOUNT, PROC, Way
 from zirofen_host.profile import LARGEST_ID, NEWEST, TEXT_FORMATS, is_number
@@ -25,6 +24,12 @@ NEW_SYSTEMD = 257
 LEAST_WIDTH = 20
 
 DESCRIPTIONS = {
+    "accept": f"""Drafts acceptances of what a report found. Usage: {NAME} accept REPORT.json --reason TEXT > accept.toml.
+
+A helper: no part of the proved program, and only tested. For each finding of the report that counts and can be accepted it
+writes a table [[accept]], with the finding's line above it, as --accept of {NAME} check reads them. Read the draft, and leave
+out what is to be fixed: nothing of it is looked at again. The status is 0, or 3 for a fault.
+""",
     "ask": f"""Asks zirofen of one user and one subtree of this host, by name. Usage: {NAME} ask NAME|UID PATH. Run it as root.
 
 A helper: no part of the proved program, and only tested. The user's groups are looked up as this host does; one list of
@@ -255,6 +260,14 @@ def add_delegations(parser: argparse.ArgumentParser) -> None:
     add_program(parser)
 
 
+def add_accept(parser: argparse.ArgumentParser) -> None:
+    parser.add_argument("report", metavar="REPORT.json", help=f"what {NAME} check --json wrote, - for standard input")
+    parser.add_argument("--reason", metavar="TEXT", required=True, help="why these are accepted, which each report says beside them")
+    parser.add_argument("--until", metavar="DAY", help="the last day on which they are, as 2027-01-31 (90 days from now)")
+    parser.add_argument("--only", metavar="PATH", action="append", help="what is at that cgroup or inside it, or a container by its name; "
+                        "once or more")
+
+
 def add_page(parser: argparse.ArgumentParser) -> None:
     parser.add_argument("reports", metavar="REPORT.json", nargs="+", help=f"what {NAME} check --json wrote, - for standard input")
     parser.add_argument("--out", metavar="FILE", default="-", help="where the page goes (standard output)")
@@ -305,16 +318,14 @@ def add_tree(parser: argparse.ArgumentParser) -> None:
 
 
 ARGUMENTS: Dict[str, Callable[[argparse.ArgumentParser], None]] = {
-    "ask": add_ask, "check": add_check, "commands": add_commands, "delegations": add_delegations, "fleet": add_fleet,
+    "accept": add_accept, "ask": add_ask, "check": add_check, "commands": add_commands, "delegations": add_delegations, "fleet": add_fleet,
     "page": add_page, "plan": add_plan,
     "snapshot": add_snapshot, "tree": add_tree, "watch": add_watch}
-# these tell their usage where their options are wrong, and the others a line
-PARSERS: Dict[str, Type[StableParser]] = {"page": StableParser, "tree": StableParser}
 
 
 def parser_of(name: str) -> argparse.ArgumentParser:
     """The parser of a subcommand's command line."""
-    parser = PARSERS.get(name, Parser)(prog=f"{NAME} {name}", description=DESCRIPTIONS[name],
-                                       formatter_class=argparse.RawDescriptionHelpFormatter)
+    parser = Parser(prog=f"{NAME} {name}", description=DESCRIPTIONS[name],
+                    formatter_class=argparse.RawDescriptionHelpFormatter)
     ARGUMENTS[name](parser)
     return parser

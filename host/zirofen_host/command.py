@@ -35,9 +35,11 @@ def main(words: List[str]) -> int:
     if words == ["--version"]:
         return tell_version()
     from zirofen_host.arguments import ARGUMENTS, parser_of
-    if not words or words[0] not in ARGUMENTS:
+    if not words:
         print(help_text(), file=sys.stderr)
         return fault.FAULT
+    if words[0] not in ARGUMENTS:
+        raise fault.Fault(f"there is no command {words[0]}{fault.nearest(words[0], ARGUMENTS)}; --help lists them")
     given = parser_of(words[0]).parse_args(words[1:])
     run_command = importlib.import_module(f"zirofen_host.runs.{words[0]}").run
     fault.bound(vars(given).get("seconds"))

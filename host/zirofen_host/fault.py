@@ -84,11 +84,19 @@ def plain(text: str) -> str:
     return "".join(each if each.isascii() and each.isprintable() else ascii(each)[1:-1] for each in text)
 
 
+def nearest(word: str, names: Iterable[str]) -> str:
+    """What tells the name that a word is near to, where one is."""
+    import difflib
+    return "".join(f" ({name} is near)" for name in difflib.get_close_matches(word, list(names), 1))
+
+
 class Parser(StableParser):
     """Options of a helper; wrong ones are a fault like others."""
 
     def error(self, message: str) -> NoReturn:
-        raise Fault(f"{message}; --help tells the options")
+        _, is_unknown, words = message.partition("unrecognized arguments: ")
+        near = nearest(words.split(" ")[0].partition("=")[0], self._option_string_actions) if is_unknown else ""
+        raise Fault(f"{message}{near}; --help tells the options")
 
 
 def warn(line: str) -> None:

@@ -115,7 +115,7 @@ class ElsewhereTest(HostTest):
             ("1000", "-", "escapes", "/up/svc")])
         self.assertEqual({whom["name"] for each in found["entries"] for whom in each["whom"]}, {"uid 1000", "group 50"})
         (told,) = self.told(found, "elsewhere")
-        self.assertIn("so it is judged by number", told)
+        self.assertIn("judged by number", told)
         options = self.options(AskOptions, tree=self.file, accounts=None, user="1000", path="/up/svc")
         self.assertEqual(one.ask(accepted.take(options, lambda *_: [b"/up/svc"]), options, self.fail)[1], 1)
         with self.assertRaisesRegex(Fault, "there is no account 'alice'"):

@@ -15,7 +15,7 @@ SHARED = ("progress", "ending", "parsing", "fault", "files", "profile", "output"
 LAST = "command"
 # what imports where it is run, so that no command waits for what it doesn't use
 WHERE_USED = {("command", "help_text"), ("command", "main"), ("command", "tell_version"), ("runs.check", "write_page"),
-              ("show.formats", "text_parts"), ("show.formats", "parts_of")}
+              ("show.formats", "text_parts"), ("show.formats", "parts_of"), ("fault", "nearest")}
 # what imports without a statement
 IMPORTERS = {"__import__", "import_module", "importlib"}
 

@@ -29,6 +29,22 @@ class ListsTest(HostTest):
         self.host.cgroup("/", enabled="memory")
         self.host.cgroup("/up", owners={"cgroup.procs": 1000}, modes={"cgroup.procs": 0o644})
 
+    def test_of_limits_the_one_that_matters_most_is_shown(self):
+        """Where all of them were handed over; what the program says stays in the report."""
+        self.host.cgroup("/all", owners={**owned(1000), "cgroup.max.depth": 1000, "memory.high": 1000, "memory.max": 1000},
+                         modes={"memory.max": 0o444}, values={"memory.max": 4096})
+        self.host.cgroup("/depth", owners={**owned(1000), "cgroup.max.depth": 1000})
+        report = self.report()
+        own = {each["path"]: each["answers"][0]["lines"] for each in report["subtrees"]}
+        self.assertEqual(own["/all"], ["escapes", "set /all cgroup.max.depth 0"])
+        (found,) = report["lists"]
+        self.assertEqual((found["subtree"], found["shown"]), ("/all", ["escapes", "chmod /all memory.max 644", "set /all memory.max max"]))
+        lines = self.lines(made(report))
+        at = next(number for number, line in enumerate(lines) if line.endswith("  /all"))
+        self.assertEqual(lines[at + 1:at + 3], ["    chmod /all memory.max 644", "    set /all memory.max max"])
+        self.assertIn("its own is: set /all cgroup.max.depth 0", lines[at + 3])
+        self.assertIn("    set /depth cgroup.max.depth 0", lines)
+
     def processes(self, *at, **more):
         """Processes of /up and of /up/svc, by their PIDs."""
         up, svc = at

@@ -199,7 +199,7 @@ class InstalledTest(unittest.TestCase):
 
     def test_one_command_for_the_helpers(self):
         helpers = completions.commands_of(self.host("--help").stdout)
-        self.assertEqual(list(helpers), ["ask", "check", "commands", "delegations", "fleet", "page", "plan", "snapshot", "tree", "watch"])
+        self.assertEqual(list(helpers), ["accept", "ask", "check", "commands", "delegations", "fleet", "page", "plan", "snapshot", "tree", "watch"])
         for name in helpers:
             ended = self.host(name, "--help")
             self.assertEqual((ended.returncode, ended.stdout.split("[")[0]), (0, f"usage: zirofen-host {name} "))

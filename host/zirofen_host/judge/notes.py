@@ -231,9 +231,8 @@ class NoCause(Note):
     @property
     def text(self) -> str:
         more = f", and {self.unread} files that aren't root's alone, are links or are too large" if self.unread else ""
-        return (f"nothing that was read gives away what lets somebody in at {some(self.paths)}: units with their drop-ins, tmpfiles.d, "
-                "udev's rules, root's crontabs, rc.local and PAM, where a line names the mount, and what root carries out for that unit, "
-                f"with a script that it calls. Not read was what else root runs, and what was done by hand{more}")
+        return (f"nothing that was read gives away what lets somebody in at {some(self.paths)}. Not read was what else root runs, and what "
+                f"was done by hand{more}")
 
 
 @dataclass(frozen=True)
@@ -262,12 +261,9 @@ class OfText(Note):
         if self.is_carried:
             more = "" if self.has_descriptors else "where threads run, open descriptors and "
             return f"this is judged by a text: {more}the settings of units aren't told by it"
-        by_number = "" if self.has_accounts else (
-            ", and so it is judged by number: names, who is in which group and whose ids are subordinate aren't known, which "
-            "--accounts FOLDER tells too")
-        return ("this is judged by a text that carries nothing of its host: settings of units, where threads run, open descriptors, marks, "
-                "other files, capabilities, the groups of processes and containers of root's aren't told; zirofen-host snapshot "
-                f"--with-host carries all but the first{by_number}")
+        number, names = ("", "") if self.has_accounts else ("by number, ", " and no names (--accounts FOLDER does)")
+        return (f"this was judged {number}by cgroups and processes alone: the text carries nothing of its host (zirofen-host snapshot "
+                f"--with-host does){names}")
 
 
 @dataclass(frozen=True)

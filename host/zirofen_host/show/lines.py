@@ -11,9 +11,10 @@ from zirofen_host.judge.finding_lines import (INSIDE_MEANS, NOTHING_ASKED, PREMI
                                               entry_line, fault_line, held_line, opened_line, premise_line,
                                               processes_text, runs_line, whom_text, why_command)
 from zirofen_host.judge.host_model import ABSENT, Absent, NamedScope
+from zirofen_host.judge.lists import pids_in
 from zirofen_host.judge.marked import marks_text
 from zirofen_host.judge.model import (AboveFinding, Comparison, Difference, DiffersFinding, EntryFinding, HeldFinding, HolderAnswer,
-                                      OpenedFinding, PremiseFinding, Report, ReportNote, RootInside, RunsElsewhere, Subtree)
+                                      OpenedFinding, PremiseFinding, Report, ReportNote, RootInside, RunsElsewhere, ShownList, Subtree)
 from zirofen_host.judge.notes import JOINED
 from zirofen_host.judge.severity import Severity
 from zirofen_host.judge.standing import cause_of, is_empty, standings, status_text
@@ -59,11 +60,17 @@ def beside(scopes: Mapping[str, NamedScope], path: str) -> str:
     return f" [{scope_text(scope)}]" if scope else ""
 
 
-def rows_of(subtree: Subtree, mark: str = "", is_named: bool = False) -> Iterator[Row]:
+def shown_list(lists: Sequence[ShownList], subtree: str, lines: Sequence[str]) -> Tuple[str, ...]:
+    """The operations of an answer as they are shown: those of a graver list, where the report has one, with why."""
+    found = next((each for each in lists if (each.subtree, each.lines) == (subtree, tuple(lines)) and not pids_in(each.shown)), None)
+    return (*long_lists.shown(found.shown), f"# {found.told}") if found else tuple(long_lists.shown(lines))
+
+
+def rows_of(subtree: Subtree, mark: str = "", is_named: bool = False, lists: Sequence[ShownList] = ()) -> Iterator[Row]:
     """The table's rows of a subtree: one for each answer of whoever holds it, each with a mark where limits aren't looked at."""
     for each in subtree.answers:
         first = each.lines[0]
-        answer, below = (f"above: {first}", ()) if each.is_above else (first, tuple(long_lists.shown(each.lines)))
+        answer, below = (f"above: {first}", ()) if each.is_above else (first, shown_list(lists, subtree.path, each.lines))
         marks = marks_text(subtree.marks, each.marks) + mark
         yield who_text(each) if is_named else each.who, gids_text(each.gids), answer + marks, subtree.path, below
     if not subtree.answers:
@@ -81,7 +88,7 @@ def table(report: Report, is_each: bool = False) -> Iterator[str]:
     mark = limits.mark_of(report)
     scopes = report.scopes_by_path
     rows = [(subtree.within, word, (who, gids, answer, path + beside(scopes, path), below)) for subtree in report.subtrees
-            for word, (who, gids, answer, path, below) in zip(words_of(subtree), rows_of(subtree, mark, True))]
+            for word, (who, gids, answer, path, below) in zip(words_of(subtree), rows_of(subtree, mark, True, report.lists))]
     roots = [row for within, word, row in rows if within is ABSENT and row[0] == NOBODY and row[2] == ROOT_ALONE + mark]
     if not is_each and len(roots) > 1:
         paths = [each.path for each in report.subtrees if each.within is ABSENT and not each.answers and each.marks is ABSENT]
