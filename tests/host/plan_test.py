@@ -46,8 +46,8 @@ uid = 1000
 at = "/a/b"
 """
 # what is told of a text that carries nothing of its host
-LIMITS = ("limits of this answer: it was asked by number: who is in which group, and whose ids are subordinate, isn't known; the text "
-          "doesn't tell where threads run and what processes hold open")
+LIMITS = ("limits of this answer: it was asked by number, without groups and subordinate ids; threads' places and held entries aren't "
+          "told")
 
 
 def snapshot_of(text=TREE, is_carrying=True):

@@ -369,10 +369,8 @@ class CommandTest(UnitsTest):
         self.assertEqual((said.returncode, said.stderr), (2, ""))
         self.assertEqual(without_makers(said.stdout.splitlines()), [
             "new: /system.slice/a.service: contained, by 900 who holds it [limited]", f"not-told: {slices}",
-            "2 by what a plan can't tell; 3 asked: 3 contained [limited]; limits of this answer: it was asked by number: who is in "
-            "which group, and whose ids are subordinate, isn't known; the text doesn't tell where threads run and what processes hold "
-            "open; what may give entries away "
-            f"isn't told: {untold}"])
+            "2 by what a plan can't tell; 3 asked: 3 contained [limited]; limits of this answer: it was asked by number, without groups "
+            f"and subordinate ids; threads' places and held entries aren't told; what may give entries away isn't told: {untold}"])
         lines = self.plan("--unit", file, "--print", "lines")
         self.assertEqual((lines.stdout.splitlines()[:2], lines.stderr, lines.returncode),
                          ([f"# not told: {slices}", f"# not told: {untold}"], "", 2))

@@ -61,9 +61,9 @@ def of_text(checked: Checked) -> Iterator[AnswerLimit]:
     asked = {each.kind for each in of_options(checked.options)}
     yield from (each for each in of_options(source.options) if each.kind not in asked)
     if source.carried is None and checked.options.accounts is None:
-        yield AnswerLimit(ACCOUNTS, "it was asked by number: who is in which group, and whose ids are subordinate, isn't known")
+        yield AnswerLimit(ACCOUNTS, "it was asked by number, without groups and subordinate ids")
     if source.carried is None or not source.carried.has_descriptors:
-        yield AnswerLimit(PREMISES, "the text doesn't tell where threads run and what processes hold open")
+        yield AnswerLimit(PREMISES, "threads' places and held entries aren't told")
     if source.carried is not None and source.carried.unknown:
         yield AnswerLimit(LATER, f"the text is of a later version of this helper, and {source.carried.unknown} of its records aren't known")
 
