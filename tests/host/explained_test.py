@@ -57,6 +57,24 @@ class ExplainedTest(HostTest):
         lines, status = self.explain("bob", "/a/b", only=b"/a")
         self.assertEqual((lines[-2], status), ("contained", 0))
 
+    def test_lists_of_groups_are_asked_in_one_run(self):
+        """Where the program takes pairs; what has a fault is asked by itself, and told as it was."""
+        self.host.process(7, uid=1002, gid=1002, groups=(51,))
+        self.host.cgroup("/x", owners={"cgroup.procs": (0, 51)})
+        self.host.cgroup("/a/odd", owners=owned(1002))
+        self.can("all", "settle", "explain")
+        with mock.patch.dict(os.environ, MADE_UP_OPENER="1002"):
+            each, before = self.explain("carol", "/a/b"), len(self.called())
+            self.can("all", "settle", "explain", "pairs")
+            self.assertEqual(self.explain("carol", "/a/b"), each)
+        self.assertEqual(sum(line.endswith("/a/b:") for line in each[0]), 2)
+        self.assertEqual([call[0] for call in self.called()], ["explain"] * 3)
+        self.assertEqual((before, "--pairs" in self.called()[-1]), (2, True))
+        self.can("all", "settle", "explain", "pairs")
+        with self.assertRaisesRegex(Fault, "^fault: subtree missing$"):
+            self.explain("carol", "/a/odd")
+        self.assertEqual([call[0] for call in self.called()], ["explain"] * 6)
+
     def test_faults(self):
         self.can("all", "explain")
         with self.assertRaisesRegex(Fault, "^fault: subtree missing$"):

@@ -1,11 +1,12 @@
 #!/usr/bin/env python3
 """Plays the program's part: it answers by the guards alone, so that whatever isn't contained is unsettled, or an escape
-where a limit file is open. What it can is told by the environment: MADE_UP=all,advise, or 70 for the status
+where a limit file is open. What it can is told by the environment: MADE_UP=all,advise,pairs, or 70 for the status
 of a wrapper that has nothing built. A subtree named odd is a fault,
 and each call is written into the file CALLS."""
 import contextlib
 import functools
 import io
+import itertools
 import os
 import subprocess
 import sys
@@ -89,16 +90,15 @@ def audit_settled(delegations, users, subtrees):
     return min((each[2] for each in listed), default=0)
 
 
-def audit(delegations, users, subtrees, is_all):
+def audit(delegations, pairs, is_all):
     statuses = [0]
-    for word in users:
-        for subtree in subtrees:
-            status, lines = answer(delegations, user_of(word), subtree)
-            if status:
-                statuses.append(status)
-                print("\n".join([f"pair {word if is_all else word.split(':')[0]} {subtree}", *lines]))
-                if not is_all:
-                    return status
+    for word, subtree in pairs:
+        status, lines = answer(delegations, user_of(word), subtree)
+        if status:
+            statuses.append(status)
+            print("\n".join([f"pair {word if is_all else word.split(':')[0]} {subtree}", *lines]))
+            if not is_all:
+                return status
     if statuses == [0]:
         print("contained")
     return 1 if 1 in statuses else max(statuses)
@@ -140,7 +140,7 @@ def explain(delegations, user, subtree):
 
 def pairs_in(file):
     with open(file, encoding="ascii") as text:
-        return [(user_of(user), subtree) for _, user, subtree in (line.split() for line in text)]
+        return [(user, subtree) for _, user, subtree in (line.split() for line in text)]
 
 
 @functools.lru_cache(maxsize=8)
@@ -161,7 +161,7 @@ def main(words):
     if words[-1] == "--help":
         if words[0] == "advise" and not can("advise") or words[0] == "explain" and not can("explain"):
             return fault("fault: usage")
-        known = {"audit": ("  --all  x\n" if can("all") else "") + ("  --settle  x\n" if can("settle") else ""),
+        known = {"audit": "".join(f"  --{name}  x\n" for name in ("all", "pairs", "settle") if can(name)),
                  "advise": "  --pairs <FILE>  x\n", "explain": "  --subtree <PATH>  x\n"}
         print("Options:\n  --tree <FILE>\n" + known.get(words[0], ""))
         return 0
@@ -173,7 +173,9 @@ def main(words):
     flags = [word for word in words[1:3] if word in ("--all", "--settle")]
     is_all = "--all" in flags
     given = options(words[1 + len(flags):])
-    if any(path.endswith("/odd") for path in given.get("--subtree", ())):
+    named = itertools.product(given.get("--uid", ()), given.get("--subtree", ()))
+    pairs = pairs_in(given["--pairs"][0]) if "--pairs" in given else list(named)
+    if any(path.endswith("/odd") for _, path in pairs):
         return fault("fault: subtree missing")
     file = given["--tree"][0]
     try:
@@ -185,15 +187,16 @@ def main(words):
     if words[0] == "audit" and "--settle" in flags:
         return audit_settled(delegations, given["--uid"], given["--subtree"])
     if words[0] == "audit":
-        return audit(delegations, given["--uid"], given["--subtree"], is_all)
+        return audit(delegations, pairs, is_all or "--pairs" in given)
     if words[0] == "advise":
-        pairs = pairs_in(given["--pairs"][0])
-        return fault("fault: subtree missing") if any(path.endswith("/odd") for _, path in pairs) else advise(delegations, pairs)
+        return advise(delegations, [(user_of(user), subtree) for user, subtree in pairs])
     if words[0] == "explain":
-        status, lines = next(settled(delegations, [user_of(given["--uid"][0])], given["--subtree"][0]))[1:]
-        print("\n".join([f"pair {given['--uid'][0]} {given['--subtree'][0]}",
-                         *explain(delegations, user_of(given["--uid"][0]), given["--subtree"][0]), lines[0]]))
-        return status
+        statuses = set()
+        for user, subtree in pairs:
+            status, lines = next(settled(delegations, [user_of(user)], subtree))[1:]
+            statuses.add(status)
+            print("\n".join([f"pair {user} {subtree}", *explain(delegations, user_of(user), subtree), lines[0]]))
+        return 1 if 1 in statuses else max(statuses)
     user = User(int(given["--uid"][0]), tuple(map(int, given.get("--gid", ()))))
     subtree = given["--subtree"][0]
     status, lines = answer(delegations, user, subtree) if words[0] == "check" else next(settled(delegations, [user], subtree))[1:]

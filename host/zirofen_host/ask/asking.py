@@ -72,6 +72,7 @@ def ask_in_texts(snapshot: Snapshot, accounts: Accounts, options: Options, folde
     abilities = abilities_of(options.program)
     if not abilities.has_audit_all:
         raise Fault(f"{options.program} has no audit --all, which zirofen has since 0.2.0: name a newer one by --zirofen")
+    programs = programs.able_to(abilities)
     runs = Runs(questions.makers, Spent(bounded.RUNS, accounts.charged_user))
     plan, over = bounded_plan(questions, plan_of(questions), runs)
     lost.update(over)

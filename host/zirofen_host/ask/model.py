@@ -83,6 +83,8 @@ class Abilities:
     version: Optional[str]
     has_settle: bool = False
     has_explain: bool = False
+    # whether `audit` takes lines of pairs
+    has_pairs: bool = False
 
 
 @dataclass(frozen=True)

@@ -1,7 +1,7 @@
 """From a tree text with questions to the program's answers: every pair that isn't contained, and what to change.
 
-By `audit --all` every pair is asked of; where the program's --help has `audit --settle`, it is asked of what is left unsettled, with
-everybody together.
+By `audit --all` every pair is asked of, or by `audit --pairs`, where the program has it; where its --help has `audit --settle`, it is asked
+of what is left unsettled, with everybody together.
 """
 import os
 import signal
@@ -9,9 +9,10 @@ import subprocess
 import time
 from concurrent.futures import ThreadPoolExecutor
 from dataclasses import dataclass, replace
-from typing import Callable, Collection, Container, Dict, Iterable, Iterator, List, NamedTuple, Optional, Sequence, Tuple, TypeVar
+from typing import Callable, Collection, Container, Dict, Iterable, List, NamedTuple, Optional, Sequence, Tuple, TypeVar
 
 from zirofen_host import ending, output, progress
+from zirofen_host.ask.gathered import ROOM, Pairs, Run, blocks_of, fitting, gathered, halves_of, pair_line, pairs_of, size, user_word
 from zirofen_host.ask.model import Abilities, Advice, Answer, Pair, Question
 from zirofen_host.collect.model import User
 from zirofen_host.fault import FAULT, Fault, out_of_time, seconds_left, seconds_to_ask
@@ -31,8 +32,6 @@ NO_TIME = "the program took too long"
 MOST_AT_ONCE, MOST_MEMORY = 16, 1 << 30
 # so long subtrees are settled, so many in a run
 SETTLING_SECONDS, SETTLED = 300, 16
-# bytes of one run's arguments, each with its pointer; a kernel takes two millions at least, with the environment
-ROOM = 900_000
 
 Item = TypeVar("Item")
 Result = TypeVar("Result")
@@ -80,14 +79,6 @@ class Late(Refused):
         return out_of_time()
 
 
-def size(words: Iterable[str]) -> int:
-    return sum(len(word) + 9 for word in words)
-
-
-def user_word(user: User) -> str:
-    return f"{user.uid}:{','.join(map(str, user.gids))}" if user.gids else str(user.uid)
-
-
 def user_words(user: User) -> List[str]:
     return ["--uid", str(user.uid), *(word for gid in user.gids for word in ("--gid", str(gid)))]
 
@@ -124,6 +115,8 @@ class Program:
     end: Optional[float] = None
     # when a run has to have ended by itself
     limit: Optional[float] = None
+    # whether it takes lines of pairs to be asked of
+    takes_pairs: bool = False
 
     def until(self, end: float) -> "Program":
         """The same, where the text is large as long as there is time."""
@@ -175,8 +168,9 @@ class Program:
     def ask(self, questions: Iterable[Question]) -> Answered:
         """The answers that aren't contained."""
         found: Answered = {}
+        runs = gathered(list(questions), most_at_once(self.memory)) if self.takes_pairs else [*fitting(questions)]
         try:
-            for answers in at_once(lambda run: self.in_halves(run.users, run.subtrees), list(fitting(questions)), self.memory):
+            for answers in at_once(self.in_halves, runs, self.memory):
                 found.update(answers)
         except Refused as refused:
             if isinstance(refused, Late) and self.limit is not None:
@@ -213,44 +207,41 @@ class Program:
         changed = {pair: asked.get(pair, answer) if answer.status == UNSETTLED else answer for pair, answer in found.items()}
         return {pair: answer for pair, answer in changed.items() if answer is not None}
 
-    def in_halves(self, users: Sequence[User], subtrees: Sequence[CgroupPath]) -> Answered:
+    def in_halves(self, run: Run) -> Answered:
         """The answers of a run; where it ends with a fault, those of its halves, down to the pair that has it."""
         try:
-            return self.listed(users, subtrees, "--all")
+            return self.named(run.pairs) if isinstance(run, Pairs) else self.listed(run.users, run.subtrees, "--all")
         except Refused as refused:
             if refused.is_whole:
                 raise
-            if len(users) == len(subtrees) == 1:
-                return {Pair(users[0], subtrees[0]): Answer(FAULT, (str(refused),))}
-        by_subtree = len(subtrees) > 1
+            halves = halves_of(run)
+            if not halves:
+                return {pair: Answer(FAULT, (str(refused),)) for pair in pairs_of(run)}
         found: Answered = {}
-        for some in shares_of(subtrees, 2) if by_subtree else ():
-            found.update(self.in_halves(users, some))
-        for of in () if by_subtree else shares_of(users, 2):
-            found.update(self.in_halves(of, subtrees))
+        for half in halves:
+            found.update(self.in_halves(half))
         return found
 
     def listed(self, users: Sequence[User], subtrees: Sequence[CgroupPath], *options: str) -> Answered:
         """The answers of all pairs that an audit lists."""
-        ended = self.audit(users, subtrees, *options)
         by_word, paths = {user_word(user): user for user in users}, {text_of(path): path for path in subtrees}
-        found: Answered = {}
-        for head, lines in sections(ended.lines):
-            word, path = (head.split(" ") + ["", ""])[1:3]
-            pair = Pair(by_word[word], paths[path]) if word in by_word and path in paths else None
-            if head != f"pair {word} {path}" or pair is None or pair in found:
-                raise Refused(f"an answer that wasn't asked for: {head!r}", False)
-            found[pair] = answer_of(WORDS.get(lines[0].split(" ")[0] if lines else ""), lines)
-        statuses = {answer.status for answer in found.values()}
-        if CONTAINED in statuses or ended.status != worst(statuses) or not found and ended.lines != NOTHING_FOUND.lines:
-            raise Refused(f"ended with status {ended.status}, which its answers don't have", False)
-        return found
+        return answers_in(self.audit(users, subtrees, *options), lambda word, path: (
+            Pair(by_word[word], paths[path]) if word in by_word and path in paths else None))
+
+    def named(self, pairs: Sequence[Pair]) -> Answered:
+        """The answers of pairs that are named one by one."""
+        asked = {(user_word(pair.user), text_of(pair.subtree)): pair for pair in pairs}
+        return answers_in(self.run("audit", *self.pair_words(pairs)), lambda word, path: asked.get((word, path)))
+
+    def pair_words(self, pairs: Iterable[Pair]) -> Sequence[str]:
+        """The words by which the program is asked of pairs, whose lines go into a file."""
+        file = f"{self.tree}.{os.urandom(8).hex()}.pairs"
+        output.make(file, "".join(f"{pair_line(pair)}\n" for pair in pairs).encode("ascii"))
+        return "--tree", self.tree, "--pairs", file
 
     def advise(self, pairs: Sequence[Pair]) -> List[Advice]:
         """What fails for pairs of a user and a subtree, each with its changes, as words; Refused is for the caller."""
-        file = f"{self.tree}.{os.urandom(8).hex()}.pairs"
-        output.make(file, "".join(f"pair {user_word(user)} {text_of(subtree)}\n" for user, subtree in pairs).encode("ascii"))
-        ended = self.run("advise", "--tree", self.tree, "--pairs", file)
+        ended = self.run("advise", *self.pair_words(pairs))
         lines = [tuple(line.split(" ")) for line in ended.lines]
         starts = [number for number, words in enumerate(lines) if words[0] == "fails"]
         return [Advice(lines[start][1:], tuple(lines[start + 1:end])) for start, end in zip(starts, [*starts[1:], len(lines)])]
@@ -261,7 +252,7 @@ def abilities_of(path: str) -> Abilities:
     program = Program(path, "")
     audit, advise = help_of(program, "audit"), help_of(program, "advise")
     return Abilities("--all" in audit.split(), "--pairs" in advise.split(), version_of(program), "--settle" in audit.split(),
-                     "--subtree" in help_of(program, "explain").split())
+                     "--subtree" in help_of(program, "explain").split(), "--pairs" in audit.split())
 
 
 def help_of(program: Program, *words: str) -> str:
@@ -280,22 +271,19 @@ def version_of(program: Program) -> Optional[str]:
         return None
 
 
+def most_at_once(memory: int) -> int:
+    """How many runs go at once, each of which takes so many bytes."""
+    return max(min(os.cpu_count() or 1, MOST_AT_ONCE, MOST_MEMORY // max(memory, 1)), 1)
+
+
 def at_once(call: Callable[[Item], Result], items: Sequence[Item], memory: int) -> List[Result]:
     """Calls with each of the items, each of which takes so many bytes, several at once; the results in their order."""
     results = []
-    with ThreadPoolExecutor(max(min(os.cpu_count() or 1, MOST_AT_ONCE, MOST_MEMORY // max(memory, 1)), 1)) as workers:
+    with ThreadPoolExecutor(most_at_once(memory)) as workers:
         for result in workers.map(call, items):
             results.append(result)
             progress.tell(f"{len(results)} of {len(items)} runs of the program are done")
     return results
-
-
-def fitting(questions: Iterable[Question]) -> Iterator[Question]:
-    """The questions in parts whose words fit into one run each."""
-    for question in questions:
-        for users in blocks_of(question.users, lambda user: ["--uid", user_word(user)], ROOM // 2):
-            for subtrees in blocks_of(question.subtrees, lambda path: ["--subtree", text_of(path)], ROOM // 2):
-                yield Question(tuple(users), tuple(subtrees))
 
 
 def error_lines(ended: "subprocess.CompletedProcess[str]") -> List[str]:
@@ -318,26 +306,19 @@ def signal_name(number: int) -> str:
         return str(number)
 
 
-def blocks_of(items: Iterable[Item], words: Callable[[Item], Iterable[str]], room: int,
-              most: Optional[int] = None) -> Iterator[List[Item]]:
-    """Items in lists whose words fit, of so many at most."""
-    block: List[Item] = []
-    used = 0
-    for item in items:
-        cost = size(words(item))
-        if block and (used + cost > room or len(block) == most):
-            yield block
-            block, used = [], 0
-        block.append(item)
-        used += cost
-    if block:
-        yield block
-
-
-def shares_of(items: Sequence[Item], count: int) -> List[Tuple[Item, ...]]:
-    """Items in at most so many parts of about one length, in their order."""
-    length = -(-len(items) // count)
-    return [tuple(items[start:start + length]) for start in range(0, len(items), length)]
+def answers_in(ended: Ended, pair_of: Callable[[str, str], Optional[Pair]]) -> Answered:
+    """The answers that an audit lists, by the pair of each user's word and subtree's, which has to be one that was asked of."""
+    found: Answered = {}
+    for head, lines in sections(ended.lines):
+        word, path = (head.split(" ") + ["", ""])[1:3]
+        pair = pair_of(word, path)
+        if head != f"pair {word} {path}" or pair is None or pair in found:
+            raise Refused(f"an answer that wasn't asked for: {head!r}", False)
+        found[pair] = answer_of(WORDS.get(lines[0].split(" ")[0] if lines else ""), lines)
+    statuses = {answer.status for answer in found.values()}
+    if CONTAINED in statuses or ended.status != worst(statuses) or not found and ended.lines != NOTHING_FOUND.lines:
+        raise Refused(f"ended with status {ended.status}, which its answers don't have", False)
+    return found
 
 
 def sections(lines: Iterable[str]) -> List[Tuple[str, List[str]]]:

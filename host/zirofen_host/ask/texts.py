@@ -8,14 +8,14 @@ make much of that, is asked of in small texts, however large the one of the host
 """
 import time
 from bisect import bisect_left
-from dataclasses import dataclass
+from dataclasses import dataclass, replace
 from functools import partial
 from itertools import accumulate
 from typing import AbstractSet, Callable, Container, Dict, Iterable, List, Mapping, Sequence, Set, Tuple
 
 from zirofen_host import output, progress
 from zirofen_host.ask.in_time import HolderOf, ask_in_time
-from zirofen_host.ask.model import Advice, Pair, Question
+from zirofen_host.ask.model import Abilities, Advice, Pair, Question
 from zirofen_host.ask.program import UNSETTLED, Answered, Program, TreeRefused
 from zirofen_host.ask.reasons import TextRefused, TooLargeForText, TooLong, TooManyCgroups
 from zirofen_host.collect import snapshot as snapshots
@@ -246,6 +246,11 @@ class Programs:
     of: Mapping[CgroupPath, Program]
     # where a text couldn't be kept, and why
     failed: Sequence[Failed] = ()
+
+    def able_to(self, abilities: Abilities) -> "Programs":
+        """The same, where the program is asked in the ways that it has."""
+        able = {program: replace(program, takes_pairs=abilities.has_pairs) for program in set(self.of.values())}
+        return replace(self, of={path: able[program] for path, program in self.of.items()})
 
     def ask(self, questions: Sequence[Question], holder_of: HolderOf) -> Tuple[Answered, Dict[CgroupPath, Reason]]:
         """The answers that aren't contained, and the subtrees whose text was refused, each with the program's line, or for which there

@@ -5,9 +5,10 @@ the host: where the text hasn't all of them they are left out.
 """
 from typing import Dict, Iterator, List, Sequence, Tuple
 
+from zirofen_host.ask.gathered import pair_line, user_word
 from zirofen_host.ask.guards import GUARDS
-from zirofen_host.ask.model import Answer
-from zirofen_host.ask.program import CONTAINED, UNSETTLED, WORDS, Refused, abilities_of, answer_of, user_word
+from zirofen_host.ask.model import Answer, Pair
+from zirofen_host.ask.program import CONTAINED, UNSETTLED, WORDS, Refused, abilities_of, answer_of, sections, worst
 from zirofen_host.collect.model import Snapshot, User
 from zirofen_host.fault import FAULT, Fault
 from zirofen_host.files import COUNTING
@@ -90,6 +91,28 @@ def answer(at: Standing, user: User, too_many: int) -> Answer:
         return Answer(FAULT, (str(refused), *refused.help_lines))
 
 
+def together(at: Standing, users: Sequence[User]) -> Dict[User, Answer]:
+    """What is said of several lists of groups, asked in one run; nothing where that isn't what was asked for, or a fault, which each is
+    then asked for by itself."""
+    pairs, program = [Pair(user, at.one.path) for user in users], at.one.program
+    try:
+        ended = program.run("explain", *program.pair_words(pairs))
+    except Refused:
+        return {}
+    said = sections(ended.lines)
+    statuses = {WORDS.get(lines[-1].split(" ")[0]) if lines else None for _, lines in said}
+    if [head for head, _ in said] != list(map(pair_line, pairs)) or ended.status != worst({each for each in statuses if each is not None}):
+        return {}
+    return {} if None in statuses else {user: answer_in(at, lines) for user, (_, lines) in zip(users, said)}
+
+
+def answers_of(at: Standing, takes_pairs: bool) -> Dict[User, Answer]:
+    few = [user for user, too_many in at.users.items() if not too_many]
+    is_there = at.one.path in at.one.delegations.tree.rows
+    found = together(at, few) if takes_pairs and is_there and len(few) > 1 else {}
+    return {user: found.get(user) or answer(at, user, too_many) for user, too_many in at.users.items()}
+
+
 def lines_of(at: Standing, answers: Dict[User, Answer]) -> Iterator[str]:
     """What is said of each list of groups that somebody was seen with."""
     names = names_of(at.accounts)
@@ -105,8 +128,9 @@ def lines_of(at: Standing, answers: Dict[User, Answer]) -> Iterator[str]:
 
 def explain(snapshot: Snapshot, options: AskOptions, warn: Warn) -> Tuple[List[str], int]:
     """Why one user and one subtree are answered so, and the status."""
-    if not abilities_of(options.program).has_explain:
+    abilities = abilities_of(options.program)
+    if not abilities.has_explain:
         raise Fault("this zirofen has no explain")
     with standing(snapshot, options, warn) as at:
-        answers = {user: answer(at, user, count) for user, count in at.users.items()}
+        answers = answers_of(at, abilities.has_pairs)
         return at.lines_and_status(answers, lines_of(at, answers))
