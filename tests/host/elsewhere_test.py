@@ -145,11 +145,11 @@ class ElsewhereTest(HostTest):
         found = self.elsewhere(accounts=self.host.etc)
         self.assertEqual((found["host"], found["kernel"], found["time"]), ("", "", ""))
         reader = PageReader(page.page([made(found)]))
-        self.assertIn("Made of a report of a tree text, at a time that isn't told, with made-up 1.0 and zirofen-host ", reader.text())
-        self.assertIn("a tree text\n", reader.text())
-        self.assertIn("<title>Zirofen: a tree text</title>", page.page([made(found)]))
+        self.assertIn("Made of a report of text.toml, at a time that isn't told, with made-up 1.0 and zirofen-host ", reader.text())
+        self.assertIn("text.toml\n", reader.text())
+        self.assertIn("<title>Zirofen: text.toml</title>", page.page([made(found)]))
         drawn = tree_view.draw(made(found), tree_view.Drawing())
-        self.assertTrue(drawn[0].startswith("a tree text, made-up 1.0, zirofen-host "), drawn[0])
+        self.assertTrue(drawn[0].startswith("text.toml, made-up 1.0, zirofen-host "), drawn[0])
         compared = baseline.compared(made(found), replace(made(found), accepted=True), "/before.json")
         self.assertEqual(list(comparison_lines(replace(made(found), baseline=compared))),
                          ["nothing is new, worse, changed or gone since /before.json",

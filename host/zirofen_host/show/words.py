@@ -1,4 +1,5 @@
 """From a report's words to what they mean, in sentences: answers, guards, and whom an entry lets in."""
+import os
 import re
 from typing import Iterable, List, Mapping, Optional, Sequence, Union
 
@@ -49,8 +50,9 @@ def standing_text(kind: str, report: Report) -> str:
 
 
 def name_of(report: Report) -> str:
-    """What a report is of: a host, or a text that doesn't name its own."""
-    return report.host or "a tree text"
+    """What a report is of: a host, or a text that doesn't name its own, by its file where that has a name."""
+    file = next((value for option, value in zip(report.given, report.given[1:]) if option == "--tree" and value != "-"), "")
+    return report.host or os.path.basename(file) or "a tree text"
 
 
 def makers(report: Report) -> Mapping[str, str]:
