@@ -4,7 +4,7 @@ import os
 from typing import Callable, Dict, Sequence
 
 from zirofen_host.fault import Parser
-from zirofen_host.installed import MANUAL, NAME, PROGRAM_IN_HELP, default_program
+from zirofen_host.installed import MANUAL, NAME, REPORTS, PROGRAM_IN_HELP, default_program
 from zirofen_host.options import MOUNT, PROC, Way
 from zirofen_host.profile import LARGEST_ID, NEWEST, TEXT_FORMATS, is_number
 
@@ -45,7 +45,7 @@ A helper: no part of the proved program, and only tested; each answer is the pro
 {NAME} snapshot writes. The report is a table of each subtree with the answer of who holds it, then each entry that lets
 somebody in, with whom and what to change, then the limits that stand open beside the proved ones, then containers whose
 processes are root's, and at last what none of the answers looks at. Of a container held speaks of cgroup files alone, and
-is seen and not proved. {MANUAL} says what each line means. The status is 3 where there is a fault; else 1 where somebody
+is seen and not proved. {REPORTS} says what each line means. The status is 3 where there is a fault; else 1 where somebody
 escapes, a limit stands open or a container of root's is not held; else 2 where an answer is unsettled; else 3 where holders
 make a fault of their own; else 4 where neither anything to ask nor such a container was found; else 2 where limits are v1's
 or an acceptance doesn't hold; else 0.
@@ -102,7 +102,7 @@ entries away, also with --print; else 4 where nothing was found to ask; else 0.
 
 A helper: no part of the proved program, and only tested. Two walks in a row agree on what is written. What the text
 can't carry is bent or left out, and standard error has a line for each such thing: KIND: PATH: what was done.
-{MANUAL} says what the kinds mean. The status is 0, or 3 where nothing was written.
+{REPORTS} says what the kinds mean. The status is 0, or 3 where nothing was written.
 """,
     "tree": f"""Draws a host's cgroups as a tree: who was handed what, and how it is answered. Usage: {NAME} tree [REPORT.json].
 

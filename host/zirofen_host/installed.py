@@ -10,8 +10,16 @@ PROGRAM = next(filter(os.path.isfile, (f"{PREFIX}/bin/zirofen",)), "/usr/bin/zir
 
 IS_CLONE = os.path.isfile(WRAPPER)
 # what a line can name to read on
-UNPACKED = os.path.join(PREFIX, "share/doc/zirofen/docs/HOSTS.md")
-MANUAL = "docs/HOSTS.md" if IS_CLONE else UNPACKED if PREFIX != "/usr" and os.path.isfile(UNPACKED) else "zirofen-host(8)"
+UNPACKED = os.path.join(PREFIX, "share/doc/zirofen")
+
+
+def page_named(path: str, manual: str) -> str:
+    """A page of the docs as it is found from here: in a clone, where this was unpacked, or by its manual page."""
+    unpacked = os.path.join(UNPACKED, path)
+    return path if IS_CLONE else unpacked if PREFIX != "/usr" and os.path.isfile(unpacked) else manual
+
+
+MANUAL, REPORTS = page_named("docs/HOSTS.md", "zirofen-host(8)"), page_named("docs/REPORTS.md", "zirofen-report(5)")
 # what the program is called where its place doesn't matter
 PROGRAM_IN_HELP = "the wrapper beside this folder" if IS_CLONE else PROGRAM
 

@@ -144,7 +144,7 @@ class PackageTest(unittest.TestCase):
                 said = run(*as_nobody, "sh", "-c", command, cwd=where, env={"PATH": "/usr/bin:/bin"})
                 self.assertEqual((said.returncode, said.stderr, said.stdout[:len(first)]), (0, "", first))
             said = run(*as_nobody, f"{where}/usr/bin/zirofen-host", "check", "--help", cwd="/", env={"PATH": "/usr/bin:/bin"}).stdout
-            self.assertIn(f"{where}/usr/share/doc/zirofen/docs/HOSTS.md", re.sub(r"\s+", " ", said))
+            self.assertIn(f"{where}/usr/share/doc/zirofen/docs/REPORTS.md", re.sub(r"\s+", " ", said))
 
     def fenced(self, kind):
         """The blocks of a kind in the page for pipelines."""
@@ -347,7 +347,8 @@ class PackageTest(unittest.TestCase):
                 self.assertIn(f"usr/share/man/man{number}/{page}.{number}.gz", self.files)
 
     def test_what_the_helpers_page_names_is_installed(self):
-        page = re.sub(r"\\f[BR]", "", self.page("man8/zirofen-host.8")).replace("\\-", "-")
+        pages = self.page("man8/zirofen-host.8") + self.page("man5/zirofen-report.5")
+        page = re.sub(r"\\f[BR]", "", pages).replace("\\-", "-")
         self.assertNotRegex(page, r"(?<![\w/])(host|docs|examples|bench|packaging)/")
         self.assertNotIn("/opt/", page)
         there = {"/".join(it.split("/")[:end]) for it in self.files for end in range(1, 9)}
