@@ -194,6 +194,16 @@ class FurtherMountsTest(HierarchyTest):
         self.assertEqual((mounts.below("/sys/fs/cgroup"), mounts.below("/none")), ({b"/a/memory.max": "tmpfs"}, {}))
         self.assertEqual(mounts.further("/none"), [])
 
+    def test_what_stands_there_anyway_is_mounted_over_nothing(self):
+        """As systemd mounts a confined service's own memory.pressure, but not where something else is mounted over that."""
+        own = "33 31 0:29 /a\\040b/memory.max /sys/fs/cgroup/a\\040b/memory.max rw - cgroup2 c rw\n"
+        others = ("34 31 0:29 /b/memory.max /sys/fs/cgroup/a\\040b/memory.max rw - cgroup2 c rw\n",
+                  "34 33 0:40 / /sys/fs/cgroup/a\\040b/memory.max rw - tmpfs t rw\n")
+        here = "31 22 0:29 / /sys/fs/cgroup rw - cgroup2 c rw\n"
+        self.assertEqual((Mounts(here + own).below("/sys/fs/cgroup"), Mounts(here + own).further("/sys/fs/cgroup/")), ({}, []))
+        for other in others:
+            self.assertEqual([*Mounts(here + own + other).below("/sys/fs/cgroup")], [b"/a b/memory.max"])
+
 
 class PrivateMountsTest(HierarchyTest):
     """What users have mounted in namespaces of their own, as /proc tells of their processes."""

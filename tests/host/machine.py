@@ -125,8 +125,9 @@ def put_kernel(folder, root):
         needs = dict(line.strip().split(":", 1) for line in text)
     order = []
     for name in ("virtio_pci", "virtio_blk", "ext4"):
-        file = next(each for each in needs if os.path.basename(each).startswith(f"{name}.ko"))
-        order += [each for each in (*reversed(needs[file].split()), file) if each not in order]
+        # one that the kernel has itself is no file
+        for file in [each for each in needs if os.path.basename(each).startswith(f"{name}.ko")]:
+            order += [each for each in (*reversed(needs[file].split()), file) if each not in order]
     with tempfile.TemporaryDirectory() as room:
         for name in ("bin", "dev", "modules", "root"):
             os.mkdir(f"{room}/{name}")

@@ -1,4 +1,5 @@
 """Tests of a watch: what events concern, who is asked when, what differs, and where it is told. A kernel's part is played."""
+import argparse
 import os
 import socket
 import struct
@@ -171,6 +172,17 @@ class LanesTest(unittest.TestCase):
         self.assertEqual(asked.at(b"/b", "dir").doers, (chmod, chown))
         lane.give_back(asked)
         self.assertEqual(lane.touched, asked.touched)
+
+    def test_what_waits_to_be_asked_of(self):
+        """Who changed an entry is told whichever check found it, before who changed something near."""
+        lane, late = lanes.Lane(0, 0.0), lanes.Lane(0, 0.0)
+        lane.touch(Event(b"/a", b"", ATTRIB | IS_FOLDER, 8), 1, 3.0, Doer(8))
+        late.touch(Event(b"/a", b"memory.max", ATTRIB, 7), 1, 4.0, Doer(7))
+        asked = lane.take()
+        for path, entry, waiting, told in (("/a", "memory.max 0:0", late.touched, 7), ("/a", "memory.max", {}, 8),
+                                           ("/a", "cgroup.procs", late.touched, 8), ("docker:a", "memory.max", late.touched, None)):
+            found = messages.touched_of(asked, argparse.Namespace(path=path, entry=entry), waiting.get)
+            self.assertEqual(found and found.doers[0].pid, told)
 
     def test_what_is_kept_of_a_flood(self):
         lane = lanes.Lane(1000, 0.0)

@@ -131,6 +131,9 @@ class Ways:
         self.mount, self.room = mount, room
         self.top = f"{mount}/{TOP}"
         self.held = f"{self.top}/part/held"
+        with open("/proc/self/mounts", encoding="ascii") as text:
+            words = next(line.split()[3] for line in text if line.split()[1] == mount)
+        self.options = [word for word in words.split(",") if word in ("nsdelegate", "memory_recursiveprot")]
 
     def make(self):
         os.makedirs(f"{self.held}/inside", exist_ok=True)
@@ -163,7 +166,11 @@ class Ways:
         yield "over", ("sh", "-c", f"echo 0 > {held}/cgroup.max.descendants"), ("sh", "-c", f"echo max > {held}/cgroup.max.descendants")
         second = f"{self.room}/second"
         os.makedirs(second, exist_ok=True)
-        yield "second-mount", ("mount", "-t", "cgroup2", "none", second), ("umount", second)
+        back = f"umount {second}"
+        if self.options:
+            back += f" && mount -o remount,{','.join(self.options)} {self.mount}"
+        # this takes the options off the whole hierarchy
+        yield "second-mount", ("mount", "-t", "cgroup2", "none", second), ("sh", "-c", back)
         file = f"{held}/cgroup.max.depth"
         yield "mounted-over", ("mount", "--bind", "/dev/null", file), ("umount", file)
         yield "group", self.group, self.group_back

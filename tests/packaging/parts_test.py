@@ -172,6 +172,14 @@ class InstalledTest(unittest.TestCase):
         for name in files_of(f"{HERE}/debian"):
             with open(f"{HERE}/debian/{name}", encoding="ascii") as text:
                 self.assertNotRegex(text.read(), r"systemctl.*(enable|start)|deb-systemd-(helper|invoke) (enable|start)")
+        # nor by a first boot that goes by presets: Debian's enables whatever can be
+        with open(f"{HERE}/zirofen.preset", encoding="ascii") as text:
+            disabled = [line for line in text.read().splitlines() if line[:1] != "#"]
+        wanted = []
+        for name in sorted(files_of(f"{HERE}/systemd")):
+            with open(f"{HERE}/systemd/{name}", encoding="ascii") as text:
+                wanted += [f"disable {name}"] if "[Install]" in text.read() else []
+        self.assertEqual(disabled, wanted)
 
     def test_the_helpers_as_a_package(self):
         """By Debian's pip, with all that stands in the package's folder, and a command."""

@@ -11,6 +11,7 @@ from zirofen_host.profile import LARGEST_ID
 # the number of the cgroup namespace that a kernel begins with
 FIRST_NAMESPACE = "cgroup:[4026531835]"
 FIRST_PID_NAMESPACE = "pid:[4026531836]"
+CGROUPS = "cgroup2"
 # what version 1 calls otherwise
 V1_NAMES = {"blkio": "io"}
 WHOLE_UID_MAP = ["0", "0", str(LARGEST_ID)]
@@ -34,7 +35,7 @@ class Mounts:
             self.places[unescaped(before[4])] = after[0]
             if before[0].isascii() and before[0].isdigit() and len(before[0]) < 20:
                 self.types[int(before[0])] = after[0]
-            if after[0] == "cgroup2":
+            if after[0] == CGROUPS:
                 self.second[unescaped(before[4])] = (before[3], before[5].split(",") + after[2].split(","))
             elif after[0] == "cgroup":
                 self.first.append(after[2])
@@ -53,15 +54,22 @@ class Mounts:
         names = {V1_NAMES.get(name, name) for options in self.first for name in options.split(",")}
         return tuple(sorted(names & OF_LIMITS))
 
+    def is_in_place(self, place: str, mount: str) -> bool:
+        """Whether what is mounted inside of a mount is what stands there anyway, as systemd does with a confined service's
+        memory.pressure."""
+        return self.places[place] == CGROUPS and place == mount.rstrip("/") + unescaped(self.second[place][0])
+
     def below(self, mount: str) -> Mapping[bytes, str]:
-        """What is mounted inside of a mount, by its path from there, and of what type each is."""
+        """What else is mounted inside of a mount, by its path from there, and of what type each is."""
         top = mount.rstrip("/") + "/"
-        return {os.fsencode(place[len(top) - 1:]): kind for place, kind in self.places.items() if place.startswith(top) and place != top}
+        inside = (place for place in self.places if place.startswith(top) and place != top)
+        return {os.fsencode(place[len(top) - 1:]): self.places[place] for place in inside if not self.is_in_place(place, mount)}
 
     def further(self, mount: str) -> List[Tuple[str, str]]:
         """Where else the hierarchy of a mount is mounted, and the top of each."""
         here = mount.rstrip("/") or "/"
-        return sorted((place, top) for place, (top, _) in self.second.items() if place != here) if here in self.second else []
+        found = ((place, top) for place, (top, _) in self.second.items() if place != here and not self.is_in_place(place, here))
+        return sorted(found) if here in self.second else []
 
     def options(self, mount: str) -> List[str]:
         found = self.second.get(mount.rstrip("/") or "/")

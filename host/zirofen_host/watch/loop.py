@@ -312,7 +312,7 @@ class Loop:
     def compare(self, run: Running, made: Result) -> None:
         """Reports what differs, and asks more where that takes it."""
         is_first = run.lane.person == lanes.HOST and not self.has_surveyed or run.lane.person == lanes.DEEP and not self.has_begun
-        then = self.findings.take(run.asked, made, is_first)
+        then = self.findings.take(run.asked, made, is_first, self.waiting)
         self.events.know(made.inodes, then.gone, run.began)
         if is_first:
             self.begin(run, made)
@@ -322,6 +322,11 @@ class Loop:
             self.next_deep = time.monotonic() + AFTER_DEEP
         elif then.has_reported and not made.part.is_whole and self.outside.leave_numbers:
             run.lane.ask_whole(time.monotonic(), "a check that counts what stands", False)
+
+    def waiting(self, place: lanes.Place) -> Optional[lanes.Touched]:
+        """What happened to an entry that waits to be asked of, or is asked of now."""
+        waiting = (*(lane.touched for lane in self.lanes.all.values()), *(each.asked.touched for each in self.running.values()))
+        return next((touched[place] for touched in waiting if place in touched), None)
 
     def watch_all(self, run: Running, made: Result) -> None:
         """Watches what was found, where each folder is watched by itself; what wasn't yet is asked of once more."""

@@ -1,6 +1,6 @@
 """From what differs while a host is watched to messages of it: as lines, and as fields with names."""
 import time
-from typing import Dict, Iterable, Iterator, List, Mapping, NamedTuple, Optional, Tuple
+from typing import Callable, Dict, Iterable, Iterator, List, Mapping, NamedTuple, Optional, Tuple
 
 from zirofen_host.collect import bounded
 from zirofen_host.judge.host_model import Absent
@@ -8,8 +8,10 @@ from zirofen_host.profile import path_of
 from zirofen_host.show.lines import difference_lines
 from zirofen_host.watch.doers import Doer
 from zirofen_host.watch.known import NEW, WORSE, Change, is_counted
-from zirofen_host.watch.lanes import Asked, Touched
+from zirofen_host.watch.lanes import DIRECTORY, Asked, Place, Touched
 
+# what happened to an entry that waits to be asked of
+Waiting = Callable[[Place], Optional[Touched]]
 # what opened and closed between two checks, what narrows the answers, and how the watch itself goes
 BACK, LIMIT, WATCH = "back", "limit", "watch"
 # lines of a holder's own making in an hour, beside those of one check
@@ -97,7 +99,10 @@ class Folding:
         return kept, more
 
 
-def touched_of(asked: Asked, change: Change) -> Optional[Touched]:
-    """What events say of where something differs."""
-    entry = change.entry.split(" ")[0] if change.entry else "dir"
-    return asked.at(path_of(change.path), entry) if change.path.startswith("/") else None
+def touched_of(asked: Asked, change: Change, waiting: Waiting) -> Optional[Touched]:
+    """What events say of where something differs: those that it was asked of by, else one of that very entry that waits to be asked of,
+    which a check that was on its way has found."""
+    if not change.path.startswith("/"):
+        return None
+    place = path_of(change.path), change.entry.split(" ")[0] if change.entry else DIRECTORY
+    return asked.touched.get(place) or waiting(place) or asked.at(*place)
