@@ -31,9 +31,10 @@ SOURCES = """deb http://deb.debian.org/debian {0} main
 deb http://deb.debian.org/debian {0}-updates main
 deb http://deb.debian.org/debian-security {0}-security main
 """
-NEEDED = "systemd-sysv libpam-systemd dbus-user-session linux-image-cloud-amd64 python3 busybox-static acl attr libcap2-bin kmod udev"
+NEEDED = ("acl apparmor attr busybox-static dbus-user-session kmod libcap2-bin libpam-systemd linux-image-cloud-amd64 python3 systemd-sysv "
+          "udev").split()
 # what a machine without a network waits for, and what makes it slow
-MASKED = ("apparmor apt-daily.timer apt-daily-upgrade.timer console-setup dpkg-db-backup.timer e2scrub_all.timer e2scrub_reap fstrim.timer "
+MASKED = ("apt-daily.timer apt-daily-upgrade.timer console-setup dpkg-db-backup.timer e2scrub_all.timer e2scrub_reap fstrim.timer "
           "getty@tty1 keyboard-setup lxc-net man-db.timer networking podman-auto-update podman-auto-update.timer serial-getty@ttyS0 "
           "systemd-networkd-wait-online systemd-timesyncd").split()
 WORDS = ("root=/dev/vda rw console=ttyS0 loglevel=3 panic=-1 random.trust_cpu=on mitigations=off no_timer_check tsc=reliable "
@@ -76,7 +77,7 @@ def make(folder, suite, packages):
     os.makedirs(folder, exist_ok=True)
     root = f"{folder}/root"
     write(f"{folder}/sources.list", SOURCES.format(suite))
-    included = ",".join((*NEEDED.split(), *packages))
+    included = ",".join((*NEEDED, *packages))
     run("mmdebstrap", "--variant=standard", '--aptopt=APT::Install-Recommends "false"', f"--include={included}", suite, root,
         f"{folder}/sources.list")
     put_packages(root)
