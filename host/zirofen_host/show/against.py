@@ -13,6 +13,14 @@ from zirofen_host.show.view import Host, present
 from zirofen_host.show.words import ACCEPTED
 
 
+# what no answer looks at, in a few words, by the kind of its notes
+IN_WORDS = {
+    "deputy": "managers that move processes on request", "elsewhere": "the host beside its text", "subordinate": "other uids of theirs",
+    "outside": "processes outside of what users hold", "mark": "marks that owners set", "capability": "processes with capabilities",
+    "restart": "limits that a restart loses", "cause": "what gave it away", "container": "users' own containers", "mount": "further mounts",
+    "search": "closed directories", "descriptor": "some open files"}
+
+
 def against(host: Host, at: Place) -> Iterator[str]:
     """The lines, as markup."""
     report = host.report
@@ -42,7 +50,8 @@ def counted(at: Place, what: str, found: Sequence[ReportNote]) -> Iterator[str]:
     """How many there are of each kind, with a link to them."""
     if found:
         kinds = Counter(each.kind for each in found)
-        kinds_text = ", ".join(f"{text(kind)} {number}" for kind, number in kinds.items())
+        kinds_text = ", ".join(f"{text(IN_WORDS[kind])} ({text(kind)} {number})" if kind in IN_WORDS else f"{text(kind)} {number}"
+                               for kind, number in kinds.items())
         yield f'{what}: <a href="#{at.id}-unseen">{kinds_text}</a>.'
 
 
