@@ -203,7 +203,8 @@ class HelperTest(unittest.TestCase):
             out.write(called("check", *ASKED, "--tree", GOOD, "--json").stdout)
         host.cgroup("/")
         on_host = ("--plain-folder", "--mount", host.mount, "--proc", host.proc, "--accounts", host.etc)
-        return {"page": {0: ((file,), None), 3: ((f"{folder}/none.json",), None)},
+        return {"accept": {0: ((file, "--reason", "known"), None), 3: ((f"{folder}/none.json", "--reason", "known"), None)},
+                "page": {0: ((file,), None), 3: ((f"{folder}/none.json",), None)},
                 "tree": {0: ((file,), None), 3: ((GOOD,), None)},
                 "snapshot": {0: (on_host, None), 3: (("--mount", folder), None)},
                 "commands": {0: (("--mount", host.mount), "mkdir /a\n"), 3: (("--mount", host.mount), "mkdir\n")}}
