@@ -323,7 +323,7 @@ ARGUMENTS: Dict[str, Callable[[argparse.ArgumentParser], None]] = {
     "snapshot": add_snapshot, "tree": add_tree, "watch": add_watch}
 
 
-def parser_of(name: str) -> argparse.ArgumentParser:
+def parser_of(name: str) -> Parser:
     """The parser of a subcommand's command line."""
     parser = Parser(prog=f"{NAME} {name}", description=DESCRIPTIONS[name],
                     formatter_class=argparse.RawDescriptionHelpFormatter)

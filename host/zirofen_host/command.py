@@ -40,7 +40,7 @@ def main(words: List[str]) -> int:
         return fault.FAULT
     if words[0] not in ARGUMENTS:
         raise fault.Fault(f"there is no command {words[0]}{fault.nearest(words[0], ARGUMENTS)}; --help lists them")
-    given = parser_of(words[0]).parse_args(words[1:])
+    given = parser_of(words[0]).given(words[1:])
     run_command = importlib.import_module(f"zirofen_host.runs.{words[0]}").run
     fault.bound(vars(given).get("seconds"))
     status: int = run_command(given)

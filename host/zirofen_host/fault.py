@@ -1,9 +1,10 @@
 """From why a helper can't give what was asked of it to a status, and to lines that harm no terminal."""
+import argparse
 import os
 import signal
 import sys
 import time
-from typing import Callable, Iterable, NoReturn, Optional
+from typing import Callable, Iterable, List, NoReturn, Optional
 
 from zirofen_host import ending, progress
 from zirofen_host.parsing import StableParser
@@ -94,9 +95,15 @@ class Parser(StableParser):
     """Options of a helper; wrong ones are a fault like others."""
 
     def error(self, message: str) -> NoReturn:
-        _, is_unknown, words = message.partition("unrecognized arguments: ")
-        near = nearest(words.split(" ")[0].partition("=")[0], self._option_string_actions) if is_unknown else ""
-        raise Fault(f"{message}{near}; --help tells the options")
+        raise Fault(f"{message}; --help tells the options")
+
+    def given(self, words: List[str]) -> argparse.Namespace:
+        """What the words of a command line give; of those that are none the first is told the nearest option."""
+        found, unknown = self.parse_known_args(words)
+        if unknown:
+            near = nearest(unknown[0].partition("=")[0], self._option_string_actions)
+            self.error(f"unrecognized arguments: {' '.join(unknown)}{near}")
+        return found
 
 
 def warn(line: str) -> None:
