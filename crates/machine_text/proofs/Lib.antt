@@ -1,0 +1,5 @@
+pub mod Keys
+pub mod Entries
+pub mod Rows
+pub mod Told
+pub mod One
