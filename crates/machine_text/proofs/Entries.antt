@@ -139,31 +139,16 @@ valued_fits Four takes members fits =
 abbrev pub value_at_key : EntryName → Members → Option Value
 value_at_key name members = at_key (Some (usual_value name)) (value_read name) (codes "value") members
 
-accepted_as : (file : LimitFile) (value limit : Limit) → accepted file value ≡ Some limit → value ≡ limit
-accepted_as file value limit is = (cond_some (accepts file value) value limit is).1
-
 -- a number or `max` that is said is read
 limit_read : (file : LimitFile) (members : Members) (limit : Limit) → limit_said file members ≡ Some limit
     → value_at_key (File file) members ≡ Some (value_as limit)
 limit_read file members limit said = by_cases (get_member (codes "value") members) said
   where
-    by_text : (text : List ℕ) (b : Bool) → option_and_then (accepted file) (cond b (Some Max) None) ≡ Some limit
-        → cond {A = Option Value} b (Some NoLimit) None ≡ Some (value_as limit)
-    by_text text true is = ap (λ l. Some (value_as l)) (accepted_as file Max limit is)
-    by_text text false is = absurd (true≢false (sym (ap is_some is)))
-
     by_cases : (found : Option Data)
         → elim found [ None ↦ Some (default_value file) | Some held ↦ option_and_then (accepted file) (limit_of held) ] ≡ Some limit
         → elim found [ None ↦ Some (value_as (default_value file)) | Some held ↦ value_read (File file) held ] ≡ Some (value_as limit)
     by_cases None is = ap (option_map value_as) is
-    by_cases (Some (integer (pos number))) is = ap (λ l. Some (value_as l)) (accepted_as file (At number) limit is)
-    by_cases (Some (integer (negsuc number))) is = absurd (true≢false (sym (ap is_some is)))
-    by_cases (Some (string text)) is = by_text text (same_name text (codes "max")) is
-    by_cases (Some (float x)) is = absurd (true≢false (sym (ap is_some is)))
-    by_cases (Some (boolean b)) is = absurd (true≢false (sym (ap is_some is)))
-    by_cases (Some (datetime d)) is = absurd (true≢false (sym (ap is_some is)))
-    by_cases (Some (array items)) is = absurd (true≢false (sym (ap is_some is)))
-    by_cases (Some (table inside)) is = absurd (true≢false (sym (ap is_some is)))
+    by_cases (Some held) is = ap (option_map value_as) is
 
 abbrev pub text_value : Option FileText → Value
 text_value text = elim text [ None ↦ Unknown | Some text ↦ Text text ]

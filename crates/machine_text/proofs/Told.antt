@@ -47,69 +47,11 @@ use Rattle.cg_format.proofs.OneState.{and_then_from, one_passes, path_is, pid_is
 use Rattle.cg_format.proofs.SaidRanges.{said_of_known}
 use Rattle.cg_format.proofs.ToldSaid.{row_told}
 use Rattle.machine.specs.Machines.{File, Dir, Procs, Control, Limit as LimitAt, Value, Unknown, Number, Text, Inode, Machine}
+use Rattle.machine_view.proofs.PathsOnce.{keys_once}
 use Rattle.machine_view.specs.Views.{limit_names, value_as, value_there, inode_named, view}
 use Rattle.machine_text.specs.Telling.{at_key, array_as, Row, row_as, row_of, brings, enables_by_name, is_brought, stands, inode_said, inode_told, name_of, file_told, Live, live_as, Tells}
 use Rattle.machine_text.proofs.Entries.{RowFits, row_fits, said_of, text_value, entry_read, limit_at, text_at_file, plain_dir, plain_procs, plain_control, not_named}
 use Rattle.machine_text.proofs.Rows.{row_said, rows_read, live_said, lives_read, all_fit, counts_as, finds_as, same_row, same_live, enables_as}
-
--- ---- a key of a map is listed once
-
-both_hold : (a b : Bool) → T a → T b → T (a && b)
-both_hold true b here there = there
-both_hold false b here there = here
-
-abbrev tied_to : Names → Names × Cgroup → Bool
-tied_to path e = eq_by_cmp path_cmp path e.0
-
--- whether the keys of all entries lie behind one
-abbrev rises : Names → List (Names × Cgroup) → Bool
-rises path [] = true
-rises path (e ∷ es) = is_lt (path_cmp path e.0) && rises path es
-
--- no entry behind one in their order is tied to its key
-none_later : (path : Names) (e : Names × Cgroup) (es : List (Names × Cgroup)) → path ≡ e.0 → T (is_sorted path_cmp (e ∷ es))
-    → filter (tied_to path) es ≡ []
-none_later path e [] same sorted = refl
-none_later path e (f ∷ es) same sorted =
-    let ordered = is_sorted path_cmp es in
-    let above = first_of_both (rises e.0 (f ∷ es)) (rises f.0 es && ordered) sorted in
-    let later = second_of_both (rises e.0 (f ∷ es)) (rises f.0 es && ordered) sorted in
-    let first = first_of_both (is_lt (path_cmp e.0 f.0)) (rises e.0 es) above in
-    let others = second_of_both (is_lt (path_cmp e.0 f.0)) (rises e.0 es) above in
-    let less : path_cmp path f.0 ≡ Less = ap (λ (p : Names). path_cmp p f.0) same ∙ is_less (path_cmp e.0 f.0) first in
-    ap (λ r. cond (is_eq r) (f ∷ filter (tied_to path) es) (filter (tied_to path) es)) less
-    ∙ none_later path e es same (both_hold (rises e.0 es) ordered others (second_of_both (rises f.0 es) ordered later))
-
-tied_once : (path : Names) (es : List (Names × Cgroup)) → T (is_sorted path_cmp es)
-    → length (filter (tied_to path) es) ≡ cond (is_some (finite.find path_cmp path es)) 1 0
-tied_once path [] sorted = refl
-tied_once path (e ∷ es) sorted =
-    let rest = tied_once path es (second_of_both (rises e.0 es) (is_sorted path_cmp es) sorted) in
-    elim (tied_to path e) as (λ b. tied_to path e ≡ b
-    → length (cond b (e ∷ filter (tied_to path) es) (filter (tied_to path) es))
-    ≡ cond {A = ℕ} (is_some (cond b (Some e.1) (finite.find path_cmp path es))) 1 0) [
-      | true ↦ λ tied.
-          let same : path ≡ e.0 = same_path-is path e.0 (same_path-ties path e.0 ∙ tied) in
-          ap (λ (rest : List (Names × Cgroup)). length (e ∷ rest)) (none_later path e es same sorted)
-      | false ↦ λ _. rest
-    ] refl
-
-mapped_test : {A B : Type 0} (g : A → B) (p : B → Bool) (xs : List A) → filter p (map g xs) ≡ map g (filter (λ x. p (g x)) xs)
-mapped_test g p [] = refl
-mapped_test g p (x ∷ xs) =
-    ap (λ rest. cond (p (g x)) (g x ∷ rest) rest) (mapped_test g p xs)
-    ∙ elim (p (g x)) as (λ b. cond b (g x ∷ map g (filter (λ x. p (g x)) xs)) (map g (filter (λ x. p (g x)) xs))
-    ≡ map g (cond b (x ∷ filter (λ x. p (g x)) xs) (filter (λ x. p (g x)) xs))) [ true ↦ refl | false ↦ refl ]
-
-keys_once : (st : State) (path : Names) → count_by (same_path path) (paths_of st) ≡ cond (has_row st path) 1 0
-keys_once st path =
-    let entries = finite.entries st.rows in
-    ap (λ (test : Names → Bool). count_by test (paths_of st)) (λ i other. same_path-ties path other i)
-    ∙ sym (length-filter (eq_by_cmp path_cmp path) (paths_of st))
-    ∙ ap length (mapped_test (λ (e : Names × Cgroup). e.0) (eq_by_cmp path_cmp path) entries)
-    ∙ length-map (filter (tied_to path) entries) (λ e. e.0)
-    ∙ tied_once path entries (finite.entries_sorted st.rows)
-    ∙ sym (ap (λ (o : Option Cgroup). cond {A = ℕ} (is_some o) 1 0) (finite.get-entries st.rows path))
 
 -- ---- what a document's state has at a path
 

@@ -12,9 +12,9 @@ use Rattle.cg_cgroup.specs.declared.user.Entry.{Entry}
 use Rattle.cg_cgroup.specs.declared.files.Controller.{Controller}
 use Rattle.cg_cgroup.specs.declared.files.EntryName.{EntryName}
 use Rattle.cg_cgroup.specs.declared.files.EntryName.TheVariants.{Dir as DirName, Procs as ProcsName, SubtreeControl, File as FileName, Other}
-use Rattle.cg_format.specs.Said.{mode_missing}
+use Rattle.cg_format.specs.Said.{mode_missing, accepted, limit_of}
 use Rattle.cg_format.specs.TreeTexts.{document_of}
-use Rattle.machine.specs.Machines.{File, Dir, Procs, Control, Limit, Value, Unknown, NoLimit, Number, Text, Inode, Machine}
+use Rattle.machine.specs.Machines.{File, Dir, Procs, Control, Limit, Value, Unknown, Text, Inode, Machine}
 use Rattle.machine_view.specs.Views.{limit_names, value_as}
 
 -- ---- what stands at a key
@@ -56,14 +56,14 @@ owner_as usual members = do
   mode ← at_key (Some usual) (number_up_to 511) (codes "mode") members
   Some (record { uid = uid; gid = gid; mode = mode })
 
--- The eight usual limit files hold a number or `max`, and as they are made where nothing is said. The further ones hold text.
+-- The eight usual limit files hold a number or `max` that they accept, and where nothing is said what a new one does. The further ones
+-- hold text.
 abbrev pub usual_value : EntryName → Value
 usual_value (FileName file) = value_as (default_value file)
 usual_value name = Unknown
 
 abbrev pub value_read : EntryName → Data → Option Value
-value_read (FileName file) (integer (pos number)) = Some (Number number)
-value_read (FileName file) (string text) = cond (same_name text (codes "max")) (Some NoLimit) None
+value_read (FileName file) held = option_map value_as (option_and_then (accepted file) (limit_of held))
 value_read (Other file) (integer number) = Some (Text (signed_decimal number))
 value_read (Other file) (string text) = Some (Text text)
 value_read (Other file) (array lines) = option_map (λ texts. Text (join_with_byte 10 texts)) (each_as as_str lines)

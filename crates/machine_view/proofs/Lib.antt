@@ -1,1 +1,3 @@
-mod Seen
+pub mod PathsOnce
+pub mod Seen
+pub mod Stepping

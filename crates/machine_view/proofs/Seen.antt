@@ -35,7 +35,7 @@ use Rattle.machine_view.specs.Views.{limit_names, value_as, value_there, inode_n
 -- ---- which cgroups are there
 
 module _ (st : State) where
-  has-row : (path : Names) → has (view st) path ≡ has_row st path
+  pub has-row : (path : Names) → has (view st) path ≡ has_row st path
   has-row path =
       (λ i. list_any (λ other. same_path-ties path other i) (paths_of st)) ∙ sym (finite.contains_key-keys st.rows path)
 

@@ -2,15 +2,18 @@
 //! is contained there too. The contract of each function is the law; none does anything.
 #![tactic(auto)]
 
-ghost use Rattle.std.specs.Prelude.{List};
+ghost use Rattle.std.specs.Prelude.{◌≡◌, ◌⊎◌, List};
 ghost use Rattle.cg_cgroup.specs.Paths.{Names};
 ghost use Rattle.cg_cgroup.specs.Identity.{Identity};
 ghost use Rattle.cg_model.specs.States.{State};
 ghost use Rattle.cg_model.specs.WellFormed.{IsWellFormed};
 ghost use Rattle.cg_model.specs.Guards.{GuardsHold, IsSubtree};
 ghost use Rattle.cg_model.specs.Strangers.{GuardsHoldForAll};
-ghost use Rattle.machine.specs.Machines.{IsContainedAgainst, IsPresent};
+ghost use Rattle.cg_model.specs.Steps.{after};
+ghost use Rattle.cg_model.specs.declared.operation.Op.{Op};
+ghost use Rattle.machine.specs.Machines.{Act, IsContainedAgainst, IsPresent};
 ghost use Rattle.machine.specs.Several.{IsContainedAgainstAll, IsGuardedAgainstAll};
+ghost use Rattle.machine_view.specs.Steps.{IsStep};
 ghost use Rattle.machine_view.specs.Views.{view};
 
 /// Where the guards of a subtree hold for a user, what its state is on that machine is contained against them.
@@ -26,4 +29,10 @@ pub fn several_users()
         → IsPresent (view st) subtree × IsGuardedAgainstAll (view st) users subtree }
     ensures held { (st : State) (users : List Identity) (subtree : Names)
         → IsWellFormed st → IsSubtree st subtree → GuardsHoldForAll st users subtree → IsContainedAgainstAll (view st) users subtree }
+{}
+
+/// Each step of the exact machine is one of that machine, whose act is let through there, or none.
+pub fn steps()
+    ensures { (st : State) (user : Identity) (op : Op) → IsWellFormed st
+        → (view (after st user op) ≡ view st) ⊎ ((act : Act) × IsStep (view st) user act (view (after st user op))) }
 {}

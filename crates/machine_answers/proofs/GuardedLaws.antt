@@ -32,17 +32,17 @@ use Rattle.cg_cli.specs.Reports.{report_on}
 use Rattle.cg_faults.specs.declared.fault.CliFault.TheVariants.{Uid, Gids, BadPath}
 use Rattle.cg_cli.proofs.CheckReports.{report_is}
 use Rattle.cg_escapes.proofs.EscapeReplays.{report_ok, found_is, status_is, unfaulted}
-use Rattle.theorems.specs.Guarded.{NamesGuarded}
+use Rattle.machine_answers.specs.Guarded.{NamesGuarded}
 
 -- ---- what was read, and what words name
 
-user_named : (root : Bool) (found : Option Identity) (user : Identity) → cond root (Err Uid) (ok_or found Gids) ≡ Ok user
+pub user_named : (root : Bool) (found : Option Identity) (user : Identity) → cond root (Err Uid) (ok_or found Gids) ≡ Ok user
     → found ≡ Some user
 user_named true found user is = let never : ⊥ = cc in absurd never
 user_named false None user is = let never : ⊥ = cc in absurd never
 user_named false (Some one) user is = let same : one ≡ user = cc in ap Some same
 
-path_named : (found : Option Names) (path : Names) → ok_or found BadPath ≡ Ok path → found ≡ Some path
+pub path_named : (found : Option Names) (path : Names) → ok_or found BadPath ≡ Ok path → found ≡ Some path
 path_named None path is = let never : ⊥ = cc in absurd never
 path_named (Some one) path is = let same : one ≡ path = cc in ap Some same
 
@@ -57,7 +57,7 @@ named_read uid gids user is = by_uid (nat_eq uid 0) refl
     by_uid false same =
         ap₂ (λ (root : Bool) (found : Option Identity). cond root (Err Uid) (ok_or found Gids)) same is
 
-state_read : (tree : Reading) (st : State) → tree_read tree ≡ Ok st → tree ≡ Ok st
+pub state_read : (tree : Reading) (st : State) → tree_read tree ≡ Ok st → tree ≡ Ok st
 state_read (Ok one) st is = let same : one ≡ st = cc in ap Ok same
 state_read (Err fault) st is = let never : ⊥ = cc in absurd never
 

@@ -1,0 +1,3 @@
+pub mod GuardedLaws
+pub mod MachineLaws
+pub mod AuditedLaws

@@ -1,0 +1,24 @@
+//! What the reports' status 0 says of the machine that a text tells of. The contract of each function is a law; none does anything.
+#![tactic(auto)]
+
+ghost use Rattle.std.specs.Prelude.{◌≡◌, ℕ, List, map, Ok};
+ghost use Rattle.cg_cgroup.specs.Identity.{Identity};
+ghost use Rattle.cg_format.specs.Readings.{Reading, IsReading};
+ghost use Rattle.cg_cli.specs.Containment.{check_report};
+ghost use Rattle.cg_cli.specs.Audits.{audit_report};
+ghost use Rattle.machine_answers.specs.Contained.{of_ids, IsContainedIn, AreContainedIn};
+
+/// Where the report of `check` on a text ends with status 0, the text tells of a machine in which the subtree is contained against the
+/// user.
+pub fn checked()
+    ensures { (text : List ℕ) (tree : Reading) (uid : ℕ) (gids word : List ℕ)
+        → IsReading text tree → (check_report tree uid gids word).ending ≡ Ok 0
+        → IsContainedIn text (record { uid = uid; gids = gids }) word }
+{}
+
+/// Where the report of `audit` does, each of the subtrees is contained there against all of the users together.
+pub fn audited()
+    ensures { (text : List ℕ) (tree : Reading) (given : List (ℕ × List ℕ)) (words : List (List ℕ))
+        → IsReading text tree → (audit_report tree given words).ending ≡ Ok 0
+        → AreContainedIn text (map of_ids given) words }
+{}
