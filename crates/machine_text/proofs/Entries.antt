@@ -260,9 +260,10 @@ limits_fit : (format : Format) (files : Members) → list_all (fits_at files) (o
 limits_fit format files fits =
     let usual = λ (file : LimitFile). may_have (file_name file) (is_table (limit_keys format)) in
     let further = λ (file : OtherFile). may_have (other_name file) (is_table (text_keys format)) in
-    let parts = and_parts _ _ (sym (list_all-append (fits_at files) (map usual all_files) (map further (known_others (vocabulary format)))) ∙ fits) in
-    (sym (list_all-map (fits_at files) usual all_files) ∙ parts.0,
-    sym (list_all-map (fits_at files) further (known_others (vocabulary format))) ∙ parts.1)
+    let parts = and_parts _ _ (sym (list_all-append (fits_at files) (map usual all_files) (map further (known_others (vocabulary format)))) ∙ fits) in (
+      sym (list_all-map (fits_at files) usual all_files) ∙ parts.0,
+      sym (list_all-map (fits_at files) further (known_others (vocabulary format))) ∙ parts.1,
+    )
 
 foreign_fits : (keys : List Key) (inner : List Key) (name : List ℕ) (files : Members)
     → list_any (λ key. same_name name key.name) keys ≡ false → are_among keys files ≡ true
@@ -360,16 +361,18 @@ module _ (format : Format) (row : Members) (fits : RowFits format row) where
       ≡ Some (unwrap_or (option_and_then (table_at text) (table_at (codes "files") row)) no_members))
       × (is_table keys (table (unwrap_or (option_and_then (table_at text) (table_at (codes "files") row)) no_members)) ≡ true)
   in_files text keys fit nothing =
-      let nested = within text (table_at (codes "files") row) in
-      (ap (option_and_then (at_key (Some no_members) as_table text)) files_read
-      ∙ members_at keys text (among format row fits) fit ∙ ap Some nested,
-      ap (λ inside. is_table keys (table inside)) (sym nested) ∙ inside_fits keys text (among format row fits) fit nothing)
+      let nested = within text (table_at (codes "files") row) in (
+        ap (option_and_then (at_key (Some no_members) as_table text)) files_read
+            ∙ members_at keys text (among format row fits) fit ∙ ap Some nested,
+        ap (λ inside. is_table keys (table inside)) (sym nested) ∙ inside_fits keys text (among format row fits) fit nothing,
+      )
 
   table_read : (name : EntryName) → (table_in name row ≡ Some (said_of name row))
       × (is_table (keys_for format name) (table (said_of name row)) ≡ true)
-  table_read Dir =
-      (members_at (owner_keys format) (codes "dir") row fits.dir,
-      inside_fits (owner_keys format) (codes "dir") row fits.dir (nothing_owned format))
+  table_read Dir = (
+    members_at (owner_keys format) (codes "dir") row fits.dir,
+    inside_fits (owner_keys format) (codes "dir") row fits.dir (nothing_owned format),
+  )
   table_read Procs =
       in_files texts.cgroup_procs (owner_keys format) (and_parts _ _ (each_fits format row fits)).0 (nothing_owned format)
   table_read SubtreeControl =

@@ -251,7 +251,6 @@ module _ (st : State) (document : Members) (is : IsDocumentOf st document) where
             ∙ sym (ap (λ (found : Option Row). elim found as (λ (_ : Option Row). Bool)
             [ None ↦ false | Some above ↦ enables_by_name above controller ]) at.found)
 
-
     abbrev found_at : At path
     found_at = at_row path there
 

@@ -1,3 +1,4 @@
 pub mod PathsOnce
 pub mod Seen
 pub mod Stepping
+pub mod Alike

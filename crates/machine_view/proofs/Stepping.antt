@@ -1,16 +1,15 @@
 -- Each step of the exact machine is one of the other, or none.
-use Rattle.std.proofs.Common.{◌≡◌, ℕ, zero, suc, ◌+◌, ◌-◌, ◌<◌, ◌≤◌, Bool, true, false, not, cond, ◌||◌, List, [], ◌∷◌, ◌++◌, length, take, map, get_or, refl, sym, ap, ◌∙◌, subst, true≢false, Option, Some, None, is_some, is_none, inl, inr, arith}
-use Rattle.std.specs.Prelude.{◌⊎◌, ◌&&◌, nat_eq, nat_le, nat_lt, count_by, filter, slice_get, option_and_then}
-use Rattle.std.specs.List.{list_any}
+use Rattle.std.proofs.Common.{◌≡◌, ℕ, zero, suc, ◌+◌, ◌-◌, ◌<◌, ◌≤◌, Bool, true, false, not, cond, ◌||◌, List, [], ◌∷◌, length, take, get_or, refl, sym, ap, ◌∙◌, true≢false, Option, Some, None, is_some, is_none, inl, inr, arith}
+use Rattle.std.specs.Prelude.{◌⊎◌, ◌&&◌, nat_eq, count_by, filter, slice_get, option_and_then}
 use Rattle.std.specs.Option.{option_map}
-use Rattle.std.proofs.lemmas.Bool.{and_parts, and_from, false_from_ne_true, eqb-true, lt-ltb, ltb-true, le-leb}
+use Rattle.std.proofs.lemmas.Bool.{and_parts, and_from, false_from_ne_true, eqb-true, ltb-true, le-leb}
 use Rattle.std.proofs.lemmas.Option.{slice_get_within, slice_get-get_or}
 use Rattle.std.proofs.lemmas.List.{take-take}
 use Rattle.std.proofs.lemmas.List.Sums.{length-filter}
-use Rattle.cg_cgroup.specs.Paths.{Names, same_name, same_path, below, is_child, is_root, parent, common}
+use Rattle.cg_cgroup.specs.Paths.{Names, same_name, same_path, is_child, is_root, parent, common}
 use Rattle.cg_cgroup.specs.Identity.{Identity}
 use Rattle.cg_cgroup.specs.Users.{writes, owns}
-use Rattle.cg_cgroup.specs.Files.{enables_nothing, all_files, all_others, kind_of, other_kind, brought_by, same_entry, same_file, same_other, is_beyond}
+use Rattle.cg_cgroup.specs.Files.{enables_nothing, kind_of, other_kind, brought_by, same_entry, same_file, same_other}
 use Rattle.cg_cgroup.specs.Cgroups.{with_mode_of, entry_in, value_in, file_of, cgroup_made_by}
 use Rattle.cg_cgroup.specs.declared.user.Entry.{Entry}
 use Rattle.cg_cgroup.specs.declared.controllers.ControllerSet.{ControllerSet}
@@ -27,24 +26,23 @@ use Rattle.cg_cgroup.specs.declared.told.ToldFile.{ToldFile}
 use Rattle.cg_cgroup.specs.declared.cgroup.Cgroup.{Cgroup}
 use Rattle.cg_cgroup.specs.declared.cgroup.LimitEntry.{LimitEntry}
 use Rattle.cg_cgroup.specs.declared.process.Process.{Process}
-use Rattle.cg_cgroup.proofs.Options.{same_some, some_value, none_value}
-use Rattle.cg_cgroup.proofs.PathOrder.{same_path-is, same_path_refl}
+use Rattle.cg_cgroup.proofs.Options.{same_some, some_value}
+use Rattle.cg_cgroup.proofs.PathOrder.{same_path-is}
 use Rattle.cg_cgroup.proofs.CgroupLaws.{same_entry-refl, same_entry-true}
 use Rattle.cg_model.specs.States.{State, row_at, process_at, place_at, owner_at, file_at, file_told, told_text, entry_at, value_at, paths_of, count_below, has_child, is_used, placed_at, with_row, without_row, with_value, with_text, with_mode, with_enabled, with_place, with_process, without_process}
 use Rattle.cg_model.specs.WellFormed.{IsWellFormed, has_row, enabled_at}
 use Rattle.cg_model.specs.Limits.{is_under}
-use Rattle.cg_model.specs.Bars.{bars, passes, move_bars, control_bars, mkdir_bars, rmdir_bars, set_bars, set_other_bars, chmod_bars, exit_bars, fork_bars, row_above, level_bars, changes_bars}
-use Rattle.cg_model.specs.Clauses.{unless, absent, present}
+use Rattle.cg_model.specs.Bars.{bars, move_bars, control_bars, mkdir_bars, rmdir_bars, set_bars, set_other_bars, chmod_bars, exit_bars, fork_bars}
+use Rattle.cg_model.specs.Clauses.{unless, absent}
 use Rattle.cg_model.specs.Next.{next}
 use Rattle.cg_model.specs.Steps.{after}
 use Rattle.cg_model.specs.Changes.{enabled_after}
 use Rattle.cg_model.specs.declared.changes.Change.{Change}
 use Rattle.cg_model.specs.declared.operation.Op.{Op}
 use Rattle.cg_model.specs.declared.operation.Op.TheVariants as op
-use Rattle.cg_model.specs.declared.outcome.Refusal.{Refusal}
-use Rattle.cg_model.specs.declared.outcome.Refusal.TheVariants.{NoSuchCgroup, NoAccess, NoSuchProcess, NoSuchFile, NotYours, DescendantLimit, DepthLimit, HasChildren}
+use Rattle.cg_model.specs.declared.outcome.Refusal.TheVariants.{NoSuchCgroup, NoAccess, NoSuchProcess, NoSuchFile, DescendantLimit, DepthLimit, HasChildren}
 use Rattle.cg_model.proofs.Allowed.{allowed_mkdir}
-use Rattle.cg_model.proofs.ClauseLaws.{no_parts, no_unless, no_absent, no_present, none_present}
+use Rattle.cg_model.proofs.ClauseLaws.{no_parts, no_unless, no_absent, no_present}
 use Rattle.cg_model.proofs.StateCounts.{paths_of-with_value, paths_of-with_mode, paths_of-with_enabled, counted-with_row, counted-without_row}
 use Rattle.cg_model.proofs.StateEntries.{entry_at-file, value_at-file, entry_at-with_value, value_at-with_value, entry_at-with_text, told_text-with_text, entry_at-with_mode, value_at-with_mode, told_text-with_mode, entry_at-with_row, value_at-with_row, entry_at-without_row, value_at-without_row, told_text-without_row, entry_at-with_enabled-dir, entry_at-with_enabled-procs, entry_at-with_enabled-subtree_control, file_at-with_enabled-other, entry_at-with_enabled-beyond, told_text-with_enabled}
 use Rattle.cg_model.proofs.StateLaws.{process_at-with_place, process_at-with_process, process_at-without_process}
@@ -52,16 +50,15 @@ use Rattle.cg_model.proofs.TreeLaws.{take-there}
 use Rattle.cg_laws.proofs.Barred.{chmod-owned}
 use Rattle.cg_laws.proofs.Counts.{limits-asked}
 use Rattle.cg_laws.proofs.Crossing.{move-passes}
-use Rattle.cg_laws.proofs.Untouched.{after-cases}
-use Rattle.machine.specs.Machines.{File, Dir, Procs, Control, Limit as LimitAt, Value, Unknown, NoLimit, Number, Text, Inode, Machine, Act, Move, Mkdir, Rmdir, Write, Chmod, Enable, Fork, Exit, has, entry_is, value_of, leaves_room, has_room_above, lets, done, is_this_file, reopened, rewritten, furnished, equipped, placed}
+use Rattle.machine.specs.Machines.{File, Dir, Procs, Control, Limit as LimitAt, Value, Unknown, Text, Inode, Act, Move, Mkdir, Rmdir, Write, Chmod, Enable, Fork, Exit, entry_is, value_of, leaves_room, has_room_above, is_this_file, reopened, rewritten, equipped, placed}
 use Rattle.machine_view.specs.Views.{limit_names, value_as, value_there, inode_named, inode_there, view}
-use Rattle.machine_view.specs.Steps.{IsSame, IsStep}
+use Rattle.machine_view.specs.Steps.{IsStep}
 use Rattle.machine_view.proofs.PathsOnce.{keys_once}
 use Rattle.machine_view.proofs.Seen.{has-row}
 
 -- ---- limit files by their numbers
 
-abbrev number_of : EntryName → ℕ
+abbrev pub number_of : EntryName → ℕ
 number_of (FileName file) = (kind_of file).number
 number_of (Other file) = 8 + (other_kind file).number
 number_of name = 51
@@ -87,11 +84,11 @@ numbered place name is =
     let counted = number_at 0 limit_names refl place name within in
     ap number_of (sym found) ∙ omega (arith, counted)
 
-named_file : (file : LimitFile) → slice_get limit_names (number_of (FileName file)) ≡ Some (FileName file)
+pub named_file : (file : LimitFile) → slice_get limit_names (number_of (FileName file)) ≡ Some (FileName file)
 named_file MaxDescendants = refl
 named_file file = refl
 
-named_other : (file : OtherFile) → slice_get limit_names (number_of (Other file)) ≡ Some (Other file)
+pub named_other : (file : OtherFile) → slice_get limit_names (number_of (Other file)) ≡ Some (Other file)
 named_other CpuMax = refl
 named_other file = refl
 
@@ -257,6 +254,21 @@ counted_apart test path (other ∷ paths) =
     by_other true all same kept is = omega (arith, is)
     by_other false all same kept is = is
 
+-- the limits of a cgroup that is there
+pub limits-there : (st : State) (top : Names) (row : Cgroup) → row_at st top ≡ Some row
+    → (value_of (view st) top 0 ≡ Some (value_as row.max_descendants.value))
+    × (value_of (view st) top 1 ≡ Some (value_as row.max_depth.value))
+limits-there st top row is = (
+  ap (λ (row : Option Cgroup). option_map (λ (inode : Inode). inode.value)
+      (seen (option_and_then (λ (row : Cgroup). entry_in row (FileName MaxDescendants)) row)
+      (elim (option_and_then (λ (row : Cgroup). value_in row MaxDescendants) row) as (λ (_ : Option Limit). Value)
+      [ None ↦ Unknown | Some limit ↦ value_as limit ]))) is,
+  ap (λ (row : Option Cgroup). option_map (λ (inode : Inode). inode.value)
+      (seen (option_and_then (λ (row : Cgroup). entry_in row (FileName MaxDepth)) row)
+      (elim (option_and_then (λ (row : Cgroup). value_in row MaxDepth) row) as (λ (_ : Option Limit). Value)
+      [ None ↦ Unknown | Some limit ↦ value_as limit ]))) is,
+)
+
 -- ---- moves, forks and exits
 
 common-take : (from to : Names) → common from to ≡ take (length (common from to)) from
@@ -391,7 +403,7 @@ module _ (st : State) (user : Identity) (formed : IsWellFormed st) where
           ap (λ (found : Option Process). elim found as (λ (_ : Option Process). State)
           [ None ↦ st | Some process ↦ with_process st child process.uid process.place ]) is
 
--- ---- values
+  -- ---- values
 
   -- a write of one limit file, by which others of that cgroup may change
   module _ (new : State) (at : Names) (name : EntryName) (entry : Entry)
@@ -426,7 +438,8 @@ module _ (st : State) (user : Identity) (formed : IsWellFormed st) where
         by_name : (found : Option EntryName) → slice_get limit_names place ≡ found
             → elim found as (λ (_ : Option EntryName). Option Inode) [ None ↦ None | Some other ↦ inode_named new q other ]
             ≡ cond (same_path at q) (option_map (λ (inode : Inode). record inode {
-            value = elim found as (λ (_ : Option EntryName). Value) [ None ↦ Unknown | Some other ↦ value_there new at other ] })
+              value = elim found as (λ (_ : Option EntryName). Value) [ None ↦ Unknown | Some other ↦ value_there new at other ];
+            })
             (elim found as (λ (_ : Option EntryName). Option Inode) [ None ↦ None | Some other ↦ inode_named st q other ]))
             (elim found as (λ (_ : Option EntryName). Option Inode) [ None ↦ None | Some other ↦ inode_named st q other ])
         by_name None is = none (same_path at q) Unknown
@@ -526,7 +539,8 @@ module _ (st : State) (user : Identity) (formed : IsWellFormed st) where
       by_name : (entry : Entry) → entry_at st at name ≡ Some entry → (q : Names) (other : EntryName)
           → inode_named (with_mode st at name mode) q other
           ≡ cond (same_path at q && same_entry name other) (option_map (λ (inode : Inode). record inode {
-          entry = record inode.entry { gid = entry.gid; mode = mode } }) (inode_named st q other)) (inode_named st q other)
+            entry = record inode.entry { gid = entry.gid; mode = mode };
+          }) (inode_named st q other)) (inode_named st q other)
       by_name entry is q other =
           (λ i. seen (entry_at-with_mode st at name mode q other i)
           (value-same st (with_mode st at name mode) q other (λ file. value_at-with_mode st at name mode q file)
@@ -541,7 +555,8 @@ module _ (st : State) (user : Identity) (formed : IsWellFormed st) where
                 (λ i. entry_at st (sym (same_path-is at q parts.0) i) (sym (same_entry-true name other parts.1) i)) ∙ is in
                 ap (λ (found : Option Entry). seen (option_map (with_mode_of mode) found) (value_there st q other)) here
                 ∙ sym (ap (λ (found : Option Entry). option_map (λ (inode : Inode). record inode {
-                entry = record inode.entry { gid = entry.gid; mode = mode } }) (seen found (value_there st q other))) here)
+                  entry = record inode.entry { gid = entry.gid; mode = mode };
+                }) (seen found (value_there st q other))) here)
             | false ↦ λ _. refl
           ] refl
 
@@ -549,13 +564,16 @@ module _ (st : State) (user : Identity) (formed : IsWellFormed st) where
           → inode_there (with_mode st at name mode) q file ≡ reopened at (file_by name) entry.gid mode (inode_there st) q file
       by_file entry is q Dir =
           by_name entry is q DirName ∙ ap (λ b. cond (same_path at q && b) (option_map (λ (inode : Inode). record inode {
-          entry = record inode.entry { gid = entry.gid; mode = mode } }) (inode_named st q DirName)) (inode_named st q DirName)) (sym (same-dir name))
+            entry = record inode.entry { gid = entry.gid; mode = mode };
+          }) (inode_named st q DirName)) (inode_named st q DirName)) (sym (same-dir name))
       by_file entry is q Procs =
           by_name entry is q ProcsName ∙ ap (λ b. cond (same_path at q && b) (option_map (λ (inode : Inode). record inode {
-          entry = record inode.entry { gid = entry.gid; mode = mode } }) (inode_named st q ProcsName)) (inode_named st q ProcsName)) (sym (same-procs name))
+            entry = record inode.entry { gid = entry.gid; mode = mode };
+          }) (inode_named st q ProcsName)) (inode_named st q ProcsName)) (sym (same-procs name))
       by_file entry is q Control =
           by_name entry is q SubtreeControl ∙ ap (λ b. cond (same_path at q && b) (option_map (λ (inode : Inode). record inode {
-          entry = record inode.entry { gid = entry.gid; mode = mode } }) (inode_named st q SubtreeControl)) (inode_named st q SubtreeControl))
+            entry = record inode.entry { gid = entry.gid; mode = mode };
+          }) (inode_named st q SubtreeControl)) (inode_named st q SubtreeControl))
           (sym (same-control name))
       by_file entry is q (LimitAt place) = by_found (slice_get limit_names place) refl
         where
@@ -567,13 +585,15 @@ module _ (st : State) (user : Identity) (formed : IsWellFormed st) where
               → elim found as (λ (_ : Option EntryName). Option Inode)
               [ None ↦ None | Some other ↦ inode_named (with_mode st at name mode) q other ]
               ≡ cond (same_path at q && is_this_file (file_by name) (LimitAt place)) (option_map (λ (inode : Inode). record inode {
-              entry = record inode.entry { gid = entry.gid; mode = mode } })
+                entry = record inode.entry { gid = entry.gid; mode = mode };
+              })
               (elim found as (λ (_ : Option EntryName). Option Inode) [ None ↦ None | Some other ↦ inode_named st q other ]))
               (elim found as (λ (_ : Option EntryName). Option Inode) [ None ↦ None | Some other ↦ inode_named st q other ])
           by_found None there = none (same_path at q && is_this_file (file_by name) (LimitAt place))
           by_found (Some other) there =
               by_name entry is q other ∙ ap (λ b. cond (same_path at q && b) (option_map (λ (inode : Inode). record inode {
-              entry = record inode.entry { gid = entry.gid; mode = mode } }) (inode_named st q other)) (inode_named st q other))
+                entry = record inode.entry { gid = entry.gid; mode = mode };
+              }) (inode_named st q other)) (inode_named st q other))
               (sym (same-file name other place there))
 
   -- ---- cgroups made and removed
@@ -583,20 +603,6 @@ module _ (st : State) (user : Identity) (formed : IsWellFormed st) where
   room-under Max count more few under = refl
   room-under (At most) count more few under =
       let less : count < most = ltb-true count most under in le-leb more most (omega (arith, few, less))
-
-  limits-there : (top : Names) (row : Cgroup) → row_at st top ≡ Some row
-      → (value_of (view st) top 0 ≡ Some (value_as row.max_descendants.value))
-      × (value_of (view st) top 1 ≡ Some (value_as row.max_depth.value))
-  limits-there top row is = (
-    ap (λ (row : Option Cgroup). option_map (λ (inode : Inode). inode.value)
-    (seen (option_and_then (λ (row : Cgroup). entry_in row (FileName MaxDescendants)) row)
-    (elim (option_and_then (λ (row : Cgroup). value_in row MaxDescendants) row) as (λ (_ : Option Limit). Value)
-    [ None ↦ Unknown | Some limit ↦ value_as limit ]))) is,
-    ap (λ (row : Option Cgroup). option_map (λ (inode : Inode). inode.value)
-    (seen (option_and_then (λ (row : Cgroup). entry_in row (FileName MaxDepth)) row)
-    (elim (option_and_then (λ (row : Cgroup). value_in row MaxDepth) row) as (λ (_ : Option Limit). Value)
-    [ None ↦ Unknown | Some limit ↦ value_as limit ]))) is,
-  )
 
   room-above : (path : Names) → mkdir_bars st user path ≡ [] → (len : ℕ) → len ≤ length path → has_room_above (view st) path len ≡ true
   room-above path free zero within = refl
@@ -613,7 +619,7 @@ module _ (st : State) (user : Identity) (formed : IsWellFormed st) where
       let both =
       no_parts (unless (is_under (count_below st top) row.0.max_descendants.value) (DescendantLimit len))
       (unless (is_under (length path - 1 - len) row.0.max_depth.value) (DepthLimit len)) level in
-      let limits = limits-there top row.0 row.1 in
+      let limits = limits-there st top row.0 row.1 in
       let wide : leaves_room (value_of (view st) top 0) (1 + count_below st top) ≡ true =
       ap (λ (found : Option Value). leaves_room found (1 + count_below st top)) limits.0
       ∙ room-under row.0.max_descendants.value (count_below st top) (1 + count_below st top) (omega arith) (no_unless _ _ both.0) in

@@ -2,7 +2,7 @@
 //! is contained there too. The contract of each function is the law; none does anything.
 #![tactic(auto)]
 
-ghost use Rattle.std.specs.Prelude.{◌≡◌, ◌⊎◌, List};
+ghost use Rattle.std.specs.Prelude.{◌≡◌, ◌⊎◌, ◌↔◌, List};
 ghost use Rattle.cg_cgroup.specs.Paths.{Names};
 ghost use Rattle.cg_cgroup.specs.Identity.{Identity};
 ghost use Rattle.cg_model.specs.States.{State};
@@ -11,7 +11,7 @@ ghost use Rattle.cg_model.specs.Guards.{GuardsHold, IsSubtree};
 ghost use Rattle.cg_model.specs.Strangers.{GuardsHoldForAll};
 ghost use Rattle.cg_model.specs.Steps.{after};
 ghost use Rattle.cg_model.specs.declared.operation.Op.{Op};
-ghost use Rattle.machine.specs.Machines.{Act, IsContainedAgainst, IsPresent};
+ghost use Rattle.machine.specs.Machines.{Act, IsContainedAgainst, IsPresent, IsGuarded};
 ghost use Rattle.machine.specs.Several.{IsContainedAgainstAll, IsGuardedAgainstAll};
 ghost use Rattle.machine_view.specs.Steps.{IsStep};
 ghost use Rattle.machine_view.specs.Views.{view};
@@ -35,4 +35,10 @@ pub fn several_users()
 pub fn steps()
     ensures { (st : State) (user : Identity) (op : Op) → IsWellFormed st
         → (view (after st user op) ≡ view st) ⊎ ((act : Act) × IsStep (view st) user act (view (after st user op))) }
+{}
+
+/// The guards of the exact machine hold for a user exactly where those of that machine do.
+pub fn guards()
+    ensures { (st : State) (user : Identity) (subtree : Names)
+        → IsSubtree st subtree → GuardsHold st user subtree ↔ IsGuarded (view st) user subtree }
 {}
