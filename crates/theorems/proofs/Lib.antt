@@ -1,6 +1,5 @@
 mod NoneListed
 mod StatusLaws
-mod GuardedLaws
 mod ListedLaws
 mod AdviceLaws
 mod PairedLaws

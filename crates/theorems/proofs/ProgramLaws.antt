@@ -68,7 +68,7 @@ use Rattle.commands.specs.declared.fault.Fault.{Fault}
 use Rattle.commands.specs.declared.fault.Fault.TheVariants.{Usage, Cli}
 use Rattle.commands.proofs.BufferedLaws.{CarriesOut-Keeps}
 use Rattle.commands.proofs.PairLaws.{asked_about}
-use Rattle.theorems.proofs.GuardedLaws.{named_read, contained_by_status}
+use Rattle.machine_answers.proofs.GuardedLaws.{named_read, contained_by_status}
 use Rattle.theorems.proofs.SettledLaws.{settled_as}
 use Rattle.theorems.proofs.FurtherLaws.{settled_told, all_told, first_told}
 use Rattle.theorems.proofs.StatusLaws.{all_contained_by_status, all_contained_by_pairs, all_contained_by_advice}

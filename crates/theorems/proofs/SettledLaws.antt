@@ -27,7 +27,7 @@ use Rattle.cg_faults.specs.Faults.{lifted_check}
 use Rattle.cg_faults.specs.declared.fault.CliFault.{CliFault}
 use Rattle.cg_faults.specs.declared.fault.CliFault.TheVariants.{BadPath}
 use Rattle.cg_cli.proofs.SettleReports.{goes_further}
-use Rattle.theorems.proofs.GuardedLaws.{named_read}
+use Rattle.machine_answers.proofs.GuardedLaws.{named_read}
 
 module _ (st : State) (user : Identity) (subtree : Names) where
   abbrev SaysAfter : Answer → Report → Type 0

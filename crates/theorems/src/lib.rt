@@ -68,7 +68,7 @@ ghost use Rattle.cg_faults.specs.declared.fault.CliFault.TheVariants.{Line};
 ghost use Rattle.cg_lines.specs.declared.lines.fault.LineFault.TheVariants.{BadWord};
 ghost use Rattle.cg_lines.specs.OperationLines.{HaveLines};
 ghost use Rattle.cg_escapes.specs.EscapeReplays.{IsReplayed};
-ghost use Rattle.theorems.specs.Guarded.{NamesGuarded};
+ghost use Rattle.machine_answers.specs.Guarded.{NamesGuarded};
 ghost use Rattle.clap.specs.declared.error.Error.{Error};
 ghost use Rattle.arguments.specs.Words.{Makes};
 ghost use Rattle.arguments.specs.Given.{ids_of, tree_file, other_file};

@@ -1,5 +1,5 @@
 use Rattle.cg_laws.proofs.ThroughoutLaws.{held-is_throughout, contained-is_throughout}
-use Rattle.theorems.proofs.GuardedLaws.{throughout_by_status}
+use Rattle.machine_answers.proofs.GuardedLaws.{throughout_by_status}
 use Rattle.theorems.proofs.held_is_every_state_and_step.Goals as goal
 
 pub returns : goal.returns

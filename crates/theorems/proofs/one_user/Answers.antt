@@ -1,6 +1,6 @@
 use Rattle.std.specs.Prelude.{Ok}
 use Rattle.cg_laws.proofs.RunLaws.{contained-guarded}
-use Rattle.theorems.proofs.GuardedLaws.{contained_as_named, guarded_by_status, contained_report}
+use Rattle.machine_answers.proofs.GuardedLaws.{contained_as_named, guarded_by_status, contained_report}
 use Rattle.theorems.proofs.one_user.Goals as goal
 
 pub returns : goal.returns
