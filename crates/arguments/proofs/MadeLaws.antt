@@ -26,7 +26,8 @@ module _ (words : List Text) (name : Text) (found : Found) (fits : fault_of comm
   same_rows command other is =
       ap (λ (o : Option (Text × List Row)). unwrap_or (option_map (λ (p : Text × List Row). p.1) o) []) (sym is ∙ met)
 
-  by_command : (command : Text) (asked : Request) → Some command ≡ command_of asked → NamesCommand words command (λ other. Holds other asked)
+  by_command : (command : Text) (asked : Request) → Some command ≡ command_of asked
+      → NamesCommand words command (λ other. Holds other asked)
       → (command_of asked ≡ Some name) × Holds found asked
   by_command command asked own h =
       (sym own ∙ same_name command h.0 h.2, holds_same h.0 found (same_rows command h.0 h.2) asked h.3)

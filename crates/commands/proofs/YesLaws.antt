@@ -114,7 +114,8 @@ flushed_is (Ok one) (inl same) = cc
 flushed_is (Ok one) (inr never) = cc
 flushed_is (Err fault) never = cc
 
-module _ (words : List (List ℕ)) (files : Files) (given old said : Option (List ℕ)) (leads : LeadsTo words files given old said (Ok 0)) where
+module _ (words : List (List ℕ)) (files : Files) (given old said : Option (List ℕ))
+(leads : LeadsTo words files given old said (Ok 0)) where
   carried : CarriesOut leads.0 files given old said (Ok 0)
   carried =
       subst (λ (ended : Result ℕ CliFault). CarriesOut leads.0 files given old said ended) (flushed_is leads.2.0 leads.2.2) leads.2.1

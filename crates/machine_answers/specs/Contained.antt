@@ -5,7 +5,7 @@ use Rattle.cg_cgroup.specs.Paths.{Names, is_root}
 use Rattle.cg_cgroup.specs.Identity.{Identity}
 use Rattle.machine.specs.Machines.{Machine, has, IsContainedAgainst}
 use Rattle.machine.specs.Several.{IsContainedAgainstAll}
-use Rattle.machine_text.specs.Telling.{names_in, Tells}
+use Rattle.machine_text.specs.Telling.{path_names, TextTells}
 
 abbrev pub of_ids : ℕ × List ℕ → Identity
 of_ids ids = record { uid = ids.0; gids = ids.1 }
@@ -13,9 +13,9 @@ of_ids ids = record { uid = ids.0; gids = ids.1 }
 -- Below the root of the machine there is what a word names, and it is contained against a user.
 pub record IsContainedIn (text : List ℕ) (user : Identity) (word : List ℕ) : Type 0 where
   pub machine : Machine
-  pub told : Tells text machine
+  pub told : TextTells text machine
   pub subtree : Names
-  pub named : names_in word ≡ Some subtree
+  pub named : path_names word ≡ Some subtree
   pub below : is_root subtree ≡ false
   pub there : has machine subtree ≡ true
   pub contained : IsContainedAgainst machine user subtree
@@ -23,12 +23,12 @@ pub record IsContainedIn (text : List ℕ) (user : Identity) (word : List ℕ) :
 -- So is what each of some words names, against several users, all of them together.
 pub record IsHeldIn (machine : Machine) (users : List Identity) (word : List ℕ) : Type 0 where
   pub subtree : Names
-  pub named : names_in word ≡ Some subtree
+  pub named : path_names word ≡ Some subtree
   pub below : is_root subtree ≡ false
   pub there : has machine subtree ≡ true
   pub contained : IsContainedAgainstAll machine users subtree
 
 pub record AreContainedIn (text : List ℕ) (users : List Identity) (words : List (List ℕ)) : Type 0 where
   pub machine : Machine
-  pub told : Tells text machine
+  pub told : TextTells text machine
   pub each : (word : List ℕ) → Contains words word → IsHeldIn machine users word

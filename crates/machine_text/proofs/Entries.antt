@@ -1,9 +1,8 @@
 -- What a row in form says of an entry is read as it is said.
-use Rattle.std.proofs.Common.{◌≡◌, ◌≤◌, ℕ, Bool, true, false, not, cond, ◌||◌, List, [], ◌∷◌, ◌++◌, map, codes, Option, Some, None, is_some, option_and_then, unwrap_or, refl, sym, ap, ◌∙◌, true≢false}
-use Rattle.std.specs.Prelude.{◌&&◌, nat_le, filter_map, pos, negsuc}
+use Rattle.std.proofs.Common.{◌≡◌, ℕ, Bool, true, false, not, cond, ◌||◌, List, [], ◌∷◌, ◌++◌, map, codes, Option, Some, None, is_some, option_and_then, unwrap_or, refl, sym, ap, ◌∙◌, true≢false}
+use Rattle.std.specs.Prelude.{◌&&◌, nat_le, filter_map}
 use Rattle.std.specs.List.{list_all, list_any, join_with_byte}
 use Rattle.std.specs.Option.{option_map}
-use Rattle.std.specs.Fmt.{signed_decimal}
 use Rattle.std.specs.Cmp.{first_so}
 use Rattle.std.proofs.lemmas.Bool.{and_parts}
 use Rattle.std.proofs.lemmas.List.Folds.{list_all-append, list_all-map}
@@ -12,11 +11,10 @@ use Rattle.toml.specs.Data.{Data, string, integer, float, boolean, datetime, arr
 use Rattle.cg_cgroup.specs.Paths.{same_name}
 use Rattle.cg_cgroup.specs.Numbers.{is_mode}
 use Rattle.cg_cgroup.specs.Users.{has_bit}
-use Rattle.cg_cgroup.specs.Files.{all_files, all_others, file_name, other_name, known_others, default_value, accepts, entry_text}
+use Rattle.cg_cgroup.specs.Files.{all_files, all_others, file_name, other_name, known_others, default_value, entry_text}
 use Rattle.cg_cgroup.specs.Texts as texts
 use Rattle.cg_cgroup.specs.declared.user.Entry.{Entry}
 use Rattle.cg_cgroup.specs.declared.files.Limit.{Limit}
-use Rattle.cg_cgroup.specs.declared.files.Limit.TheVariants.{Max, At}
 use Rattle.cg_cgroup.specs.declared.files.LimitFile.{LimitFile}
 use Rattle.cg_cgroup.specs.declared.files.EntryName.{EntryName}
 use Rattle.cg_cgroup.specs.declared.files.EntryName.TheVariants.{Dir, Procs, SubtreeControl, File, Other}
@@ -31,9 +29,9 @@ use Rattle.cg_format.specs.Said.{number_or, passing, id_read, mode_read, integer
 use Rattle.cg_format.specs.declared.format.Format.{Format}
 use Rattle.cg_format.specs.declared.format.Format.TheVariants.{One, Two, Four}
 use Rattle.cg_format.proofs.SaidRanges.{entry_as}
-use Rattle.machine.specs.Machines.{Value, Unknown, NoLimit, Number, Text, Inode}
+use Rattle.machine.specs.Machines.{Value, Unknown, Text, Inode}
 use Rattle.machine_view.specs.Views.{value_as}
-use Rattle.machine_text.specs.Telling.{at_key, number_up_to, each_as, owner_as, usual_value, value_read, around, inode_said}
+use Rattle.machine_text.specs.Telling.{at_key, number_up_to, owner_as, usual_value, value_read, around, inode_said}
 use Rattle.machine_text.proofs.Keys.{number_at, members_at, inside_fits, texts_as, absent_at}
 
 -- ---- whose it is
@@ -95,7 +93,8 @@ parts_of keys members fits = and_parts (are_among keys members) (list_all (fits_
 no_group : (keys : List Key) (members : Members) → list_any (λ key. same_name (codes "gid") key.name) keys ≡ false
     → are_among keys members ≡ true → fits_at members (may_have (codes "gid") is_integer) ≡ true
 no_group keys members foreign among =
-    ap (λ (found : Option Data). elim found [ None ↦ true | Some held ↦ is_integer held ]) (absent_at keys (codes "gid") members foreign among)
+    ap (λ (found : Option Data). elim found [ None ↦ true | Some held ↦ is_integer held ])
+    (absent_at keys (codes "gid") members foreign among)
 
 two : (a b : Bool) → (a && (b && true)) ≡ true → (a ≡ true) × (b ≡ true)
 two a b is = let here = and_parts a (b && true) is in (here.0, (and_parts b true here.1).0)
@@ -208,7 +207,8 @@ nothing_owned One = refl
 nothing_owned Two = refl
 nothing_owned Four = refl
 
-nothing_valued : (format : Format) (takes : Data → Bool) → is_table (may_have (codes "value") takes ∷ owner_keys format) (table no_members) ≡ true
+nothing_valued : (format : Format) (takes : Data → Bool)
+    → is_table (may_have (codes "value") takes ∷ owner_keys format) (table no_members) ≡ true
 nothing_valued One takes = refl
 nothing_valued Two takes = refl
 nothing_valued Four takes = refl
@@ -256,11 +256,13 @@ others_after format =
 -- the limit files among the files of a row
 limits_fit : (format : Format) (files : Members) → list_all (fits_at files) (others_after format) ≡ true
     → (list_all (λ file. fits_at files (may_have (file_name file) (is_table (limit_keys format)))) all_files ≡ true)
-    × (list_all (λ file. fits_at files (may_have (other_name file) (is_table (text_keys format)))) (known_others (vocabulary format)) ≡ true)
+    × (list_all (λ file. fits_at files (may_have (other_name file) (is_table (text_keys format)))) (known_others (vocabulary format))
+    ≡ true)
 limits_fit format files fits =
     let usual = λ (file : LimitFile). may_have (file_name file) (is_table (limit_keys format)) in
     let further = λ (file : OtherFile). may_have (other_name file) (is_table (text_keys format)) in
-    let parts = and_parts _ _ (sym (list_all-append (fits_at files) (map usual all_files) (map further (known_others (vocabulary format)))) ∙ fits) in (
+    let parts = and_parts _ _ (sym (list_all-append (fits_at files) (map usual all_files)
+    (map further (known_others (vocabulary format)))) ∙ fits) in (
       sym (list_all-map (fits_at files) usual all_files) ∙ parts.0,
       sym (list_all-map (fits_at files) further (known_others (vocabulary format))) ∙ parts.1,
     )
@@ -314,7 +316,8 @@ not-true : (b : Bool) → not b ≡ true → b ≡ false
 not-true true is = absurd (true≢false (sym is))
 not-true false is = refl
 
-none_any : (test : OtherFile → Bool) (files : List OtherFile) → list_any test files ≡ false → list_all (λ file. not (test file)) files ≡ true
+none_any : (test : OtherFile → Bool) (files : List OtherFile) → list_any test files ≡ false
+    → list_all (λ file. not (test file)) files ≡ true
 none_any test [] none = refl
 none_any test (file ∷ files) none =
     let rest = none_any test files in
@@ -341,13 +344,15 @@ none_named Two row fits silent file =
     (parts_of (file_keys_of Two) (among Two row fits) (among_fits Two row fits)).0)
 none_named Four row fits silent file =
     none_value (table_of (Other file) row)
-    (not-true (is_named (Other file) row) (each_other (λ file. not (is_named (Other file) row)) (none_any (λ file. is_named (Other file) row) all_others silent) file))
+    (not-true (is_named (Other file) row) (each_other (λ file. not (is_named (Other file) row))
+    (none_any (λ file. is_named (Other file) row) all_others silent) file))
 
 module _ (format : Format) (row : Members) (fits : RowFits format row) where
   files_read : at_key (Some no_members) as_table (codes "files") row ≡ Some (among format row fits)
   files_read = members_at (file_keys_of format) (codes "files") row fits.files
 
-  rest_fits : (list_all (λ file. fits_at (among format row fits) (may_have (file_name file) (is_table (limit_keys format)))) all_files ≡ true)
+  rest_fits : (list_all (λ file. fits_at (among format row fits) (may_have (file_name file)
+      (is_table (limit_keys format)))) all_files ≡ true)
       × (list_all (λ file. fits_at (among format row fits) (may_have (other_name file) (is_table (text_keys format))))
       (known_others (vocabulary format)) ≡ true)
   rest_fits =

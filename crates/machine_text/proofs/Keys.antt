@@ -1,5 +1,5 @@
 -- What is read at a key, where the table is in form.
-use Rattle.std.proofs.Common.{◌≡◌, ℕ, ℤ, pos, negsuc, Bool, true, false, not, cond, ◌||◌, List, [], ◌∷◌, codes, Option, Some, None, is_some, option_and_then, unwrap_or, refl, sym, ap, ◌∙◌, true≢false}
+use Rattle.std.proofs.Common.{◌≡◌, ℕ, pos, negsuc, Bool, true, false, cond, List, [], ◌∷◌, Option, Some, None, option_and_then, unwrap_or, refl, sym, ap, ◌∙◌, true≢false}
 use Rattle.std.specs.Prelude.{nat_le, filter_map}
 use Rattle.std.specs.Ordering.{match_ordering, is_eq, nat_cmp}
 use Rattle.std.specs.declared.cmp.Ordering.{Ordering}
@@ -10,7 +10,7 @@ use Rattle.std.proofs.lemmas.Bool.{and_parts}
 use Rattle.toml.specs.Data.{Data, string, integer, float, boolean, datetime, array, table, Items, no_items, item, Members, no_members, member, get_member, as_str, as_integer, as_array, as_table}
 use Rattle.cg_cgroup.specs.Paths.{same_name}
 use Rattle.cg_format.specs.Form.{Key, is_text, is_integer, are_texts, may_have, fits_at, are_among, is_table, elements}
-use Rattle.cg_format.specs.Said.{number_or, passing, integer_at, table_at, elements_at, texts_at}
+use Rattle.cg_format.specs.Said.{number_or, passing, integer_at, table_at, texts_at}
 use Rattle.machine_text.specs.Telling.{at_key, number_up_to, each_as, array_as}
 
 -- ---- one key
@@ -21,7 +21,8 @@ read_at missing read found = elim found [ None ↦ missing | Some held ↦ read 
 -- a number in range
 pub number_at : (usual most : ℕ) (name : List ℕ) (members : Members) → nat_le usual most ≡ true
     → fits_at members (may_have name is_integer) ≡ true
-    → at_key (Some usual) (number_up_to most) name members ≡ passing (λ number. nat_le number most) (number_or usual (integer_at name members))
+    → at_key (Some usual) (number_up_to most) name members
+    ≡ passing (λ number. nat_le number most) (number_or usual (integer_at name members))
 number_at usual most name members within fits = by_cases (get_member name members) fits
   where
     by_cases : (found : Option Data) → elim found [ None ↦ true | Some held ↦ is_integer held ] ≡ true

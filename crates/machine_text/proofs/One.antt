@@ -1,14 +1,13 @@
 -- What a text tells is one thing.
-use Rattle.std.proofs.Common.{◌≡◌, ℕ, List, [], Option, Some, sym, ap, ◌∙◌, subst}
+use Rattle.std.proofs.Common.{◌≡◌, ℕ, List, [], Some, sym, ap, ◌∙◌}
 use Rattle.std.specs.Prelude.{codes, count_by, find, nat_eq}
 use Rattle.std.specs.Option.{option_map}
-use Rattle.toml.specs.Data.{Members}
 use Rattle.cg_cgroup.specs.Paths.{Names, same_path}
 use Rattle.cg_cgroup.proofs.Options.{same_some}
-use Rattle.machine.specs.Machines.{Machine, File, Inode}
-use Rattle.machine_text.specs.Telling.{Tells, at_key, array_as, Row, row_as, Live, live_as, file_told}
+use Rattle.machine.specs.Machines.{Machine, File}
+use Rattle.machine_text.specs.Telling.{TextTells, at_key, array_as, Row, row_as, Live, live_as, file_said_at}
 
-module _ (text : List ℕ) (one other : Machine) (is : Tells text one) (also : Tells text other) where
+module _ (text : List ℕ) (one other : Machine) (is : TextTells text one) (also : TextTells text other) where
   same_document : is.document ≡ also.document
   same_document = same_some is.document also.document (sym is.parsed ∙ also.parsed)
 
@@ -29,7 +28,7 @@ module _ (text : List ℕ) (one other : Machine) (is : Tells text one) (also : T
   pub same_files : (path : Names) (file : File) → one.inode path file ≡ other.inode path file
   same_files path file =
       same_some (one.inode path file) (other.inode path file)
-      (sym (is.files path file) ∙ ap (λ (rows : List Row). file_told rows path file) same_rows ∙ also.files path file)
+      (sym (is.files path file) ∙ ap (λ (rows : List Row). file_said_at rows path file) same_rows ∙ also.files path file)
 
   pub same_places : (pid : ℕ) → one.cgroup pid ≡ other.cgroup pid
   same_places pid =

@@ -1,5 +1,5 @@
 -- The rows of a document in form are read, each as it says.
-use Rattle.std.proofs.Common.{◌≡◌, ℕ, ◌<◌, ◌≤◌, Bool, true, false, not, cond, ◌||◌, List, [], ◌∷◌, map, length, codes, Option, Some, None, is_some, option_and_then, unwrap_or, refl, sym, ap, ◌∙◌, true≢false, subst, ◌+◌}
+use Rattle.std.proofs.Common.{◌≡◌, ℕ, Bool, true, false, cond, ◌||◌, List, [], ◌∷◌, map, length, codes, Option, Some, None, is_some, option_and_then, unwrap_or, refl, sym, ap, ◌∙◌, true≢false}
 use Rattle.std.specs.Prelude.{◌&&◌, nat_eq, nat_le, filter_map, count_by, find, filter, pos, negsuc}
 use Rattle.std.specs.List.{AllByRecursion, list_all, list_any}
 use Rattle.std.specs.Option.{option_map}
@@ -7,9 +7,8 @@ use Rattle.std.proofs.lemmas.Bool.{and_parts, false_from_ne_true}
 use Rattle.std.proofs.lemmas.List.{length-map}
 use Rattle.std.proofs.lemmas.List.Sums.{length-filter}
 use Rattle.std.proofs.lemmas.Option.{cond_some}
-use Rattle.std.specs.Cmp.{first_so}
 use Rattle.std.specs.Cmp.Lexicographic.{bytes_decides}
-use Rattle.toml.specs.Data.{Data, string, integer, float, boolean, datetime, array, table, Items, no_items, item, Members, no_members, get_member, as_str, as_integer, as_array, as_table}
+use Rattle.toml.specs.Data.{Data, string, integer, float, boolean, datetime, array, table, Items, no_items, item, Members, get_member, as_str, as_integer, as_array, as_table}
 use Rattle.cg_cgroup.specs.Paths.{Names, same_name, same_path, path_at, path_text, names_at, is_path}
 use Rattle.cg_cgroup.specs.Numbers.{is_pid}
 use Rattle.cg_cgroup.specs.Files.{controller_named, controller_name, same_controller, with_controller, no_controllers, enables}
@@ -18,20 +17,20 @@ use Rattle.cg_cgroup.specs.declared.files.Controller.{Controller}
 use Rattle.cg_cgroup.proofs.ControllerLaws.{same_controller-refl, same_controller-true, enables-with_controller, enables-set_by}
 use Rattle.cg_cgroup.proofs.NameLaws.{controller_names}
 use Rattle.cg_model.specs.States.{State}
-use Rattle.cg_format.specs.Form.{Key, is_text, is_integer, are_texts, must_have, may_have, fits_at, is_array, is_table, elements, document_keys, row_keys, live_keys}
-use Rattle.cg_format.specs.Said.{number_or, passing, elements_at, texts_at, tables_at, text_at, integer_at, path_said, pid_read, pid_said, controllers_from, controllers_said, has_path}
+use Rattle.cg_format.specs.Form.{Key, is_integer, are_texts, must_have, may_have, fits_at, is_array, is_table, elements, row_keys, live_keys}
+use Rattle.cg_format.specs.Said.{elements_at, texts_at, tables_at, path_said, pid_read, pid_said, controllers_from, controllers_said, has_path}
 use Rattle.cg_format.specs.TextOf.{IsInForm, IsRowOf, IsProcessOf, has_pid}
 use Rattle.cg_format.specs.declared.format.Format.{Format}
 use Rattle.cg_cgroup.proofs.Options.{same_some}
 use Rattle.cg_format.proofs.OneState.{and_then_from}
-use Rattle.machine_text.specs.Telling.{at_key, number_up_to, each_as, array_as, names_in, path_as, Row, row_as, Live, live_as, enables_by_name}
+use Rattle.machine_text.specs.Telling.{at_key, number_up_to, each_as, array_as, path_names, path_as, Row, row_as, Live, live_as, enables_by_name}
 use Rattle.machine_text.proofs.Keys.{texts_are}
 use Rattle.machine_text.proofs.Entries.{row_fits}
 
 -- ---- paths
 
 -- the names that a path's text is read as
-pub names_as : (text : List ℕ) (path : Names) → path_at text ≡ Some path → names_in text ≡ Some path
+pub names_as : (text : List ℕ) (path : Names) → path_at text ≡ Some path → path_names text ≡ Some path
 names_as text path is =
     let parts = cond_some (is_path (names_at text) && same_name (path_text (names_at text)) text) (names_at text) path is in
     let same = (and_parts (is_path (names_at text)) (same_name (path_text (names_at text)) text) parts.0).1 in
@@ -189,7 +188,8 @@ module _ {A B : Type 0} (as_said : A → B) (p : A → Bool) (q : B → Bool) (P
       ∙ ap (λ rest. cond (p x) (as_said x ∷ rest) rest) (filters_as xs all.1)
       ∙ both (p x)
     where
-      both : (b : Bool) → cond b (as_said x ∷ map as_said (filter p xs)) (map as_said (filter p xs)) ≡ map as_said (cond b (x ∷ filter p xs) (filter p xs))
+      both : (b : Bool) → cond b (as_said x ∷ map as_said (filter p xs)) (map as_said (filter p xs))
+          ≡ map as_said (cond b (x ∷ filter p xs) (filter p xs))
       both true = refl
       both false = refl
 
@@ -240,13 +240,15 @@ enables_from : (set : ControllerSet) (texts : List (List ℕ)) (result : Control
     → enables result controller ≡ (list_any (same_name (controller_name controller)) texts || enables set controller)
 enables_from set [] result controller is = ap (λ (set : ControllerSet). enables set controller) (sym (same_some set result is))
 enables_from set (text ∷ texts) result controller is =
-    let found = and_then_from (λ (met : Controller). controllers_from (with_controller set met true) texts) (controller_named text) result is in
+    let found = and_then_from (λ (met : Controller). controllers_from (with_controller set met true) texts)
+    (controller_named text) result is in
     let rest = enables_from (with_controller set found.0 true) texts result controller found.2 in
     let named : text ≡ controller_name found.0 = controller_names.named text found.0 found.1 in
     rest ∙ ap (λ b. list_any (same_name (controller_name controller)) texts || b)
     (enables-with_controller set found.0 true controller
     ∙ ap (λ b. cond b true (enables set controller)) (same_text text found.0 controller named))
-    ∙ swapped (same_name (controller_name controller) text) (list_any (same_name (controller_name controller)) texts) (enables set controller)
+    ∙ swapped (same_name (controller_name controller) text) (list_any (same_name (controller_name controller)) texts)
+    (enables set controller)
   where
     swapped : (here later had : Bool) → (later || cond here true had) ≡ ((here || later) || had)
     swapped true true had = refl

@@ -1,18 +1,13 @@
 -- The state of a text, seen as a machine, is one that the text tells of.
-use Rattle.std.proofs.Common.{◌≡◌, ℕ, ◌≤◌, Bool, true, false, not, cond, ◌||◌, List, [], ◌∷◌, map, length, codes, Option, Some, None, is_some, option_and_then, unwrap_or, refl, sym, ap, ◌∙◌, true≢false, subst, ◌+◌, T, arith}
-use Rattle.std.specs.Prelude.{◌&&◌, nat_eq, count_by, find, filter, slice_get}
-use Rattle.std.specs.List.{AllByRecursion, list_all, list_any}
+use Rattle.std.proofs.Common.{◌≡◌, ℕ, ◌≤◌, Bool, true, false, not, cond, List, [], ◌∷◌, map, codes, Option, Some, None, is_some, option_and_then, unwrap_or, refl, sym, ap, ◌∙◌, true≢false, subst, arith}
+use Rattle.std.specs.Prelude.{nat_eq, count_by, find, slice_get}
+use Rattle.std.specs.List.{AllByRecursion}
 use Rattle.std.specs.Option.{option_map}
-use Rattle.std.specs.Ordering.{is_eq, is_lt, eq_by_cmp}
-use Rattle.std.specs.declared.cmp.Ordering.TheVariants.{Less}
 use Rattle.std.specs.FinMap as finite
-use Rattle.std.specs.FinMap.{is_sorted}
 use Rattle.std.proofs.lemmas.Bool.{false_from_ne_true}
-use Rattle.std.proofs.lemmas.List.{length-map}
-use Rattle.std.proofs.lemmas.List.Sums.{length-filter}
-use Rattle.toml.specs.Data.{Data, table, Members, no_members}
-use Rattle.cg_cgroup.specs.Paths.{Names, path_cmp, same_path, is_root, parent}
-use Rattle.cg_cgroup.specs.Files.{controller_of, brought_by, stands_by, stands_under, enables, no_controllers, is_beyond, all_others, known_others}
+use Rattle.toml.specs.Data.{table, Members, no_members}
+use Rattle.cg_cgroup.specs.Paths.{Names, same_path, is_root, parent}
+use Rattle.cg_cgroup.specs.Files.{controller_of, brought_by, stands_by, enables, no_controllers, is_beyond}
 use Rattle.cg_cgroup.specs.Cgroups.{file_of, other_in, untold_in, entry_in, root_file}
 use Rattle.cg_cgroup.specs.Told.{told_in, told_by, file_untold}
 use Rattle.cg_cgroup.specs.declared.user.Entry.{Entry}
@@ -30,26 +25,23 @@ use Rattle.cg_cgroup.specs.declared.cgroup.Cgroup.{Cgroup}
 use Rattle.cg_cgroup.specs.declared.cgroup.LimitEntry.{LimitEntry}
 use Rattle.cg_cgroup.specs.declared.process.Process.{Process}
 use Rattle.cg_cgroup.proofs.Options.{some_value, none_value, mapped_from, is_some-mapped, same_some}
-use Rattle.cg_cgroup.proofs.PathOrder.{same_path-ties, same_path-is}
 use Rattle.cg_cgroup.proofs.ControllerLaws.{enables-set_by}
 use Rattle.cg_cgroup.proofs.ToldLaws.{told_in-by}
-use Rattle.cg_model.specs.States.{State, row_at, process_at, place_at, told_at, untold_at, file_told as file_told_at, told_text, entry_at, value_at, paths_of}
-use Rattle.cg_model.specs.WellFormed.{IsWellFormed, has_row, enabled_at, enabled_above, IsFormedRow}
+use Rattle.cg_model.specs.States.{State, row_at, process_at, place_at, told_at, untold_at, entry_at}
+use Rattle.cg_model.specs.WellFormed.{has_row, enabled_at, enabled_above, IsFormedRow}
 use Rattle.cg_model.proofs.Lists.{all-both}
-use Rattle.cg_model.proofs.MapLaws.{first_of_both, second_of_both, is_less}
-use Rattle.cg_format.specs.Form.{Key, vocabulary, is_table, elements, row_keys}
-use Rattle.cg_format.specs.Said.{elements_at, tables_at, known_said, owner_said, mode_missing, table_of, text_said, file_said, told_said, tells as tells_further, told_row, is_named, has_path, path_said}
+use Rattle.cg_format.specs.Form.{is_table, row_keys}
+use Rattle.cg_format.specs.Said.{elements_at, tables_at, owner_said, mode_missing, table_of, text_said, file_said, told_said, tells as tells_further, told_row, is_named, has_path}
 use Rattle.cg_format.specs.TextOf.{IsRowOf, IsProcessOf, has_pid, IsDocumentOf, IsTextOf}
 use Rattle.cg_format.specs.declared.format.Format.{Format}
 use Rattle.cg_format.specs.declared.format.Format.TheVariants.{One, Two, Four}
 use Rattle.cg_format.proofs.Cuts.{is_some-find, any_counted}
 use Rattle.cg_format.proofs.OneState.{and_then_from, one_passes, path_is, pid_is}
 use Rattle.cg_format.proofs.SaidRanges.{said_of_known}
-use Rattle.cg_format.proofs.ToldSaid.{row_told}
-use Rattle.machine.specs.Machines.{File, Dir, Procs, Control, Limit as LimitAt, Value, Unknown, Number, Text, Inode, Machine}
+use Rattle.machine.specs.Machines.{File, Dir, Procs, Control, Limit as LimitAt, Value, Unknown, Inode}
 use Rattle.machine_view.proofs.PathsOnce.{keys_once}
 use Rattle.machine_view.specs.Views.{limit_names, value_as, value_there, inode_named, view}
-use Rattle.machine_text.specs.Telling.{at_key, array_as, Row, row_as, row_of, brings, enables_by_name, is_brought, stands, inode_said, inode_told, name_of, file_told, Live, live_as, Tells}
+use Rattle.machine_text.specs.Telling.{Row, row_named, enables_by_name, is_enabled_above, stands, inode_said, inode_told, file_said_at, Live, TextTells}
 use Rattle.machine_text.proofs.Entries.{RowFits, row_fits, said_of, text_value, entry_read, limit_at, text_at_file, plain_dir, plain_procs, plain_control, not_named}
 use Rattle.machine_text.proofs.Rows.{row_said, rows_read, live_said, lives_read, all_fit, counts_as, finds_as, same_row, same_live, enables_as}
 
@@ -68,7 +60,8 @@ nobody_said Two = refl
 nobody_said Four = refl
 
 parts_said : (entry : Option Entry) (text : Option (Option FileText)) (told : ToldFile)
-    → option_and_then (λ (e : Entry). option_and_then (λ (v : Option FileText). Some (record { entry = e; value = v })) text) entry ≡ Some told
+    → option_and_then (λ (e : Entry). option_and_then (λ (v : Option FileText). Some (record { entry = e; value = v })) text) entry
+    ≡ Some told
     → (entry ≡ Some told.entry) × (text ≡ Some told.value)
 parts_said None text told is = absurd (true≢false (sym (ap is_some is)))
 parts_said (Some e) None told is = absurd (true≢false (sym (ap is_some is)))
@@ -94,9 +87,10 @@ module _ (st : State) (document : Members) (is : IsDocumentOf st document) where
       all-both (IsRowOf is.format st) (λ said. is_table (row_keys is.format) (table said) ≡ true) IsRead (λ said row fits. (row, fits))
       tables is.cgroups (all_fit (row_keys is.format) (elements_at (codes "cgroup") document) is.form.cgroups)
 
-  row_found : (path : Names) → row_of rows path ≡ option_map row_said (find (has_path path) tables)
+  row_found : (path : Names) → row_named rows path ≡ option_map row_said (find (has_path path) tables)
   row_found path =
-      finds_as row_said (has_path path) (λ row. same_path path row.path) (IsRowOf is.format st) (same_row path is.format st) tables is.cgroups
+      finds_as row_said (has_path path) (λ row. same_path path row.path) (IsRowOf is.format st)
+      (same_row path is.format st) tables is.cgroups
 
   -- the table of a cgroup
   record At (path : Names) : Type 0 where
@@ -104,7 +98,7 @@ module _ (st : State) (document : Members) (is : IsDocumentOf st document) where
     row : IsRowOf is.format st said
     fits : RowFits is.format said
     named : path ≡ row.path
-    found : row_of rows path ≡ Some (row_said said)
+    found : row_named rows path ≡ Some (row_said said)
 
   at_row : (path : Names) → has_row st path ≡ true → At path
   at_row path there =
@@ -117,7 +111,7 @@ module _ (st : State) (document : Members) (is : IsDocumentOf st document) where
         found = row_found path ∙ ap (option_map row_said) met.3;
       }
 
-  no_row : (path : Names) → has_row st path ≡ false → row_of rows path ≡ None
+  no_row : (path : Names) → has_row st path ≡ false → row_named rows path ≡ None
   no_row path none =
       row_found path ∙ ap (option_map row_said) (none_value (find (has_path path) tables)
       (is_some-find (has_path path) tables ∙ any_counted (has_path path) tables (has_row st path) (is.paths path) ∙ none))
@@ -146,7 +140,7 @@ module _ (st : State) (document : Members) (is : IsDocumentOf st document) where
           | false ↦ λ silent. sym (silent_at file silent)
         ] refl
 
-    -- an entry of the eight and of what no controller brings
+    -- an entry of the eight and of what no controller controller_for
     said_as : (name : EntryName) (entry : Entry) → is_beyond name ≡ false → entry_in held name ≡ Some entry
         → owner_said is.format (mode_missing name) (said_of name at.said) ≡ Some entry
     said_as name entry within has = at.row.entries name entry within has
@@ -170,7 +164,8 @@ module _ (st : State) (document : Members) (is : IsDocumentOf st document) where
     untold_entry : (file : OtherFile) (entry : Entry) → untold_in held file ≡ Some entry → entry ≡ root_file
     untold_entry file entry has =
         elim (brought_by file) as (λ (by : Option Controller).
-        elim by as (λ (_ : Option Controller). Option Entry) [ None ↦ held.freeze | Some controller ↦ other_in held controller ] ≡ Some entry
+        elim by as (λ (_ : Option Controller). Option Entry) [ None ↦ held.freeze | Some controller ↦ other_in held controller ]
+        ≡ Some entry
         → entry ≡ root_file) [
           | None ↦ λ freeze. at.row.others.freeze entry freeze
           | Some controller ↦ λ brought. at.row.others.others controller entry brought
@@ -179,11 +174,14 @@ module _ (st : State) (document : Members) (is : IsDocumentOf st document) where
     -- what stands of a further file that is told of, or not
     entry_of : (file : OtherFile) (found : Option ToldFile) → told_said is.format at.said file ≡ found
         → entry_at st path (Other file) ≡ option_map (λ (told : ToldFile). told.entry)
-        (elim found as (λ (_ : Option ToldFile). Option ToldFile) [ None ↦ option_map file_untold (untold_in held file) | Some told ↦ Some told ])
+        (elim found as (λ (_ : Option ToldFile). Option ToldFile)
+        [ None ↦ option_map file_untold (untold_in held file) | Some told ↦ Some told ])
     entry_of file found said =
-        ap (λ (told : Option ToldFile). option_map (λ (told : ToldFile). told.entry) (elim told as (λ (_ : Option ToldFile). Option ToldFile)
+        ap (λ (told : Option ToldFile). option_map (λ (told : ToldFile). told.entry)
+        (elim told as (λ (_ : Option ToldFile). Option ToldFile)
         [ None ↦ option_map file_untold (untold_at st path file) | Some told ↦ Some told ])) (told_as_said file ∙ said)
-        ∙ ap (λ (row : Option Cgroup). option_map (λ (told : ToldFile). told.entry) (elim found as (λ (_ : Option ToldFile). Option ToldFile)
+        ∙ ap (λ (row : Option Cgroup). option_map (λ (told : ToldFile). told.entry)
+        (elim found as (λ (_ : Option ToldFile). Option ToldFile)
         [ None ↦ option_map file_untold (option_and_then (λ (row : Cgroup). untold_in row file) row) | Some told ↦ Some told ])) there
 
     further_said : (file : OtherFile) (entry : Entry) (found : Option Members) → table_of (Other file) at.said ≡ found
@@ -235,11 +233,11 @@ module _ (st : State) (document : Members) (is : IsDocumentOf st document) where
   -- ---- which entries stand
 
   module _ (path : Names) (there : has_row st path ≡ true) where
-    brought_above : (controller : Controller) → enables (enabled_above st path) controller ≡ is_brought rows path controller
+    brought_above : (controller : Controller) → enables (enabled_above st path) controller ≡ is_enabled_above rows path controller
     brought_above controller = by_root path refl
       where
         by_root : (p : Names) → p ≡ path
-            → enables (cond (is_root p) no_controllers (enabled_at st (parent p))) controller ≡ is_brought rows p controller
+            → enables (cond (is_root p) no_controllers (enabled_at st (parent p))) controller ≡ is_enabled_above rows p controller
         by_root [] same = enables-set_by (λ controller. false) controller
         by_root (name ∷ names) same =
             let up : Names = parent (name ∷ names) in
@@ -257,9 +255,10 @@ module _ (st : State) (document : Members) (is : IsDocumentOf st document) where
     abbrev above : ControllerSet
     above = enabled_above st path
 
-    -- what a controller brings, or the core, stands as it is said
+    -- what a controller controller_for, or the core, stands as it is said
     by_brought : (by : Option Controller)
-        → stands_by above by ≡ elim by as (λ (_ : Option Controller). Bool) [ None ↦ true | Some controller ↦ is_brought rows path controller ]
+        → stands_by above by ≡ elim by
+        as (λ (_ : Option Controller). Bool) [ None ↦ true | Some controller ↦ is_enabled_above rows path controller ]
     by_brought None = refl
     by_brought (Some controller) = brought_above controller
 
@@ -273,7 +272,8 @@ module _ (st : State) (document : Members) (is : IsDocumentOf st document) where
         is.formed.freeze found_at.row.path found_at.row.cgroup found_at.row.there ∙ ap (λ (p : Names). not (is_root p)) (sym found_at.named)
 
     abbrev further_stands : Option Controller → Bool
-    further_stands by = elim by as (λ (_ : Option Controller). Bool) [ None ↦ not (is_root path) | Some controller ↦ is_brought rows path controller ]
+    further_stands by = elim by as (λ (_ : Option Controller). Bool)
+        [ None ↦ not (is_root path) | Some controller ↦ is_enabled_above rows path controller ]
 
     by_untold : (by : Option Controller)
         → is_some (elim by as (λ (_ : Option Controller). Option Entry)
@@ -311,8 +311,11 @@ module _ (st : State) (document : Members) (is : IsDocumentOf st document) where
     -- each entry that stands is told, and no other
     entry_told : (name : EntryName) → inode_told rows path name ≡ Some (inode_named st path name)
     entry_told name =
-        ap (λ (row : Option Row). elim row as (λ (_ : Option Row). Option (Option Inode))
-        [ None ↦ Some None | Some row ↦ cond (stands rows path name) (option_map Some (inode_said name row.said)) (Some None) ]) found_at.found
+        ap (λ (row : Option Row). elim row as (λ (_ : Option Row). Option (Option Inode)) [
+          | None ↦ Some None
+          | Some row ↦ cond (stands rows path name) (option_map Some (inode_said name row.said))
+              (Some None)
+        ]) found_at.found
         ∙ ap (λ b. cond b (option_map Some (inode_said name found_at.said)) (Some None)) (stands_as name)
         ∙ by_entry (entry_at st path name) refl
       where
@@ -355,11 +358,12 @@ module _ (st : State) (document : Members) (is : IsDocumentOf st document) where
             ap (λ (row : Option Row). elim row as (λ (_ : Option Row). Option (Option Inode))
             [ None ↦ Some None | Some row ↦ cond (stands rows path name) (option_map Some (inode_said name row.said)) (Some None) ])
             (no_row path none)
-            ∙ ap (λ (entry : Option Entry). Some (option_map (λ (entry : Entry). record { entry = entry; value = value_there st path name }) entry))
+            ∙ ap (λ (entry : Option Entry). Some (option_map (λ
+            (entry : Entry). record { entry = entry; value = value_there st path name }) entry))
             (sym (nothing_at path none name))
       ] refl
 
-  file_as_told : (path : Names) (file : File) → file_told rows path file ≡ Some ((view st).inode path file)
+  file_as_told : (path : Names) (file : File) → file_said_at rows path file ≡ Some ((view st).inode path file)
   file_as_told path Dir = inode_as_told path DirName
   file_as_told path Procs = inode_as_told path ProcsName
   file_as_told path Control = inode_as_told path SubtreeControl
@@ -414,7 +418,7 @@ module _ (st : State) (document : Members) (is : IsDocumentOf st document) where
       counts_as live_said (has_pid pid) (λ (live : Live). nat_eq pid live.pid) (IsProcessOf st) (same_live pid st) lives_said is.processes
       ∙ is.pids pid
 
-pub tells : (text : List ℕ) (st : State) → IsTextOf st text → Tells text (view st)
+pub tells : (text : List ℕ) (st : State) → IsTextOf st text → TextTells text (view st)
 tells text st is = record {
   document = is.document;
   parsed = is.parsed;

@@ -40,11 +40,11 @@ array_as read (array items) = each_as read items
 array_as read held = None
 
 -- The names between the slashes of a text, the first of which begins it.
-abbrev pub names_in : List ℕ → Option Names
-names_in text = cond (same_name (path_text (names_at text)) text) (Some (names_at text)) None
+abbrev pub path_names : List ℕ → Option Names
+path_names text = cond (same_name (path_text (names_at text)) text) (Some (names_at text)) None
 
 abbrev pub path_as : Data → Option Names
-path_as held = option_and_then names_in (as_str held)
+path_as held = option_and_then path_names (as_str held)
 
 -- ---- an entry
 
@@ -97,43 +97,43 @@ row_as held = do
   enabled ← at_key (Some []) (array_as as_str) (codes "enabled") said
   Some (record { path = path; enabled = enabled; said = said })
 
-abbrev pub row_of : List Row → Names → Option Row
-row_of rows path = find (λ row. same_path path row.path) rows
+abbrev pub row_named : List Row → Names → Option Row
+row_named rows path = find (λ row. same_path path row.path) rows
 
--- the controller that brings an entry
-abbrev pub brings : EntryName → Option Controller
-brings (FileName file) = controller_of file
-brings (Other file) = brought_by file
-brings name = None
+-- the controller that controller_for an entry
+abbrev pub controller_for : EntryName → Option Controller
+controller_for (FileName file) = controller_of file
+controller_for (Other file) = brought_by file
+controller_for name = None
 
 abbrev pub enables_by_name : Row → Controller → Bool
 enables_by_name row controller = list_any (same_name (controller_name controller)) row.enabled
 
--- Enabling and Disabling: what a controller brings stands where the parent enables it.
-abbrev pub is_brought : List Row → Names → Controller → Bool
-is_brought rows path controller =
-    not (is_root path) && elim (row_of rows (parent path)) [ None ↦ false | Some above ↦ enables_by_name above controller ]
+-- Enabling and Disabling: what a controller controller_for stands where the parent enables it.
+abbrev pub is_enabled_above : List Row → Names → Controller → Bool
+is_enabled_above rows path controller =
+    not (is_root path) && elim (row_named rows (parent path)) [ None ↦ false | Some above ↦ enables_by_name above controller ]
 
--- Core Interface Files: cgroup.freeze stands everywhere but at the root, and all else that no controller brings everywhere.
+-- Core Interface Files: cgroup.freeze stands everywhere but at the root, and all else that no controller controller_for everywhere.
 abbrev pub stands : List Row → Names → EntryName → Bool
 stands rows path name =
-    elim (brings name) [ None ↦ not (is_beyond name && is_root path) | Some controller ↦ is_brought rows path controller ]
+    elim (controller_for name) [ None ↦ not (is_beyond name && is_root path) | Some controller ↦ is_enabled_above rows path controller ]
 
 -- The outer Option is whether it can be read, and the inner whether the file is there.
 abbrev pub inode_told : List Row → Names → EntryName → Option (Option Inode)
-inode_told rows path name = elim (row_of rows path) [
+inode_told rows path name = elim (row_named rows path) [
   | None ↦ Some None
   | Some row ↦ cond (stands rows path name) (option_map Some (inode_said name row.said)) (Some None)
 ]
 
-abbrev pub name_of : File → Option EntryName
-name_of Dir = Some DirName
-name_of Procs = Some ProcsName
-name_of Control = Some SubtreeControl
-name_of (Limit place) = slice_get limit_names place
+abbrev pub entry_of_file : File → Option EntryName
+entry_of_file Dir = Some DirName
+entry_of_file Procs = Some ProcsName
+entry_of_file Control = Some SubtreeControl
+entry_of_file (Limit place) = slice_get limit_names place
 
-abbrev pub file_told : List Row → Names → File → Option (Option Inode)
-file_told rows path file = elim (name_of file) [ None ↦ Some None | Some name ↦ inode_told rows path name ]
+abbrev pub file_said_at : List Row → Names → File → Option (Option Inode)
+file_said_at rows path file = elim (entry_of_file file) [ None ↦ Some None | Some name ↦ inode_told rows path name ]
 
 -- ---- processes
 
@@ -152,14 +152,14 @@ live_as held = do
 
 -- The text is a TOML document. The machine's cgroups are those of its rows, each of which names another, with the files that stand,
 -- as they are said; and so are its processes.
-pub record Tells (text : List ℕ) (machine : Machine) : Type 0 where
+pub record TextTells (text : List ℕ) (machine : Machine) : Type 0 where
   pub document : Members
   pub parsed : document_of text ≡ Some document
   pub rows : List Row
   pub cgroups : at_key (Some []) (array_as row_as) (codes "cgroup") document ≡ Some rows
   pub named_once : (path : Names) → count_by (λ row. same_path path row.path) rows ≤ 1
   pub paths : (path : Names) → count_by (same_path path) machine.paths ≡ count_by (λ row. same_path path row.path) rows
-  pub files : (path : Names) (file : File) → file_told rows path file ≡ Some (machine.inode path file)
+  pub files : (path : Names) (file : File) → file_said_at rows path file ≡ Some (machine.inode path file)
   pub lives : List Live
   pub processes : at_key (Some []) (array_as live_as) (codes "process") document ≡ Some lives
   pub live_once : (pid : ℕ) → count_by (λ live. nat_eq pid live.pid) lives ≤ 1

@@ -42,7 +42,11 @@ none_fails : (st : State) (user : Identity) (subtree : Names) (guarded : Guarded
 none_fails st user subtree guarded = by_entry (guarded_entry st subtree guarded)
   where
     by_entry : (found : Option Entry)
-        → elim (option_map {U = Inode} (λ (entry : Entry). record { entry = entry; value = value_there st (take guarded.len subtree) guarded.name }) found)
+        → elim (option_map {U = Inode} (λ (entry : Entry). record {
+          entry = entry;
+          value = value_there st
+              (take guarded.len subtree) guarded.name;
+        }) found)
         as (λ (_ : Option Inode). Bool) [ None ↦ false | Some inode ↦ reaches user inode.entry ] ≡ false
         → present {R = Failed} found (λ entry. unless (not (reaches user entry)) (record { guard = guarded.guard; len = guarded.len })) ≡ []
     by_entry None out = refl
@@ -86,7 +90,8 @@ module _ (st : State) (user : Identity) (subtree : Names) (closed : IsClosed (vi
       all-append NoneFails (ancestors (length subtree) ++ limit_files (length subtree)) (parent_control subtree ∷ parent_dir subtree ∷ [])
       (all-append NoneFails (ancestors (length subtree)) (limit_files (length subtree)) (above-closed (length subtree) (omega arith))
       (subst (AllByRecursion NoneFails) (sym (map-append (limit_file (length subtree)) (map FileName all_files) (map Other all_others)))
-      (all-append NoneFails (map (limit_file (length subtree)) (map FileName all_files)) (map (limit_file (length subtree)) (map Other all_others))
+      (all-append NoneFails (map (limit_file (length subtree)) (map FileName all_files)) (map (limit_file (length subtree))
+      (map Other all_others))
       (files-closed all_files) (others-closed all_others)))) (
         none_fails st user subtree (parent_control subtree) closed.control,
         (none_fails st user subtree (parent_dir subtree) closed.dir, tt),
@@ -105,7 +110,8 @@ at_most : (top : Names) (most start : ℕ) (paths : List Names) → start ≤ mo
 at_most top most start [] small fits = small
 at_most top most start (path ∷ paths) small fits =
     elim (below top path) as (λ b. below top path ≡ b
-    → fold max start (map (λ path. length path - length top) (cond b (path ∷ filter (below top) paths) (filter (below top) paths))) ≤ most) [
+    → fold max start (map (λ path. length path - length top) (cond b (path ∷ filter (below top) paths)
+    (filter (below top) paths))) ≤ most) [
       | true ↦ λ lower.
           let within = (and_parts (inside top path) (nat_lt (length top) (length path)) lower).0 in
           let here = fits path (ap (λ b. b || list_any (same_path path) paths) (same_path_refl path)) within in

@@ -103,7 +103,8 @@ value-same st new q DirName values texts = refl
 value-same st new q ProcsName values texts = refl
 value-same st new q SubtreeControl values texts = refl
 value-same st new q (FileName file) values texts =
-    ap (λ (found : Option Limit). elim found as (λ (_ : Option Limit). Value) [ None ↦ Unknown | Some limit ↦ value_as limit ]) (values file)
+    ap (λ (found : Option Limit). elim found as (λ (_ : Option Limit). Value) [ None ↦ Unknown | Some limit ↦ value_as limit ])
+    (values file)
 value-same st new q (Other file) values texts =
     ap (λ (found : Option FileText). elim found as (λ (_ : Option FileText). Value) [ None ↦ Unknown | Some text ↦ Text text ]) (texts file)
 
@@ -160,7 +161,8 @@ same-limit number name other place here there =
     eqb-from m n same = grind (arith, same)
 
 -- an entry that is no limit file is none of them
-no-limit : (name other : EntryName) (place : ℕ) → number_of name ≡ 51 → slice_get limit_names place ≡ Some other → false ≡ same_entry name other
+no-limit : (name other : EntryName) (place : ℕ) → number_of name ≡ 51 → slice_get limit_names place ≡ Some other
+    → false ≡ same_entry name other
 no-limit name other place none there = sym (false_from_ne_true (same_entry name other) (λ same.
     let number : number_of other ≡ 51 = ap number_of (sym (same_entry-true name other same)) ∙ none in
     let at = numbered place other there in
@@ -217,7 +219,8 @@ lets-file st path (Other file) test entry is so =
 
 -- ---- counts
 
-counted_more : (test : Names → Bool) (path : Names) (paths : List Names) → count_by test (path ∷ paths) ≡ cond (test path) (1 + count_by test paths) (count_by test paths)
+counted_more : (test : Names → Bool) (path : Names) (paths : List Names)
+    → count_by test (path ∷ paths) ≡ cond (test path) (1 + count_by test paths) (count_by test paths)
 counted_more test path paths =
     sym (length-filter test (path ∷ paths))
     ∙ elim (test path) as (λ b. length (cond b (path ∷ filter test paths) (filter test paths))
@@ -226,7 +229,8 @@ counted_more test path paths =
 
 -- of those that pass a test there are as many as without a path, and it as often as it is listed
 counted_apart : (test : Names → Bool) (path : Names) (paths : List Names)
-    → count_by test paths ≡ cond (test path) (count_by (same_path path) paths) 0 + count_by test (filter (λ other. not (same_path path other)) paths)
+    → count_by test paths ≡ cond (test path)
+    (count_by (same_path path) paths) 0 + count_by test (filter (λ other. not (same_path path other)) paths)
 counted_apart test path [] = elim (test path) as (λ b. ◌≡◌ {A = ℕ} 0 (cond b 0 0 + 0)) [ true ↦ refl | false ↦ refl ]
 counted_apart test path (other ∷ paths) =
     let rest = counted_apart test path paths in
@@ -320,7 +324,8 @@ module _ (st : State) (user : Identity) (formed : IsWellFormed st) where
       let asked = (no_parts _ _ (no_parts _ _ (no_parts _ _ free).0).0).1 in
       let from = some_value (place_at st pid) (no_absent (place_at st pid) (NoSuchProcess pid) asked) in
       let top : Names = common from.0 to in
-      let row = some_value (row_at st top) (ap (has_row st) (common-take from.0 to) ∙ take-there st formed from.0 (length top) (row-of-place pid from.0 from.1)) in
+      let row = some_value (row_at st top) (ap (has_row st) (common-take from.0 to)
+      ∙ take-there st formed from.0 (length top) (row-of-place pid from.0 from.1)) in
       let passed : writes user row.0.procs ≡ true =
       sym (ap (λ (row : Option Cgroup). elim row as (λ (_ : Option Cgroup). Bool) [ None ↦ true | Some row ↦ writes user row.procs ]) row.1)
       ∙ move-passes st user pid from.0 to free from.1 in (
@@ -329,7 +334,8 @@ module _ (st : State) (user : Identity) (formed : IsWellFormed st) where
           allowed =
               ap (λ (place : Option Names). elim place as (λ (_ : Option Names). Bool)
               [ None ↦ false | Some from ↦ entry_is (view st) (common from to) Procs (writes user) ]) from.1
-              ∙ lets-by st top ProcsName (writes user) row.0.procs (ap (option_and_then (λ (row : Cgroup). entry_in row ProcsName)) row.1) passed;
+              ∙ lets-by st top ProcsName (writes user) row.0.procs (ap (option_and_then (λ
+              (row : Cgroup). entry_in row ProcsName)) row.1) passed;
           leaves = record {
             paths = λ test. refl;
             files = λ path file. refl;
@@ -413,7 +419,8 @@ module _ (st : State) (user : Identity) (formed : IsWellFormed st) where
       (values : (q : Names) (other : EntryName) → same_path at q ≡ false → value_there new q other ≡ value_there st q other)
       (paths : paths_of new ≡ paths_of st) (live : (pid : ℕ) → place_at new pid ≡ place_at st pid) where
     abbrev value_in_new : ℕ → Value
-    value_in_new place = elim (slice_get limit_names place) as (λ (_ : Option EntryName). Value) [ None ↦ Unknown | Some other ↦ value_there new at other ]
+    value_in_new place = elim (slice_get limit_names place)
+        as (λ (_ : Option EntryName). Value) [ None ↦ Unknown | Some other ↦ value_there new at other ]
 
     plain-same : (q : Names) (other : EntryName) → value_there new q other ≡ value_there st q other
         → inode_named new q other ≡ inode_named st q other
@@ -423,7 +430,8 @@ module _ (st : State) (user : Identity) (formed : IsWellFormed st) where
     written q place = by_name (slice_get limit_names place) refl
       where
         abbreviated : Option EntryName → State → Option Inode
-        abbreviated found state = elim found as (λ (_ : Option EntryName). Option Inode) [ None ↦ None | Some other ↦ inode_named state q other ]
+        abbreviated found state = elim found
+            as (λ (_ : Option EntryName). Option Inode) [ None ↦ None | Some other ↦ inode_named state q other ]
 
         none : (b : Bool) (value : Value) → ◌≡◌ {A = Option Inode} None
             (cond b (option_map (λ (inode : Inode). record inode { value = value }) None) None)
@@ -599,7 +607,8 @@ module _ (st : State) (user : Identity) (formed : IsWellFormed st) where
   -- ---- cgroups made and removed
 
   -- a limit that isn't met leaves room
-  room-under : (limit : Limit) (count more : ℕ) → more ≤ 1 + count → is_under count limit ≡ true → leaves_room (Some (value_as limit)) more ≡ true
+  room-under : (limit : Limit) (count more : ℕ) → more ≤ 1 + count → is_under count limit ≡ true
+      → leaves_room (Some (value_as limit)) more ≡ true
   room-under Max count more few under = refl
   room-under (At most) count more few under =
       let less : count < most = ltb-true count most under in le-leb more most (omega (arith, few, less))
@@ -713,7 +722,8 @@ module _ (st : State) (user : Identity) (formed : IsWellFormed st) where
                 (λ one. told_text-without_row st path q one ∙ ap (λ b. cond b None (told_text st q one)) apart))
           ] refl
 
-      by_file : (path q : Names) (file : File) → inode_there (without_row st path) q file ≡ cond (same_path path q) None (inode_there st q file)
+      by_file : (path q : Names) (file : File)
+          → inode_there (without_row st path) q file ≡ cond (same_path path q) None (inode_there st q file)
       by_file path q Dir = by_name path q DirName
       by_file path q Procs = by_name path q ProcsName
       by_file path q Control = by_name path q SubtreeControl
@@ -724,7 +734,8 @@ module _ (st : State) (user : Identity) (formed : IsWellFormed st) where
           none false = refl
 
           by_found : (found : Option EntryName)
-              → elim found as (λ (_ : Option EntryName). Option Inode) [ None ↦ None | Some other ↦ inode_named (without_row st path) q other ]
+              → elim found as (λ (_ : Option EntryName). Option Inode)
+              [ None ↦ None | Some other ↦ inode_named (without_row st path) q other ]
               ≡ cond (same_path path q) None
               (elim found as (λ (_ : Option EntryName). Option Inode) [ None ↦ None | Some other ↦ inode_named st q other ])
           by_found None = none (same_path path q)
