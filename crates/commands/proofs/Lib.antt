@@ -6,4 +6,4 @@ mod ProgramLaws
 mod RequestLaws
 mod RunLaws
 mod WaitingLaws
-mod YesLaws
+pub mod YesLaws

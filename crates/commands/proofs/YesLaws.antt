@@ -8,6 +8,8 @@ use Rattle.clap.specs.declared.parser.matches.Found.{Found}
 use Rattle.cg_cgroup.proofs.Options.{same_some}
 use Rattle.cg_format.specs.Readings.{Reading, IsReading}
 use Rattle.cg_format.specs.TreeTexts.{says_large, longest_text, most_read}
+use Rattle.cg_model.specs.Listed.{Listed}
+use Rattle.cg_cli.specs.AllPairs.{read_then, all_report, ReportsPairs}
 use Rattle.cg_cli.specs.Containment.{check_report}
 use Rattle.cg_cli.specs.Audits.{audit_report}
 use Rattle.cg_cli.specs.Reports.{Report, Reports, report_on}
@@ -20,7 +22,7 @@ use Rattle.arguments.specs.declared.request.Request.TheVariants as request
 use Rattle.arguments.proofs.MadeLaws.{named_as}
 use Rattle.machine_answers.specs.Contained.{of_ids, IsContainedIn, AreContainedIn}
 use Rattle.machine_answers.proofs.MachineLaws.{contained_in}
-use Rattle.machine_answers.proofs.AuditedLaws.{audited_in}
+use Rattle.machine_answers.proofs.AuditedLaws.{audited_in, all_audited_in}
 use Rattle.commands.specs.Requests.{Files, source, name_of, IsTree, IsUnread, OnTree, ReportsOnTree, check_said, GuardsSay, FurtherSay, AuditSays, CarriesOut}
 use Rattle.commands.specs.Runs.{IsFlushed, LeadsTo, RunsTo, exit_status}
 use Rattle.commands.specs.Yes.{AsksCheck, AsksAudit, WasRead, CheckMeans, AuditMeans}
@@ -60,6 +62,13 @@ refused (Ok a) (Ok b) fault report is = cc
 refused (Ok a) (Err other) fault report is = cc
 refused (Err other) two fault report is = cc
 
+unread_pairs : {A B C D : Type 0} (one : Result A CliFault) (two : Result B CliFault) (fault : CliFault)
+    (report : A → B → C → Result D CliFault) (found : D)
+    → read_then one (λ a. read_then two (λ b. read_then (Err fault) (report a b))) ≡ Ok found → ⊥
+unread_pairs (Ok a) (Ok b) fault report found is = cc
+unread_pairs (Ok a) (Err other) fault report found is = cc
+unread_pairs (Err other) two fault report found is = cc
+
 unread : {P : Type 0} (old new : Option (List ℕ)) → IsUnread old new (Ok 0) → P
 unread old new (inl never, keeps) = let none : ⊥ = cc in absurd none
 unread old new (inr never, keeps) = let none : ⊥ = cc in absurd none
@@ -80,10 +89,12 @@ module _ (files : Files) (given old new : Option (List ℕ)) where
       by_reading (Err fault) reading reports = absurd (refused _ _ _ _ reports.0)
   check_carried check (inr it) = unread old new it
 
-  audit_carried : (audit : Audit) → audit.settle ≡ false → audit.all ≡ false → CarriesOut (request.Audit audit) files given old new (Ok 0)
+  audit_carried : (audit : Audit) → audit.settle ≡ false → CarriesOut (request.Audit audit) files given old new (Ok 0)
       → (text : List ℕ) × WasRead files (name_of audit.tree) given text
       × AreContainedIn text (map of_ids (map ids_of audit.users.items)) (map (λ subtree. subtree.now) audit.subtrees.items)
-  audit_carried audit settle all (inl (text, is_tree, read, reading, says)) = by_reading read reading reports
+  audit_carried audit settle (inl (text, is_tree, read, reading, says)) =
+      by_flag audit.all (subst (λ settle. MatchBool settle (FurtherSay audit.all users subtrees old new (Ok 0) read)
+      (GuardsSay audit.all users subtrees old new (Ok 0) read)) settle says)
     where
       users : List (ℕ × List ℕ)
       users = map ids_of audit.users.items
@@ -91,34 +102,44 @@ module _ (files : Files) (given old new : Option (List ℕ)) where
       subtrees : List (List ℕ)
       subtrees = map (λ subtree. subtree.now) audit.subtrees.items
 
-      reports : Reports (audit_report read users subtrees) old new (Ok 0)
-      reports =
-          subst (λ all. GuardsSay all users subtrees old new (Ok 0) read) all
-          (subst (λ settle. MatchBool settle (FurtherSay audit.all users subtrees old new (Ok 0) read)
-          (GuardsSay audit.all users subtrees old new (Ok 0) read)) settle says)
-
-      by_reading : (read : Reading) → IsReading text read → Reports (audit_report read users subtrees) old new (Ok 0)
+      first_of : (read : Reading) → IsReading text read → Reports (audit_report read users subtrees) old new (Ok 0)
           → (text : List ℕ) × WasRead files (name_of audit.tree) given text × AreContainedIn text (map of_ids users) subtrees
-      by_reading (Ok st) reading reports = (
+      first_of (Ok st) reading reports = (
         text,
         read_whole (source files (name_of audit.tree) given) text is_tree reading.short,
         audited_in text (Ok st) users subtrees reading reports.0,
       )
-      by_reading (Err fault) reading reports = absurd (refused _ _ _ _ reports.0)
-  audit_carried audit settle all (inr it) = unread old new it
+      first_of (Err fault) reading reports = absurd (refused _ _ _ _ reports.0)
+
+      all_of : (read : Reading) → IsReading text read → (found : Result (List Listed) CliFault) → all_report read users subtrees ≡ found
+          → ReportsPairs found old new (Ok 0)
+          → (text : List ℕ) × WasRead files (name_of audit.tree) given text × AreContainedIn text (map of_ids users) subtrees
+      all_of read reading (Err fault) is never = absurd never
+      all_of (Ok st) reading (Ok pairs) is reports = (
+        text,
+        read_whole (source files (name_of audit.tree) given) text is_tree reading.short,
+        all_audited_in text (Ok st) users subtrees pairs reading is reports.0,
+      )
+      all_of (Err fault) reading (Ok pairs) is reports = absurd (unread_pairs _ _ _ _ pairs is)
+
+      by_flag : (all : Bool) → GuardsSay all users subtrees old new (Ok 0) read
+          → (text : List ℕ) × WasRead files (name_of audit.tree) given text × AreContainedIn text (map of_ids users) subtrees
+      by_flag false says = first_of read reading says
+      by_flag true says = all_of read reading (all_report read users subtrees) refl says
+  audit_carried audit settle (inr it) = unread old new it
 
 -- ---- what the words ask
 
-flushed_is : (ended : Result ℕ CliFault) → IsFlushed ended (Ok 0) → ended ≡ Ok 0
-flushed_is (Ok one) (inl same) = cc
-flushed_is (Ok one) (inr never) = cc
-flushed_is (Err fault) never = cc
+pub flushed_is : (ended : Result ℕ CliFault) (status : ℕ) → IsFlushed ended (Ok status) → ended ≡ Ok status
+flushed_is (Ok one) status (inl same) = cc
+flushed_is (Ok one) status (inr never) = cc
+flushed_is (Err fault) status never = cc
 
 module _ (words : List (List ℕ)) (files : Files) (given old said : Option (List ℕ))
 (leads : LeadsTo words files given old said (Ok 0)) where
   carried : CarriesOut leads.0 files given old said (Ok 0)
   carried =
-      subst (λ (ended : Result ℕ CliFault). CarriesOut leads.0 files given old said ended) (flushed_is leads.2.0 leads.2.2) leads.2.1
+      subst (λ (ended : Result ℕ CliFault). CarriesOut leads.0 files given old said ended) (flushed_is leads.2.0 0 leads.2.2) leads.2.1
 
   check_means : (tree : Option (List ℕ)) (ids : ℕ × List ℕ) (subtree : List ℕ) → AsksCheck words tree ids subtree
       → (text : List ℕ) × WasRead files tree given text × IsContainedIn text (of_ids ids) subtree
@@ -159,7 +180,7 @@ module _ (words : List (List ℕ)) (files : Files) (given old said : Option (Lis
           → CarriesOut asked files given old said (Ok 0)
           → (text : List ℕ) × WasRead files tree given text × AreContainedIn text (map of_ids users) subtrees
       by_request (request.Audit audit) is holds done =
-          let means = audit_carried files given old said audit (holds.settle.1 asks.3.5) (holds.all.1 asks.3.4) done in
+          let means = audit_carried files given old said audit (holds.settle.1 asks.3.4) done in
           let of_tree : name_of audit.tree ≡ tree = holds.tree ∙ asks.3.0 in
           let of_users : map ids_of audit.users.items ≡ users =
           same_some (map ids_of audit.users.items) users (sym holds.users ∙ asks.3.1) in

@@ -13,12 +13,11 @@ abbrev pub AsksCheck : List Text → Option (List ℕ) → ℕ × List ℕ → L
 AsksCheck words tree ids subtree = NamesCommand words (codes "check") (λ found.
     (file_at found (codes "tree") ≡ tree) × (user_given found ≡ Some ids) × (first_value found (codes "subtree") ≡ Some subtree))
 
--- They name `audit` with users and subtrees, no text of pairs, and neither flag.
+-- They name `audit` with users and subtrees, no text of pairs, and not to look further.
 abbrev pub AsksAudit : List Text → Option (List ℕ) → List (ℕ × List ℕ) → List (List ℕ) → Type 0
 AsksAudit words tree given subtrees = NamesCommand words (codes "audit") (λ found.
     (file_at found (codes "tree") ≡ tree) × (users_given found ≡ Some given) × (words_at found (codes "subtree") ≡ subtrees)
-    × (first_value found (codes "pairs") ≡ None)
-    × (one_text found (codes "all") ≡ Some (codes "false")) × (one_text found (codes "settle") ≡ Some (codes "false")))
+    × (first_value found (codes "pairs") ≡ None) × (one_text found (codes "settle") ≡ Some (codes "false")))
 
 -- The text that was read for the tree: that of the named file, or of standard input where none is named, where it is known what that
 -- holds.

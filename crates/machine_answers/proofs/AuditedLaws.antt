@@ -1,9 +1,10 @@
 -- What the report of an audit says of the machine that a text tells of.
-use Rattle.std.proofs.Common.{◌≡◌, ℕ, suc, List, [], ◌∷◌, ◌++◌, map, Option, Some, None, unwrap_or, Result, Ok, Err, refl, sym, ap, ◌∙◌, subst}
-use Rattle.std.specs.List.{All, AllByRecursion, Contains, flat_map}
+use Rattle.std.proofs.Common.{◌≡◌, ℕ, suc, Bool, true, false, cond, get_or, List, [], ◌∷◌, ◌++◌, map, Option, Some, None, unwrap_or, Result, Ok, Err, refl, sym, ap, ◌∙◌, subst, arith}
+use Rattle.std.specs.List.{All, AllByRecursion, Contains, flat_map, list_any}
 use Rattle.std.specs.Option.{ok_or}
-use Rattle.std.proofs.lemmas.List.Elements.{All-from_recursion, All-contains}
-use Rattle.cg_cgroup.specs.Paths.{Names, path_at}
+use Rattle.std.proofs.lemmas.List.Elements.{All-from_recursion, All-contains, Contains-get_or}
+use Rattle.cg_cgroup.specs.Paths.{Names, same_path, path_at}
+use Rattle.cg_cgroup.proofs.PathOrder.{same_path-is}
 use Rattle.cg_cgroup.specs.Identity.{Identity}
 use Rattle.cg_cgroup.specs.Users.{user_of}
 use Rattle.cg_model.specs.States.{State}
@@ -12,7 +13,9 @@ use Rattle.cg_model.specs.Guards.{GuardsHold, IsSubtree}
 use Rattle.cg_model.specs.Strangers.{GuardsHoldForAll}
 use Rattle.cg_model.specs.Answers.{answer}
 use Rattle.cg_model.specs.AllAnswers.{pair_unless_contained, pairs_of, pairs_from, all_answers}
-use Rattle.cg_model.specs.Checks.{subtree_faults, all_checked}
+use Rattle.cg_model.specs.Checks.{subtree_faults, unless_fault, all_checked}
+use Rattle.cg_model.specs.Listed.{Listed, listed_unless_contained, listed_of, listed}
+use Rattle.cg_model.specs.Once.{once}
 use Rattle.cg_model.specs.declared.answer.Answer.{Answer}
 use Rattle.cg_model.specs.declared.answer.Answer.TheVariants.{Contained, Escapes, Unsettled}
 use Rattle.cg_model.specs.declared.answer.AllAnswer.{AllAnswer}
@@ -21,11 +24,14 @@ use Rattle.cg_model.proofs.ClauseLaws.{none_of_first, no_parts}
 use Rattle.cg_check.proofs.Checking.{no_fault, answer-guarded}
 use Rattle.cg_format.specs.Readings.{Reading, IsReading}
 use Rattle.cg_format.specs.TextOf.{IsTextOf}
+use Rattle.cg_cli.specs.AllPairs.{is_escape, pairs_status, read_then, pairs_found, all_report}
 use Rattle.cg_cli.specs.Arguments.{user_read, path_read}
 use Rattle.cg_cli.specs.Audits.{read_before, users_read, paths_read, audit_status, audit_answer_report, pairs_report, audit_report}
 use Rattle.cg_cli.specs.Containment.{in_call}
 use Rattle.cg_cli.specs.May.{tree_read}
 use Rattle.cg_cli.specs.Reports.{report_on}
+use Rattle.cg_cli.specs.Once.{same_user}
+use Rattle.cg_cli.proofs.AuditOnce.{all_once, same_user-is}
 use Rattle.cg_cli.proofs.AuditStatus.{IsNamed, named, status_is_contained}
 use Rattle.cg_faults.specs.declared.fault.CliFault.{CliFault}
 use Rattle.cg_faults.specs.declared.fault.CliFault.TheVariants.{BadPath}
@@ -169,3 +175,77 @@ audited_in text tree given words reading is =
     let clear = first_none (pairs_from st 0 users.0 paths.0) (named st 0 users.0 paths.0) stated.1 in
     clear_in text st (subst (IsReading text) (state_read tree st state.1) reading) given words users.0 paths.0 users.1 paths.1
     (all_clear st users.0 paths.0 stated.0 (none_of_users st 0 users.0 paths.0 (none_of_first _ clear)))
+
+-- ---- where no pair is listed
+
+unlisted_is : (user : Identity) (subtree : Names) (found : Answer) → listed_unless_contained user subtree found ≡ [] → found ≡ Contained
+unlisted_is user subtree Contained none = refl
+unlisted_is user subtree (Escapes ops) none = let never : ⊥ = cc in absurd never
+unlisted_is user subtree (Unsettled failed) none = let never : ⊥ = cc in absurd never
+
+unlisted_of : (st : State) (user : Identity) (subtrees : List Names) → listed_of st subtrees user ≡ []
+    → AllByRecursion (GuardsHold st user) subtrees
+unlisted_of st user [] none = tt
+unlisted_of st user (subtree ∷ subtrees) none =
+    let parts = no_parts (listed_unless_contained user subtree (answer st user subtree)) (listed_of st subtrees user) none in
+    (answer-guarded st user subtree (unlisted_is user subtree (answer st user subtree) parts.0), unlisted_of st user subtrees parts.1)
+
+unlisted_all : (st : State) (users : List Identity) (subtrees : List Names) → listed st users subtrees ≡ []
+    → AllByRecursion (λ user. AllByRecursion (GuardsHold st user) subtrees) users
+unlisted_all st [] subtrees none = tt
+unlisted_all st (user ∷ users) subtrees none =
+    let parts = no_parts (listed_of st subtrees user) (listed st users subtrees) none in
+    (unlisted_of st user subtrees parts.0, unlisted_all st users subtrees parts.1)
+
+none_status : (pairs : List Listed) → pairs_status pairs ≡ 0 → pairs ≡ []
+none_status [] none = refl
+none_status (pair ∷ pairs) none = by_escape (list_any (λ (each : Listed). is_escape each.found) (pair ∷ pairs)) none
+  where
+    by_escape : {P : Type 0} (b : Bool) → ◌≡◌ {A = ℕ} (cond b 1 2) 0 → P
+    by_escape true h = let never : ⊥ = cc in absurd never
+    by_escape false h = let never : ⊥ = cc in absurd never
+
+one_by_one : {A : Type 0} (P : A → Type 0) (xs : List A) → All P xs → AllByRecursion P xs
+one_by_one P [] all = tt
+one_by_one P (x ∷ xs) all = (all 0 x (omega arith), one_by_one P xs (λ k d within. all (suc k) d (omega (arith, within))))
+
+-- what is clear of lists in which each counts once is clear of all
+clear_again : (st : State) (users : List Identity) (subtrees : List Names)
+    → AllByRecursion (IsClear st (once same_user users)) (once same_path subtrees) → AllByRecursion (IsClear st users) subtrees
+clear_again st users subtrees clear =
+    one_by_one (IsClear st users) subtrees (all_once same_path same_path-is (IsClear st users) subtrees
+    (λ k d within. for_users (get_or (once same_path subtrees) k d)
+    (All-from_recursion (IsClear st (once same_user users)) (once same_path subtrees) clear k d within)))
+  where
+    for_users : (subtree : Names) → IsClear st (once same_user users) subtree → IsClear st users subtree
+    for_users subtree clear = (
+      clear.0,
+      λ user among.
+          All-contains (λ (user : Identity). GuardsHold st user subtree) users user
+          (all_once same_user same_user-is (λ (user : Identity). GuardsHold st user subtree) users
+          (λ k d within. clear.1 (get_or (once same_user users) k d) (Contains-get_or (once same_user users) k d within))) among,
+    )
+
+then_ok : {A B : Type 0} (one : Result A CliFault) (next : A → Result B CliFault) (found : B) → read_then one next ≡ Ok found
+    → (x : A) × (one ≡ Ok x) × (next x ≡ Ok found)
+then_ok (Ok x) next found is = (x, refl, is)
+then_ok (Err fault) next found is = let never : ⊥ = cc in absurd never
+
+pub all_audited_in : (text : List ℕ) (tree : Reading) (given : List (ℕ × List ℕ)) (words : List (List ℕ)) (pairs : List Listed)
+    → IsReading text tree → all_report tree given words ≡ Ok pairs → pairs_status pairs ≡ 0
+    → AreContainedIn text (map of_ids given) words
+all_audited_in text tree given words pairs reading is none =
+    let users = then_ok (users_read given) (λ users. read_then (paths_read words) (λ subtrees.
+    read_then (tree_read tree) (λ st. pairs_found st (once same_user users) (once same_path subtrees)))) pairs is in
+    let paths = then_ok (paths_read words) (λ subtrees.
+    read_then (tree_read tree) (λ st. pairs_found st (once same_user users.0) (once same_path subtrees))) pairs users.2 in
+    let state = then_ok (tree_read tree) (λ st. pairs_found st (once same_user users.0) (once same_path paths.0)) pairs paths.2 in
+    let st = state.0 in
+    let few : List Identity = once same_user users.0 in
+    let tops : List Names = once same_path paths.0 in
+    let stated =
+    unfaulted (first (flat_map (subtree_faults st) tops)) (listed st few tops) pairs
+    (found_is (unless_fault (first (flat_map (subtree_faults st) tops)) (listed st few tops)) pairs state.2) in
+    let unlisted : listed st few tops ≡ [] = stated.1 ∙ none_status pairs none in
+    clear_in text st (subst (IsReading text) (state_read tree st state.1) reading) given words users.0 paths.0 users.1 paths.1
+    (clear_again st users.0 paths.0 (all_clear st few tops stated.0 (unlisted_all st few tops unlisted)))

@@ -5,6 +5,8 @@ ghost use Rattle.std.specs.Prelude.{◌≡◌, ℕ, List, map, Ok};
 ghost use Rattle.cg_cgroup.specs.Identity.{Identity};
 ghost use Rattle.cg_format.specs.Readings.{Reading, IsReading};
 ghost use Rattle.cg_cli.specs.Containment.{check_report};
+ghost use Rattle.cg_model.specs.Listed.{Listed};
+ghost use Rattle.cg_cli.specs.AllPairs.{pairs_status, all_report};
 ghost use Rattle.cg_cli.specs.Audits.{audit_report};
 ghost use Rattle.machine_answers.specs.Contained.{of_ids, IsContainedIn, AreContainedIn};
 
@@ -16,9 +18,13 @@ pub fn checked()
         → IsContainedIn text (record { uid = uid; gids = gids }) word }
 {}
 
-/// Where the report of `audit` does, each of the subtrees is contained there against all of the users together.
+/// Where the report of `audit` does, or that of `audit --all` lists no pair, each of the subtrees is contained there against all of the
+/// users together.
 pub fn audited()
-    ensures { (text : List ℕ) (tree : Reading) (given : List (ℕ × List ℕ)) (words : List (List ℕ))
+    ensures first { (text : List ℕ) (tree : Reading) (given : List (ℕ × List ℕ)) (words : List (List ℕ))
         → IsReading text tree → (audit_report tree given words).ending ≡ Ok 0
+        → AreContainedIn text (map of_ids given) words }
+    ensures all { (text : List ℕ) (tree : Reading) (given : List (ℕ × List ℕ)) (words : List (List ℕ)) (pairs : List Listed)
+        → IsReading text tree → all_report tree given words ≡ Ok pairs → pairs_status pairs ≡ 0
         → AreContainedIn text (map of_ids given) words }
 {}
