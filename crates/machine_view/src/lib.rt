@@ -2,16 +2,17 @@
 //! is contained there too. The contract of each function is the law; none does anything.
 #![tactic(auto)]
 
-ghost use Rattle.std.specs.Prelude.{◌≡◌, ◌⊎◌, ◌↔◌, List};
+ghost use Rattle.std.specs.Prelude.{◌≡◌, ◌⊎◌, ◌↔◌, true, List};
 ghost use Rattle.cg_cgroup.specs.Paths.{Names};
 ghost use Rattle.cg_cgroup.specs.Identity.{Identity};
 ghost use Rattle.cg_model.specs.States.{State};
-ghost use Rattle.cg_model.specs.WellFormed.{IsWellFormed};
+ghost use Rattle.cg_model.specs.WellFormed.{IsWellFormed, has_row};
+ghost use Rattle.cg_model.specs.Limits.{limits};
 ghost use Rattle.cg_model.specs.Guards.{GuardsHold, IsSubtree};
-ghost use Rattle.cg_model.specs.Strangers.{GuardsHoldForAll};
+ghost use Rattle.cg_model.specs.Strangers.{GuardsHoldForAll, OpensGuarded};
 ghost use Rattle.cg_model.specs.Steps.{after};
 ghost use Rattle.cg_model.specs.declared.operation.Op.{Op};
-ghost use Rattle.machine.specs.Machines.{Act, IsContainedAgainst, IsPresent, IsGuarded};
+ghost use Rattle.machine.specs.Machines.{Act, IsContainedAgainst, IsPresent, IsClosed, IsGuarded};
 ghost use Rattle.machine.specs.Several.{IsContainedAgainstAll, IsGuardedAgainstAll};
 ghost use Rattle.machine_view.specs.Steps.{IsStep};
 ghost use Rattle.machine_view.specs.Views.{view};
@@ -41,4 +42,13 @@ pub fn steps()
 pub fn guards()
     ensures { (st : State) (user : Identity) (subtree : Names)
         → IsSubtree st subtree → GuardsHold st user subtree ↔ IsGuarded (view st) user subtree }
+{}
+
+/// Where the guards of a subtree hold for a user, a step of anybody's that leaves the subtree there, with its limits, and isn't a chmod
+/// of something guarded leaves what is guarded out of that user's reach there.
+pub fn strangers()
+    ensures { (st : State) (user other : Identity) (subtree : Names) (op : Op)
+        → IsWellFormed st → IsSubtree st subtree → GuardsHold st user subtree
+        → has_row (after st other op) subtree ≡ true → limits (after st other op) subtree ≡ limits st subtree
+        → ¬ (OpensGuarded st other op subtree) → IsClosed (view (after st other op)) user subtree }
 {}
