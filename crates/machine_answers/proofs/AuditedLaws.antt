@@ -1,7 +1,6 @@
 -- What the report of an audit says of the machine that a text tells of.
-use Rattle.std.proofs.Common.{◌≡◌, ℕ, suc, Bool, true, false, cond, get_or, List, [], ◌∷◌, ◌++◌, map, Option, Some, None, unwrap_or, Result, Ok, Err, refl, sym, ap, ◌∙◌, subst, arith}
-use Rattle.std.specs.List.{All, AllByRecursion, Contains, flat_map, list_any}
-use Rattle.std.specs.Option.{ok_or}
+use Rattle.std.proofs.Common.{◌≡◌, ℕ, suc, Bool, true, false, cond, get_or, List, [], ◌∷◌, map, Some, None, unwrap_or, Result, Ok, Err, refl, sym, ap, ◌∙◌, subst, arith}
+use Rattle.std.specs.List.{All, AllByRecursion, flat_map, list_any}
 use Rattle.std.proofs.lemmas.List.Elements.{All-from_recursion, All-contains, Contains-get_or}
 use Rattle.cg_cgroup.specs.Paths.{Names, same_path, path_at}
 use Rattle.cg_cgroup.proofs.PathOrder.{same_path-is}
@@ -34,7 +33,6 @@ use Rattle.cg_cli.specs.Once.{same_user}
 use Rattle.cg_cli.proofs.AuditOnce.{all_once, same_user-is}
 use Rattle.cg_cli.proofs.AuditStatus.{IsNamed, named, status_is_contained}
 use Rattle.cg_faults.specs.declared.fault.CliFault.{CliFault}
-use Rattle.cg_faults.specs.declared.fault.CliFault.TheVariants.{BadPath}
 use Rattle.cg_escapes.proofs.EscapeReplays.{report_ok, found_is, status_is, unfaulted}
 use Rattle.machine_view.specs.Views.{view}
 use Rattle.machine_view.proofs.Seen.{contained-together, has-row}

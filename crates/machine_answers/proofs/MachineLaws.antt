@@ -1,6 +1,6 @@
 -- What a report of a status 0 says of the machine that a text tells of.
-use Rattle.std.proofs.Common.{◌≡◌, ℕ, List, Some, Ok, sym, ap, ◌∙◌, subst, true≢false, absurd}
-use Rattle.cg_cgroup.specs.Paths.{Names}
+use Rattle.std.proofs.Common.{◌≡◌, ℕ, List, Some, Ok, sym, ◌∙◌, subst}
+use Rattle.std.proofs.lemmas.Option.{cond_some}
 use Rattle.cg_cgroup.specs.Identity.{Identity}
 use Rattle.cg_cgroup.specs.Users.{is_user, user_of}
 use Rattle.cg_format.specs.Readings.{Reading, IsReading}
@@ -15,7 +15,8 @@ use Rattle.machine_answers.proofs.GuardedLaws.{guarded_by_status}
 
 -- a user that is named is of that uid and those groups
 pub user_is : (uid : ℕ) (gids : List ℕ) (user : Identity) → user_of uid gids ≡ Some user → user ≡ record { uid = uid; gids = gids }
-user_is uid gids user is = ?
+user_is uid gids user is =
+    let named : Identity = record { uid = uid; gids = gids } in sym (cond_some (is_user named) named user is).1
 
 pub contained_in : (text : List ℕ) (tree : Reading) (uid : ℕ) (gids word : List ℕ) → IsReading text tree
     → (check_report tree uid gids word).ending ≡ Ok 0 → IsContainedIn text (record { uid = uid; gids = gids }) word
