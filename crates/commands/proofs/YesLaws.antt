@@ -1,6 +1,6 @@
 -- What status 0 says of the machine that the tree's text tells of.
 use Rattle.std.proofs.Common.{◌≡◌, ℕ, ◌+◌, ◌≤◌, Bool, true, false, cond, List, [], map, length, take, Option, Some, None, Result, Ok, Err, refl, sym, ap, ◌∙◌, subst, inl, inr, arith}
-use Rattle.std.specs.Prelude.{codes, IfSome, MatchBool}
+use Rattle.std.specs.Prelude.{codes, IfSome, MatchBool, MatchOption}
 use Rattle.std.specs.Option.{option_map}
 use Rattle.std.proofs.lemmas.List.{take_all, length-take, take-take}
 use Rattle.clap.specs.Matches.{first_value, one_text}
@@ -14,6 +14,7 @@ use Rattle.cg_cli.specs.Containment.{check_report}
 use Rattle.cg_cli.specs.Audits.{audit_report}
 use Rattle.cg_cli.specs.Reports.{Report, Reports, report_on}
 use Rattle.cg_faults.specs.declared.fault.CliFault.{CliFault}
+use Rattle.cg_faults.specs.declared.fault.CliFault.TheVariants.{NoMemory}
 use Rattle.arguments.specs.Given.{words_at, file_at, user_given, users_given, ids_of, IsCheck, IsAudit, IsOfPairs, Holds, command_of}
 use Rattle.arguments.specs.declared.request.Check.{Check}
 use Rattle.arguments.specs.declared.request.Audit.{Audit}
@@ -27,6 +28,7 @@ use Rattle.commands.specs.Requests.{Files, source, name_of, IsTree, IsUnread, On
 use Rattle.commands.specs.Runs.{IsFlushed, LeadsTo, RunsTo, exit_status}
 use Rattle.commands.specs.Yes.{AsksCheck, AsksAudit, WasRead, CheckMeans, AuditMeans}
 use Rattle.commands.specs.declared.fault.Fault.{Fault}
+use Rattle.commands.specs.declared.fault.Fault.TheVariants.{Cli}
 use Rattle.streams.specs.declared.write.WriteFailed.{WriteFailed}
 
 -- ---- a text that isn't too long was read whole
@@ -136,7 +138,7 @@ flushed_is (Ok one) status (inr never) = cc
 flushed_is (Err fault) status never = cc
 
 module _ (words : List (List ℕ)) (files : Files) (given old said : Option (List ℕ))
-(leads : LeadsTo words files given old said (Ok 0)) where
+    (leads : LeadsTo words files given old said (Ok 0)) where
   carried : CarriesOut leads.0 files given old said (Ok 0)
   carried =
       subst (λ (ended : Result ℕ CliFault). CarriesOut leads.0 files given old said ended) (flushed_is leads.2.0 0 leads.2.2) leads.2.1
@@ -220,3 +222,26 @@ module _ (words : List (List ℕ)) (files : Files) (given old new : Option (List
   pub run_audits : AuditMeans words files given (exit_status answer)
   run_audits tree users subtrees asks is =
       audit_means words files given old runs.0 (leads_to (answer_is answer is)) tree users subtrees asks
+
+-- ---- of the program
+
+no_status : (answer : Result ℕ Fault) → answer ≡ Err (Cli NoMemory) → exit_status answer ≡ 0 → ⊥
+no_status (Ok status) is zero = cc
+no_status (Err fault) is zero = cc
+
+module _ {W : Type 0} (contents : W → Option (List ℕ)) (Beside : Type 0) (words : List (List ℕ)) (files : Files)
+    (given old : Option (List ℕ)) (answer : Result ℕ Fault) (status : ℕ) (is : status ≡ exit_status answer) where
+  abbrev Ran : W → Type 0
+  Ran below = (written : Result (Unit {0}) WriteFailed) × RunsTo words files given old (contents below) answer written × Beside
+
+  pub program_checks : (out : Option W) → MatchOption out (answer ≡ Err (Cli NoMemory)) Ran → CheckMeans words files given status
+  program_checks None none tree ids subtree asks zero = absurd (no_status answer none (sym is ∙ zero))
+  program_checks (Some below) ran =
+      subst (λ (status : ℕ). CheckMeans words files given status) (sym is)
+      (run_checks words files given old (contents below) answer ran.0 ran.1)
+
+  pub program_audits : (out : Option W) → MatchOption out (answer ≡ Err (Cli NoMemory)) Ran → AuditMeans words files given status
+  program_audits None none tree users subtrees asks zero = absurd (no_status answer none (sym is ∙ zero))
+  program_audits (Some below) ran =
+      subst (λ (status : ℕ). AuditMeans words files given status) (sym is)
+      (run_audits words files given old (contents below) answer ran.0 ran.1)
