@@ -1,6 +1,5 @@
 mod CommandLaws
-pub mod FoundLaws
+mod FoundLaws
 mod GivenLaws
 pub mod UserWordLaws
 mod WordLaws
-pub mod MadeLaws

@@ -6,4 +6,3 @@ mod ProgramLaws
 mod RequestLaws
 mod RunLaws
 mod WaitingLaws
-pub mod YesLaws

@@ -4,4 +4,3 @@ pub mod PairLines
 pub mod Requests
 pub mod Runs
 pub mod Waiting
-pub mod Yes

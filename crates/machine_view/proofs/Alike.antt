@@ -32,7 +32,8 @@ use Rattle.cg_model.proofs.LimitLaws.{fits_in, descendants-limit, depth-limit}
 use Rattle.cg_model.proofs.Lists.{all-append}
 use Rattle.machine.specs.Machines.{Value, Number, Inode, IsClosed, IsGuarded}
 use Rattle.machine_view.specs.Views.{limit_names, value_as, value_there, inode_named, view}
-use Rattle.machine_view.proofs.Stepping.{number_of, named_file, named_other, limits-there}
+use Rattle.machine_view.proofs.Numbers.{number_of, named_file, named_other}
+use Rattle.machine_view.proofs.Stepping.{limits-there}
 
 -- an entry that isn't reached fails no guard
 none_fails : (st : State) (user : Identity) (subtree : Names) (guarded : Guarded)

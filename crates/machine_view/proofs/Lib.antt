@@ -1,3 +1,4 @@
+pub mod Numbers
 pub mod PathsOnce
 pub mod Seen
 pub mod Stepping

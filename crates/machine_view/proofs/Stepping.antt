@@ -1,15 +1,15 @@
 -- Each step of the exact machine is one of the other, or none.
-use Rattle.std.proofs.Common.{◌≡◌, ℕ, zero, suc, ◌+◌, ◌-◌, ◌<◌, ◌≤◌, Bool, true, false, not, cond, ◌||◌, List, [], ◌∷◌, length, take, get_or, refl, sym, ap, ◌∙◌, true≢false, Option, Some, None, is_some, is_none, inl, inr, arith}
+use Rattle.std.proofs.Common.{◌≡◌, ℕ, zero, suc, ◌+◌, ◌-◌, ◌<◌, ◌≤◌, Bool, true, false, not, cond, ◌||◌, List, [], ◌∷◌, length, take, refl, sym, ap, ◌∙◌, true≢false, Option, Some, None, is_some, is_none, inl, inr, arith}
 use Rattle.std.specs.Prelude.{◌⊎◌, ◌&&◌, nat_eq, count_by, filter, slice_get, option_and_then}
 use Rattle.std.specs.Option.{option_map}
 use Rattle.std.proofs.lemmas.Bool.{and_parts, and_from, false_from_ne_true, eqb-true, ltb-true, le-leb}
-use Rattle.std.proofs.lemmas.Option.{slice_get_within, slice_get-get_or}
+use Rattle.std.proofs.lemmas.Option.{slice_get_within}
 use Rattle.std.proofs.lemmas.List.{take-take}
 use Rattle.std.proofs.lemmas.List.Sums.{length-filter}
 use Rattle.cg_cgroup.specs.Paths.{Names, same_name, same_path, is_child, is_root, parent, common}
 use Rattle.cg_cgroup.specs.Identity.{Identity}
 use Rattle.cg_cgroup.specs.Users.{writes, owns}
-use Rattle.cg_cgroup.specs.Files.{enables_nothing, kind_of, other_kind, brought_by, same_entry, same_file, same_other}
+use Rattle.cg_cgroup.specs.Files.{enables_nothing, brought_by, same_entry, same_file, same_other}
 use Rattle.cg_cgroup.specs.Cgroups.{with_mode_of, entry_in, value_in, file_of, cgroup_made_by}
 use Rattle.cg_cgroup.specs.declared.user.Entry.{Entry}
 use Rattle.cg_cgroup.specs.declared.controllers.ControllerSet.{ControllerSet}
@@ -20,7 +20,6 @@ use Rattle.cg_cgroup.specs.declared.files.LimitFile.TheVariants.{MaxDescendants,
 use Rattle.cg_cgroup.specs.declared.files.EntryName.{EntryName}
 use Rattle.cg_cgroup.specs.declared.files.EntryName.TheVariants.{Dir as DirName, Procs as ProcsName, SubtreeControl, File as FileName, Other}
 use Rattle.cg_cgroup.specs.declared.other_file.OtherFile.{OtherFile}
-use Rattle.cg_cgroup.specs.declared.other_file.OtherFile.TheVariants.{CpuMax}
 use Rattle.cg_cgroup.specs.declared.told.FileText.{FileText}
 use Rattle.cg_cgroup.specs.declared.told.ToldFile.{ToldFile}
 use Rattle.cg_cgroup.specs.declared.cgroup.Cgroup.{Cgroup}
@@ -53,44 +52,9 @@ use Rattle.cg_laws.proofs.Crossing.{move-passes}
 use Rattle.machine.specs.Machines.{File, Dir, Procs, Control, Limit as LimitAt, Value, Unknown, Text, Inode, Act, Move, Mkdir, Rmdir, Write, Chmod, Enable, Fork, Exit, entry_is, value_of, leaves_room, has_room_above, is_this_file, reopened, rewritten, equipped, placed}
 use Rattle.machine_view.specs.Views.{limit_names, value_as, value_there, inode_named, inode_there, view}
 use Rattle.machine_view.specs.Steps.{IsStep}
+use Rattle.machine_view.proofs.Numbers.{number_of, numbered, named_file, named_other}
 use Rattle.machine_view.proofs.PathsOnce.{keys_once}
 use Rattle.machine_view.proofs.Seen.{has-row}
-
--- ---- limit files by their numbers
-
-abbrev pub number_of : EntryName → ℕ
-number_of (FileName file) = (kind_of file).number
-number_of (Other file) = 8 + (other_kind file).number
-number_of name = 51
-
-abbrev rise_from : ℕ → List EntryName → Bool
-rise_from n [] = true
-rise_from n (name ∷ names) = nat_eq (number_of name) n && rise_from (1 + n) names
-
-number_at : (n : ℕ) (names : List EntryName) → rise_from n names ≡ true → (place : ℕ) (d : EntryName) → place < length names
-    → number_of (get_or names place d) ≡ n + place
-number_at n [] rise place d within = absurd (omega (arith, within))
-number_at n (name ∷ names) rise zero d within =
-    let parts = and_parts (nat_eq (number_of name) n) (rise_from (1 + n) names) rise in
-    let here = eqb-true (number_of name) n parts.0 in omega (arith, here)
-number_at n (name ∷ names) rise (suc place) d within =
-    let parts = and_parts (nat_eq (number_of name) n) (rise_from (1 + n) names) rise in
-    let rest = number_at (1 + n) names parts.1 place d (omega (arith, within)) in omega (arith, rest)
-
-numbered : (place : ℕ) (name : EntryName) → slice_get limit_names place ≡ Some name → number_of name ≡ place
-numbered place name is =
-    let within = slice_get_within limit_names place name is in
-    let found = same_some (get_or limit_names place name) name (sym (slice_get-get_or limit_names place name within) ∙ is) in
-    let counted = number_at 0 limit_names refl place name within in
-    ap number_of (sym found) ∙ omega (arith, counted)
-
-pub named_file : (file : LimitFile) → slice_get limit_names (number_of (FileName file)) ≡ Some (FileName file)
-named_file MaxDescendants = refl
-named_file file = refl
-
-pub named_other : (file : OtherFile) → slice_get limit_names (number_of (Other file)) ≡ Some (Other file)
-named_other CpuMax = refl
-named_other file = refl
 
 -- ---- views of states that differ little
 

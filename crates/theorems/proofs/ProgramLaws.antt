@@ -63,12 +63,11 @@ use Rattle.arguments.specs.declared.request.Request.TheVariants as request
 use Rattle.streams.specs.declared.write.WriteFailed.{WriteFailed}
 use Rattle.commands.specs.PairLines.{GivenPair, pairs_read, AsksSomething}
 use Rattle.commands.specs.Requests.{Files, IsUnread, source, name_of, may_said, check_said, SettlesAs, AdviseSays, AdvisesOn, AuditsOn, ExplainsOn, OnLines, OnPairsText, GuardsSay, FurtherSay, AuditSays, ExplainSays, replay_said, OnTreeText, OnTree, ReplaysOver, CarriesOut}
-use Rattle.commands.specs.Runs.{CarriesOutBuffered, LeadsTo, LiesBelow, RunsTo}
+use Rattle.commands.specs.Runs.{IsFlushed, CarriesOutBuffered, LeadsTo, LiesBelow, RunsTo}
 use Rattle.commands.specs.declared.fault.Fault.{Fault}
 use Rattle.commands.specs.declared.fault.Fault.TheVariants.{Usage, Cli}
 use Rattle.commands.proofs.BufferedLaws.{CarriesOut-Keeps}
 use Rattle.commands.proofs.PairLaws.{asked_about}
-use Rattle.commands.proofs.YesLaws.{flushed_is}
 use Rattle.machine_answers.proofs.GuardedLaws.{named_read, contained_by_status}
 use Rattle.theorems.proofs.SettledLaws.{settled_as}
 use Rattle.theorems.proofs.FurtherLaws.{settled_told, all_told, first_told}
@@ -82,6 +81,11 @@ use Rattle.cg_format.specs.Readings.{vocabulary_in}
 use Rattle.cg_format.specs.TreeTexts.{most_read}
 
 -- ---- what lies in the first writer
+
+flushed_is : (ended : Result ℕ CliFault) (status : ℕ) → IsFlushed ended (Ok status) → ended ≡ Ok status
+flushed_is (Ok one) status (inl same) = cc
+flushed_is (Ok one) status (inr never) = cc
+flushed_is (Err fault) status never = cc
 
 lies_whole : (written : Result (Unit {0}) WriteFailed) (said new : Option (List ℕ)) → IsOk written → LiesBelow written said new
     → Keeps said new
