@@ -2,7 +2,7 @@
 """Runs the program again and again, each time with one of its allocations, reads or writes failing.
 
   tests/program/devices.py PROGRAM OBJECT              the object of that program, as gate/objects builds it
-  tests/program/devices.py PROGRAM OBJECT --emulated   an object for arm64, of which fewer calls fail, under qemu's user emulation
+  tests/program/devices.py PROGRAM OBJECT --emulated   an object for arm64, under qemu's user emulation: each fifth row, and fewer calls
 
 Of each row, a command with what it writes, the first call fails, then the second, and so on until a run meets none that
 fails; behind the first thousand or so of a row in longer and longer steps. What then may come is the row's own answer, or
@@ -27,7 +27,7 @@ QEMU = "qemu-aarch64-static"
 WRAPPED = ("main", "read", "write", "rattle_alloc", "rattle_realloc")
 KINDS = (("alloc", "refused"), ("read", "refused"), ("read", "short"), ("read", "interrupted"), ("write", "refused"),
          ("write", "none"), ("write", "short"), ("write", "interrupted"))
-EACH_TO, EACH_TO_EMULATED = 1200, 30
+EACH_TO, EACH_TO_EMULATED, ROWS_EMULATED = 1200, 30, 5
 # what hangs is ended; a run may wait long for a processor, and all of a machine stand still
 SECONDS_OF_A_RUN = 7200
 FAULT = 3
@@ -202,7 +202,7 @@ def main():
         if under and not shutil.which(QEMU):
             print("devices: it is linked, and no call was made to fail, for lack of Debian's package qemu-user-static\n1 passed, 0 failed")
             return 0
-        rows = rows_of(given.program, TOP, folder)
+        rows = [*rows_of(given.program, TOP, folder)][::ROWS_EMULATED if given.emulated else 1]
         tasks = itertools.product(rows, (None, *KINDS))
         with concurrent.futures.ProcessPoolExecutor(initializer=prepare, initargs=(words, each_to, folder)) as pool:
             passed, failed = report(pool.map(work, tasks))
