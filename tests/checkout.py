@@ -59,6 +59,7 @@ cp "$3" "$2"
 """
 OBJECTS = """#!/bin/sh
 [ ! -e "$PLAYED/fails" ] || { echo 'gate: the library of low is neither'; exit 1; }
+[ "$1" != --left ] || shift
 cd "$1/crates/zirofen" || exit 1
 mkdir -p out
 for it in "$@"; do

@@ -204,9 +204,11 @@ def build_object(room):
     return why
 
 
-def build_objects(room, machines):
-    """Builds the objects for some kinds of processors over libraries that are proved; returns what hindered it, or nothing."""
-    return run_toolchain([f"{TOP}/gate/objects", TOP, *machines], TOP, room) if machines else ""
+def build_objects(room, machines, over_kept):
+    """Builds the objects for some kinds of processors over libraries that are kept, or were just proved; returns what hindered it, or
+    nothing."""
+    words = [f"{TOP}/gate/objects", *([] if over_kept else ["--left"]), TOP, *machines]
+    return run_toolchain(words, TOP, room) if machines else ""
 
 
 def run_toolchain(words, at, room):
@@ -268,7 +270,7 @@ def build(is_release=False, over_kept=False):
             with tempfile.TemporaryDirectory(ignore_cleanup_errors=True) as room:
                 # the gate runs programs as nobody, who has to reach them
                 os.chmod(room, 0o711)
-                why = ("" if over_kept else build_object(room)) or build_objects(room, machines) or keep_built(sources)
+                why = ("" if over_kept else build_object(room)) or build_objects(room, machines, over_kept) or keep_built(sources)
         except KeyboardInterrupt as it:
             say("interrupted, and not built")
             resource.setrlimit(resource.RLIMIT_CORE, (0, 0))

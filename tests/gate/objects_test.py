@@ -2,6 +2,7 @@
 import os
 import shutil
 import subprocess
+import sys
 import unittest
 
 from checkout import TOP, Checkout, read, write
@@ -31,9 +32,10 @@ class ObjectsTest(unittest.TestCase):
         for name in names:
             os.makedirs(f"{self.top}/crates/{name}/out/rlib/{name}.rlib")
 
-    def build(self, *machines):
-        """How it ended, what it said, and how often it called the prover since the last time."""
-        ended = subprocess.run([f"{self.top}/gate/objects", self.top, *machines], text=True, capture_output=True, env=self.environment)
+    def build(self, *machines, left=()):
+        """How it ended, what it said, and how it called the prover since the last time."""
+        words = [f"{self.top}/gate/objects", *left, self.top, *machines]
+        ended = subprocess.run(words, text=True, capture_output=True, env=self.environment)
         self.assertEqual(ended.stderr, "")
         calls = read(f"{self.checkout.room}/calls").splitlines() if os.path.exists(f"{self.checkout.room}/calls") else []
         write(f"{self.checkout.room}/calls", "")
@@ -52,19 +54,33 @@ class ObjectsTest(unittest.TestCase):
         shutil.rmtree(self.out)
         self.assertEqual((*self.build(), self.made()), (0, "", [], ["zirofen-aarch64.o", "zirofen-x86_64.o"]))
         write(f"{self.top}/crates/low/src/lib.rt", "changed")
-        self.assertEqual([len(it) for it in self.build("aarch64")[2:]], [1])
+        self.assertEqual([len(it) for it in self.build("aarch64", left=["--left"])[1:]], [0, 1])
 
     def test_a_library_that_is_nowhere(self):
         self.proves("middle")
         status, said, calls = self.build("aarch64")
         self.assertEqual((status, calls), (1, []))
-        self.assertIn("the library of low is neither in out/ of its crate nor kept", said)
+        self.assertIn("the library of low is neither kept nor, newer than its sources, in out/ of its crate", said)
+
+    def test_a_library_that_is_older_than_its_sources(self):
+        """Unless it is said to be just made. One that is kept is taken first."""
+        self.proves("low", "middle")
+        made = f"{self.top}/crates/low/out/rlib/low.rlib"
+        os.utime(made, (1, 1))
+        status, said, calls = self.build("aarch64")
+        self.assertEqual((status, calls, "library of low" in said), (1, [], True))
+        self.assertEqual([len(it) for it in self.build("aarch64", left=["--left"])[1:]], [0, 1])
+        keeping = "import kept, proved; kept.Store().keep(proved.MADE, 'low', proved.Sums('.').of('low'), {}, ('crates/low/out', ['rlib']))"
+        write(f"{made}/format", "")
+        environment = {**self.environment, "PYTHONPATH": f"{self.top}/gate"}
+        subprocess.run([sys.executable, "-c", keeping], cwd=self.top, check=True, env=environment)
+        self.assertEqual([len(it) for it in self.build("x86_64")[1:]], [0, 1])
 
     def test_what_is_not_proved(self):
         self.proves("low", "middle")
         write(f"{self.checkout.room}/fails", "")
         status, said, _ = self.build("x86_64")
-        self.assertEqual((status, said, self.made()), (1, "logic=not-proved\n", []))
+        self.assertEqual((status, said.splitlines()[0], self.made()), (1, "logic=not-proved", []))
 
     def test_what_the_toolchain_left_is_taken_unless_a_source_is_newer(self):
         self.proves("low", "middle")
