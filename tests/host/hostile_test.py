@@ -27,9 +27,9 @@ from zirofen_host.ask.texts import Programs
 
 OLDEST = (3, 9)
 # modules that it has
-MODULES = set("abc argparse atexit base64 bisect collections concurrent contextlib ctypes dataclasses datetime difflib enum errno functools "
-              "gc grp hashlib html importlib itertools json operator os pickle pwd re resource select shlex shutil signal socket stat "
-              "string subprocess sys tempfile textwrap time types typing unicodedata urllib xml".split())
+MODULES = set("abc argparse atexit base64 bisect collections concurrent contextlib ctypes dataclasses datetime difflib enum errno "
+              "functools gc grp hashlib html importlib itertools json operator os pickle pwd re resource select shlex shutil signal "
+              "socket stat string subprocess sys tempfile textwrap time types typing unicodedata urllib xml".split())
 # what reads a text takes one of these
 READERS = {"tomllib", "tomli"}
 # what came later, by its name
