@@ -18,13 +18,13 @@ or_mapped first then none None = refl
 or_mapped first then none (Some x) = refl
 
 module _ (f g : Found) (same : rows_of f ≡ rows_of g) where
-  first_same : (id : List ℕ) → first_value f id ≡ first_value g id
+  pub first_same : (id : List ℕ) → first_value f id ≡ first_value g id
   first_same id = first_value-rows f id ∙ ap (first_of id) same ∙ sym (first_value-rows g id)
 
-  text_same : (id : List ℕ) → one_text f id ≡ one_text g id
+  pub text_same : (id : List ℕ) → one_text f id ≡ one_text g id
   text_same id = one_text-rows f id ∙ ap (one_of id) same ∙ sym (one_text-rows g id)
 
-  words_same : (id : List ℕ) → words_at f id ≡ words_at g id
+  pub words_same : (id : List ℕ) → words_at f id ≡ words_at g id
   words_same id =
       or_mapped raw_values (λ (all : List (List ℕ)). all) [] (matched_of f id)
       ∙ ap (λ (all : Option (List (List ℕ))). option_map_or (λ it. it) all [])
@@ -34,17 +34,17 @@ module _ (f g : Found) (same : rows_of f ≡ rows_of g) where
   numbers_same : (id : List ℕ) → numbers_at f id ≡ numbers_at g id
   numbers_same id = ap ids_at (words_same id)
 
-  file_same : (id : List ℕ) → file_at f id ≡ file_at g id
+  pub file_same : (id : List ℕ) → file_at f id ≡ file_at g id
   file_same id = ap (λ (word : Option (List ℕ)). option_and_then file_named word) (first_same id)
 
   number_same : (id : List ℕ) → number_at f id ≡ number_at g id
   number_same id = ap (λ (word : Option (List ℕ)). option_and_then id_at word) (first_same id)
 
-  user_same : user_given f ≡ user_given g
+  pub user_same : user_given f ≡ user_given g
   user_same = ap₂ (λ (gids : Option (List ℕ)) (number : Option ℕ). option_and_then (λ uid. option_map (λ all. (uid, all)) gids) number)
       (numbers_same (codes "gid")) (number_same (codes "uid"))
 
-  users_same : users_given f ≡ users_given g
+  pub users_same : users_given f ≡ users_given g
   users_same = ap (λ (words : List (List ℕ)). all_read user_at words) (words_same (codes "uid"))
 
   advised_same : advised_given f ≡ advised_given g

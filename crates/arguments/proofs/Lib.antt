@@ -1,5 +1,6 @@
 mod CommandLaws
-mod FoundLaws
+pub mod FoundLaws
 mod GivenLaws
 pub mod UserWordLaws
 mod WordLaws
+pub mod MadeLaws
