@@ -314,6 +314,8 @@ class Page(Small):
         self.assertIn("pub enum Kind {\n    Lone,", "\n".join(named))
         self.assertIn("-- how many there are\nabbrev pub many : Kind → ℕ\nmany Single = 1\nmany kind = MOST", named)
         self.assertNotIn("other", "\n".join(named))
+        again = theorems.mended(page + "\nAll that `high::shown` names and that isn't above:\n\n```\nof old\n```\n", self.top)
+        self.assertEqual(again, right + "\nAll that `high::shown` names and that isn't above:\n\n```\n\n```\n")
         told = [f"`{it}` of high::shown is a library's, and its part says nothing of it"
                 for it in ("+", "Option", "Some", "option_and_then", "ℕ", "≡")]
         self.assertEqual(theorems.faults_of(right, self.top)[1], told)
