@@ -26,9 +26,9 @@ LEAST_WIDTH = 20
 DESCRIPTIONS = {
     "accept": f"""Drafts acceptances of what a report found. Usage: {NAME} accept REPORT.json --reason TEXT > accept.toml.
 
-A helper: no part of the proved program, and only tested. For each finding of the report that counts and can be accepted it
-writes a table [[accept]], with the finding's line above it, as --accept of {NAME} check reads them. Read the draft, and leave
-out what is to be fixed: nothing of it is looked at again. The status is 0, or 3 for a fault.
+A helper: no part of the proved program, and only tested. Findings of the report that count and can be accepted
+are written as tables [[accept]], one for each cause, with the findings' lines above it, as --accept of {NAME} check reads them.
+Read the draft, and leave out what is to be fixed: nothing of it is looked at again. The status is 0, or 3 for a fault.
 """,
     "ask": f"""Asks zirofen of one user and one subtree of this host, by name. Usage: {NAME} ask NAME|UID PATH. Run it as root.
 
@@ -266,6 +266,7 @@ def add_accept(parser: argparse.ArgumentParser) -> None:
     parser.add_argument("--until", metavar="DAY", help="the last day on which they are, as 2027-01-31 (90 days from now)")
     parser.add_argument("--only", metavar="PATH", action="append", help="what is at that cgroup or inside it, or a container by its name; "
                         "once or more")
+    parser.add_argument("--host", action="store_true", help="each block is for the report's host alone, as in one file for many hosts")
 
 
 def add_page(parser: argparse.ArgumentParser) -> None:

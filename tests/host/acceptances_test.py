@@ -135,6 +135,41 @@ class AcceptancesTest(HostTest):
         rows = [{**self.ALL[2], "entry": entry} for entry in ("cpu.idle", "cpu.max")]
         self.assertEqual(self.states(*rows), ["accepted", "unmet"])
 
+    def of_one_cause(self, **more):
+        """The text of one block for what is accepted of alice's, and of it all with one finding more."""
+        rows = "".join(f'{{what = "{what}", path = "{path}", entry = {json.dumps(entry)}}}, ' for what, path, entry in (
+            ("escapes/limit-file", "/a", ["memory.max", "memory.high"]), ("escapes/limit-file", "/none", "memory.max")))
+        keys = {"whom": "alice(1000)", "reason": "one cause", "until": "2026-12-31", **more}
+        return f"[[accept]]\nfindings = [{rows}]\n" + "".join(f"{key} = {json.dumps(value)}\n" for key, value in keys.items())
+
+    def test_one_block_of_several_findings(self):
+        self.write(text=self.of_one_cause())
+        given = acceptances.read(self.file)
+        self.assertEqual([(each.what, each.path, each.entry, each.reason) for each in given], [
+            ("escapes/limit-file", "/a", "memory.max", "one cause"), ("escapes/limit-file", "/a", "memory.high", "one cause"),
+            ("escapes/limit-file", "/none", "memory.max", "one cause")])
+        found = acceptances.applied(made(self.report(json=True)), given, TODAY)
+        # each finding is accepted by itself, and what isn't there any more is told
+        self.assertEqual([each.state for each in found.acceptances], ["accepted", "unmet", "unmet"])
+
+    def test_one_for_some_hosts_alone(self):
+        report = made(self.report(json=True))
+        for host, states in (("web1", ["accepted"]), (["db", "web1"], ["accepted"]), ("db", []), ("", [])):
+            found = acceptances.applied(replace(report, host="web1"), self.given({**ROW, "host": host}), TODAY)
+            self.assertEqual(([each.state for each in found.acceptances], found.status), (states, 1), host)
+            self.assertEqual(any(each.path == "/a" and isinstance(each.accepted, str) for each in found.entries), bool(states))
+        self.assertEqual(acceptances.applied(replace(report, host=""), self.given({**ROW, "host": "db"}), TODAY).acceptances, ())
+
+    def test_what_no_block_of_several_may_have(self):
+        for text, told in ((self.of_one_cause(path="/a"), "'path' isn't known"), (self.of_one_cause(host=1), "until is a day"),
+                           (self.of_one_cause().replace('what = "escapes/limit-file", ', "", 1), "what isn't there"),
+                           (self.of_one_cause().replace("entry = ", "until = 1, entry = ", 1), "'until' isn't known"),
+                           (self.of_one_cause().replace('"memory.high"', "1"), "until is a day"),
+                           (self.of_one_cause().replace("findings = [", "findings = 1 #"), "until is a day")):
+            self.write(text=text)
+            with self.subTest(told), self.assertRaisesRegex(Fault, told):
+                acceptances.read(self.file)
+
     def test_what_no_file_may_have(self):
         without = {key: value for key, value in ROW.items() if key != "until"}
         for row, told in ((without, "until isn't there"), ({**ROW, "more": 1}, "'more' isn't known"),

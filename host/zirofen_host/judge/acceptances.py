@@ -1,6 +1,6 @@
 """From a file of findings that somebody accepts, and a report, to the report in which these don't count.
 
-Each is named by its place and whom it lets in, with a reason and an end.
+Each is named by its place and whom it lets in, with a reason and an end; one block may have several findings, of one cause.
 """
 import datetime
 import errno
@@ -8,7 +8,8 @@ import os
 import re
 import stat
 from dataclasses import dataclass, replace
-from typing import Dict, FrozenSet, Iterable, List, Mapping, NamedTuple, NoReturn, Optional, Tuple, Union
+from typing import (Callable, Dict, FrozenSet, Iterable, Iterator, List, Mapping, NamedTuple, NoReturn, Optional, Sequence, Tuple,
+                    Union)
 
 from zirofen_host.collect import bounded
 from zirofen_host.collect.model import GROUP, OTHERS, OWNER
@@ -24,7 +25,9 @@ from zirofen_host.judge.standing import severity_of
 from zirofen_host.output import opened_back, refused
 from zirofen_host.profile import ANYBODY, shown
 
-KEYS = ("what", "path", "entry", "whom", "reason", "until")
+# of a finding, of a block of one or several, and of a block for some hosts alone
+PLACE, KEYS = ("what", "path", "entry"), ("whom", "reason", "until")
+FINDINGS, HOST = "findings", "host"
 OVER, UNMET, WORSE = "over", "unmet", "worse"
 # somebody as a line tells of them
 _GROUP = re.compile(r"group (?:.+\(([0-9]+)\)|([0-9]+))\Z")
@@ -54,6 +57,8 @@ class Given:
     named: Tuple[Named, ...]
     reason: str
     until: datetime.date
+    # the hosts that it is for, where it isn't for all
+    hosts: Tuple[str, ...] = ()
 
     def is_met_by(self, found: Finding) -> bool:
         """Whether a finding is what was accepted: at the same entry, no graver, and letting in nobody else."""
@@ -104,7 +109,7 @@ def read(file: str) -> Optional[Tuple[Given, ...]]:
             raise ValueError
     except (AttributeError, TypeError, ValueError, RecursionError):
         raise Fault(f"{source} are no TOML with tables [[accept]] alone") from None
-    return tuple(given_in(row, f"{source}: [[accept]] {number}") for number, row in enumerate(rows, 1))
+    return tuple(each for number, row in enumerate(rows, 1) for each in given_in(row, f"{source}: [[accept]] {number}"))
 
 
 def bytes_of(file: str) -> bounded.Read:
@@ -117,27 +122,43 @@ def bytes_of(file: str) -> bounded.Read:
     return found
 
 
-def given_in(row: Mapping[str, object], place: str) -> Given:
-    """One acceptance, or the fault of its first key that is wrong."""
+def given_in(row: Mapping[str, object], place: str) -> Iterator[Given]:
+    """What one block accepts, or the fault of its first key that is wrong."""
     def wrong(why: str) -> NoReturn:
         raise Fault(f"{place}: {why}") from None
-    missing, unknown = [key for key in KEYS if key not in row], sorted(set(row) - set(KEYS))
-    if missing or unknown:
-        wrong(f"{missing[0]} isn't there" if missing else f"{unknown[0]!a} isn't known")
+    wanted = (FINDINGS,) if FINDINGS in row else PLACE
+    check_keys(row, (*wanted, *KEYS), (HOST,), wrong)
     try:
-        what, path, entry, reason = (text_in(row[key]) for key in ("what", "path", "entry", "reason"))
-        whom = texts_of(row["whom"])
-        until = day_in(row["until"])
+        whom, until, reason = texts_of(row["whom"]), day_in(row["until"]), text_in(row["reason"])
+        hosts = texts_of(row.get(HOST, []))
+        tables = [table_in(each) for each in parts_in(row[FINDINGS])] if FINDINGS in row else [{key: row[key] for key in PLACE}]
+        for each in tables:
+            check_keys(each, PLACE, (), wrong)
+        places = [(text_in(each["what"]), text_in(each["path"]), entry) for each in tables for entry in entries_of(each["entry"])]
     except (TypeError, ValueError):
         wrong("until is a day, as 2027-01-31, whom a text or a list of texts, and each other a text")
-    if what not in ACCEPTABLE:
-        wrong(f"{what!a} is nothing that can be accepted: {', '.join(ACCEPTABLE)}")
+    unknown = next((what for what, _, _ in places if what not in ACCEPTABLE), None)
+    if unknown is not None:
+        wrong(f"{unknown!a} is nothing that can be accepted: {', '.join(ACCEPTABLE)}")
     if not reason.strip():
         wrong("reason is empty")
     try:
-        return Given(what, path, entry, whom, tuple(map(somebody_in, whom)), reason, until)
+        named = tuple(map(somebody_in, whom))
     except ValueError as error:
         wrong(f"whom {error}")
+    for what, path, entry in places:
+        yield Given(what, path, entry, whom, named, reason, until, hosts)
+
+
+def check_keys(row: Mapping[str, object], wanted: Sequence[str], more: Sequence[str], wrong: Callable[[str], NoReturn]) -> None:
+    missing, unknown = [key for key in wanted if key not in row], sorted(set(row) - {*wanted, *more})
+    if missing or unknown:
+        wrong(f"{missing[0]} isn't there" if missing else f"{unknown[0]!a} isn't known")
+
+
+def entries_of(value: object) -> Tuple[str, ...]:
+    """The entries of one finding or of several, each as it has it."""
+    return (value,) if isinstance(value, str) else texts_in(value)
 
 
 def texts_of(value: object) -> Tuple[str, ...]:
@@ -153,12 +174,13 @@ def day_in(value: object) -> datetime.date:
 
 def applied(report: Report, given: Iterable[Given], today: datetime.date) -> Report:
     """A report with what was accepted, which isn't counted, and with each acceptance as it stands."""
+    of_host = [each for each in given if not each.hosts or report.host and report.host in each.hosts]
     by_path: Dict[str, List[Finding]] = {}
     for found in findings_of(report):
         if found.rule.id in ACCEPTABLE:
             for place in {found.path, found.place}:
                 by_path.setdefault(place, []).append(found)
-    met = [(each, next((found for found in by_path.get(each.path, ()) if each.is_met_by(found)), None)) for each in given]
+    met = [(each, next((found for found in by_path.get(each.path, ()) if each.is_met_by(found)), None)) for each in of_host]
     why = {(found.path, entry_key(found), kind_of(found.rule)): f"{each.reason}, until {each.until}"
            for each, found in met if found and today <= each.until}
     report = replace(report, entries=tuple(accepted_entry(each, why) for each in report.entries),

@@ -17,5 +17,8 @@ def run(given: argparse.Namespace) -> int:
         until = datetime.date.fromisoformat(given.until) if given.until else datetime.date.today() + datetime.timedelta(DAYS)
     except ValueError:
         raise fault.Fault(f"{given.until} is no day, as 2027-01-31") from None
-    fault.write_lines(drafts.drafts(saved.read(given.report), given.reason, until, given.only or ()))
+    report = saved.read(given.report)
+    if given.host and not report.host:
+        raise fault.Fault(f"{given.report} names no host")
+    fault.write_lines(drafts.drafts(report, drafts.Wanted(given.reason, until, report.host if given.host else None), given.only or ()))
     return 0
