@@ -181,7 +181,27 @@ class LanesTest(unittest.TestCase):
         asked = lane.take()
         for path, entry, waiting, told in (("/a", "memory.max 0:0", late.touched, 7), ("/a", "memory.max", {}, 8),
                                            ("/a", "cgroup.procs", late.touched, 8), ("docker:a", "memory.max", late.touched, None)):
-            found = messages.touched_of(asked, argparse.Namespace(path=path, entry=entry), waiting.get)
+            found = messages.touched_of(asked, change_at(path, entry), waiting.get, 3.5)
+            self.assertEqual(found and found.doers[0].pid, told)
+
+    def test_who_did_the_last_of_it(self):
+        """Where an entry was changed again before a check of it began, that is what it found."""
+        lane, late = lanes.Lane(0, 0.0), lanes.Lane(0, 0.0)
+        lane.touch(Event(b"/a", b"memory.max", ATTRIB, 7), 1, 3.0, Doer(7))
+        late.touch(Event(b"/a", b"memory.max", ATTRIB, 8), 1, 5.0, Doer(8))
+        asked = lane.take()
+        for began, told in ((4.0, 7), (6.0, 8)):
+            self.assertEqual(messages.touched_of(asked, change_at("/a", "memory.max"), late.touched.get, began).doers[0].pid, told)
+
+    def test_what_no_event_inside_explains(self):
+        """A container that isn't held, or an option that is missing, is by nobody who changed something further inside."""
+        lane = lanes.Lane(0, 0.0)
+        lane.touch(Event(b"/a/b", b"memory.max", ATTRIB, 7), 1, 3.0, Doer(7))
+        lane.touch(Event(b"/c", b"", CREATE | IS_FOLDER, 8), 1, 3.0, Doer(8))
+        asked = lane.take()
+        for path, what, told in (("/a", "subtree", 7), ("/a", "root-inside", None), ("/", "mount-options", None),
+                                 ("/c/d", "root-inside", 8)):
+            found = messages.touched_of(asked, change_at(path, "", what), {}.get, 4.0)
             self.assertEqual(found and found.doers[0].pid, told)
 
     def test_what_is_kept_of_a_flood(self):
@@ -191,6 +211,10 @@ class LanesTest(unittest.TestCase):
         for number in range(100):
             lane.touch(Event(b"/a", b"0", CREATE | IS_FOLDER, number), 1, 1.0, Doer(number))
         self.assertEqual((len(lane.touched), len(lane.touched[b"/a/0", "dir"].doers)), (lanes.MOST_TOUCHED, lanes.MOST_DOERS))
+
+
+def change_at(path, entry, what="entry"):
+    return argparse.Namespace(path=path, entry=entry, difference=argparse.Namespace(what=what))
 
 
 def item(path, severity=Severity.ESCAPES, lets_in=(), is_accepted=False, line=""):

@@ -35,8 +35,8 @@ class Findings:
         self.counts[each.kind] += 1
         self.out(each)
 
-    def take(self, asked: Asked, made: Result, is_first: bool, waiting: messages.Waiting) -> Then:
-        """Tells what differs from what was known."""
+    def take(self, asked: Asked, made: Result, is_first: bool, waiting: messages.Waiting, began: float) -> Then:
+        """Tells what differs from what was known; the check began at that time."""
         compared = known.compared(self.known, made.items, made.part)
         self.known = compared.known
         # what is there at first, where nobody has seen it before
@@ -45,7 +45,7 @@ class Findings:
         by = "it stands at the first check" if is_first else f"it was found by {asked.why or 'a check of what is beside it'}"
         said: Set[lanes.Place] = set()
         for change in kept:
-            touched = messages.touched_of(asked, change, waiting)
+            touched = messages.touched_of(asked, change, waiting, began)
             if change.path.startswith("/"):
                 said.add((path_of(change.path), change.entry.split(" ")[0] or lanes.DIRECTORY))
             self.tell(messages.of_change(change, touched, time.time(), by))

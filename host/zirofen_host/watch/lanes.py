@@ -168,12 +168,13 @@ class Asked(NamedTuple):
     first: float
     touched: Dict[Place, Touched]
 
-    def at(self, path: CgroupPath, entry: str) -> Optional[Touched]:
-        """What happened to an entry: to itself, else to its cgroup, else to one above, else to one inside."""
+    def at(self, path: CgroupPath, entry: str, has_inside: bool = True) -> Optional[Touched]:
+        """What happened to an entry: to itself, else to its cgroup, else to one above, else to one inside where that may be why."""
         for wanted in ((path, entry), (path, DIRECTORY)):
             if wanted in self.touched:
                 return self.touched[wanted]
-        near = [(place, each) for place, each in self.touched.items() if is_inside(path, place[0]) or is_inside(place[0], path)]
+        near = [(place, each) for place, each in self.touched.items()
+                if is_inside(path, place[0]) or has_inside and is_inside(place[0], path)]
         return max(near, key=lambda pair: (is_inside(path, pair[0][0]), len(pair[0][0])), default=(None, None))[1]
 
 

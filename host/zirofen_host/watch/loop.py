@@ -312,7 +312,7 @@ class Loop:
     def compare(self, run: Running, made: Result) -> None:
         """Reports what differs, and asks more where that takes it."""
         is_first = run.lane.person == lanes.HOST and not self.has_surveyed or run.lane.person == lanes.DEEP and not self.has_begun
-        then = self.findings.take(run.asked, made, is_first, self.waiting)
+        then = self.findings.take(run.asked, made, is_first, self.waiting, time.time() - (time.monotonic() - run.began))
         self.events.know(made.inodes, then.gone, run.began)
         if is_first:
             self.begin(run, made)

@@ -4,6 +4,7 @@ from typing import Callable, Dict, Iterable, Iterator, List, Mapping, NamedTuple
 
 from zirofen_host.collect import bounded
 from zirofen_host.judge.host_model import Absent
+from zirofen_host.judge.rules import HELD, PREMISES, ROOT_INSIDE, RUNS
 from zirofen_host.profile import path_of
 from zirofen_host.show.lines import difference_lines
 from zirofen_host.watch.doers import Doer
@@ -18,6 +19,8 @@ BACK, LIMIT, WATCH = "back", "limit", "watch"
 IN_AN_HOUR = 256
 # letters of one line
 LONGEST = 2048
+# what rests on processes and mounts, which no event of what is further inside explains
+OF_PROCESSES = {ROOT_INSIDE, RUNS, HELD, *PREMISES}
 
 
 class Message(NamedTuple):
@@ -99,10 +102,13 @@ class Folding:
         return kept, more
 
 
-def touched_of(asked: Asked, change: Change, waiting: Waiting) -> Optional[Touched]:
+def touched_of(asked: Asked, change: Change, waiting: Waiting, began: float) -> Optional[Touched]:
     """What events say of where something differs: those that it was asked of by, else one of that very entry that waits to be asked of,
-    which a check that was on its way has found."""
+    which a check that was on its way has found; of one that waits since before that check began, the same in place of earlier ones."""
     if not change.path.startswith("/"):
         return None
     place = path_of(change.path), change.entry.split(" ")[0] if change.entry else DIRECTORY
-    return asked.touched.get(place) or waiting(place) or asked.at(*place)
+    here, later = asked.touched.get(place), waiting(place)
+    if later and (here is None or later.first <= began):
+        return later
+    return here or asked.at(*place, has_inside=change.difference.what not in OF_PROCESSES)
