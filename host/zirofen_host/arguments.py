@@ -1,6 +1,7 @@
 """From a subcommand's name to the parser of its command line, and what its --help says."""
 import argparse
 import os
+import re
 from typing import Callable, Dict, Sequence
 
 from zirofen_host.fault import Parser
@@ -171,6 +172,16 @@ def add_format(parser: argparse.ArgumentParser) -> None:
                         f"older programs take: {TEXT_FORMATS[2].most_rows} cgroups and processes in a text, and three controllers")
 
 
+def uri(word: str) -> str:
+    if not re.fullmatch(r"https?://[!$%&'()*+,./:;=?@A-Z_a-z~0-9-]+", word):
+        raise argparse.ArgumentTypeError("it is no address of a page, as https://example.org/docs/HOSTS.md")
+    return word
+
+
+def add_help_uri(parser: argparse.ArgumentParser) -> None:
+    parser.add_argument("--help-uri", metavar="URI", type=uri, help="where docs/HOSTS.md is on the web: sarif leads there from its rules")
+
+
 def add_text(parser: argparse.ArgumentParser) -> None:
     parser.add_argument("--tree", metavar="FILE", help=f"a tree text in place of this host, as {NAME} snapshot writes it, - for standard "
                         f"input; by number alone, but for accounts by --accounts, or in the text by {NAME} snapshot --with-host")
@@ -208,6 +219,7 @@ def add_check(parser: argparse.ArgumentParser) -> None:
     parser.add_argument("--format", metavar="KIND", type=way, action="append", default=[], help=f"{', '.join(FORMATS)}, or KIND=FILE into "
                         "a file; once or more. Where none goes to standard output, the text does")
     parser.add_argument("--json", action="store_true", help="what --format json is: all of it, with the host's cgroups and processes")
+    add_help_uri(parser)
     parser.add_argument("--mends", metavar="KIND", type=way_to_mend, action="append", default=[], help="in place of the text, what mends "
                         "the findings by what root's settings say: as a script for root (shell), or where to look alone (systemd); or "
                         "KIND=FILE into a file")
@@ -235,6 +247,7 @@ def add_watch(parser: argparse.ArgumentParser) -> None:
     parser.add_argument("--format", metavar="KIND", type=way, action="append", default=[], help=f"{', '.join(FORMATS)}, or KIND=FILE into "
                         "a file, as check writes it: on SIGUSR1 and at the end; metrics=FILE each time that something changed, too")
     parser.add_argument("--json", action="store_true", help="what --format json is")
+    add_help_uri(parser)
     parser.add_argument("--mends", metavar="KIND", type=way_to_mend, action="append", default=[], help="what mends the findings, also then")
     parser.add_argument("--html", metavar="FILE", help="one page of it to look at, also then")
     parser.add_argument("--each", action="store_true", help="of these forms each finding by itself")

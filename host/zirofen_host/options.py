@@ -70,6 +70,8 @@ class CheckOptions(Options):
     baseline_update: Optional[str] = None
     # what somebody accepts one by one
     accept: Optional[str] = None
+    # the page on the web that says what each finding means
+    help_uri: Optional[str] = None
 
 
 @dataclass(frozen=True)

@@ -3,6 +3,7 @@ import json
 import os
 import shlex
 import stat
+import subprocess
 import tempfile
 import unittest
 from dataclasses import replace
@@ -20,7 +21,7 @@ from zirofen_host.judge.host_model import Owner
 from zirofen_host.judge.model import FaultFinding, OpenedFinding, ReportNote, Whom
 from zirofen_host.judge.rules import RULES, findings_of
 from zirofen_host.options import CheckOptions, Way
-from zirofen_host.show import formats, junit, metrics, sarif
+from zirofen_host.show import formats, junit, markup, metrics, rule_help, sarif
 from zirofen_host.show.run import Run
 
 # what a user may have as a name, and no reader may act on
@@ -97,6 +98,28 @@ class SarifTest(unittest.TestCase):
         rules = [rule["id"] for rule in log["runs"][0]["tool"]["driver"]["rules"]]
         self.assertEqual(rules, list(RULES))
         self.assertTrue(all(rules[each["ruleIndex"]] == each["ruleId"] for each in log["runs"][0]["results"]))
+
+    def test_each_rule_has_what_the_docs_say_of_it(self):
+        copied = subprocess.run([f"{TOP}/tools/findings"], stdout=subprocess.PIPE, text=True, check=True).stdout
+        self.assertEqual(markup.read(rule_help.FILE), copied, "tools/findings --write writes it anew")
+        for page in (None, "https://example.org/docs/HOSTS.md"):
+            run = replace(run_of(example.kept()), help_uri=page)
+            for rule in self.log(run)["runs"][0]["tool"]["driver"]["rules"]:
+                text = rule["help"]["markdown"]
+                self.assertIn("*Means*: ", text)
+                self.assertIn(f"\n\n*How grave*: `{RULES[rule['id']].severity.value}`, status ", text)
+                self.assertIs("](" in text, bool(page) and "](" in rule_help.sections()[rule["id"]].markdown, rule["id"])
+                self.assertNotIn("](#", text)
+                self.assertEqual("helpUri" in rule, bool(page))
+        rules = {rule["id"]: rule for rule in self.log(run)["runs"][0]["tool"]["driver"]["rules"]}
+        self.assertEqual(rules["escapes/limit-file"]["helpUri"], f"{page}#escapeslimit-file-unsettledlimit-file")
+        self.assertEqual([faults for faults in debian_readers.faults_by_schema(schema(), [self.log(run)])], [[]])
+
+    def test_a_page_that_is_none(self):
+        for word in ("docs/HOSTS.md", "https://", "javascript:x", "https://a b"):
+            ended = called("check", "--tree", ESCAPING, "--help-uri", word)
+            self.assertEqual((ended.returncode, ended.stdout), (3, ""))
+            self.assertIn("it is no address of a page", ended.stderr)
 
     def test_a_fingerprint_stays_while_the_finding_does(self):
         report = made(example.kept())

@@ -50,7 +50,7 @@ def run(given: argparse.Namespace) -> int:
         options = dataclasses.replace(options, baseline=None, baseline_update=None)
     report = found.report
     status = report.status if isinstance(report.baseline, Absent) else report.baseline.status
-    made = Run(report, status, options.tree, found.text, time.monotonic() - began, time.time())
+    made = Run(report, status, options.tree, found.text, time.monotonic() - began, time.time(), options.help_uri)
     return status if write_all(options, ways, made, found.is_first) else fault.FAULT
 
 

@@ -72,5 +72,5 @@ def write(options: WatchOptions, ways: Tuple[Way, ...], report: Report, seconds:
         report = dataclasses.replace(report, baseline=baseline.compared(report, before, options.baseline))
     options = dataclasses.replace(options, baseline_update=None)
     status = report.status if isinstance(report.baseline, Absent) else report.baseline.status
-    if not write_all(options, ways, Run(report, status, None, None, seconds, time.time()), False):
+    if not write_all(options, ways, Run(report, status, None, None, seconds, time.time(), options.help_uri), False):
         raise fault.Fault("not every form was written")

@@ -20,6 +20,8 @@ class Run:
     # how long it took, and when it ended: seconds since 1970
     seconds: float = 0.0
     ended: float = 0.0
+    # the page on the web that says what each finding means
+    help_uri: Optional[str] = None
 
     @property
     def comparison(self) -> Optional[Comparison]:

@@ -17,6 +17,7 @@ from zirofen_host.judge.model import Report
 from zirofen_host.judge.notes import Outside
 from zirofen_host.judge.rules import RULES, Finding, Rule
 from zirofen_host.profile import LONGEST_TEXT
+from zirofen_host.show import rule_help
 from zirofen_host.show.run import Run
 
 SCHEMA = "https://docs.oasis-open.org/sarif/sarif/v2.1.0/os/schemas/sarif-schema-2.1.0.json"
@@ -40,11 +41,14 @@ def level_of(severity: Severity) -> str:
     return "error" if severity in ERRORS else "note" if severity is Severity.CONTAINED else "warning"
 
 
-def rule_object(rule: Rule) -> Object:
-    help_text = {"text": f"{rule.description} What to do: {PAGE}, section {rule.id}.",
-                 "markdown": f"{rule.description}\n\nWhat to do: *{PAGE}*, section `{rule.id}`."}
-    return {"id": rule.id, "shortDescription": {"text": rule.what}, "fullDescription": {"text": rule.description}, "help": help_text,
-            "defaultConfiguration": {"level": level_of(rule.severity)}}
+def rule_object(rule: Rule, page: Optional[str]) -> Object:
+    """A kind of finding with what it means, how grave it is, its cause and its mend, and where a page on the web says so, if named."""
+    section = rule_help.sections()[rule.id]
+    grave = f"*How grave*: `{rule.severity.value}`, status {rule.severity.status}. {rule.description}"
+    more: Object = {"helpUri": f"{page}#{section.anchor}"} if page else {}
+    help_text = {"text": f"{rule.description} What to do: {PAGE}, section {rule.id}.", "markdown": f"{section.linked(page)}\n\n{grave}"}
+    return {"id": rule.id, "shortDescription": {"text": rule.what}, "fullDescription": {"text": rule.description}, **more,
+            "help": help_text, "defaultConfiguration": {"level": level_of(rule.severity)}}
 
 
 def rows_in(text: Optional[str]) -> Mapping[str, int]:
@@ -123,7 +127,7 @@ def notifications(report: Report) -> Object:
 
 def run_object(run: Run) -> Object:
     report, numbers = run.report, {kind: at for at, kind in enumerate(RULES)}
-    driver: Object = {"name": "zirofen-host", "rules": list(map(rule_object, RULES.values()))}
+    driver: Object = {"name": "zirofen-host", "rules": [rule_object(each, run.help_uri) for each in RULES.values()]}
     if not isinstance(report.helper, Absent):
         driver["version"] = plain(report.helper.partition(" ")[2])
     rows = rows_in(run.text)

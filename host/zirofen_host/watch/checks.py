@@ -108,7 +108,7 @@ def look(options: WatchOptions, part: CgroupPath, shallow: Sequence[int], write:
     if write:
         write(report, seconds)
     asked = Part(text_of(part), frozenset(left_out(taken, options)), frozenset(map(text_of, taken.cgroups)))
-    run = Run(report, report.status, None, None, seconds, time.time())
+    run = Run(report, report.status, None, None, seconds, time.time(), options.help_uri)
     return Result(items_of(report), asked, {path: guarded_of(found) for path, found in taken.cgroups.items()},
                   inodes_of(options.mount, taken.cgroups), bool(taken.scopes), report.status, status_text(report),
                   "".join(metrics.parts_of(run)) if asked.is_whole else "")
