@@ -47,7 +47,7 @@ def of_program(words, *reads, packages=(), is_fresh=False):
 
 
 def program_tests(name, *reads):
-    return of_program(f"tests/program/{name}.py", *WRAPPER, "tests/program/case.py", "examples", *reads)
+    return of_program(f"tests/program/{name}.py", *WRAPPER, "tests/program/case.py", "tests/program/of_one.py", "examples", *reads)
 
 
 def of_model(words, *reads, **more):
@@ -72,7 +72,8 @@ def modules_of(folder, file):
 def host_tests():
     """The tests of the helpers, file by file."""
     helpers = sorted({*glob.glob("tests/host/*")} - {*glob.glob("tests/host/*_test.py"), "tests/host/__pycache__"})
-    reads = ("host", "examples", "docs", "README.md", "CHANGELOG.md", "tools", "crates/cg_cgroup/specs", *helpers, *WRAPPER, *USERS)
+    reads = ("host", "examples", "docs", "README.md", "CHANGELOG.md", "tools", "crates/cg_cgroup/specs", "tests/program/of_one.py", *helpers, *WRAPPER,
+             *USERS)
     for file in sorted(map(os.path.basename, glob.glob("tests/host/*_test.py"))):
         modules = modules_of("tests/host", file)
         packages = tuple(it for name, of_module in READERS.items() if f"tests/host/{name}" in modules for it in of_module)
@@ -99,7 +100,7 @@ PARTS = [
     Part("plant", "gate/plant --compare", ("gate", "crates", "crates.txt", "HANDLES")),
     of_toolchain("gate/tests", "HANDLES", *(f"{CRATE}{it}" for it in ("test_calls", "test_layers", "test_plans"))),
     of_toolchain("gate/tests --unproved", "HANDLES", *(f"{CRATE}{it}" for it in ("test_calls", "test_layers"))),
-    of_toolchain("gate/trials", "HANDLES", f"{CRATE}trials", "tests/program/trial_rows.py", "examples"),
+    of_toolchain("gate/trials", "HANDLES", f"{CRATE}trials", "tests/program/trial_rows.py", "tests/program/of_one.py", "examples"),
     of_toolchain("gate/test_edits", "gate/edits", "gate/proofs", "gate/*.py"),
     of_toolchain("gate/test_kept", "gate/edits", "gate/proofs", "gate/*.py"),
     program_tests("answers", "tests/program/format_4_rows.py"),
@@ -108,8 +109,8 @@ PARTS = [
     program_tests("migrations"),
     program_tests("words"),
     program_tests("help"),
-    of_program("tests/program/devices.py PROGRAM", PROGRAM, "tests/program/case.py", "tests/program/device_rows.py", "tests/program/failing.c", "examples",
-               packages=COMPILER),
+    of_program("tests/program/devices.py PROGRAM", PROGRAM, "tests/program/case.py", "tests/program/device_rows.py", "tests/program/of_one.py",
+               "tests/program/failing.c", "examples", packages=COMPILER),
     of_model("run PROGRAM --seed 51 --cases 7500 --blind --table --kept"),
     of_model("run PROGRAM --cases 1000", is_fresh=True),
     of_model("fuzz PROGRAM"),
@@ -117,7 +118,7 @@ PARTS = [
     of_model("search PROGRAM --large --trees 40", is_fresh=True),
     of_program("tests/model/walks --trees 500", "tests/model/second", "tests/model/trials", is_fresh=True),
     of_folder("tests/gate", "tests/gate", "gate", "verify", "tools", "zirofen", "crates.txt", "crates/machine",
-              "tests/program/trial_rows.py"),
+              "tests/program/trial_rows.py", "tests/program/of_one.py"),
     of_folder("tests/tools", "tests/tools", "tests/model/trials", "tests/model/second", "tests/program/*.py", "tools", "gate", "crates.txt", "crates", "docs", "*.md",
               "tests/kernel/RESULTS.md", "host/zirofen_host",
               "examples", "zirofen", PROGRAM),

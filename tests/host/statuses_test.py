@@ -4,6 +4,7 @@ import json
 import os
 import re
 import subprocess
+import sys
 import tempfile
 import unittest
 
@@ -16,6 +17,9 @@ from zirofen_host.collect.bounded import CGROUP_BYTES
 from zirofen_host.judge import saved, standing
 from zirofen_host.judge.severity import Severity
 
+sys.path.append(f"{TOP}/tests/program")
+from of_one import OF_ONE  # noqa: E402
+
 GOOD, OPEN = f"{TOP}/examples/delegation.toml", f"{TOP}/examples/delegation-limit-writable.toml"
 UNSETTLED, FAULT = f"{TOP}/examples/parent-procs-no-process.toml", f"{TOP}/examples/fault-no-parent.toml"
 OPERATIONS = f"{TOP}/examples/delegation-filled.ops"
@@ -23,10 +27,8 @@ MANAGER = "/user.slice/user-1000.slice/user@1000.service"
 # of each command of the program a call for each status
 PROGRAM = {
     "may": {0: (GOOD, "--uid 1000 --pid 11 --to /c0/c01"), 1: (GOOD, "--uid 1000 --pid 10 --to /c0/c00"), 3: (GOOD, "--uid 1000")},
-    "check": {0: (GOOD, "--uid 1000 --subtree /c0"), 1: (OPEN, "--uid 1000 --subtree /c0"), 2: (UNSETTLED, "--uid 1000 --subtree /p/s"),
-              3: (FAULT, "--uid 1000 --subtree /c0")},
-    "settle": {0: (GOOD, "--uid 1000 --subtree /c0"), 1: (OPEN, "--uid 1000 --subtree /c0"), 2: (UNSETTLED, "--uid 1000 --subtree /p/s"),
-               3: (GOOD, "--uid 1000 --subtree /none")},
+    **{command: {0: (GOOD, "--uid 1000 --subtree /c0"), 1: (OPEN, "--uid 1000 --subtree /c0"), 2: (UNSETTLED, "--uid 1000 --subtree /p/s"),
+                 3: (FAULT, "--uid 1000 --subtree /c0")} for command in OF_ONE},
     "audit": {0: (GOOD, "--uid 1000 --subtree /c0"), 1: (OPEN, "--uid 1000 --subtree /c0"), 2: (UNSETTLED, "--uid 1000 --subtree /p/s"),
               3: (GOOD, "--uid 1000")},
     "explain": {0: (GOOD, "--uid 1000 --subtree /c0"), 1: (OPEN, "--uid 1000 --subtree /c0"), 2: (UNSETTLED, "--uid 1000 --subtree /p/s"),

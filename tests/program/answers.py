@@ -7,6 +7,7 @@ import re
 import sys
 
 sys.dont_write_bytecode = True
+import of_one
 from case import EXAMPLES, TOP, Case, call, run
 from format_4_rows import rows as format_4_rows
 
@@ -82,29 +83,17 @@ def migrations(_):
     yield fault("usage", "may", "--uid", "1000", "--pid", "11")
 
 
-def checks(_):
-    yield Case(["check", *asked("1000", "/c0")], 0, ["contained"])
-    yield Case(["check", *tree("delegation-limit-writable"), *asked("1000", "/c0")], 1, LIMIT_SET)
-    yield Case(["check", *tree("delegation-parent-directory"), *asked("1000", "/c0")], 2, ["unsettled parent-dir /"])
-    yield fault("uid", "check", *asked("0", "/c0"))
-    yield fault("path", "check", *asked("1000", "c0"))
-    yield fault("subtree root", "check", *asked("1000", "/"))
-    yield fault("subtree missing", "check", *asked("1000", "/zz"))
-    yield fault("usage", "check", "--uid", "1000")
-
-
-def settled(_):
-    yield Case(["settle", *asked("1000", "/c0")], 0, ["contained"])
-    yield Case(["settle", *tree("parent-procs-owned"), *asked("1000", "/p/s")], 0, ["contained"])
-    yield Case(["settle", *tree("delegation-limit-writable"), *asked("1000", "/c0")], 1, LIMIT_SET)
-    yield Case(["settle", *tree("delegation-parent-directory"), *asked("1000", "/c0")], 1, ["escapes", *EMPTIED])
-    yield Case(["settle", *tree("parent-procs-no-process"), *asked("1000", "/p/s")], 2, ["unsettled common-ancestor /p"])
-    yield fault("uid", "settle", *asked("0", "/c0"))
-    yield fault("path", "settle", *asked("1000", "c0"))
-    yield fault("subtree root", "settle", *asked("1000", "/"))
-    yield fault("subtree missing", "settle", *asked("1000", "/zz"))
-    yield fault("read", "settle", *tree("none"), *asked("0", "c0"))
-    yield fault("usage", "settle", "--uid", "1000")
+def of_one_subtree(_):
+    for command, example, subtree, said, status in of_one.rows():
+        yield Case([command, *tree(example), *asked(of_one.USER, subtree)], status, said.split("|"))
+    for command in of_one.OF_ONE:
+        yield Case([command, *asked("1000", "/c0")], 0, ["contained"])
+        yield fault("uid", command, *asked("0", "/c0"))
+        yield fault("path", command, *asked("1000", "c0"))
+        yield fault("subtree root", command, *asked("1000", "/"))
+        yield fault("subtree missing", command, *asked("1000", "/zz"))
+        yield fault("read", command, *tree("none"), *asked("0", "c0"))
+        yield fault("usage", command, "--uid", "1000")
 
 
 # what is told of the delegation, where all guards hold
@@ -267,7 +256,7 @@ def upgrades(program):
 
 
 def cases(program):
-    for table in command_lines, migrations, checks, settled, explained, audits, paired, advices, replays, upgrades:
+    for table in command_lines, migrations, of_one_subtree, explained, audits, paired, advices, replays, upgrades:
         yield from table(program)
     yield from format_4_rows()
 

@@ -1,6 +1,8 @@
 """The rows that tests/program/devices.py runs: of each command each kind of answer, of each format, and each kind of fault."""
 import collections, os, subprocess
 
+import of_one
+
 Row = collections.namedtuple("Row", "command words tree out err status")
 
 # each on the tree of examples/NAME.toml, which is standard input, or a file where --tree stands in the words
@@ -20,11 +22,8 @@ ANSWERS = (
     ("parent-delegated", "check --tree {tree} --uid 1000 --subtree /p/s", 1, "escapes|mkdir /p/probe0|move 20 /p/probe0"),
     ("delegation-parent-directory", "check --uid 1000 --subtree /c0", 2, "unsettled parent-dir /"),
     ("parent-procs-owned", "check --uid 1000 --subtree /p/s", 2, "unsettled common-ancestor /p"),
-    ("delegation", "settle --tree {tree} --uid 1000 --subtree /c0", 0, "contained"),
-    ("parent-procs-owned", "settle --uid 1000 --subtree /p/s", 0, "contained"),
-    ("delegation-limit-writable", "settle --uid 1000 --subtree /c0", 1, "escapes|set /c0 memory.max max"),
-    ("delegation-parent-directory", "settle --uid 1000 --subtree /c0", 1, "escapes|exit 11|rmdir /c0/c01|rmdir /c0/c00|rmdir /c0"),
-    ("parent-procs-no-process", "settle --uid 1000 --subtree /p/s", 2, "unsettled common-ancestor /p"),
+    *((example, f"{command} {'--tree {tree} ' if example == 'delegation' else ''}--uid {of_one.USER} --subtree {subtree}", status, said)
+      for command, example, subtree, said, status in of_one.rows(of_one.FURTHER)),
     ("delegation", "audit --uid 1000 --uid 1001:5,6 --subtree /c0 --subtree /c1", 0, "contained"),
     ("delegation-ancestor-group", "audit --tree {tree} --uid 1000 --subtree /c0", 0, "contained"),
     ("delegation-second-user", "audit --uid 1000 --uid 1001 --subtree /c0 --subtree /c1", 1,
@@ -60,8 +59,8 @@ FAULTS = (
     ("may --uid 1000 --pid 0 --to /c0/c01", "pid", ""),
     ("check --uid 1000 --subtree c0", "path", ""),
     ("check --uid 1000 --subtree /", "subtree root", ""),
-    ("settle --uid 0 --subtree /c0", "uid", ""),
-    ("settle --uid 1000 --subtree /zz", "subtree missing", ""),
+    *((f"{command} {words}", fault, "") for command in of_one.FURTHER
+      for words, fault in (("--uid 0 --subtree /c0", "uid"), ("--uid 1000 --subtree /zz", "subtree missing"))),
     ("audit --uid 1000 --subtree /c0 --subtree /zz", "subtree missing", ""),
     ("replay --uid 1000 --subtree /zz --ops {none}", "subtree missing", ""),
     ("may --tree {folder} --uid 1000 --pid 11 --to /c0/c01", "read", ""),
@@ -178,7 +177,7 @@ ASKED = (
     ("parent-procs-no-process", "explain --uid 1000 --subtree /p/s", 2),
     ("build-io-cpuset", "explain --uid 1001 --subtree /build.slice/nightly", 1),
 )
-COMMANDS = ("may", "check", "settle", "audit", "explain", "replay", "upgrade", "advise")
+COMMANDS = ("may", *of_one.OF_ONE, "audit", "explain", "replay", "upgrade", "advise")
 HELP = ("--help", "--version", "may --help", "replay --help")
 
 

@@ -5,6 +5,7 @@ import os
 import tempfile
 
 from case import PIPE, Case
+from of_one import FURTHER, OF_ONE
 
 NINE = ("cpuset", "cpu", "io", "memory", "hugetlb", "pids", "rdma", "misc", "dmem")
 THREE = ("cpu", "memory", "pids")
@@ -120,19 +121,19 @@ def answers():
         yield of(BUILDS, replayed(uid), 0, *outcomes, piped=lines(operations))
         yield of(BUILDS, replayed(uid, "--subtree", subtree), int(verdict != "kept"), *outcomes, verdict, piped=lines(operations))
     for uid, subtree, operation in ESCAPES:
-        for command in "check", "settle":
+        for command in OF_ONE:
             yield of(BUILDS, asked(command, uid, subtree), 1, "escapes", operation)
         for command in "audit", "audit --all", "audit --settle", "audit --settle --all":
             yield of(BUILDS, asked(command, uid, subtree, "--uid", "1000"), 1, f"pair {uid} {subtree}", "escapes", operation)
         yield of(BUILDS, replayed(uid, "--subtree", subtree), 1, "ok", "broken 1 limits", piped=lines([operation]))
-    for command in "check", "settle", "audit", "audit --all", "advise":
+    for command in (*OF_ONE, "audit", "audit --all", "advise"):
         yield of(BUILDS, asked(command, "1000", "/p/s"), 0, "contained")
     yield of(BUILDS, asked("explain", "1001", "/p/s", "--uid", "1000"), 1, *TOLD_OF_1001, *TOLD_OF_1000)
     yield of(BUILDS, asked("advise", "1001", "/p/s"), 1, *ADVISED)
     yield of(BUILDS, ["advise", "--pairs", PIPE], 1, *ADVISED, piped=b"pair 1000 /p/s\npair 1001 /p/s\n")
     yield of(HELD, asked("check", "1003", "/q/s"), 2, "unsettled parent-control /q")
     yield of(HELD, asked("audit --all", "1003", "/q/s"), 2, "pair 1003 /q/s", "unsettled parent-control /q")
-    for command in "settle", "audit --settle", "audit --settle --all", "advise --settle":
+    for command in (*FURTHER, "audit --settle", "audit --settle --all", "advise --settle"):
         yield of(HELD, asked(command, "1003", "/q/s"), 0, "contained")
     yield of(HELD, asked("explain", "1003", "/q/s"), 0, *TOLD_OF_1003)
 
@@ -170,7 +171,7 @@ def sets():
         more = "" if value is None else f", value = {json.dumps(value)}"
         tree = of_root(4, NINE, row("/a", f'files."{name}" = {{ uid = 1000{more} }}'), f"enabled = {json.dumps(NINE)}").encode("ascii")
         escape = f"set /a {name} {text}"
-        for command in "check", "settle":
+        for command in OF_ONE:
             yield Case(asked(command, "1000", "/a"), 1, ["escapes", escape], given=tree)
         yield Case(replayed("1000", "--subtree", "/a"), 1, ["ok", "broken 1 limits"], given=tree, piped=lines([escape]))
 

@@ -13,6 +13,7 @@ from dataclasses import dataclass
 
 sys.dont_write_bytecode = True
 from case import Ended, run
+from of_one import FURTHER, OF_ONE
 
 TREE = """format = 2
 controllers = ["cpu", "memory", "pids"]
@@ -40,7 +41,7 @@ CHECK = ["check", "--uid", "1000", "--subtree", "/c0"]
 MAY = ["may", "--uid", "1000", "--pid", "10", "--to", "/c0"]
 REPLAY = ["replay", "--uid", "1000", "--ops", "OPS"]
 # what else is asked of a user and a subtree
-OF_TREE = [[*words.split(), *CHECK[1:]] for words in ("settle", "audit", "audit --all", "audit --settle", "explain", "advise", "advise --settle")]
+OF_TREE = [[*words.split(), *CHECK[1:]] for words in (*FURTHER, "audit", "audit --all", "audit --settle", "explain", "advise", "advise --settle")]
 BOTH = ["both the tree and the operations", "./-"]
 
 
@@ -137,7 +138,8 @@ def command_lines():
 
 def arguments():
     yield Row(["check", "--uid", "0", "--subtree", "/c0"], "uid", ["root"])
-    yield Row(["settle", "--uid", "0", "--subtree", "/c0"], "uid", ["root"])
+    for command in FURTHER:
+        yield Row([command, "--uid", "0", "--subtree", "/c0"], "uid", ["root"])
     yield Row([*CHECK, *["--gid", "5"] * 33], "gid", ["32"])
     for word in ("-0", "-00", "+5"):
         for call in (CHECK, MAY, REPLAY):
@@ -329,7 +331,7 @@ def strangers():
     at = ["--subtree", "/c0"]
     check, audit, advise = (["check", "--uid", "1001"], ["audit", "--uid", "1000", "--uid", "1001"], ["advise", "--uid", "1001"])
     audits = [audit, [*audit, "--all"], [*audit, "--settle"], [*audit, "--settle", "--all"], ["explain", *audit[1:]]]
-    for words in (check, ["settle", *check[1:]], *audits, advise, [*advise, "--settle"], [*check, "--gid", "5"],
+    for words in (*([command, *check[1:]] for command in OF_ONE), *audits, advise, [*advise, "--settle"], [*check, "--gid", "5"],
                   [*audit[:3], "--uid", "1001:5,6"]):
         yield Row([*words, *at], None, [said])
         yield Row([*words, *at], None, [said], of_all)

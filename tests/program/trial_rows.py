@@ -1,6 +1,8 @@
 """The calls of the libraries that gate/trials makes: the words that tell each, its tree, and what it has to say."""
 import collections
 
+import of_one
+
 # free: it takes no memory
 Trial = collections.namedtuple("Trial", "call words tree said free")
 
@@ -145,8 +147,9 @@ def byte_trials():
     yield "may_bytes", DELEGATION, ["may", "1000", "11", "/c0/c01"], "granted\nstatus 0\n"
     for tree, subtree, report, status in CHECKS[:CHECKS_OF_BYTES]:
         yield "check_bytes", tree, ["check", "1000", subtree], f"{lines(report)}status {status}\n"
-    yield "settle_bytes", PROCS_OWNED, ["settle", "1000", "/p/s"], "contained\nstatus 0\n"
-    yield "settle_bytes", NO_PROCESS, ["settle", "1000", "/p/s"], "unsettled common-ancestor /p\nstatus 2\n"
+    for command, tree, subtree, said, status in of_one.rows(of_one.FURTHER):
+        if tree in (PROCS_OWNED, NO_PROCESS):
+            yield f"{command}_bytes", tree, [command, of_one.USER, subtree], f"{lines(said)}status {status}\n"
     yield "audit_bytes", DELEGATION, ["audit", "1000", "1001", "/c0", "/c1"], "contained\nstatus 0\n"
     yield "audit_bytes", SECOND_USER, ["audit", "1000", "1001", "/c0", "/c1"], "pair 1001 /c0\nescapes\nset /c0 memory.max max\nstatus 1\n"
     yield "audit_all_bytes", DELEGATION, ["audit_all", "1000", "1001", "/c0", "/c1"], "contained\nstatus 0\n"
@@ -185,7 +188,8 @@ def free_byte_trials():
     yield "may_bytes", ["may", "0", "11", "/c0"], "fault: uid\n"
     yield "may_bytes", ["may", "1000", "0", "/c0"], "fault: pid\n"
     yield "check_bytes", ["check", "0", "/c0"], "fault: uid\n"
-    yield "settle_bytes", ["settle", "0", "/c0"], "fault: uid\n"
+    for command in of_one.FURTHER:
+        yield f"{command}_bytes", [command, "0", "/c0"], "fault: uid\n"
     yield "advise_bytes", ["advise", "0", "/c0"], "fault: uid\n"
     yield "advise_settled_bytes", ["advise_settled", "0", "/c0"], "fault: uid\n"
     yield "explain_bytes", ["explain", "0", "/c0"], "fault: uid\n"

@@ -8,6 +8,7 @@ import itertools
 import re
 
 from device_rows import ANSWERS, ASKED, FAULTS
+from of_one import OF_ONE
 from trial_rows import CHECKS, REPLAYS, lines
 from zirofen_host.files import CONTROL_FILES, FURTHER_FILES, LIMIT_FILES, accepts
 from zirofen_host.profile import LONGEST_PATH, MOST_GROUPS, TEXT_FORMATS, is_root, path_of, text_of
@@ -223,9 +224,7 @@ def asked_of_users(tree):
     for uid, gids in users:
         user = ["--uid", str(uid), *(word for gid in gids for word in ("--gid", str(gid)))]
         for path in paths:
-            yield Asked(["check", *user, "--subtree", path], "")
-            yield Asked(["settle", *user, "--subtree", path], "")
-            yield Asked(["advise", *user, "--subtree", path], "")
+            yield from (Asked([command, *user, "--subtree", path], "") for command in (*OF_ONE, "advise"))
         for pid, path in zip(itertools.cycle(pids), ["/", *paths] if pids else ()):
             yield Asked(["may", *user, "--pid", str(pid), "--to", path], "")
         yield Asked(["replay", *user, "--ops", OPS], script)

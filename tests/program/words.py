@@ -12,6 +12,7 @@ from dataclasses import dataclass, field
 
 sys.dont_write_bytecode = True
 from case import DELEGATION, Ended, run
+from of_one import OF_ONE
 
 CHECK = ["check", "--uid", "1000", "--subtree", "/c0"]
 REPLAY = ["replay", "--uid", "1000", "--ops"]
@@ -92,9 +93,8 @@ def spelled():
     for number, pid in NUMBERS:
         yield ["may", "--uid", number, "--pid", "11", "--to", "/c0"], False
         yield ["may", "--uid", "1000", "--gid", number, "--pid", pid, "--to", "/c0"], False
-        yield ["check", "--uid", number, "--gid", number, "--subtree", "/c0"], False
-        yield ["settle", "--uid", number, "--gid", number, "--subtree", "/c0"], False
-        yield ["advise", "--uid", number, "--gid", number, "--subtree", "/c0"], False
+        for command in (*OF_ONE, "advise"):
+            yield [command, "--uid", number, "--gid", number, "--subtree", "/c0"], False
         yield ["replay", "--uid", number, "--ops", os.devnull], False
         yield ["audit", "--uid", number, "--subtree", "/c0"], False
         yield ["explain", "--uid", number, "--subtree", "/c0"], False
@@ -102,13 +102,10 @@ def spelled():
         yield ["may", "--uid", word, "--pid", "11", "--to", "/c0"], True
         yield ["may", "--uid", "1000", "--gid", word, "--pid", "11", "--to", "/c0"], True
         yield ["may", "--uid", "1000", "--pid", word, "--to", "/c0"], True
-        yield ["check", "--uid", word, "--subtree", "/c0"], True
-        yield ["settle", "--uid", word, "--subtree", "/c0"], True
-        yield ["advise", "--uid", word, "--subtree", "/c0"], True
+        for command in (*OF_ONE, "advise"):
+            yield [command, "--uid", word, "--subtree", "/c0"], True
+            yield [command, "--uid", "1000", "--gid", word, "--subtree", "/c0"], True
         yield ["replay", "--uid", word, "--ops", os.devnull], True
-        yield ["check", "--uid", "1000", "--gid", word, "--subtree", "/c0"], True
-        yield ["settle", "--uid", "1000", "--gid", word, "--subtree", "/c0"], True
-        yield ["advise", "--uid", "1000", "--gid", word, "--subtree", "/c0"], True
         yield ["replay", "--uid", "1000", "--gid", word, "--ops", os.devnull], True
         yield ["audit", "--uid", word, "--subtree", "/c0"], True
         yield ["explain", "--uid", word, "--subtree", "/c0"], True

@@ -30,6 +30,8 @@ OPTIONS = {
     "advise": {"--tree": "", "--uid": "again", "--gid": "again", "--subtree": "again", "--pairs": "",
                "--settle": "flag"},
 }
+# those of one user and one subtree
+OF_ONE = tuple(name for name, options in OPTIONS.items() if options == OPTIONS["check"])
 
 
 @functools.lru_cache(maxsize=1024)

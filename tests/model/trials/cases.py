@@ -189,8 +189,9 @@ def check_words(rng, tree, state):
     return ["check", *user_words(asked_user(rng, tree)), "--subtree", subtree_word(rng, tree, state)]
 
 
-def settle_words(rng, tree, state):
-    return ["settle", *check_words(rng, tree, state)[1:]]
+def of_one(command):
+    """The words of a command of one user and one subtree, as those of check."""
+    return lambda rng, tree, state: [command, *check_words(rng, tree, state)[1:]]
 
 
 def advise_words(rng, tree, state):
@@ -327,15 +328,19 @@ def upgrade_words(_rng, _tree, _state):
 
 
 MAKERS = {"may": may_words, "check": check_words, "audit": audit_words, "audit --all": all_words, "advise": advise_words,
-          "advise --pairs": pairs_words, "settle": settle_words, "audit --settle": settled_audit_words,
+          "advise --pairs": pairs_words, "settle": of_one("settle"), "audit --settle": settled_audit_words,
           "advise --settle": settled_advice_words, "explain": explain_words, "replay": replay_words,
           "replay alone": replay_alone_words, "upgrade": upgrade_words, "audit --pairs": audit_pairs_words,
           "explain --pairs": explain_pairs_words}
 WEIGHTS = {"may": 14, "check": 30, "audit": 12, "audit --all": 12, "advise": 14, "advise --pairs": 12, "settle": 24,
            "audit --settle": 14, "advise --settle": 8, "explain": 18, "replay": 28, "replay alone": 6, "upgrade": 7,
            "audit --pairs": 10, "explain --pairs": 5}
+# of one user and one subtree, with no weight of its own
+FURTHER = [name for name in commands.OF_ONE if name not in MAKERS]
+MAKERS.update((name, of_one(name)) for name in FURTHER)
+WEIGHTS.update((name, 5) for name in FURTHER)
 # commands that came when a seed was fixed by which mutants are told apart: fresh cases have them
-LATER = frozenset({"audit --pairs", "explain --pairs"})
+LATER = frozenset({"audit --pairs", "explain --pairs", *FURTHER})
 
 
 # Operations

@@ -26,8 +26,8 @@ bad-controller cgroup, bad-entry cgroup, bad-value cgroup, duplicate cgroup, no-
 no-such-file cgroup, bad-pid process, bad-entry process, duplicate-pid process, no-such-place process, internal-process process"""
 FAULTS = ["usage", "uid", "gid", "pid", "path", "subtree root", "subtree missing", "line too-long", "line cut", "line bad-word",
           "too-many-steps", "read", "write", *("tree " + name for name in re.split(r",\s+", TREE_FAULTS))]
-STATUSES = {"may": 2, "check": 3, "audit": 3, "audit --all": 3, "replay": 2, "upgrade": 1, "advise": 2, "advise --pairs": 2, "settle": 3,
-            "audit --settle": 3, "audit --all --settle": 3, "advise --settle": 2, "explain": 3, "audit --pairs": 3,
+STATUSES = {"may": 2, "audit": 3, "audit --all": 3, "replay": 2, "upgrade": 1, "advise": 2, "advise --pairs": 2, "audit --settle": 3,
+            **{name: 3 for name in commands.OF_ONE}, "audit --all --settle": 3, "advise --settle": 2, "explain": 3, "audit --pairs": 3,
             "explain --pairs": 3}
 # of trees of format 4, and of controllers that other formats don't have
 FAULTS_4 = """bad-controller cgroup, bad-controller top, bad-entry cgroup, bad-value cgroup, internal-process process, no-such-file cgroup,
