@@ -1,8 +1,8 @@
 """docs/THEOREMS.md against the sources: the statements that it shows, and what one has to believe of each theorem.
 
-A theorem is a part of the page under a heading `## N. NAME`. A statement stands in it between ``` below a line with the law, and
-behind a comma the clause, that it is of, and a colon. What the part names by a path, each with clauses behind a colon or with all,
-carries the theorem. A line that begins with `Read: ` names definitions in the order in which they are read. Below a line that begins
+A theorem is a part of the page under a heading `## N. NAME`, which names its law once. A statement may stand in it between ``` below a
+line with the law, and behind a comma the clause, that it is of, and a colon. What the part names by a path, each with clauses behind a colon or
+with all, carries the theorem, and behind "Turned by" stands an edit that the prover refuses by it. A line that begins with `Read: ` names definitions in the order in which they are read. Below a line that begins
 with `All that LAW names` stand between ``` all definitions and types that the law reaches and that stand in no such place above, with
 their comments, file by file.
 """
@@ -19,6 +19,8 @@ PART = re.compile(r"^## (\d+)\. (.*?)(?=^## |\Z)", re.M | re.S)
 STATEMENT = re.compile(r"^(`([\w:]+)`(?:, `(\w+)`)?:\n\n```\n)(.*?)^```$", re.M | re.S)
 SAID = re.compile(r"(?:--.*\n)*")
 PRINTED = re.compile(r"^(All that `([\w:]+)` names\b[^`]*?:\n\n```\n)(.*?)^```$", re.M | re.S)
+LISTED = re.compile(rf"`({LAWS}::\w+)`")
+TURNED = re.compile(r"Turned\s+by\s+`(\w+)`")
 READ = re.compile(r"^Read: (.*?)\n(?:\n|\Z)", re.M | re.S)
 LINKED = re.compile(r"\[`([^`]+)`\]\(MODEL\.md(?:#[\w-]*)?\)")
 # words of the language, which no file brings in
@@ -140,7 +142,8 @@ def unknown_in(world, contract, linked):
 
 def faults_of_part(world, part, linked):
     """Yields what is wrong with the names of a theorem's part."""
-    for _, name, clause, _ in STATEMENT.findall(part):
+    stated = [(name, clause) for _, name, clause, _ in STATEMENT.findall(part)]
+    for name, clause in [*stated, *((it, "") for it in LISTED.findall(part) if it not in dict(stated))]:
         for it in unknown_in(world, world.named(name, [clause] if clause else []), linked):
             yield f"`{it}` of {name} is on no page that tools/believed prints, nor linked to a row of MODEL.md"
     for _, name, _ in PRINTED.findall(part):
@@ -157,6 +160,12 @@ def laws_of(world):
     return [f"{LAWS}::{it}" for it in re.findall(r"^pub fn (\w+)", code.text, re.M)] if code else []
 
 
+def edits_of(text, edits):
+    """Returns how many edits the page's theorems are turned by, and which of them aren't there, in words."""
+    named = TURNED.findall(text)
+    return len(named), [f"there is no edit {it}" for it in named if it not in edits]
+
+
 def faults_of(text, top="."):
     """Returns how many things were looked at, and what is wrong, in words."""
     world, linked, parts = World(top), {*LINKED.findall(text)}, parts_of(text)
@@ -165,12 +174,12 @@ def faults_of(text, top="."):
         faults = [it for part in parts.values() for it in faults_of_part(world, part, linked)]
     except LookupError as error:
         return 1, [str(error)]
-    named = [name for _, name, _, _ in STATEMENT.findall(text)]
+    named = [name for part in parts.values() for name in LISTED.findall(part)]
     faults += [f"the theorem {it} stands there {named.count(it)} times" for it in laws_of(world) if named.count(it) != 1]
     old, new = text.split("\n"), right.split("\n")
     changed = [f"by the sources it has '{shortened(it)}': tools/believed --write" for it in new if it not in old]
     changed = changed or [f"by the sources it has no '{shortened(it)}': tools/believed --write" for it in old if it not in new]
-    return len(named) + len(parts) + len(PRINTED.findall(text)), faults + changed
+    return len(named) + len(STATEMENT.findall(text)) + len(parts) + len(PRINTED.findall(text)), faults + changed
 
 
 def shortened(line):

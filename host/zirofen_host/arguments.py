@@ -38,16 +38,16 @@ groups was found for their account, and others maybe for their running processes
 answers, and behind # what to change, and a warning where nothing here is the user's. The status is the worst answer's:
 3 for a fault, 1 for an escape, 2 where it is unsettled, 0 where the subtree is contained. With --may it lists in place of
 that which entries the user owns or writes there, and what follows of each; the status is 0 then. With --explain it says why: each
-entry that a guard stands on, and whether it keeps them out, and where one doesn't what else keeps the subtree.
+entry that a guard is about, and whether it keeps them out, and where one doesn't what else keeps the subtree.
 """,
     "check": f"""Asks zirofen whether everybody who can matter on this host is kept by every subtree that was handed over. Run it as root.
 
 A helper: no part of the proved program, and only tested; each answer is the program's own, on the tree text that
 {NAME} snapshot writes. The report is a table of each subtree with the answer of who holds it, then each entry that lets
-somebody in, with whom and what to change, then the limits that stand open beside the proved ones, then containers whose
+somebody in, with whom and what to change, then the limits that are open beside the proved ones, then containers whose
 processes are root's, and at last what none of the answers looks at. Of a container held speaks of cgroup files alone, and
 is seen and not proved. {REPORTS} says what each line means. The status is 3 where there is a fault; else 1 where somebody
-escapes, a limit stands open or a container of root's is not held; else 2 where an answer is unsettled; else 3 where holders
+escapes, a limit is open or a container of root's is not held; else 2 where an answer is unsettled; else 3 where holders
 make a fault of their own; else 4 where neither anything to ask nor such a container was found; else 2 where limits are v1's
 or an acceptance doesn't hold; else 0.
 """,
@@ -55,7 +55,7 @@ or an acceptance doesn't hold; else 0.
 
 A helper: no part of the proved program, and only tested. It carries out nothing. Where a user is named, each command is
 made theirs by setpriv, with their groups alone and without capabilities, so that the kernel asks what they may; run it as
-root, on a host where the operations may be tried. There another process of the same cgroup stands for one that has
+root, on a host where the operations may be tried. There another process of the same cgroup is named in place of one that has
 capabilities, or is the kernel's, where the program finds that the list breaks the subtree with it too; a comment says so.
 fork and exit, and the lines of an answer around its operations, are comments.
 The status is 0, or 3 for a fault, and then nothing is written.
@@ -64,18 +64,18 @@ The status is 0, or 3 for a fault, and then nothing is written.
 GIDS is - where there are none.
 
 A helper: no part of the proved program, and only tested. A user is found where they own or write at a cgroup what they
-don't one level up: by their uid, by a group, or as one of everybody (uid 65534 stands for a user of whom nothing else
+don't one level up: by their uid, by a group, or as one of everybody (uid 65534 means a user of whom nothing else
 is known). Groups come from this host's accounts, its subordinate ids and its running processes; for a text of another
-host give that host's account files by --accounts. The primary group stands first. The status is 0, or 3 for a fault,
+host give that host's account files by --accounts. The primary group comes first. The status is 0, or 3 for a fault,
 among them more groups than the program takes, where those that were left out could change an answer.
 """,
-    "fleet": f"""Tells how many hosts stand, by what {NAME} check --json wrote of each. Usage: {NAME} fleet FOLDER.
+    "fleet": f"""Sums up many hosts, by what {NAME} check --json wrote of each. Usage: {NAME} fleet FOLDER.
 
 A helper: no part of the proved program, and only tested. FOLDER has a file NAME.json for each host, which may have come from
 that host: each is read with a bound, and believed to be of the host NAME. It prints a table with the worst on top, and hosts
 that have the same findings together. A report that is empty, broken or too large doesn't count, and neither does one that is
 missing or older, where that is asked for; its row says why. The status is that of the gravest host: 3 where a report doesn't
-count or a host has a fault; else 1 where somebody escapes or a limit stands open; else 2 where an answer is unsettled; else 3
+count or a host has a fault; else 1 where somebody escapes or a limit is open; else 2 where an answer is unsettled; else 3
 where holders make a fault of their own; else 4 where nothing was found to ask of one; else 2 where limits are v1's or an
 acceptance doesn't hold; else 0.
 """,
@@ -83,20 +83,20 @@ acceptance doesn't hold; else 0.
 
 A helper: no part of the proved program, and only tested. It draws what {NAME} check --json has, and nothing else: first a
 sentence and three numbers, then the findings with a picture of each escape, the tree of cgroups, and what no answer looks
-at. Of several hosts, up to 20, the worst stands on top, and a report that can't be read is a row that says why; {NAME} fleet
+at. Of several hosts, up to 20, the worst is on top, and a report that can't be read is a row that says why; {NAME} fleet
 writes more. The page is one file, which loads nothing and needs no script. The status is 0, or 3 for a fault, and where no
 report could be read nothing is written; {NAME} check has the status of the answers.
 """,
-    "plan": f"""Tells what changes of root's to this host, or to a tree text, would be answered, before they are made.
+    "plan": f"""Answers what changes of root's to this host, or to a tree text, would lead to, before they are made.
 
 A helper: no part of the proved program, and only tested; each answer is the program's own. Nothing is carried out on the host.
-What changes is given by --ops FILE, or by --unit FILE ..: units as systemd starts them; what of them this can't tell is a line
+What changes is given by --ops FILE, or by --unit FILE ..: units as systemd starts them; what of them isn't known is a line
 on standard error, and other drop-ins than those given are read from the system's folders of this host alone. A FILE of changes
 has one in each line: mkdir PATH, chown PATH ENTRY UID:GID, chmod PATH ENTRY MODE, control PATH +CONTROLLER .., set PATH FILE
 VALUE, process PID UID PATH, mark PATH (the manager's mark of what it hands over). They are made to the tree's text one after
 another; one that a kernel wouldn't let root make is a fault of its line. Both trees are asked as {NAME} check asks, and what is
 new, worse, changed or gone behind the changes is printed. The status is that of what is new or worse: 3 for a fault, new or
-not; else 1 for an escape or a limit that stands open; else 2 where an answer is unsettled, or where what isn't told may give
+not; else 1 for an escape or a limit that is open; else 2 where an answer is unsettled, or where what isn't known may give
 entries away, also with --print; else 4 where nothing was found to ask; else 0.
 """,
     "snapshot": f"""Writes the cgroups of this host as a tree text for zirofen, on standard output. Run it as root.
@@ -109,16 +109,16 @@ can't carry is bent or left out, and standard error has a line for each such thi
 
 A helper: no part of the proved program, and only tested. It draws what {NAME} check --json has, and nothing else: that of the
 report, or without one that of this host, which it looks at as {NAME} check does; then run it as root. At each cgroup that was
-handed over stand to whom, by which entries, its limits, and its answer with a sign and a word; cgroups without a delegation
+handed over are to whom, by which entries, its limits, and its answer with a sign and a word; cgroups without a delegation
 in or above them are folded. The status is 0, or 3 for a fault; {NAME} check has the status of the answers.
 """,
     "watch": f"""Checks this host, and asks again what a change concerns as soon as it happened. Run it as root.
 
 A helper: no part of the proved program, and only tested; each answer is the program's own, and what differs is found as
-{NAME} check --baseline finds it. A line tells what is new, worse, mended or gone, when that happened, and who did it, where the
-kernel names them. Owners and modes, cgroups that are made and removed, accounts and mounts are told by the kernel; processes and
-groups are read once a minute, and a whole check each hour finds what nothing told of. What opened and closed between two checks
-is told as that. SIGUSR1 has a report of all of it written, and SIGTERM ends it. {MANUAL} says what the lines mean. The status
+{NAME} check --baseline finds it. A line says what is new, worse, mended or gone, when that happened, and who did it, where the
+kernel names them. Owners and modes, cgroups that are made and removed, accounts and mounts are reported by the kernel; processes and
+groups are read once a minute, and a whole check each hour finds what nothing reported. What opened and closed between two checks
+is reported as that. SIGUSR1 has a report of all of it written, and SIGTERM ends it. {MANUAL} says what the lines mean. The status
 is 0 where a signal ended it, or 3 for a fault.
 """,
 }
@@ -158,7 +158,7 @@ def add_host(parser: argparse.ArgumentParser) -> None:
     parser.add_argument("--mount", metavar="FOLDER", default=MOUNT, help=f"the cgroup v2 mount ({MOUNT})")
     parser.add_argument("--only", metavar="PATH", type=os.fsencode,
                         help="that cgroup, its ancestors and what is inside it, and no more; or a container by its name, as docker:web")
-    parser.add_argument("--proc", metavar="FOLDER", default=PROC, help=f"where processes are told of ({PROC})")
+    parser.add_argument("--proc", metavar="FOLDER", default=PROC, help=f"where processes are listed ({PROC})")
     parser.add_argument("--seconds", metavar="N", type=number, help="ends with a fault where the run takes longer (no bound)")
     parser.add_argument("--no-processes", action="store_true",
                         help="no processes in the tree text: no `contained` rests on them, but an `escapes` may be an `unsettled`")
@@ -224,26 +224,26 @@ def add_check(parser: argparse.ArgumentParser) -> None:
                         "the findings by what root's settings say: as a script for root (shell), or where to look alone (systemd); or "
                         "KIND=FILE into a file")
     parser.add_argument("--html", metavar="FILE", help="one page of it to look at, into a file; what is printed stays as it is")
-    parser.add_argument("--accept", metavar="FILE", help="findings that are accepted, each by itself, for a reason and until a day: told, "
-                        "and not counted")
+    parser.add_argument("--accept", metavar="FILE", help="findings that are accepted, each by itself, for a reason and until a day: "
+                        "shown, and not counted")
     parser.add_argument("--baseline", metavar="FILE",
-                        help="tells what is new, worse, changed or gone since FILE, an earlier --json; the status is that of new and worse")
+                        help="prints what is new, worse, changed or gone since FILE, an earlier --json; the status is by new and worse")
     parser.add_argument("--baseline-update", metavar="FILE", help="leaves the report of now as a baseline in FILE")
 
 
 def add_watch(parser: argparse.ArgumentParser) -> None:
     parser.add_argument("--mount", metavar="FOLDER", default=MOUNT, help=f"the cgroup v2 mount ({MOUNT})")
-    parser.add_argument("--proc", metavar="FOLDER", default=PROC, help=f"where processes are told of ({PROC})")
-    parser.add_argument("--seconds", metavar="N", type=number, help="ends a check that takes longer, and tells so (600)")
+    parser.add_argument("--proc", metavar="FOLDER", default=PROC, help=f"where processes are listed ({PROC})")
+    parser.add_argument("--seconds", metavar="N", type=number, help="ends a check that takes longer, and says so (600)")
     parser.add_argument("--plain-folder", action="store_true",
                         help="the mount is a folder of plain files: nothing is asked of root, mounts and namespaces")
     add_accounts(parser)
     add_program(parser)
-    parser.add_argument("--baseline", metavar="FILE", help="what stands in FILE, an earlier --json, isn't told as new; it is never written")
+    parser.add_argument("--baseline", metavar="FILE", help="what is in FILE, an earlier --json, isn't reported as new; it is never written")
     parser.add_argument("--accept", metavar="FILE", help="findings that are accepted, each by itself, for a reason and until a day")
     parser.add_argument("--journal", action="store_true", help="lines go to the journal, with what they say in fields of their own")
-    parser.add_argument("--exec", metavar="PROGRAM", help="started without a shell for each thing that is new or worse and counts, which "
-                        "its environment tells: ZIROFEN_KIND, ZIROFEN_LINE and others")
+    parser.add_argument("--exec", metavar="PROGRAM", help="started without a shell for each thing that is new or worse and counts; its "
+                        "environment says which: ZIROFEN_KIND, ZIROFEN_LINE and others")
     parser.add_argument("--format", metavar="KIND", type=way, action="append", default=[], help=f"{', '.join(FORMATS)}, or KIND=FILE into "
                         "a file, as check writes it: on SIGUSR1 and at the end; metrics=FILE each time that something changed, too")
     parser.add_argument("--json", action="store_true", help="what --format json is")
@@ -255,7 +255,7 @@ def add_watch(parser: argparse.ArgumentParser) -> None:
 
 def add_commands(parser: argparse.ArgumentParser) -> None:
     parser.add_argument("--mount", metavar="FOLDER", default=MOUNT, help=f"the cgroup v2 mount ({MOUNT})")
-    parser.add_argument("--proc", metavar="FOLDER", default=PROC, help=f"where processes are told of ({PROC})")
+    parser.add_argument("--proc", metavar="FOLDER", default=PROC, help=f"where processes are listed ({PROC})")
     parser.add_argument("--plain-folder", action="store_true", help="the mount is a folder of plain files")
     parser.add_argument("--uid", metavar="N", type=number, help="the user whose commands they are; else those of who runs them")
     parser.add_argument("--gid", metavar="N", type=number, action="append", default=[],
@@ -268,7 +268,7 @@ def add_commands(parser: argparse.ArgumentParser) -> None:
 def add_delegations(parser: argparse.ArgumentParser) -> None:
     parser.add_argument("--tree", metavar="FILE", help="the tree's text; standard input where this is left out")
     parser.add_argument("--proc", metavar="FOLDER",
-                        help=f"where running processes are told of ({PROC}; none with --accounts)")
+                        help=f"where running processes are listed ({PROC}; none with --accounts)")
     add_accounts(parser)
     add_program(parser)
 

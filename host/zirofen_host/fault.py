@@ -95,7 +95,7 @@ class Parser(StableParser):
     """Options of a helper; wrong ones are a fault like others."""
 
     def error(self, message: str) -> NoReturn:
-        raise Fault(f"{message}; --help tells the options")
+        raise Fault(f"{message}; --help lists the options")
 
     def given(self, words: List[str]) -> argparse.Namespace:
         """What the words of a command line give; of those that are none the first is told the nearest option."""

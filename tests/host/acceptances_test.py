@@ -177,7 +177,8 @@ class AcceptancesTest(HostTest):
                           ({**ROW, "what": "fault"}, "'fault' is nothing that can be accepted: escapes/common-ancestor,"),
                           ({**ROW, "what": "differs"}, "'differs' is nothing"), ({**ROW, "reason": " "}, "reason is empty"),
                           ({**ROW, "until": "soon"}, "until is a day"), ({**ROW, "until": 3}, "until is a day"),
-                          ({**ROW, "whom": "alice"}, "whom 'alice' is nobody as a line tells"), ({**ROW, "whom": 1000}, "until is a day"),
+                          ({**ROW, "whom": "alice"}, "whom 'alice' is nobody as a line names them"),
+                          ({**ROW, "whom": 1000}, "until is a day"),
                           ({**ROW, "whom": "group team(50): a(1) and 3 more"}, "whom names all members of a group, or none")):
             with self.subTest(told), self.assertRaisesRegex(Fault, r"accept.toml: \[\[accept\]\] 2: " + told):
                 self.given(ROW, row)

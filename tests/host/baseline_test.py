@@ -69,7 +69,7 @@ class BaselineTest(HostTest):
         for _ in range(2):
             status, lines = self.compared()
             self.assertEqual(status, 1)
-            self.assertRegex(lines[0], "^2 findings stand since 20[0-9-]*T[0-9:]*Z: /up cgroup.procs .*; /up/b cgroup.max.depth .*$")
+            self.assertRegex(lines[0], "^2 findings are open since 20[0-9-]*T[0-9:]*Z: /up cgroup.procs .*; /up/b cgroup.max.depth .*$")
             self.assertEqual(lines[1:], [f"    change: chmod 644 {self.host.mount}/up/cgroup.procs",
                                          f"    change: chown root {self.host.mount}/up/b/cgroup.max.depth"])
         self.keep()
@@ -101,7 +101,7 @@ class BaselineTest(HostTest):
         self.host.cgroup("/a", modes={"cgroup.max.depth": 0o647})
         status, lines = self.compared()
         self.assertEqual((status, lines[0].split(":")[0]), (1, "changed"))
-        self.assertRegex(lines[-2], "^1 finding stands since")
+        self.assertRegex(lines[-2], "^1 finding is open since")
 
     def test_what_an_update_accepts(self):
         self.host.cgroup("/odd", owners=owned(1000))
@@ -204,7 +204,7 @@ class BaselineTest(HostTest):
         self.assertEqual((first.returncode, first.stdout), (2, plain.stdout))
         self.assertEqual(first.stderr, f"zirofen-host check: {self.file} is a baseline from now on, which accepts nothing\n")
         ended = script("--baseline", self.file)
-        self.assertEqual((ended.returncode, ended.stdout.split(" since ")[0]), (2, "1 finding stands"))
+        self.assertEqual((ended.returncode, ended.stdout.split(" since ")[0]), (2, "1 finding is open"))
         ended = script("--baseline-update", self.file)
         self.assertEqual((ended.returncode, ended.stdout), (2, plain.stdout + (
             "accepted: /up cgroup.procs (0:50 664): unsettled, by group team(50): carol(1002), of /up/b\n")))

@@ -364,7 +364,7 @@ class DescriptorsTest(ThreeTest):
         self.host.opens(7, 3, "/bob/cgroup.max.depth", os.O_WRONLY, mount=31, has_inode=False)
         found = self.report()
         self.assertEqual(self.told(found, "descriptor"), [
-            "alice(1000): 1 open files are on mounts that nothing tells of, and this kernel doesn't tell which files they are: they "
+            "alice(1000): 1 open files are on mounts that nothing names, and this kernel doesn't say which files they are: they "
             "weren't looked at"])
 
     def test_of_an_older_kernel_a_file_is_held_before_it_is_asked(self):
@@ -395,7 +395,7 @@ class DescriptorsTest(ThreeTest):
         self.others(found)
         self.assertEqual(self.held(found), self.sure)
         self.assertEqual(self.told(found, "descriptor"), [
-            "alice(1000): more than 16 open files that /proc tells much of are in their processes: not all were "
+            "alice(1000): more than 16 open files of which /proc has much are in their processes: not all were "
             "looked at"])
         self.assertLess(self.bytes, 150000)
 
@@ -409,7 +409,7 @@ class LinesTest(ThreeTest):
         told = self.lines(found)
         self.assertLess(len(told), 40)
         self.assertEqual([line for line in told if "49 more" in line][-1],
-                         "    .. and 49 more that are alike, in what uid 1000 made: --each tells them")
+                         "    .. and 49 more that are alike, in what uid 1000 made: --each lists them")
         entries = [each for each in found["entries"] if each["path"].startswith("/alice/c")]
         self.assertEqual({each["path"] for each in entries}, {f"/alice/c{number}" for number in range(50)})
         self.assertEqual({tuple(each["changes"]) for each in entries if each["path"] == "/alice/c49" and each["entry"] == "memory.max"},
@@ -455,7 +455,7 @@ class LinesTest(ThreeTest):
         self.assertEqual(self.told(found, "advice"), [])
         with mock.patch.object(bounded, "ADVICE", 0):
             (told,) = self.told(self.report(), "advice")
-        self.assertRegex(told, "^: what to change isn't told of [0-9]+ entries: the program is asked 0 times, once in each text")
+        self.assertRegex(told, "^: what to change isn't known of [0-9]+ entries: the program is asked 0 times, once in each text")
 
     def test_the_sum(self):
         self.host.cgroup("/odd", owners=owned(1003))
@@ -485,7 +485,7 @@ class EntriesTest(ThreeTest):
             self.small("ENTRIES", most)
             found = self.report()
             self.others(found)
-            why = f"uid 1000 has over {most} entries that let somebody in: not all are told"
+            why = f"uid 1000 has over {most} entries that let somebody in: not all are listed"
             self.assertEqual(self.told_of(found), (told, [("alice(1000)", ["/alice"], why, "alice(1000)")] if most < 18 else []), most)
             self.assertEqual((found["status"], self.rows(found)), (1, self.rows(whole)))
 
@@ -584,7 +584,7 @@ class AttemptsTest(ThreeTest):
 
 
 class SecondsTest(ThreeTest):
-    WORDS = "it isn't whole: nothing was told of any subtree within 1 seconds"
+    WORDS = "it isn't whole: nothing is known of any subtree within 1 seconds"
     LATE = "zirofen-host check: it took longer than 1 seconds, and this is no answer\n"
 
     def words(self, *more):

@@ -281,7 +281,7 @@ class ScriptTest(MadeUpTest):
             rows.append(f"[[cgroup]]\npath = '{path}'\nfiles = {{ 'cgroup.procs' = {{ gid = {name[1:]} }} }}\n")
         ended = self.script(given="".join(rows) + f"[[cgroup]]\npath = '{path}/top'\ndir = {{ uid = 1000 }}\n")
         self.assertEqual((ended.returncode, ended.stdout.count("\n")), (3, 1))
-        self.assertEqual(ended.stderr, "groups: uid 1000: 9 of their groups that stand in the tree left out: "
+        self.assertEqual(ended.stderr, "groups: uid 1000: 9 of their groups that are in the tree left out: "
                          "a user has 32 at most\n")
 
     def test_faults(self):

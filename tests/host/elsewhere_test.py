@@ -145,7 +145,7 @@ class ElsewhereTest(HostTest):
         found = self.elsewhere(accounts=self.host.etc)
         self.assertEqual((found["host"], found["kernel"], found["time"]), ("", "", ""))
         reader = PageReader(page.page([made(found)]))
-        self.assertIn("Made of a report of text.toml, at a time that isn't told, with made-up 1.0 and zirofen-host ", reader.text())
+        self.assertIn("Made of a report of text.toml, at a time that isn't known, with made-up 1.0 and zirofen-host ", reader.text())
         self.assertIn("text.toml\n", reader.text())
         self.assertIn("<title>Zirofen: text.toml</title>", page.page([made(found)]))
         drawn = tree_view.draw(made(found), tree_view.Drawing())
@@ -153,7 +153,7 @@ class ElsewhereTest(HostTest):
         compared = baseline.compared(made(found), replace(made(found), accepted=True), "/before.json")
         self.assertEqual(list(comparison_lines(replace(made(found), baseline=compared))),
                          ["nothing is new, worse, changed or gone since /before.json",
-                          "0; limits of this answer: threads' places and held entries aren't told"])
+                          "0; limits of this answer: threads' places and held entries aren't known"])
         self.write()
         self.assertRegex(page.page([made(self.elsewhere())]),
                          r'at <time datetime="20[^"]*Z">20[^<]*Z</time>, with made-up 1.0 and zirofen-host ')

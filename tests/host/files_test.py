@@ -95,7 +95,7 @@ class OpenFilesTest(HostTest):
         found = self.report()
         self.assertEqual((found["status"], self.opened(found)), (1, ["/d memory.fancy by everybody"]))
         self.assertEqual(self.told(found, "unknown-file"), [
-            ": memory.fancy (a limit) memory.seen (it only tells): by the mode that most cgroups have these with, since their names "
+            ": memory.fancy (a limit) memory.seen (no limit): by the mode that most cgroups have these with, since their names "
             "aren't known"])
 
     def test_what_others_own_doesnt_outvote_root(self):

@@ -226,8 +226,8 @@ class RulesTest(FleetTest):
         for name, time in (("new", at(2.9)), ("old", at(3.1)), ("none", ""), ("odd", "yesterday"), ("soon", at(-0.5)), ("late", at(-2))):
             self.folder.put(name, {**report_of(name), "time": time})
         found = {row.name: row.why for row in self.read(older=3).rows}
-        self.assertEqual(found, {"new": None, "soon": None, "old": "it is older than 3 days", "none": "it doesn't tell its time",
-                                 "odd": "it doesn't tell its time", "late": "its time is to come"})
+        self.assertEqual(found, {"new": None, "soon": None, "old": "it is older than 3 days", "none": "it doesn't have its time",
+                                 "odd": "it doesn't have its time", "late": "its time is to come"})
         self.assertEqual(self.read().status, 0)
 
     def test_whose_a_report_is(self):
@@ -327,7 +327,7 @@ class HostileTest(FleetTest):
             if name == "a":
                 raise KeyError("x")
         found = fleet.read_fleet(self.folder.folder, fleet.Rules(NOW), draw)
-        self.assertEqual([(row.name, row.why) for row in found.rows], [("a", "it can't be told of: KeyError('x')"), ("b", None)])
+        self.assertEqual([(row.name, row.why) for row in found.rows], [("a", "it can't be shown: KeyError('x')"), ("b", None)])
 
 
 class BrowserTest(FleetTest):

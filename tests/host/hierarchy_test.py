@@ -176,7 +176,7 @@ class FurtherMountsTest(HierarchyTest):
                       self.lines(is_known=False, place="/h\x1b"))
 
     def test_search_goes_by_all_mounts(self):
-        told = "search: bob(1001): they can't search /secret, and what is inside is mounted at /home/bob/in too: the answer stands"
+        told = "search: bob(1001): they can't search /secret, and what is inside is mounted at /home/bob/in too: the answer holds"
         self.assertIn(told, self.lines())
         self.assertIn(told, self.lines(top="/secret"))
         for lines in (self.lines(top="/a"), self.lines(top="/secretly")):
@@ -256,8 +256,8 @@ class PrivateMountsTest(HierarchyTest):
         self.host.cgroup("/secret", modes={"dir": 0o700}, enabled="memory")
         self.host.cgroup("/secret/in", owners=owned(1001))
         private = PrivateMount(1001, "/mnt", path_of("/secret/in"))
-        for each, told in ((private, "and what is inside is mounted at /mnt in a mount namespace of theirs too: the answer stands"),
-                           (private._replace(uid=1000), "on this mount: by another, as of a cgroup namespace inside, the answer stands")):
+        for each, told in ((private, "and what is inside is mounted at /mnt in a mount namespace of theirs too: the answer holds"),
+                           (private._replace(uid=1000), "on this mount: by another, as of a cgroup namespace inside, the answer holds")):
             line, = [line for line in self.lines(private=(each,)) if line.startswith("search:")]
             self.assertTrue(line.startswith("search: bob(1001): they can't search /secret") and line.endswith(told), line)
 

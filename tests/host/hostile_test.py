@@ -171,7 +171,7 @@ class GarbageTest(HostTest):
                 out.write(text)
             found = self.report()
             self.assertEqual([row[2:] for row in self.rows(found)][-1:], [("contained", "/bob")])
-            self.assertIn("8 left out: what is told of the process isn't known", [each["text"] for each in found["snapshot"]])
+            self.assertIn("8 left out: what /proc has of the process isn't known", [each["text"] for each in found["snapshot"]])
 
     def test_a_descriptor_of_a_file_system_of_his_own_isnt_asked(self):
         self.host.cgroup("/svc", owners=owned(1000))

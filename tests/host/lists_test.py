@@ -77,7 +77,7 @@ class ListsTest(HostTest):
         self.processes((7, 9), (8,), p7={"permitted": NET}, p9={"permitted": NET})
         found = self.tried("move 7 /up/svc")
         self.assertEqual(found.lines, ("move 7 /up/svc",))
-        self.assertRegex(found.why, "^process 7 has capabilities or is the kernel's, and where it is stands no other")
+        self.assertRegex(found.why, "^process 7 has capabilities or is the kernel's, and no other is there")
 
     def test_where_it_doesnt_break_the_programs_own_stands(self):
         self.processes((7, 9), (8,), p7={"permitted": NET})

@@ -535,7 +535,7 @@ def play_timer(place, options):
         lacks = missing(place, first)
         lacks += [f"the {number} run's fault" for number, ran in (("first", first), ("second", second))
                   if f"fault: everybody of {place.top}/hostile: " not in ran.out]
-        if not re.search(rf"^[0-9]+ findings stand since .*{place.top}/open cgroup.max.depth", second.out, re.M):
+        if not re.search(rf"^[0-9]+ findings are open since .*{place.top}/open cgroup.max.depth", second.out, re.M):
             lacks.append("what stands")
         if 0 in (first.status, second.status):
             lacks.append("that the unit failed")

@@ -30,7 +30,7 @@ class MayTest(HostTest):
     def test_the_first_class_that_matches_counts(self):
         """A group's members get in by its bits alone, whatever everybody may."""
         self.host.cgroup("/a", owners={"cgroup.max.depth": (0, 50)}, modes={"cgroup.max.depth": 0o646})
-        self.assertEqual(self.may("carol", "/a"), ["carol(1002) owns and writes no entry of /a, and none above it that a guard stands on"])
+        self.assertEqual(self.may("carol", "/a"), ["carol(1002) owns and writes no entry of /a, and none above it that a guard is about"])
         self.assertEqual(self.may("bob", "/a")[1:], ["/a", "    cgroup.max.depth 0:50 646, by others: sets cgroup.max.depth"])
 
     def test_what_a_guard_stands_on_above(self):
@@ -66,7 +66,7 @@ class MayTest(HostTest):
         self.host.cgroup("/a", owners={"cgroup.max.depth": (0, 60)}, modes={"cgroup.max.depth": 0o664}, pids=(7,))
         self.host.process(7, uid=1000, gid=1000, groups=(60,))
         self.assertEqual(self.may("alice", "/a"), [
-            "# uid 1000, groups 1000", "alice(1000) owns and writes no entry of /a, and none above it that a guard stands on",
+            "# uid 1000, groups 1000", "alice(1000) owns and writes no entry of /a, and none above it that a guard is about",
             "# uid 1000, groups 1000,60", "alice(1000) in /a, by owners and modes:", "/a",
             "    cgroup.max.depth 0:60 664, by group: sets cgroup.max.depth"])
 

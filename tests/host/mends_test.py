@@ -138,7 +138,7 @@ class MendsTest(HostTest):
         # these and no other, such as the manager's own number of tasks; what was taken back from somebody is in such a file too
         [kept] = found.withheld
         self.assertEqual((kept.settings, kept.why), (("MemoryMax=4294967296", "MemorySwapMax=0"), (
-            "it is the value of now, and a cgroup's file doesn't tell who wrote it: what was open and taken back is root's too")))
+            "it is the value of now, and a cgroup's file doesn't say who wrote it: what was open and taken back is root's too")))
 
     def test_a_limit_of_a_finding_and_one_that_goes(self):
         self.host.cgroup("/", enabled="memory pids")

@@ -175,9 +175,9 @@ class RingHolderTest(HostTest):
         self.assertEqual(self.ring(text), ([(b"/good", "memory.max", DescriptorKind.RING)], []))
 
     def test_what_isnt_looked_at(self):
-        self.assertEqual(self.ring(BUSY_NEW), ([], ["an io_uring of process 7 wasn't looked at: its files aren't told"]))
+        self.assertEqual(self.ring(BUSY_NEW), ([], ["an io_uring of process 7 wasn't looked at: its files aren't known"]))
         self.assertEqual(self.ring(NEW_RING.format("/mnt/memory.max", "/x"))[1], [
-            "an io_uring of process 7 wasn't looked at: no path on this mount is told of 1 of its files, which are named as a cgroup's"])
+            "an io_uring of process 7 wasn't looked at: no path on this mount is known of 1 of its files, which are named as a cgroup's"])
 
 
 class InsideHeadlessTest(HostTest):

@@ -203,9 +203,9 @@ class CommandTest(HostTest):
         self.assertNotIn("isn't told: ", last)
         said = self.plan("--tree", DELEGATION, ops=f"{ops}chown /new cgroup.type 1001:1001\n")
         last = said.stdout.splitlines()[-1]
-        self.assertEqual((said.returncode, last.partition(";")[0]), (2, "2 by what a plan can't tell"))
+        self.assertEqual((said.returncode, last.partition(";")[0]), (2, "2 by what a plan doesn't know"))
         self.assertTrue(last.endswith(
-            "; what may give entries away isn't told: cgroup.type of /new: the text has no place for it"))
+            "; what may give entries away isn't known: cgroup.type of /new: the text has no place for it"))
 
     def test_in_place_of_answers(self):
         ops = "# a comment\nmkdir   /new\nchown /new dir 9:9\n"

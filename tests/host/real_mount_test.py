@@ -228,7 +228,7 @@ class RealMountTest(OnMountTest):
         told = {(each["kind"], each["place"]): each["text"] for each in found["unseen"] if each["kind"] in ("mount", "search")}
         self.assertRegex(told["mount", f"{self.top}/bob"], f"^mounted at {place} too, which is reached by (uid 1001|.*\\(1001\\))$")
         searched = [text for (kind, who), text in told.items() if kind == "search" and "1001" in who]
-        self.assertEqual(searched, [f"they can't search {self.top}, and what is inside is mounted at {place} too: the answer stands"])
+        self.assertEqual(searched, [f"they can't search {self.top}, and what is inside is mounted at {place} too: the answer holds"])
 
     def test_what_comes_and_goes_beside(self):
         self.loop("/beside")

@@ -38,7 +38,7 @@ path = "/system.slice/other.service"
 """
 
 
-ROOTS_DELEGATE = ["a.service: Delegate=yes: what root's command hands over inside isn't told"]
+ROOTS_DELEGATE = ["a.service: Delegate=yes: what root's command hands over inside isn't known"]
 
 
 class UnitsTest(unittest.TestCase):
@@ -216,7 +216,7 @@ Slice=b.slice\nTasksAccounting=no\nMemoryAccounting=no\n{text}"""))
         _, named = self.planned(os.path.join(self.room, "systemd-nspawn@box.service"), slices=lambda name: UnitFile(UnitName(name), ()))
         self.assertEqual(named, self.may_give)
         self.assertEqual([each.rpartition(": ")[2] for each in named], ["what runs inside is handed to another uid",
-                                                                        "what root's command hands over inside isn't told"])
+                                                                        "what root's command hands over inside isn't known"])
         for option, is_told in (("--private-users=no", False), ("--private-users=pick", True), ("", False)):
             _, named = self.service(f"ExecStart=\nExecStart=/usr/bin/systemd-nspawn {option} -D /x\n")
             self.assertEqual(any("another uid" in each for each in named), is_told)
@@ -364,16 +364,16 @@ class CommandTest(UnitsTest):
     def test_a_unit_is_asked_about(self):
         file = self.write("a.service", "[Service]\nUser=900\nDelegate=yes\nExecStart=/x\nTasksMax=5\nPAMName=login\n")
         said = self.plan("--unit", file)
-        untold = "a.service: PAMName=login: what it makes of who runs there isn't told"
+        untold = "a.service: PAMName=login: what it makes of who runs there isn't known"
         slices = "a.service: of system.slice no file is read with --tree: name it with --unit"
         self.assertEqual((said.returncode, said.stderr), (2, ""))
         self.assertEqual(without_makers(said.stdout.splitlines()), [
             "new: /system.slice/a.service: contained, by 900 who holds it [limited]", f"not-told: {slices}",
-            "2 by what a plan can't tell; 3 asked: 3 contained [limited]; limits of this answer: it was asked by number, without groups "
-            f"and subordinate ids; threads' places and held entries aren't told; what may give entries away isn't told: {untold}"])
+            "2 by what a plan doesn't know; 3 asked: 3 contained [limited]; limits of this answer: it was asked by number, without groups "
+            f"and subordinate ids; threads' places and held entries aren't known; what may give entries away isn't known: {untold}"])
         lines = self.plan("--unit", file, "--print", "lines")
         self.assertEqual((lines.stdout.splitlines()[:2], lines.stderr, lines.returncode),
-                         ([f"# not told: {slices}", f"# not told: {untold}"], "", 2))
+                         ([f"# not known: {slices}", f"# not known: {untold}"], "", 2))
         # what was printed is what can be read again
         ops = self.write("ops", lines.stdout)
         new, last = without_makers(self.plan("--ops", ops).stdout.splitlines())
@@ -388,10 +388,10 @@ class CommandTest(UnitsTest):
         said = self.plan("--unit", file)
         self.assertEqual((said.returncode, said.stderr), (2, ""))
         last = said.stdout.splitlines()[-1]
-        self.assertTrue(last.startswith("2 by what a plan can't tell; 3 asked: 3 contained [limited]; limits of this answer: "))
+        self.assertTrue(last.startswith("2 by what a plan doesn't know; 3 asked: 3 contained [limited]; limits of this answer: "))
         for form in ("lines", "text"):
             self.assertEqual(self.plan("--unit", file, "--print", form).returncode, 2)
-        self.assertIn("; what may give entries away isn't told: a.service: ExecStartPost=+/bin/chown -R 1000 ", last)
+        self.assertIn("; what may give entries away isn't known: a.service: ExecStartPost=+/bin/chown -R 1000 ", last)
         value = json.loads(self.plan("--unit", file, "--json").stdout)
         self.assertEqual((report_schema.faults_of(value), value["status"], value["baseline"]["status"]), ([], 2, 2))
         self.assertEqual([each["kind"] for each in value["limits"]][-1], "plan")

@@ -297,9 +297,19 @@ class Page(Small):
     def test_each_law_stands_there_once(self):
         self.write("crates/theorems/src/lib.rt", PARTS)
         right = theorems.mended(PAGE, self.top)
-        self.assertEqual(theorems.faults_of(right, self.top)[1], ["the theorem theorems::shown stands there 0 times"])
-        right = theorems.mended(right.replace("Carried", "`theorems::shown`:\n\n```\n```\n\nCarried"), self.top)
-        self.assertEqual(theorems.faults_of(right, self.top)[1], [])
+        missing = ["the theorem theorems::shown stands there 0 times"]
+        self.assertEqual(theorems.faults_of(right, self.top)[1], missing)
+        for listed in ("`theorems::shown`:\n\n```\n```\n\nCarried", "`theorems::shown`. It is so.\n\nCarried"):
+            there = theorems.mended(right.replace("Carried", listed), self.top)
+            self.assertEqual(theorems.faults_of(there, self.top)[1], [])
+        twice = theorems.faults_of(there.replace("It is so", "`theorems::shown` is so"), self.top)[1]
+        self.assertEqual(twice, ["the theorem theorems::shown stands there 2 times"])
+        self.assertEqual(theorems.faults_of(f"`theorems::shown`\n\n{right}", self.top)[1], missing)
+
+    def test_each_edit_is_there(self):
+        page = "Turned by `one_less`. Turned\nby `two_less`."
+        self.assertEqual(theorems.edits_of(page, ["one_less", "two_less"]), (2, []))
+        self.assertEqual(theorems.edits_of(page, ["one_less"]), (2, ["there is no edit two_less"]))
 
     def test_all_that_a_law_names(self):
         self.write("crates/high/specs/Lib.antt", "pub mod Course\n")

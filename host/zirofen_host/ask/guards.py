@@ -39,8 +39,8 @@ ALREADY_OVER = Guard(
     "a subtree has more cgroups or levels than its own limits let it have", "",
     "the subtree has more cgroups, or more levels, than its own limits allow")
 UNKNOWN_GUARD = Guard(
-    "unknown", (), "This helper finds no entry for what the program told",
-    "the program tells it, and this helper finds no entry that it rests on", "", "")
+    "unknown", (), "This helper finds no entry for what the program said",
+    "the program says it, and this helper finds no entry that it rests on", "", "")
 GUARDS: Dict[str, Guard] = {
     guard.word: guard for guard in (COMMON_ANCESTOR, LIMIT_FILE, PARENT_CONTROL, PARENT_DIRECTORY, ALREADY_OVER, UNKNOWN_GUARD)}
 # what lets somebody in where no entry does

@@ -78,14 +78,14 @@ PROCESSES = Budget("processes", 16384)
 THREADS = Budget("threads", 4096)
 # threads that are asked whether they share their table of descriptors
 TABLE_THREADS = Budget("threads", 65536)
-PROCESS_BYTES = Budget("bytes in what /proc tells of processes", 1 << 26)
+PROCESS_BYTES = Budget("bytes in what /proc has of processes", 1 << 26)
 # of all their processes together, and of processes that differ in their uid or groups
 GROUPS, GROUP_LISTS = Budget("groups", 1 << 20), Budget("lists of groups", 4096)
 MOUNT_BYTES = Budget("bytes in lists of mounts", 1 << 22)
 LINKS = Budget("open files", 65536)
 DESCRIPTORS = Budget("open files with a path", 4096)
-LONG_DESCRIPTORS = Budget("open files that /proc tells much of", 16)
-RINGS, RING_BYTES = Budget("io_urings", 1024), Budget("bytes in what /proc tells of io_urings", 1 << 22)
+LONG_DESCRIPTORS = Budget("open files of which /proc has much", 16)
+RINGS, RING_BYTES = Budget("io_urings", 1024), Budget("bytes in what /proc has of io_urings", 1 << 22)
 # further mounts of the hierarchy that are reported
 FURTHER_MOUNTS = 64
 # of one unit with containers of root's: cgroups of theirs, and processes of one mount namespace whose root is looked at

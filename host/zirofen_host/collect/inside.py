@@ -16,7 +16,7 @@ from zirofen_host.collect.mount import FIRST_NAMESPACE, FIRST_PID_NAMESPACE, une
 from zirofen_host.collect.processes import FIRST_USER_NAMESPACE
 from zirofen_host.profile import ROOT, CgroupPath, ancestors, is_inside, is_root, parts_of, path_of
 
-BY_NAMESPACE, BY_ROOT, BY_UNREAD = "cgroup namespace", "root", "namespaces that aren't told"
+BY_NAMESPACE, BY_ROOT, BY_UNREAD = "cgroup namespace", "root", "namespaces that aren't known"
 # by their numbers, the capabilities of a bounding set that decide whether cgroup files are kept from a container
 SEARCH, MODULE, RAWIO, ADMIN = "DAC_READ_SEARCH", "SYS_MODULE", "SYS_RAWIO", "SYS_ADMIN"
 DECIDING = {2: SEARCH, 16: MODULE, 17: RAWIO, 21: ADMIN}

@@ -27,7 +27,7 @@ class Mounts:
         # of each mount the type of its file system, by its number and by where it is
         self.types: Dict[int, str] = {}
         self.places: Dict[str, str] = {}
-        # a path may have all that ends a line or parts words elsewhere, but for what stands for itself in octal digits
+        # a path may have all that ends a line or parts words elsewhere, but for what is in its placeself in octal digits
         for line in text.split("\n"):
             before, after = (part.split(" ") for part in line.partition(" - ")[::2])
             if len(before) < 6 or len(after) < 3:
@@ -88,7 +88,7 @@ def refuse_what_is_no_host(mount: str) -> Mounts:
     if os.geteuid() != 0:
         raise Fault("run this as root: others don't see every process, nor every descriptor")
     if bounded.read_file("/proc/self/uid_map", bounded.PROC_FILE).text("ascii").split() != WHOLE_UID_MAP:
-        raise Fault("inside a user namespace: owners would be told wrongly. Run this on the host")
+        raise Fault("inside a user namespace: owners would be shown wrongly. Run this on the host")
     if bounded.read_link("/proc/self/ns/cgroup") != FIRST_NAMESPACE:
         raise Fault("inside a cgroup namespace: what is above its root isn't seen. Run this on the host")
     if bounded.read_link("/proc/self/ns/pid") != FIRST_PID_NAMESPACE:

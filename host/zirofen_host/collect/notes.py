@@ -155,7 +155,7 @@ class UnknownProcess(Note):
 
     @property
     def text(self) -> str:
-        return f"{self.pid} left out: what is told of the process isn't known"
+        return f"{self.pid} left out: what /proc has of the process isn't known"
 
 
 @dataclass(frozen=True)

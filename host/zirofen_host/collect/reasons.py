@@ -112,7 +112,7 @@ class UnknownMounts(Reason):
     count: int
 
     def __str__(self) -> str:
-        return (f"{self.count} open files are on mounts that nothing tells of, and this kernel doesn't tell which files they are: they "
+        return (f"{self.count} open files are on mounts that nothing names, and this kernel doesn't say which files they are: they "
                 "weren't looked at")
 
 
@@ -142,7 +142,7 @@ class UnlookedRing(Reason):
     pid: int
 
     def __str__(self) -> str:
-        return f"an io_uring of process {self.pid} wasn't looked at: its files aren't told"
+        return f"an io_uring of process {self.pid} wasn't looked at: its files aren't known"
 
 
 @dataclass(frozen=True)
@@ -152,5 +152,5 @@ class UnknownPaths(Reason):
     count: int
 
     def __str__(self) -> str:
-        return (f"an io_uring of process {self.pid} wasn't looked at: no path on this mount is told of {self.count} of its files, which "
+        return (f"an io_uring of process {self.pid} wasn't looked at: no path on this mount is known of {self.count} of its files, which "
                 "are named as a cgroup's")

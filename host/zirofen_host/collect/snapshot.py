@@ -286,7 +286,7 @@ def head(snapshot: Snapshot) -> List[str]:
         return ["A part of a text that was taken elsewhere"]
     return [f"A snapshot of cgroups by zirofen-host snapshot, on {snapshot.about.kernel}:",
             f"{len(snapshot.tree.rows)} cgroups, {len(snapshot.tree.processes)} processes; "
-            f"left out {snapshot.kernel_threads} kernel threads, and what standard error told"]
+            f"left out {snapshot.kernel_threads} kernel threads, and what standard error said"]
 
 
 def tree_text(snapshot: Snapshot, with_processes: bool = True) -> str:

@@ -86,7 +86,7 @@ def somebody_in(word: str) -> Named:
     if group:
         raise ValueError("names all members of a group, or none of them")
     if user is None:
-        raise ValueError(f"{word!a} is nobody as a line tells: NAME(UID), uid N, group N, everybody")
+        raise ValueError(f"{word!a} is nobody as a line names them: NAME(UID), uid N, group N, everybody")
     return Named(OWNER, int(user[1] or user[2] or user[3]), None)
 
 

@@ -18,5 +18,5 @@ def report(options: Options, seconds: int) -> Report:
         VERSION, None, about.host or "", about.kernel or "", about.time or "", options.mount, False, False,
         subtrees=(), entries=(), opened=(), faults=(), differs=(), above=(), unseen=(ReportNote.of(Failed(RUN, why)),), snapshot=(),
         status=FAULT, version_1=(), lists=(), users=(), groups=(), cgroups=(), processes=(),
-        limits=(AnswerLimit(TIME, f"it isn't whole: nothing was told of any subtree within {seconds} seconds"),),
+        limits=(AnswerLimit(TIME, f"it isn't whole: nothing is known of any subtree within {seconds} seconds"),),
         helper=version.helper_line())

@@ -123,7 +123,7 @@ def lines_of(at: Standing, answers: Dict[User, Answer]) -> Iterator[str]:
         yield from (f"    {line_of(names, line)}" for line in reasons)
         yield last
     if not at.is_whole:
-        yield "# the text hasn't every cgroup of this host: what else may keep a subtree, where a guard fails, isn't told"
+        yield "# the text hasn't every cgroup of this host: what else may keep a subtree, where a guard fails, isn't known"
 
 
 def explain(snapshot: Snapshot, options: AskOptions, warn: Warn) -> Tuple[List[str], int]:

@@ -158,7 +158,7 @@ def faults_of_budgets(checked: Checked) -> Iterable[FaultFinding]:
             yield fault_of_budget(checked, person, f"{why}: not all were looked at", held)
     for person in spent.over():
         made = held_by(checked, person, holders) or [path for path in checked.snapshot.cgroups if checked.makers.within(path) == person]
-        yield fault_of_budget(checked, person, f"{spent.budget.exceeded_by(person)}: not all are told", made)
+        yield fault_of_budget(checked, person, f"{spent.budget.exceeded_by(person)}: not all are listed", made)
 
 
 def held_by(checked: Checked, person: int, paths: Iterable[CgroupPath]) -> List[CgroupPath]:

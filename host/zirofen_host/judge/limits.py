@@ -44,10 +44,10 @@ def of_options(options: Options) -> Iterator[AnswerLimit]:
     if options.only is not None and not is_root(text_of(options.only)):
         yield AnswerLimit(ONLY, f"nothing but {shown(options.only)} was asked about, what is inside and what is above")
     if options.no_processes:
-        yield AnswerLimit(NO_PROCESSES, "no process stands in the text that was asked of: what is unsettled may be an escape, and an "
+        yield AnswerLimit(NO_PROCESSES, "the text has no process: what is unsettled may be an escape, and an "
                           "escape may be refused")
     if options.tree is None and options.text_format.number != NEWEST:
-        yield AnswerLimit(TREE_FORMAT, f"a text of format {options.text_format.number} tells of three controllers alone, and of no "
+        yield AnswerLimit(TREE_FORMAT, f"a text of format {options.text_format.number} has three controllers alone, and no "
                           "further limit file")
     if options.tree is None and options.plain_folder:
         yield AnswerLimit(PLAIN_FOLDER, "the mount was taken as a folder of plain files: nothing was asked of root, mounts and namespaces")
@@ -63,7 +63,7 @@ def of_text(checked: Checked) -> Iterator[AnswerLimit]:
     if source.carried is None and checked.options.accounts is None:
         yield AnswerLimit(ACCOUNTS, "it was asked by number, without groups and subordinate ids")
     if source.carried is None or not source.carried.has_descriptors:
-        yield AnswerLimit(PREMISES, "threads' places and held entries aren't told")
+        yield AnswerLimit(PREMISES, "threads' places and held entries aren't known")
     if source.carried is not None and source.carried.unknown:
         yield AnswerLimit(LATER, f"the text is of a later version of this helper, and {source.carried.unknown} of its records aren't known")
 

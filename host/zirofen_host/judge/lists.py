@@ -34,7 +34,7 @@ def tried(snapshot: Snapshot, program: Program, user: User, subtree: CgroupPath,
         return Tried(tuple(lines), None)
     others = others_for(snapshot, user, wanted, set(pids_in(lines)))
     if others is None:
-        return Tried(tuple(lines), f"process {wanted[0]} has capabilities or is the kernel's, and where it is stands no other that hasn't: "
+        return Tried(tuple(lines), f"process {wanted[0]} has capabilities or is the kernel's, and no other is there that hasn't: "
                      "a kernel may refuse to move it")
     changed = tuple(with_others(line, others) for line in lines)
     swaps = ", ".join(f"{other} for {pid}" for pid, other in others.items())

@@ -111,5 +111,5 @@ def may(snapshot: Snapshot, options: AskOptions, warn: Warn) -> List[str]:
     for user, lines in by_user.items():
         found += [f"# uid {user.uid}, groups {','.join(map(str, user.gids)) or '-'}"] if len(by_user) > 1 else []
         found += [f"{name} in {shown(options.path)}, by owners and modes:", *lines] if lines else [
-            f"{name} owns and writes no entry of {shown(options.path)}, and none above it that a guard stands on"]
+            f"{name} owns and writes no entry of {shown(options.path)}, and none above it that a guard is about"]
     return found

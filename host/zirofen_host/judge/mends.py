@@ -209,7 +209,7 @@ class Place:
         for whom in by_whom:
             yield (f"it is the value of now, which {whom} could write", [each.entry for each in opened if whom_text(each.whom) == whom])
         known = {each.entry for each in opened}
-        yield ("it is the value of now, and a cgroup's file doesn't tell who wrote it: what was open and taken back is root's too",
+        yield ("it is the value of now, and a cgroup's file doesn't say who wrote it: what was open and taken back is root's too",
                [file for file in self.files if file not in known])
 
     def remarks(self) -> Iterator[str]:
@@ -224,7 +224,7 @@ class Place:
             yield from self.remarks_on_causes()
         yield from self.remarks_on_settings()
         if any(setting_of(file) and not settings_for(file, self.row) and is_set(file, self.row) for file in self.files):
-            yield "a setting brings a limit of a device by its name, which a cgroup doesn't tell: set it by hand in the unit"
+            yield "a setting brings a limit of a device by its name, which a cgroup doesn't have: set it by hand in the unit"
         if self.restarts and not any(map(setting_of, self.gone)):
             yield "no setting brings these limits: what sets them has to at each start, as ExecStartPost=+"
 
@@ -245,7 +245,7 @@ class Place:
         if own and self.unit:
             yield f"{' '.join(own)} of {self.unit.name} says it, and its next start brings it: no drop-in is wanted"
         if limits and self.unit and self.unit.section and self.found and not self.wanted:
-            yield f"what the settings of {self.unit.name} say isn't told here: its next start brings that, and no value is written"
+            yield f"what the settings of {self.unit.name} say isn't known here: its next start brings that, and no value is written"
 
 
 def value_in(row: Optional[ReportCgroup], file: str) -> Union[int, str, None]:

@@ -146,8 +146,8 @@ class Unsearched(Note):
     @property
     def text(self) -> str:
         if self.around:
-            return f"they can't search {self.path}, and what is inside is mounted at {some(self.around)} too: the answer stands"
-        return f"they can't search {self.path} on this mount: by another, as of a cgroup namespace inside, the answer stands"
+            return f"they can't search {self.path}, and what is inside is mounted at {some(self.around)} too: the answer holds"
+        return f"they can't search {self.path} on this mount: by another, as of a cgroup namespace inside, the answer holds"
 
 
 @dataclass(frozen=True)
@@ -176,7 +176,7 @@ class LeftOutGroups(Note):
 
     @property
     def text(self) -> str:
-        return f"{self.count} of their groups that stand in the tree were left out; no entry that a guard stands on names them"
+        return f"{self.count} of their groups that are in the tree were left out; no entry that a guard is about names them"
 
 
 @dataclass(frozen=True)
@@ -184,7 +184,7 @@ class UnaskedUsers(Note):
     """Users who weren't asked of what everybody is let in to: the counts of some subtrees."""
     kind = "everybody"
     narrows = BUDGETS
-    meaning = "Where everybody is let in, some users stand for all."
+    meaning = "Where everybody is let in, some users are asked for all."
     counts: Tuple[int, ...]
 
     @property
@@ -197,12 +197,12 @@ class UnaskedUsers(Note):
 class UnknownFiles(Note):
     """Files whose names aren't known, each with whether it counts as a limit."""
     kind = "unknown-file"
-    meaning = "A newer kernel's files, taken as the mode tells that most cgroups have them with."
+    meaning = "A newer kernel's files, taken by the mode that most cgroups have them with."
     files: Tuple[Tuple[str, bool], ...]
 
     @property
     def text(self) -> str:
-        names = [f"{name} ({'a limit' if is_limit else 'it only tells'})" for name, is_limit in self.files]
+        names = [f"{name} ({'a limit' if is_limit else 'no limit'})" for name, is_limit in self.files]
         return f"{some(names)}: by the mode that most cgroups have these with, since their names aren't known"
 
 
@@ -239,7 +239,7 @@ class NoCause(Note):
 class NotPlanned(Note):
     """What of a plan isn't known, and no answer rests on as far as is known."""
     kind = "not-told"
-    meaning = "A plan tells what follows from a unit's settings, and not what is carried out."
+    meaning = "A plan says what follows from a unit's settings, and not what is carried out."
     said: str
 
     @property
@@ -260,7 +260,7 @@ class OfText(Note):
     def text(self) -> str:
         if self.is_carried:
             more = "" if self.has_descriptors else "where threads run, open descriptors and "
-            return f"this is judged by a text: {more}the settings of units aren't told by it"
+            return f"this is judged by a text: {more}it lacks the settings of units"
         number, names = ("", "") if self.has_accounts else ("by number, ", " and no names (--accounts FOLDER does)")
         return (f"this was judged {number}by cgroups and processes alone: the text carries nothing of its host (zirofen-host snapshot "
                 f"--with-host does){names}")
@@ -356,7 +356,7 @@ class NotAdvised(Note):
 
     @property
     def text(self) -> str:
-        return (f"what to change isn't told of {self.entries} entries: the program is asked {self.most} times, once in each text. Ask "
+        return (f"what to change isn't known of {self.entries} entries: the program is asked {self.most} times, once in each text. Ask "
                 "again after these changes")
 
 

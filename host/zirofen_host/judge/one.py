@@ -101,7 +101,7 @@ def as_asked(one: One, users: Iterable[User], warn: Warn) -> Dict[User, int]:
     for user in users:
         few, count = with_groups(user, matter, one.delegations.gids_of_tree)
         if few and count:
-            warn(f"{count} of their groups that stand in the tree are left out: no entry that a guard stands on has them")
+            warn(f"{count} of their groups that are in the tree are left out: no entry that a guard is about has them")
         found[few or user] = 0 if few else count
     return found
 

@@ -154,7 +154,7 @@ def compared(found: Accepted, text: str, options: PlanOptions, planned: Planned 
 
 def narrowed(now: Report, comparison: Comparison, may_give: Sequence[str]) -> Report:
     """A report of a plan of which not all is known that may give entries away: what escapes and faults stay what they are."""
-    text = f"what may give entries away isn't told: {'; '.join(may_give)}"
+    text = f"what may give entries away isn't known: {'; '.join(may_give)}"
     differing = {kind: tuple(dataclasses.replace(each, line=each.line + limits.MARK) if each.what == "subtree" else each
                              for each in vars(comparison)[kind]) for kind in ("new", "worse", "changed")}
     comparison = dataclasses.replace(comparison, **differing, status=at_least_unsettled(comparison.status))

@@ -64,7 +64,7 @@ def made_rules() -> Iterator[Rule]:
     yield Rule(DIFFERS, "", Severity.CONTAINED, "What was handed over isn't as a service manager leaves it.", "It isn't counted.")
     yield Rule("fault", "", Severity.FAULT, "There is no answer for a subtree or for somebody.")
     yield Rule("fault", "own", Severity.OWN_FAULT, "There is no answer for a subtree, which is the making of those alone who hold it.")
-    yield Rule(FAILED, "", Severity.FAULT, "A look at the host failed; all else stands.")
+    yield Rule(FAILED, "", Severity.FAULT, "A look at the host failed; all else holds.")
     yield Rule(VERSION_1, "", Severity.NOT_LOOKED_AT, "Limits are in the hands of cgroup v1, and weren't looked at.")
     yield Rule("acceptance", "", Severity.STALE, "An acceptance is over, meets nothing, or what it is of got worse.")
     yield Rule(NOTHING_ASKED, "", Severity.NOTHING_ASKED, "Nothing was found to ask: neither a delegation nor a container of root's.")

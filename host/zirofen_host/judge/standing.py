@@ -21,7 +21,7 @@ CAUSES: Dict[Tuple[str, Severity], Tuple[str, str]] = {
     ("entry", Severity.UNSETTLED): ("an entry that isn't settled", "{} entries that aren't settled"),
     ("entry", Severity.FAULT): ("an entry without an answer", "{} entries without an answer"),
     ("answer", Severity.ESCAPES): ("a subtree that is escaped from", "{} subtrees that are escaped from"),
-    ("answer", Severity.OPENED): ("a subtree that stands open", "{} subtrees that stand open"),
+    ("answer", Severity.OPENED): ("a subtree that is open", "{} subtrees that are open"),
     ("answer", Severity.UNSETTLED): ("a subtree that isn't settled", "{} subtrees that aren't settled"),
     ("answer", Severity.FAULT): ("a subtree without an answer", "{} subtrees without an answer"),
     ("opened", Severity.OPENED): ("an opened entry", "{} opened entries"),
@@ -36,7 +36,7 @@ CAUSES: Dict[Tuple[str, Severity], Tuple[str, str]] = {
     ("failed", Severity.FAULT): ("a look that failed", "{} looks that failed"),
     ("host", Severity.NOTHING_ASKED): ("nothing that was found to ask", ""),
     ("host", Severity.NOT_LOOKED_AT): ("limits that are v1's", ""),
-    ("plan", Severity.UNSETTLED): ("what a plan can't tell", ""),
+    ("plan", Severity.UNSETTLED): ("what a plan doesn't know", ""),
     ("acceptance", Severity.STALE): ("an acceptance that doesn't hold", "{} acceptances that don't hold")}
 
 

@@ -86,7 +86,7 @@ class Plan:
     def change(self, *words: str) -> None:
         """One more change, each word of which stays one in a line."""
         if not all(map(_WORD.match, words)):
-            raise Fault(f"no change can be told with {' '.join(words)!a}: a word has printable ASCII alone, and no blank")
+            raise Fault(f"no change can be written with {' '.join(words)!a}: a word has printable ASCII alone, and no blank")
         self.lines.append(words)
 
     @property
@@ -195,7 +195,7 @@ class Started:
         if self.flag("DynamicUser"):
             stands = self.plan.uid_for_nobody()
             if self.unit.last("User"):
-                self.name_it("User", str(self.unit.last("User")), f"a dynamic user's name: uid {stands} stands for it")
+                self.name_it("User", str(self.unit.last("User")), f"a dynamic user's name: uid {stands} is in its place")
             return stands, stands
         user, group = self.value("User"), self.value("Group")
         uid, gid = self.account(user) if user else (None, None)
@@ -332,9 +332,9 @@ class Started:
             elif CONTROLLED.match(name):
                 self.name_it(name, value, "no limit that a tree text carries")
             elif name in RUNNING:
-                self.name_it(name, value, "what it makes of who runs there isn't told", name in UNANSWERED)
+                self.name_it(name, value, "what it makes of who runs there isn't known", name in UNANSWERED)
         if self.is_roots and self.delegated() is not None:
-            self.name_it("Delegate", str(self.unit.last("Delegate") or ""), "what root's command hands over inside isn't told", True)
+            self.name_it("Delegate", str(self.unit.last("Delegate") or ""), "what root's command hands over inside isn't known", True)
 
     @property
     def is_roots(self) -> bool:

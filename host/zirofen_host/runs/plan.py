@@ -24,12 +24,12 @@ def run(given: argparse.Namespace) -> int:
     found = plan.before(options)
     planned = plan.planned_lines(found, options)
     if options.print == "lines":
-        fault.write_lines([*(f"# not told: {each}" for each in planned.named), *plan.as_read(planned.lines)])
+        fault.write_lines([*(f"# not known: {each}" for each in planned.named), *plan.as_read(planned.lines)])
         return plan.status_of_printed(planned)
     text, planned = plan.text_behind(found, planned, options)
     if options.print == "text":
         for each in planned.named:
-            fault.warn(f"{NAME} plan: not told: {each}")
+            fault.warn(f"{NAME} plan: not known: {each}")
         fault.write(text)
         return plan.status_of_printed(planned)
     report = plan.compared(found, text, options, planned)

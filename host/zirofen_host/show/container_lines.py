@@ -63,5 +63,5 @@ def roots_alone(report: Report, paths: Sequence[str]) -> str:
     most = max(SHOWN, min(NAMED, sum(path in labels.scopes for path in others)))
     parts = [some([labels.of(path) for path in others], most)] if others else []
     if count:
-        parts.append(f"{count} with a container of root's, told below")
+        parts.append(f"{count} with a container of root's, listed below")
     return f"{len(paths)} cgroups: {', and '.join(parts)}"

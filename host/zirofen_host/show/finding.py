@@ -190,7 +190,7 @@ class Article:
         causes = "".join(f"<p>What of root's files gives it away: {code(each)}</p>" for each in causes_of(self.finding.parts))
         if not changes and not settings and not causes:
             is_missing = self.finding.key == "entries" and not self.host.report.has_advice
-            return "<p>What to change isn't told: the program of this report has no advise.</p>" if is_missing else ""
+            return "<p>What to change isn't known: the program of this report has no advise.</p>" if is_missing else ""
         heading = self.at.level(4)
         effects = dict.fromkeys(each.effect for each in self.finding.parts if isinstance(each, PremiseFinding) and each.effect)
         then = "".join(f"<p>What it does beside: {text(each)}.</p>" for each in effects)

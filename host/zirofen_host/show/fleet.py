@@ -219,7 +219,7 @@ class Rules:
         try:
             time = datetime.strptime(report.time, TIME).replace(tzinfo=timezone.utc)
         except ValueError:
-            return "it doesn't tell its time"
+            return "it doesn't have its time"
         if time > self.now + AHEAD:
             return "its time is to come"
         days = (self.now - time).days
@@ -241,7 +241,7 @@ def rows(folder: str, names: Iterable[str], rules: Rules, draw: Callable[[str, R
         except Fault as fault:
             row = missing(name, str(fault).lstrip(": "))
         except (Exception, RecursionError, MemoryError) as error:
-            row = missing(name, f"it can't be told of: {why_of(error)}")
+            row = missing(name, f"it can't be shown: {why_of(error)}")
         yield row
 
 

@@ -44,7 +44,7 @@ def gauges(fleet: Fleet, seconds: float, ended: float) -> Iterator[Gauge]:
     yield Gauge("zirofen_fleet_unexpected_reports", "Reports of other hosts than their names say, or of hosts that shouldn't be there.",
                 {ALONE: sum(map(is_another, fleet.rows))})
     yield Gauge("zirofen_fleet_other_files", "Files that are no report and were passed over.", {ALONE: fleet.others})
-    yield Gauge("zirofen_fleet_oldest_report_timestamp_seconds", "When the oldest report was made that counts; 0 where none tells.",
+    yield Gauge("zirofen_fleet_oldest_report_timestamp_seconds", "When the oldest report was made that counts; 0 where none has one.",
                 {ALONE: round(min(moments(fleet), default=0))})
     yield Gauge("zirofen_fleet_status", "The status of the worst host.", {ALONE: fleet.status})
     yield Gauge("zirofen_fleet_run_seconds", "How long it took to read the reports.", {ALONE: round(seconds, 3)})

@@ -66,7 +66,7 @@ class Index:
         lines = "<br>".join(text(line) if alike.first.why is not None else code(line) if line in alike.first.lines else text(line)
                             for line in details(alike))
         self.left -= len(lines.encode())
-        return lines if self.left > 0 else "its page tells" if alike.first.why is None else ""
+        return lines if self.left > 0 else "its page says" if alike.first.why is None else ""
 
     def parts(self) -> Iterator[str]:
         groups = self.fleet.groups()

@@ -36,7 +36,7 @@ class Run:
     def lines(self) -> Iterator[str]:
         yield from self.first.lines
         if self.count > 1:
-            yield f"    .. and {self.count - 1} more that are alike, in what uid {self.first.within} made: --each tells them"
+            yield f"    .. and {self.count - 1} more that are alike, in what uid {self.first.within} made: --each lists them"
 
 
 def folded(parts: Iterable[Part], is_each: bool = False, most: int = LINES.most) -> Iterator[str]:

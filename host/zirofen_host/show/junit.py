@@ -129,7 +129,7 @@ def cases_of(run: Run) -> Iterable[Case]:
     for name in OF_HOST.values():
         cases.at(HOST, name)
     if not run.report.opened:
-        cases.at(HOST, "nothing else stands open")
+        cases.at(HOST, "nothing else is open")
     for each in limits.narrowing(run.report):
         cases.at(HOST, "all of it is asked about").add(SKIPPED, f"limits/{each.kind}", [f"{limits.HEAD}: {each.text}"])
     for note in run.report.unseen:

@@ -31,7 +31,7 @@ NOBODY, ROOT_ALONE = "-", "held by root alone"
 # lines of each kind of what no answer looks at, for what one person made
 LINES_OF_KIND = 4
 # what a comparison's status may be by
-COUNTED = {"new": "new", "worse": "worse", "stand": "that stand since then"}
+COUNTED = {"new": "new", "worse": "worse", "stand": "that have been open since then"}
 # what brings changes and a setting
 Mended = Union[EntryFinding, OpenedFinding, DiffersFinding, RootInside, RunsElsewhere, HeldFinding, PremiseFinding, Difference]
 One = TypeVar("One")
@@ -175,7 +175,7 @@ def finding_lines(report: Report, is_each: bool = False) -> Iterator[str]:
     for fault in report.faults:
         yield fault_line(fault, fault.subtrees)
     if report.entries and not report.has_advice:
-        yield "what to change of an entry isn't told: this program has no advise"
+        yield "what to change of an entry isn't known: this program has no advise"
     for differs in report.differs:
         yield differs_line(differs)
         yield from what_to_change([differs])
@@ -300,7 +300,7 @@ def lines_of(report: Report, is_each: bool = False) -> Iterator[str]:
     snapshot = (each for each in report.snapshot if each.kind != LimitsOfVersion1.kind)
     yield from (f"snapshot: {line}" for line in note_lines(snapshot, is_each))
     if not report.unseen and not report.snapshot:
-        yield "this host tells of nothing"
+        yield "this host has nothing of these"
     yield from made_lines(report)
     yield sum_line(report)
 
@@ -321,7 +321,7 @@ def standing_line(compared: Comparison) -> str:
     """What stands since a baseline, and was accepted by nobody."""
     lines = "; ".join(each.line for each in compared.stand[:SHOWN])
     more = f"; and {len(compared.stand) - SHOWN} more" if len(compared.stand) > SHOWN else ""
-    verb = "finding stands" if len(compared.stand) == 1 else "findings stand"
+    verb = "finding is open" if len(compared.stand) == 1 else "findings are open"
     return f"{len(compared.stand)} {verb} since {compared.time or compared.file}: {lines}{more}"
 
 

@@ -27,5 +27,5 @@ def write_lines(delegations: Delegations) -> bool:
         lines.append(line(path, user))
     write(lines)
     for uid, count in sorted(cut.items()):
-        warn(f"groups: uid {uid}: {count} of their groups that stand in the tree left out: a user has {MOST_GROUPS} at most")
+        warn(f"groups: uid {uid}: {count} of their groups that are in the tree left out: a user has {MOST_GROUPS} at most")
     return all_matter

@@ -60,7 +60,7 @@ def gauges(run: Run) -> Iterator[Gauge]:
     yield Gauge("zirofen_host_info", "The helper that made this, by its version and the sum of its files, and the program that it asked.",
                 {(*about(), ("program", run.report.program or "")): 1})
     yield Gauge("zirofen_subtrees_asked", "Subtrees that were asked of.", {ALONE: len(standing) - answers[Severity.NOT_ASKED]})
-    yield Gauge("zirofen_subtrees", "Subtrees by the gravest that is told of each.",
+    yield Gauge("zirofen_subtrees", "Subtrees by the gravest that was found of each.",
                 {(("answer", label(each)),): answers[each] for each in Severity if each not in OF_HOST})
     yield Gauge("zirofen_findings", "Findings by kind and gravity, without those that were accepted.",
                 {kind_labels(rule): counts[rule.id] for rule in RULES.values() if rule.id not in FAULTS})

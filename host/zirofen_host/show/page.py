@@ -61,7 +61,7 @@ class HostPage:
     def source(self) -> str:
         """What it was made of, as far as a report tells."""
         report = self.host.report
-        time = f'at <time datetime="{text(report.time)}">{text(report.time)}</time>' if report.time else "at a time that isn't told"
+        time = f'at <time datetime="{text(report.time)}">{text(report.time)}</time>' if report.time else "at a time that isn't known"
         parts = (f'<span class="name">{text(self.name)}</span>', text(report.kernel), time,
                  f"with {text(words.listed(words.made_by(report)))}" if report.program else "")
         return ", ".join(filter(None, parts))
@@ -75,16 +75,16 @@ class HostPage:
         """The sentence of how it stands."""
         number = sum(any(kind == self.kind for kind, _ in self.host.standing[path]) for path in self.host.delegations)
         every, one = words.count(len(self.host.delegations), "delegation"), number == 1
-        is_, has, stands, it = ("is", "has", "stands", "it") if one else ("are", "have", "stand", "they")
+        is_, has, it = ("is", "has", "it") if one else ("are", "have", "they")
         sentences = {
             ESCAPES: f"{number} of {every} can be broken by somebody whom {it} should hold.",
             OPENED: f"{self.opened()}, and {self.contained()}.",
-            UNSETTLED: f"{number} of {every} {is_} not settled: an entry stands open, and nothing was found that breaks the subtree.",
+            UNSETTLED: f"{number} of {every} {is_} not settled: an entry is open, and nothing was found that breaks the subtree.",
             FAULT: f"{number} of {every} {has} no answer for somebody." if number else f"A look failed, and {self.contained()}.",
             OWN_FAULT: f"{number} of {every} {has} no answer for somebody, which is the making of who holds {it if one else 'them'}.",
             NOT_LOOKED_AT: f"Limits aren't looked at, and {self.contained()}.",
             STALE: f"An acceptance doesn't hold, and {self.contained()}.",
-            ACCEPTED: f"{number} of {every} {stands} open by what somebody accepted, and {self.contained(False)}.",
+            ACCEPTED: f"{number} of {every} {is_} open by what somebody accepted, and {self.contained(False)}.",
             NOT_ASKED: f"{self.nobodys()}, and {words.count(len(self.host.root_inside), 'container')} of root's.",
             NOTHING_ASKED: "Nothing was found to ask: no subtree and user of which containment could be asked."}
         return sentences.get(self.kind) or self.all_contained()
@@ -117,7 +117,7 @@ class HostPage:
         parts = [part for each in self.host.findings if each.kind == OPENED for part in each.parts]
         insides = sum(isinstance(each, RootInside) for each in parts)
         limits = len(parts) - insides
-        found = [f"{words.count(limits, 'limit stands', 'limits stand')} open to somebody"] if limits else []
+        found = [f"{words.count(limits, 'limit is', 'limits are')} open to somebody"] if limits else []
         found += [f"root in {words.count(insides, 'container')} isn't held"] if insides else []
         return capital(", ".join(found))
 
@@ -183,7 +183,7 @@ class HostPage:
                 kinds.setdefault((key, of[0].kind), []).append(
                     item_of([(f"{self.at.id}-{key}-{numbers[id(each)]}", each) for each in in_order]))
         if not kinds:
-            return "<p>This host tells of nothing.</p>"
+            return "<p>This host has nothing of these.</p>"
         heading = self.at.level(3)
         return "\n".join(f"<{heading}>{'Left out of the tree text: ' if key == 'snapshot' else ''}{text(kind)}</{heading}>"
                          f"{paragraph(WHAT_NO_ANSWER_SEES.get(kind, ''))}{list_of(lines)}"

@@ -25,9 +25,9 @@ SIGNS = {FAULT: ("∅", "0"), ESCAPES: ("✗", "X"), OPENED: ("!", "!"), UNSETTL
          NOT_ASKED: ("·", "-"), ABOVE: ("↑", "^"), CONTAINED: ("✓", "+")}
 MEANINGS = {
     OWN_FAULT: "there is no answer, which is the making of those alone who hold it",
-    LIMITED: "nothing was found that breaks it, in an answer that doesn't look at all: its limits are told here",
+    LIMITED: "nothing was found that breaks it, in an answer that doesn't look at all: its limits are listed here",
     ESCAPES: "operations were found by which somebody breaks it",
-    OPENED: "a limit, or where a manager makes what it starts, stands open to somebody; seen, and not proved",
+    OPENED: "a limit, or where a manager makes what it starts, is open to somebody; seen, and not proved",
     UNSETTLED: "an entry above or at it is open to somebody, and nothing was found that breaks it",
     FAULT: "there is no answer for somebody",
     ACCEPTED: "what lets somebody in was accepted, for a reason and until a day, and isn't counted",

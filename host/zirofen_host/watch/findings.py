@@ -42,7 +42,7 @@ class Findings:
         # what is there at first, where nobody has seen it before
         is_reported = self.has_baseline or not is_first
         kept, more = self.folding.kept(each for each in compared.changes if is_reported or known.is_counted(each))
-        by = "it stands at the first check" if is_first else f"it was found by {asked.why or 'a check of what is beside it'}"
+        by = "it was there at the first check" if is_first else f"it was found by {asked.why or 'a check of what is beside it'}"
         said: Set[lanes.Place] = set()
         for change in kept:
             touched = messages.touched_of(asked, change, waiting, began)

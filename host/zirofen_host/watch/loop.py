@@ -115,7 +115,7 @@ class Loop:
             self.say(LIMIT, line)
 
     def without_pids(self, why: str) -> None:
-        self.limit("pids", f"events don't name who did it: fanotify refuses the hierarchy here ({why}), and inotify tells of it")
+        self.limit("pids", f"events don't name who did it: fanotify refuses the hierarchy here ({why}), and inotify reports it")
 
     # the loop
 
@@ -321,7 +321,7 @@ class Loop:
             self.lanes.deep.ask_whole(max(time.monotonic(), self.next_deep), "a check of the whole host")
             self.next_deep = time.monotonic() + AFTER_DEEP
         elif then.has_reported and not made.part.is_whole and self.outside.leave_numbers:
-            run.lane.ask_whole(time.monotonic(), "a check that counts what stands", False)
+            run.lane.ask_whole(time.monotonic(), "a check that counts what is open", False)
 
     def waiting(self, place: lanes.Place) -> Optional[lanes.Touched]:
         """What happened to an entry that waits to be asked of, or is asked of now."""

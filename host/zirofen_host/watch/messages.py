@@ -50,7 +50,7 @@ def lines_of(message: Message) -> Iterator[str]:
     yield f"{stamp(message.when)} {message.kind}: {message.line}"[:LONGEST]
     yield from (f"    by {doer.text}" for doer in message.doers)
     if message.by:
-        yield f"    no event told of it: {message.by}"
+        yield f"    no event reported it: {message.by}"
     yield from (line[:LONGEST] for line in message.more)
 
 

@@ -19,10 +19,10 @@ class Numbers(NamedTuple):
 
 
 def gauges(numbers: Numbers) -> Iterator[Gauge]:
-    yield Gauge("zirofen_watch_told", "What was told since the watch began, by kind.",
+    yield Gauge("zirofen_watch_told", "What was reported since the watch began, by kind.",
                 {(("kind", kind),): numbers.reported[kind] for kind in (*KINDS, "back")})
-    yield Gauge("zirofen_watch_standing", "Findings that stand and aren't accepted, by the watch.", {ALONE: numbers.standing})
-    yield Gauge("zirofen_watch_last_event_timestamp_seconds", "When a kernel told of an event last; 0 before the first.",
+    yield Gauge("zirofen_watch_standing", "Findings that are open and aren't accepted, by the watch.", {ALONE: numbers.standing})
+    yield Gauge("zirofen_watch_last_event_timestamp_seconds", "When a kernel reported an event last; 0 before the first.",
                 {ALONE: round(numbers.last_event)})
     yield Gauge("zirofen_watch_last_check_timestamp_seconds", "When a check of the host or of a part of it ended last.",
                 {ALONE: round(numbers.last_check)})
