@@ -165,7 +165,7 @@ def by_name(value: Value[Of]) -> Value[Mapping[str, Of]]:
 
 
 NUMBER, ID, TEXT = Value[int](int, number_in), Value[int](int, id_of), Value[str](str, text_in)
-# a text of which another value is taken for what is in its place
+# a text of which another value is taken for what stands for it
 ANY_TEXT = Value[str](str, str)
 FLAG = Value[bool](bool, lambda each: typed(bool, each))
 PATH = Value[CgroupPath](text_of, lambda each: path_of(text_in(each)))

@@ -27,7 +27,7 @@ class Mounts:
         # of each mount the type of its file system, by its number and by where it is
         self.types: Dict[int, str] = {}
         self.places: Dict[str, str] = {}
-        # a path may have all that ends a line or parts words elsewhere, but for what is in its placeself in octal digits
+        # a path may have all that ends a line or parts words elsewhere, but for what stands for itself in octal digits
         for line in text.split("\n"):
             before, after = (part.split(" ") for part in line.partition(" - ")[::2])
             if len(before) < 6 or len(after) < 3:
