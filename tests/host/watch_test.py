@@ -166,12 +166,14 @@ class LanesTest(unittest.TestCase):
         lane.touch(Event(b"/", b"cgroup.procs", ATTRIB, 8), 1, 2.0, chown)
         lane.touch(Event(b"/a", b"", ATTRIB | IS_FOLDER, 8), 1, 3.0, chown)
         asked = lane.take()
-        self.assertEqual(asked.at(b"/", "cgroup.procs"), lanes.Touched(ATTRIB, 3, 1.0, 2.0, (chmod, chown)))
-        self.assertEqual(asked.at(b"/a", "memory.max").doers, (chown,))
-        self.assertEqual(asked.at(b"/a/b", "memory.max").doers, (chown,))
-        self.assertEqual(asked.at(b"/b", "dir").doers, (chmod, chown))
+        self.assertEqual(asked.touched[asked.near(b"/", "cgroup.procs")], lanes.Touched(ATTRIB, 3, 1.0, 2.0, (chmod, chown)))
+        for path, entry, told in ((b"/a", "memory.max", (b"/a", "dir")), (b"/a/b", "memory.max", (b"/a", "dir")),
+                                  (b"/b", "dir", (b"/", "cgroup.procs"))):
+            self.assertEqual(asked.near(path, entry), told)
         lane.give_back(asked)
         self.assertEqual(lane.touched, asked.touched)
+        lane.give_back(asked._replace(touched={(b"/a", "dir"): lanes.Touched(ATTRIB, 1, 4.0, 4.0, (chmod,))}))
+        self.assertEqual(lane.touched[b"/a", "dir"], lanes.Touched(ATTRIB | IS_FOLDER, 2, 3.0, 4.0, (chmod, chown)))
 
     def test_what_waits_to_be_asked_of(self):
         """Who changed an entry is told whichever check found it, before who changed something near."""
@@ -190,8 +192,8 @@ class LanesTest(unittest.TestCase):
         lane.touch(Event(b"/a", b"memory.max", ATTRIB, 7), 1, 3.0, Doer(7))
         late.touch(Event(b"/a", b"memory.max", ATTRIB, 8), 1, 5.0, Doer(8))
         asked = lane.take()
-        for began, told in ((4.0, 7), (6.0, 8)):
-            self.assertEqual(messages.touched_of(asked, change_at("/a", "memory.max"), late.touched.get, began).doers[0].pid, told)
+        for entry, began, told in (("memory.max", 4.0, 7), ("memory.max", 6.0, 8), ("", 4.0, 7), ("", 6.0, 8)):
+            self.assertEqual(messages.touched_of(asked, change_at("/a", entry), late.touched.get, began).doers[0].pid, told)
 
     def test_what_no_event_inside_explains(self):
         """A container that isn't held, or an option that is missing, is by nobody who changed something further inside."""

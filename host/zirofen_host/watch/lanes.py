@@ -63,6 +63,13 @@ class Touched(NamedTuple):
     doers: Tuple[Doer, ...]
 
 
+def together(one: Touched, other: Touched) -> Touched:
+    """What happened to an entry at two times: who did the last of it comes first."""
+    earlier, later = sorted((one, other), key=lambda each: each.last)
+    doers = (*later.doers, *(doer for doer in earlier.doers if doer not in later.doers))[:MOST_DOERS]
+    return Touched(one.mask | other.mask, one.number + other.number, min(one.first, other.first), later.last, doers)
+
+
 class Owners:
     """To whom a folder is charged, as checks found it: nobody is asked again for each event. One that no check found is of who has what
     is above it."""
@@ -140,9 +147,9 @@ class Lane:
     def give_back(self, asked: "Asked") -> None:
         """Keeps what happened before a check that couldn't say all of it for the one behind it."""
         for place, each in asked.touched.items():
-            later = self.touched.get(place)
-            if later is not None or len(self.touched) < MOST_TOUCHED:
-                self.touched[place] = each if later is None else later._replace(first=each.first, mask=each.mask | later.mask)
+            there = self.touched.get(place)
+            if there is not None or len(self.touched) < MOST_TOUCHED:
+                self.touched[place] = each if there is None else together(each, there)
 
     def due(self) -> Optional[float]:
         """When it is to be asked, where something waits."""
@@ -168,14 +175,13 @@ class Asked(NamedTuple):
     first: float
     touched: Dict[Place, Touched]
 
-    def at(self, path: CgroupPath, entry: str, has_inside: bool = True) -> Optional[Touched]:
-        """What happened to an entry: to itself, else to its cgroup, else to one above, else to one inside where that may be why."""
+    def near(self, path: CgroupPath, entry: str, has_inside: bool = True) -> Optional[Place]:
+        """Where something happened that concerns an entry: itself, else its cgroup, else above, else inside where that may be why."""
         for wanted in ((path, entry), (path, DIRECTORY)):
             if wanted in self.touched:
-                return self.touched[wanted]
-        near = [(place, each) for place, each in self.touched.items()
-                if is_inside(path, place[0]) or has_inside and is_inside(place[0], path)]
-        return max(near, key=lambda pair: (is_inside(path, pair[0][0]), len(pair[0][0])), default=(None, None))[1]
+                return wanted
+        near = [place for place in self.touched if is_inside(path, place[0]) or has_inside and is_inside(place[0], path)]
+        return max(near, key=lambda place: (is_inside(path, place[0]), len(place[0])), default=None)
 
 
 class Lanes:

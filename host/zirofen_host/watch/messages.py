@@ -104,11 +104,14 @@ class Folding:
 
 def touched_of(asked: Asked, change: Change, waiting: Waiting, began: float) -> Optional[Touched]:
     """What events say of where something differs: those that it was asked of by, else one of that very entry that waits to be asked of,
-    which a check that was on its way has found; of one that waits since before that check began, the same in place of earlier ones."""
+    which a check that was on its way has found; what waits since before that check began is what it found, in place of what was earlier."""
     if not change.path.startswith("/"):
         return None
     place = path_of(change.path), change.entry.split(" ")[0] if change.entry else DIRECTORY
-    here, later = asked.touched.get(place), waiting(place)
-    if later and (here is None or later.first <= began):
-        return later
-    return here or asked.at(*place, has_inside=change.difference.what not in OF_PROCESSES)
+    if place not in asked.touched and waiting(place):
+        return waiting(place)
+    near = asked.near(*place, has_inside=change.difference.what not in OF_PROCESSES)
+    if near is None:
+        return None
+    later = waiting(near)
+    return later if later and later.first <= began else asked.touched[near]
