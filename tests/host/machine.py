@@ -3,14 +3,18 @@
 e2fsprogs, cpio, qemu-utils and qemu-system-x86; it fetches packages by apt, and the machine has no network:
 
   machine.py make FOLDER SUITE [PACKAGE ..]    a disk of the standard packages and these, with this checkout's packages, in FOLDER
-  machine.py boot FOLDER [--as-left]           from that disk, or as the last machine left its own; until it answers
+  machine.py boot FOLDER [--as-left] [--by-instructions]
+                                               from that disk, or as the last machine left its own; until it answers
   machine.py do FOLDER COMMAND ..              runs a command in it, with the trials in /root/trials, and prints what it says
+  machine.py put FOLDER FILE PLACE             copies a file, or what is in a folder, into a folder of it
   machine.py halt FOLDER
 
   machine.py make m trixie podman crun && machine.py boot m && machine.py do m python3 openings_trial.py /usr/bin --together
   machine.py halt m && machine.py boot m --as-left && machine.py do m python3 openings_trial.py /usr/bin --booted
 
-Whatever is booted is an overlay of the disk, which stays as it was made. A command's status is that of `do`.
+Whatever is booted is an overlay of the disk, which stays as it was made. A command's status is that of `do`. With --by-instructions the
+machine's own clock goes on by a nanosecond with each instruction, for both processors together: what it takes by that clock is the same on
+a busy host, and is about what a slow machine takes.
 """
 import argparse
 import base64
@@ -57,6 +61,8 @@ PORT = "/dev/virtio-ports/trials"
 DISK = "8G"
 # seconds until a machine answers
 BOOTING = 600
+# letters of a command that carries a part of a file
+PART = 100000
 
 
 def run(*words, **more):
@@ -145,11 +151,12 @@ def put_kernel(folder, root):
 # running
 
 
-def boot(folder, as_left):
+def boot(folder, as_left, by_instructions):
     overlay, port = f"{folder}/overlay", f"{folder}/port"
     if not as_left:
         run("qemu-img", "create", "-q", "-f", "qcow2", "-b", os.path.realpath(f"{folder}/disk"), "-F", "raw", overlay)
-    words = ["qemu-system-x86_64", "-accel", "tcg,thread=multi", "-cpu", "Nehalem,+rdrand,+rdseed", "-m", "3072", "-smp", "2",
+    how = ["tcg,thread=single", "-icount", "shift=0,sleep=on"] if by_instructions else ["tcg,thread=multi"]
+    words = ["qemu-system-x86_64", "-accel", *how, "-cpu", "Nehalem,+rdrand,+rdseed", "-m", "3072", "-smp", "2",
              "-nodefaults", "-no-user-config", "-display", "none", "-no-reboot",
              "-kernel", f"{folder}/kernel", "-initrd", f"{folder}/first", "-append", WORDS, "-serial", f"file:{folder}/console",
              "-drive", f"file={overlay},format=qcow2,if=virtio,cache=unsafe", "-device", "virtio-rng-pci",
@@ -193,6 +200,16 @@ def do(folder, words):
     return answer["status"]
 
 
+def put(folder, file, place):
+    """Copies by commands, each with a part of an archive."""
+    where, name = (file, ".") if os.path.isdir(file) else os.path.split(os.path.abspath(file))
+    data = base64.b64encode(run("tar", "-C", where, "-cz", name, stdout=subprocess.PIPE).stdout).decode()
+    parts = [data[at:at + PART] for at in range(0, len(data), PART)]
+    commands = (f"mkdir -p {place}; : >/tmp/put", *(f"printf %s {part} >>/tmp/put" for part in parts),
+                f"base64 -d /tmp/put | tar -C {place} --no-same-owner -xz && rm /tmp/put")
+    return max(do(folder, [each]) for each in commands)
+
+
 def halt(folder):
     """Ends it as a machine is ended, or by force."""
     with open(f"{folder}/pid", encoding="ascii") as text:
@@ -228,14 +245,16 @@ def answer_all():
 
 def main():
     parser = argparse.ArgumentParser(description=__doc__, formatter_class=argparse.RawDescriptionHelpFormatter)
-    parser.add_argument("act", choices=("make", "boot", "do", "halt", "answer"))
+    parser.add_argument("act", choices=("make", "boot", "do", "put", "halt", "answer"))
     parser.add_argument("folder", nargs="?", default="")
     parser.add_argument("words", nargs=argparse.REMAINDER)
     given = parser.parse_args()
     if given.act == "make":
         return make(given.folder, given.words[0], given.words[1:]) or 0
     if given.act == "boot":
-        return boot(given.folder, "--as-left" in given.words)
+        return boot(given.folder, "--as-left" in given.words, "--by-instructions" in given.words)
+    if given.act == "put":
+        return put(given.folder, *given.words)
     if given.act == "do":
         return do(given.folder, given.words)
     return halt(given.folder) if given.act == "halt" else answer_all()

@@ -183,17 +183,22 @@ class LanesTest(unittest.TestCase):
         asked = lane.take()
         for path, entry, waiting, told in (("/a", "memory.max 0:0", late.touched, 7), ("/a", "memory.max", {}, 8),
                                            ("/a", "cgroup.procs", late.touched, 8), ("docker:a", "memory.max", late.touched, None)):
-            found = messages.touched_of(asked, change_at(path, entry), waiting.get, 3.5)
+            found = messages.touched_of(asked, change_at(path, entry), waiting.get, 3.5, 0.0)
             self.assertEqual(found and found.doers[0].pid, told)
 
     def test_who_did_the_last_of_it(self):
-        """Where an entry was changed again before a check of it began, that is what it found."""
+        """Where an entry was changed again before a check of it began, or the first change was reported, that is what it found."""
         lane, late = lanes.Lane(0, 0.0), lanes.Lane(0, 0.0)
         lane.touch(Event(b"/a", b"memory.max", ATTRIB, 7), 1, 3.0, Doer(7))
         late.touch(Event(b"/a", b"memory.max", ATTRIB, 8), 1, 5.0, Doer(8))
         asked = lane.take()
-        for entry, began, told in (("memory.max", 4.0, 7), ("memory.max", 6.0, 8), ("", 4.0, 7), ("", 6.0, 8)):
-            self.assertEqual(messages.touched_of(asked, change_at("/a", entry), late.touched.get, began).doers[0].pid, told)
+        for entry in ("memory.max", ""):
+            for began, reported, told in ((4.0, 0.0, 7), (6.0, 0.0, 8), (4.0, 2.0, 7), (4.0, 3.0, 8)):
+                found = messages.touched_of(asked, change_at("/a", entry), late.touched.get, began, reported)
+                self.assertEqual(found.doers[0].pid, told)
+        # an earlier one waits too, for a check of the whole host
+        found = messages.touched_of(late.take(), change_at("/a", "memory.max"), asked.touched.get, 6.0, 3.0)
+        self.assertEqual(found.doers[0].pid, 8)
 
     def test_what_no_event_inside_explains(self):
         """A container that isn't held, or an option that is missing, is by nobody who changed something further inside."""
@@ -203,7 +208,7 @@ class LanesTest(unittest.TestCase):
         asked = lane.take()
         for path, what, told in (("/a", "subtree", 7), ("/a", "root-inside", None), ("/", "mount-options", None),
                                  ("/c/d", "root-inside", 8)):
-            found = messages.touched_of(asked, change_at(path, "", what), {}.get, 4.0)
+            found = messages.touched_of(asked, change_at(path, "", what), {}.get, 4.0, 0.0)
             self.assertEqual(found and found.doers[0].pid, told)
 
     def test_what_is_kept_of_a_flood(self):
@@ -269,6 +274,9 @@ class KnownTest(unittest.TestCase):
         now = {("entry", "/a", "dir"): item("/a", Severity.UNSETTLED)}
         self.assertEqual(self.kinds({}, now, part), ([], {}, True))
         self.assertEqual(self.kinds({}, now)[0], [("new", "/a")])
+        # what the helper itself has seen is so, whatever is beside it
+        now = {("mounted-over", "/a", "memory.max"): item("/a", Severity.UNSETTLED)}
+        self.assertEqual(self.kinds({}, now, part), ([("new", "/a")], now, False))
 
     def test_what_was_left_out(self):
         """Inside of whoever has too much nothing was read, and nothing is told."""

@@ -3,7 +3,9 @@
 hand, as root, on a machine that may be thrown away:
 
   watch_trial.py HOST_FOLDER [--rounds N] [--within SECONDS] [--pause SECONDS] [--service] [--hostile] [--only WORD]
-  watch_trial.py HOST_FOLDER --churn MINUTES [--service]
+  watch_trial.py HOST_FOLDER --churn MINUTES [--service] [--settle SECONDS]
+
+Each takes --program PROGRAM for zirofen itself.
 
 With --service it is zirofen-watch.service that watches, as installed, and what it writes to the journal is read. With --hostile a user
 makes and removes cgroups and toggles modes in a loop meanwhile. A pause between any two has root's part of a processor fill again, which
@@ -62,6 +64,8 @@ class Watch:
     def read(self):
         for line in self.reader.stdout:
             self.has_pids &= "without who does it" not in line
+            if re.search(" (limit|watch): ", line):
+                print(f"  {line.rstrip()}", flush=True)
             found = re.search(r" (new|worse|mended|gone): (.*?)(, by pid .*)?$", line.rstrip("\n"))
             if found:
                 (self.standing.add if found[1] in ("new", "worse") else self.standing.discard)(found[2])
@@ -218,6 +222,7 @@ def hostile(mount):
     pid = os.fork()
     if pid:
         return pid
+    signal.signal(signal.SIGTERM, signal.SIG_DFL)
     os.setgid(HOSTILE)
     os.setuid(HOSTILE)
     for number in range(10000):
@@ -260,36 +265,107 @@ ExecStart=/bin/sleep infinity
 """
 
 
-def check(host, *words):
-    return subprocess.run([sys.executable, f"{host}/zirofen-host", "check", *words], capture_output=True, text=True).stdout
+class Units:
+    """Services that the system's manager starts and ends, and with podman a container for each ten."""
+
+    def __init__(self, mount, room):
+        self.mount, self.room, self.has_podman = mount, room, bool(shutil.which("podman"))
+        self.names = [f"zirofen-churn@{number}.service" for number in range(10)]
+        with open("/run/systemd/system/zirofen-churn@.service", "w", encoding="ascii") as out:
+            out.write(CHURNED)
+        subprocess.run(["systemctl", "daemon-reload"], check=True)
+
+    def restart(self):
+        """Ends all and starts them; how many changes that were."""
+        subprocess.run(["systemctl", "restart", *self.names], check=True)
+        if self.has_podman:
+            run("podman", "run", "--rm", "--network", "none", "--rootfs", image_of(self.room, "churn"), "sh", "-c", ":")
+        return 2 * (len(self.names) + self.has_podman)
+
+    def end(self, names):
+        subprocess.run(["systemctl", "stop", *names], check=True)
+
+    def entry(self, name):
+        return f"{self.mount}/system.slice/system-zirofen\\x2dchurn.slice/{name}/memory.max"
+
+
+class ByHand(Units):
+    """The same without a manager: what one makes for a service, and for a container in a scope."""
+
+    def __init__(self, mount, room):
+        self.mount = mount
+        self.names = [f"{TOP}/churn-{number}.service" for number in range(9)] + [f"{TOP}/libpod-{7:064x}.scope"]
+        self.inside = {}
+
+    def restart(self):
+        self.end(self.names)
+        for name in self.names:
+            place = f"{self.mount}/{name}"
+            folders = [place, f"{place}/container"] if name.endswith("scope") else [place]
+            for each in folders:
+                os.mkdir(each)
+                os.setxattr(each, "trusted.delegate", b"1")
+                for entry in HANDED:
+                    os.chown(each + entry, 1, 1)
+            self.inside[name] = subprocess.Popen(["sleep", "infinity"], user=1, group=1)
+            with open(f"{folders[-1]}/cgroup.procs", "w", encoding="ascii") as out:
+                out.write(str(self.inside[name].pid))
+        time.sleep(0.5)
+        return 2 * len(self.names)
+
+    def end(self, names):
+        for name in names:
+            if name in self.inside:
+                self.inside[name].kill()
+                self.inside.pop(name).wait()
+                for place, _, _ in os.walk(f"{self.mount}/{name}", topdown=False):
+                    remove_empty(place)
+
+    def entry(self, name):
+        return f"{self.mount}/{name}/cgroup.max.depth"
+
+
+def remove_empty(place):
+    """Removes a cgroup; one whose process has just ended may be busy for a moment."""
+    for _ in range(100):
+        try:
+            os.rmdir(place)
+            return
+        except OSError:
+            time.sleep(0.01)
+    raise SystemExit(f"{place} stays")
+
+
+def check(given, mount, *words):
+    return subprocess.run([*words_of(given, mount, "check"), *words], capture_output=True, text=True).stdout
 
 
 def churn(watch, given, room):
     """Starts and ends services in a loop; whether the watch takes no more memory after the last thousand changes than after the first, and
     says of what is left what a check says."""
-    base, units, seen, changes = f"{room}/base", [f"zirofen-churn@{number}.service" for number in range(10)], [], 0
-    with open("/run/systemd/system/zirofen-churn@.service", "w", encoding="ascii") as out:
-        out.write(CHURNED)
-    check(given.host, "--baseline-update", base)
-    subprocess.run(["systemctl", "daemon-reload"], check=True)
+    mount, base, seen, changes = mount_here(), f"{room}/base", [], 0
+    kind = Units if os.path.isdir("/run/systemd/system") else ByHand
+    services = kind(mount, room)
+    check(given, mount, "--baseline-update", base)
+    at_first = set(watch.standing)
     until = time.monotonic() + 60 * given.churn
     while time.monotonic() < until or changes < 2000:
-        subprocess.run(["systemctl", "restart", *units], check=True)
-        changes += 2 * len(units)
-        if changes % 1000 == 0:
+        changes += services.restart()
+        if changes // 1000 > len(seen):
             seen.append(watch.memory())
             print(f"{changes} changes: {seen[-1]} KiB", flush=True)
     print(f"{changes} changes, {seen[-1] / seen[0]:.3f} of the memory after the first thousand", flush=True)
-    subprocess.run(["systemctl", "stop", *units[5:]], check=True)
-    os.chmod(f"{mount_here()}/system.slice/system-zirofen\\x2dchurn.slice/{units[0]}/memory.max", 0o666)
-    time.sleep(120)
-    lines = check(given.host, "--baseline", base).splitlines()
+    services.end(services.names[5:])
+    os.chmod(services.entry(services.names[0]), 0o666)
+    time.sleep(given.settle)
+    lines = check(given, mount, "--baseline", base).splitlines()
     found = {line.partition(": ")[2] for line in lines if line.startswith(("new: ", "worse: "))}
-    print(f"what stands of it: {len(found)} lines of a check, {len(watch.standing)} of the watch", flush=True)
-    for line in sorted(found ^ watch.standing):
+    stands = watch.standing - at_first
+    print(f"what stands of it: {len(found)} lines of a check, {len(stands)} of the watch", flush=True)
+    for line in sorted(found ^ stands):
         print(f"  the {'check' if line in found else 'watch'} alone: {line}")
-    subprocess.run(["systemctl", "stop", *units[:5]], check=True)
-    return seen[-1] <= 1.05 * seen[0] and found == watch.standing
+    services.end(services.names[:5])
+    return seen[-1] <= 1.05 * seen[0] and found == stands
 
 
 def openings(watch, ways, given):
@@ -304,8 +380,9 @@ def openings(watch, ways, given):
     return counts
 
 
-def words_of(given, mount):
-    return [sys.executable, f"{given.host}/zirofen-host", "watch", "--mount", mount]
+def words_of(given, mount, command="watch"):
+    program = ("--zirofen", given.program) if given.program else ()
+    return [sys.executable, f"{given.host}/zirofen-host", command, "--mount", mount, *program]
 
 
 def arguments():
@@ -318,11 +395,14 @@ def arguments():
     parser.add_argument("--service", action="store_true")
     parser.add_argument("--hostile", action="store_true")
     parser.add_argument("--only", default="")
+    parser.add_argument("--program")
+    parser.add_argument("--settle", type=float, default=120.0)
     return parser.parse_args()
 
 
 def main():
     given, mount = arguments(), mount_here()
+    signal.signal(signal.SIGTERM, lambda *_: sys.exit(1))
     with tempfile.TemporaryDirectory() as room:
         ways = Ways(mount, room)
         ways.make()

@@ -1,7 +1,7 @@
 """From what each check found to messages of what differs from what was known, when that happened and by whom."""
 import time
 from collections import Counter
-from typing import Callable, List, NamedTuple, Optional, Set
+from typing import Callable, Dict, List, NamedTuple, Optional, Set, Tuple
 
 from zirofen_host.profile import CgroupPath, path_of
 from zirofen_host.watch import known, lanes, messages
@@ -9,6 +9,9 @@ from zirofen_host.watch.backs import Entries, backs
 from zirofen_host.watch.checks import Result
 from zirofen_host.watch.lanes import Asked
 from zirofen_host.watch.messages import WATCH, Message
+
+# things that were reported, of which it is known when they were
+MOST_REPORTED = 4096
 
 
 class Then(NamedTuple):
@@ -27,6 +30,8 @@ class Findings:
         self.out = tell
         self.entries, self.folding = Entries(), messages.Folding()
         self.counts: "Counter[str]" = Counter()
+        # when what happened that was reported last, by what it is of
+        self.reported: Dict[Tuple[str, str, str], float] = {}
 
     def begin_hour(self) -> None:
         self.folding.begin_hour()
@@ -34,6 +39,16 @@ class Findings:
     def tell(self, each: Message) -> None:
         self.counts[each.kind] += 1
         self.out(each)
+
+    def touched(self, asked: Asked, change: known.Change, waiting: messages.Waiting, began: float) -> Optional[lanes.Touched]:
+        """What events say of a change, and keeps when that was: a later change of the same thing has a later one."""
+        key = change.difference.what, change.path, change.entry
+        touched = messages.touched_of(asked, change, waiting, began, self.reported.pop(key, 0.0))
+        if touched:
+            self.reported[key] = touched.last
+            if len(self.reported) > MOST_REPORTED:
+                del self.reported[next(iter(self.reported))]
+        return touched
 
     def take(self, asked: Asked, made: Result, is_first: bool, waiting: messages.Waiting, began: float) -> Then:
         """Tells what differs from what was known; the check began at that time."""
@@ -45,7 +60,7 @@ class Findings:
         by = "it was there at the first check" if is_first else f"it was found by {asked.why or 'a check of what is beside it'}"
         said: Set[lanes.Place] = set()
         for change in kept:
-            touched = messages.touched_of(asked, change, waiting, began)
+            touched = self.touched(asked, change, waiting, began)
             if change.path.startswith("/"):
                 said.add((path_of(change.path), change.entry.split(" ")[0] or lanes.DIRECTORY))
             self.tell(messages.of_change(change, touched, time.time(), by))

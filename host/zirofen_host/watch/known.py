@@ -9,6 +9,9 @@ from zirofen_host.profile import is_inside, is_root
 
 NEW, WORSE, MENDED, GONE = KINDS = ("new", "worse", "mended", "gone")
 
+# what the program answers: what is unsettled of it in a part, a check of the whole host may settle
+ANSWERED = {"subtree", "entry"}
+
 
 class Item(NamedTuple):
     """What a report tells of, and the cgroup where that stands, by its path."""
@@ -128,7 +131,7 @@ def compared(known: Items, now: Items, part: Part) -> Compared:
             continue
         is_asked = any(each is not None and part.has(each.path) for each in (mine, then))
         kind = kind_within(mine, then, part) if is_asked else kind_above(mine, then)
-        if not part.is_whole and kind in (NEW, WORSE) and mine and mine.found.severity is Severity.UNSETTLED:
+        if not part.is_whole and kind in (NEW, WORSE) and mine and mine.found.severity is Severity.UNSETTLED and key[0] in ANSWERED:
             needs_whole = True
             continue
         if mine is not None and then is not None:

@@ -181,7 +181,7 @@ class Asked(NamedTuple):
             if wanted in self.touched:
                 return wanted
         near = [place for place in self.touched if is_inside(path, place[0]) or has_inside and is_inside(place[0], path)]
-        return max(near, key=lambda place: (is_inside(path, place[0]), len(place[0])), default=None)
+        return max(near, key=lambda place: (is_inside(path, place[0]), len(place[0]))) if near else None
 
 
 class Lanes:

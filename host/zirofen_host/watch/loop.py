@@ -248,8 +248,9 @@ class Loop:
         self.poll.register(child.fileno(), select.POLLIN)
 
     def shallow(self, lane: Lane) -> Sequence[int]:
-        """Inside of whose nothing is read: at first of everybody's, and then of theirs who have much of their own, or wait for it."""
-        if not self.has_surveyed and lane.person == lanes.HOST:
+        """Inside of whose nothing is read: of everybody's until a check of all of it has ended, which shows who has much of their own, and
+        then of theirs who have, or wait for it."""
+        if not self.has_begun and lane.person == lanes.HOST:
             return (EVERYBODY,)
         many = self.owners.many(self.findings.entries.all) if lane.person == lanes.HOST else ()
         return sorted({*self.lanes.shallow(lane.person), *many})

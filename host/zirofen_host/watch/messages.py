@@ -102,9 +102,10 @@ class Folding:
         return kept, more
 
 
-def touched_of(asked: Asked, change: Change, waiting: Waiting, began: float) -> Optional[Touched]:
+def touched_of(asked: Asked, change: Change, waiting: Waiting, began: float, reported: float) -> Optional[Touched]:
     """What events say of where something differs: those that it was asked of by, else one of that very entry that waits to be asked of,
-    which a check that was on its way has found; what waits since before that check began is what it found, in place of what was earlier."""
+    which a check that was on its way has found. What waits and was later is what it found, too, where that was before the check began,
+    or where the other was reported of the same thing already."""
     if not change.path.startswith("/"):
         return None
     place = path_of(change.path), change.entry.split(" ")[0] if change.entry else DIRECTORY
@@ -113,5 +114,6 @@ def touched_of(asked: Asked, change: Change, waiting: Waiting, began: float) -> 
     near = asked.near(*place, has_inside=change.difference.what not in OF_PROCESSES)
     if near is None:
         return None
-    later = waiting(near)
-    return later if later and later.first <= began else asked.touched[near]
+    here, other = asked.touched[near], waiting(near)
+    is_found = other is not None and other.last > here.last and (other.first <= began or here.last <= reported)
+    return other if is_found else here
