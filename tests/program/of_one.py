@@ -2,8 +2,8 @@
 
 USER = "1000"
 # the examples, each with the subtree that is asked about
-ASKED = (("delegation", "/c0"), ("delegation-limit-writable", "/c0"), ("delegation-parent-directory", "/c0"), ("parent-procs-owned", "/p/s"),
-         ("parent-procs-no-process", "/p/s"))
+ASKED = (("delegation", "/c0"), ("delegation-limit-writable", "/c0"), ("delegation-parent-directory", "/c0"),
+         ("parent-procs-owned", "/p/s"), ("parent-procs-no-process", "/p/s"))
 HELD, LIMIT_SET, EMPTIED = "contained", "escapes|set /c0 memory.max max", "escapes|exit 11|rmdir /c0/c01|rmdir /c0/c00|rmdir /c0"
 NOT_MOVED = "unsettled common-ancestor /p"
 # what each command says of them, its lines parted by bars

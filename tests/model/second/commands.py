@@ -5,7 +5,7 @@ import functools
 import itertools
 import re
 
-from . import explained, rules, settled
+from . import explained, rules, settled, written
 from .controllers import controllers_in
 from .documents import Fault
 from .further import FURTHER_FILES, is_value, value_written
@@ -461,8 +461,7 @@ def advise(call, state, tops, _files, lines):
 
 
 def upgrade(_call, state, _tops, _files, lines):
-    """One element in place of lines: the document that is written, whose spelling is the library's."""
-    lines.append(document_of(state))
+    lines += written.lines_of(document_of(state))
     return 0
 
 

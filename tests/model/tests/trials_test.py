@@ -8,9 +8,10 @@ import sys
 import tomllib
 import unittest
 
-sys.path.insert(0, os.path.dirname(os.path.dirname(os.path.abspath(__file__))))
+sys.path[:0] = [os.path.dirname(os.path.dirname(os.path.abspath(__file__))), os.path.join(os.path.dirname(__file__), "../../program")]
+import upgrade_bytes
 from second import commands, rules
-from trials import cases, directed, format_4, labels, programs, spelling, trees, mutants
+from trials import cases, directed, format_4, labels, programs, row_tables, rows, spelling, trees, mutants
 
 OLDER = frozenset([*commands.OPTIONS, "audit --all", "advise --pairs", "audit --settle", "advise --settle"])
 ALL = OLDER | {format_4.FORMAT_4}
@@ -105,6 +106,20 @@ class TrialsTest(unittest.TestCase):
                             and programs.expected_of(case, mutants.respond_of(name)) != expected}
             self.assertEqual(missing, set(), seed)
 
+    def test_tables_of_rows_tell_what_random_cases_seldom_do(self):
+        self.assertLessEqual({*SELDOM, *row_tables.MUTANTS}, {*row_tables.TABLE_OF})
+        self.assertLessEqual({*row_tables.TABLE_OF.values()}, {*rows.TABLES})
+        for file in ("memory.max", "io.max"):
+            asked = list(rows.TABLES[file]())
+            self.assertLessEqual({"check", "settle", "advise", "replay"}, {case.words[0] for case in asked})
+            self.assertGreaterEqual(len({case.stdin for case in asked}), 12)
+
+    def test_a_tree_is_written_byte_for_byte(self):
+        """As the program's own tests have it, spelled by hand."""
+        for given, expected in upgrade_bytes.WRITTEN.values():
+            lines, status, fault = commands.respond(["upgrade"], given.encode(), {})
+            self.assertEqual(("".join(f"{line}\n" for line in lines), status, fault), (expected, 0, ""))
+
     def test_cases_of_other_formats_are_those_of_a_program_without_format_4(self):
         wide = [cases.is_wide("seed", number, ALL) for number in range(60)]
         self.assertIn(True, wide)
@@ -113,7 +128,7 @@ class TrialsTest(unittest.TestCase):
         self.assertFalse(any(cases.is_wide("seed", number, OLDER) for number in range(60)))
 
     def test_a_mutant_of_format_4_is_asked_of_its_cases(self):
-        self.assertEqual({*mutants.able(ALL)}, {*mutants.MUTANTS})
+        self.assertEqual({*mutants.able(ALL)}, {*mutants.MUTANTS} - {*row_tables.MUTANTS})
         self.assertEqual({*mutants.able(ALL)} - {*mutants.able(OLDER)}, {name for _, _, turns in mutants.KINDS_4 for name in turns})
         short, large = cases.Case(["upgrade"], b"format = 4\n"), cases.Case(["upgrade"], b"#" * 16777217)
         for name, case, wide, shown in (("format 3 is one", short, True, True), ("format 3 is one", short, False, False),

@@ -3,12 +3,13 @@ import functools
 import sys
 import types
 
-from second import commands, controllers, documents, explained, further, lasting, rules, settled, texts
+from second import commands, controllers, documents, explained, further, lasting, rules, settled, texts, written
+from trials import row_tables
 from trials.format_4 import FORMAT_4
 
 # in the order in which one takes from another: those before the one that is changed are the right model's own
 MODULES = {"controllers": controllers, "further": further, "documents": documents, "rules": rules, "lasting": lasting, "settled": settled,
-           "explained": explained, "texts": texts, "commands": commands}
+           "explained": explained, "texts": texts, "written": written, "commands": commands}
 USERS = "return list(itertools.product(dict.fromkeys(call.users), dict.fromkeys(tops)))"
 MEMBER = 'return "group" if entry.gid in user[1] else "others"'
 LIVE_ITEMS = "for other, process in state.live.items() if other != pid}"
@@ -560,7 +561,7 @@ KINDS_4 = [("controllers", FORMAT_4, OF_CONTROLLERS_4), ("rules", FORMAT_4, OF_R
            ("commands", FORMAT_4, OF_COMMANDS_FURTHER_4), ("further", FORMAT_4, OF_FURTHER_TOLD_4), ("texts", FORMAT_4, OF_TEXTS_TOLD_4),
            ("further", FORMAT_4, OF_DEVICES_4)]
 KINDS += KINDS_4
-MUTANTS = {name: (module, *turn) for module, _, turns in KINDS for name, turn in turns.items()}
+MUTANTS = {**{name: (module, *turn) for module, _, turns in KINDS for name, turn in turns.items()}, **row_tables.MUTANTS}
 
 
 def able(known):

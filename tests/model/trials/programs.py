@@ -1,13 +1,11 @@
 """Runs a program on cases, and compares what it writes with what it should."""
 import dataclasses
-import functools
 import os
 import re
 import shutil
 import signal
 import subprocess
 import tempfile
-import tomllib
 
 from second import commands, documents, rules
 from trials import format_4
@@ -145,18 +143,7 @@ def is_open(lines):
     return bool(lines) and type(lines[0]).__name__ == commands.Open.__name__
 
 
-@functools.lru_cache(maxsize=2)
-def document_of(stdout):
-    """The document of a report, or None; kept, since several models are compared with one report."""
-    try:
-        return tomllib.loads(stdout.decode("ascii"))
-    except ValueError:
-        return None
-
-
 def same_report(stdout, lines):
-    if lines and isinstance(lines[0], dict):
-        return document_of(stdout) == lines[0]
     return stdout == "".join(line + "\n" for line in lines).encode("ascii")
 
 

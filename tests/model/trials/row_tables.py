@@ -1,0 +1,84 @@
+"""Mutants of the second model that the tables of rows.py tell apart in every run, each by the table that is named."""
+
+FURTHER_ORDER = """    "io.latency": ("io", "target=max"),
+    "io.max": ("io", "rbps=max wbps=max riops=max wiops=max"),
+"""
+EIGHT_ORDER = """    "memory.low": ("memory", 0, 0, MOST, True),
+    "memory.high": ("memory", MAX, 0, MOST, True),
+"""
+LIVE_PID = "found = [(\"bad-pid\", not 1 <= pid <= rules.LAST_PID)"
+
+
+def swapped(text):
+    """Two lines, the second first."""
+    one, other = text.splitlines(keepends=True)
+    return text, other + one
+
+
+# of each the table, the module, what stands there once, and what stands in its place
+OF_ROWS = {
+    "a uid of a text may be 2^32": ("bounds", "texts", "0 <= uid <= LAST_ID and", "0 <= uid <= LAST_ID + 1 and"),
+    "a gid of a text may be negative": ("bounds", "texts", "0 <= gid <= LAST_ID", "gid <= LAST_ID"),
+    "a mode of a text may be 0o1777": ("bounds", "texts", "0 <= mode <= 0o777", "0 <= mode <= 0o1777"),
+    "PID 0 of a text is one": ("bounds", "texts", LIVE_PID, LIVE_PID.replace("1 <= pid", "0 <= pid")),
+    "a process of a text may be of uid 2^32": ("bounds", "texts", 'not 0 <= row["uid"] <= LAST_ID', 'not 0 <= row["uid"] <= LAST_ID + 1'),
+    "a PID of a line may be 4194304": (
+        "bounds", "commands", "return found if 1 <= found <= rules.LAST_PID", "return found if 1 <= found <= rules.LAST_PID + 1"),
+    "a number of a line may have zeros before it": ("bounds", "commands", 'NUMBER = r"0|[1-9][0-9]*"', 'NUMBER = r"[0-9]+"'),
+    "a mode of a line may have four digits": ("bounds", "commands", '"[0-7]{3}"', '"[0-7]{3,4}"'),
+    "a uid of a command line may be 2^32": ("bounds", "commands", "int(word) > LAST_ID:", "int(word) > LAST_ID + 1:"),
+    "a uid of several may be 2^32": ("bounds", "commands", "if max(uid, *gids, 0) > LAST_ID:", "if max(uid, *gids, 0) > LAST_ID + 1:"),
+    "pids.max may be 2^63": ("bounds", "rules", '"pids.max": ("pids", MAX, 0, MOST, True)', '"pids.max": ("pids", MAX, 0, MOST + 1, True)'),
+    "memory.low takes no max": (
+        "bounds", "rules", '"memory.low": ("memory", 0, 0, MOST, True)', '"memory.low": ("memory", 0, 0, MOST, False)'),
+    "cpu.weight may be 0": ("bounds", "rules", '"cpu.weight": ("cpu", 100, 1, 10000', '"cpu.weight": ("cpu", 100, 0, 10000'),
+    "a value of memory.min is set to 0 whatever is said": (
+        "memory.min", "rules", "values={**old.values, file: value}", 'values={**old.values, file: 0 if file == "memory.min" else value}'),
+    "memory.high is no guarded entry": (
+        "memory.high", "rules", "for file in ALL_FILES if file in state.cgroups[top].entries]",
+        'for file in ALL_FILES if file in state.cgroups[top].entries and file != "memory.high"]'),
+    "nobody is advised of pids.max": (
+        "pids.max", "rules", "if reaches(user, state.cgroups[path].entries[name]):\n                let_in",
+        'if name != "pids.max" and reaches(user, state.cgroups[path].entries[name]):\n                let_in'),
+    "huge pages of 64 KB are loosened by 0": (
+        "hugetlb.64KB.max", "further", '("hugetlb", "max") for size', '("hugetlb", "0" if size == "64KB" else "max") for size'),
+    "memory.zswap.writeback is loosened by 0": (
+        "memory.zswap.writeback", "further", '"memory.zswap.writeback": ("memory", "1")', '"memory.zswap.writeback": ("memory", "0")'),
+    "cpuset.cpus.partition is turned by isolated": (
+        "cpuset.cpus.partition", "further", '"cpuset.cpus.partition": "root"', '"cpuset.cpus.partition": "isolated"'),
+    "cpu.uclamp.max is turned by 0": ("cpu.uclamp.max", "further", '"cpu.uclamp.max": "50", ', ""),
+    "a name may have a byte 0x7f": ("names", "rules", "0x21 <= ord(letter) <= 0x7E for", "0x21 <= ord(letter) <= 0x7F for"),
+    "a name that begins with a dot is none": ("names", "rules", 'name not in (".", "..")', 'not name.startswith(".")'),
+    "a name may be memory.max": ("names", "rules", "PROCS, CONTROL, *LIMIT_FILES}", 'PROCS, CONTROL, *({*LIMIT_FILES} - {"memory.max"})}'),
+    "further limit files are no names": ("names", "rules", "PROCS, CONTROL, *LIMIT_FILES}", "PROCS, CONTROL, *ALL_FILES}"),
+    "a name with a backslash is none": ("names", "rules", 'name not in (".", "..")', '"\\\\" not in name'),
+    "memory.high is tried before memory.low": ("two tries", "rules", *swapped(EIGHT_ORDER)),
+    "io.max is tried before io.latency": ("two tries", "further", *swapped(FURTHER_ORDER)),
+    "the root's cgroup.max.descendants bars no mkdir": (
+        "at the root", "rules", "if values[DESCENDANTS] != MAX and len(below", "if top and values[DESCENDANTS] != MAX and len(below"),
+    "a text names the eight at the root": (
+        "at the root", "texts", "return [*rules.files_at(bare, path), *rules",
+        "return [*(rules.files_at(bare, path) if path else rules.LIMIT_FILES), *rules"),
+    "upgrade writes the keys of a table in another order": (
+        "written", "written", "for key in sorted(table)]", "for key in sorted(table, reverse=True)]"),
+    "upgrade writes the files of a cgroup in the order of the page": (
+        "written", "written", 'for name in sorted(row["files"]):', 'for name in row["files"]:'),
+    "upgrade writes no key of processes where there is none": ("written", "written", "or not document[key]})", "and document[key]})"),
+    "upgrade writes processes before cgroups": (
+        "written", "written", '    for row in document["process"]:\n        lines += ["", "[[process]]", *values_of(row)]\n    return lines',
+        '    return lines + [line for row in document["process"] for line in ["", "[[process]]", *values_of(row)][1:]]'),
+    "upgrade puts a backslash before each quote": ("written", "written", "if \"'\" not in text:", 'if text == "":'),
+}
+# which of the other mutants are told apart by which table
+OF_OTHERS = {
+    "tries the removal before controls": "two tries", "cpu.max.burst comes before cpu.max": "two tries",
+    "dmem.min comes first of the three": "two tries",
+    "what is reserved of huge pages comes behind all else of them": "two tries", "cpu.idle is turned by 0": "cpu.idle",
+    "cpu.weight may be 10001": "bounds", "a name may be cgroup.controllers": "names", "a name may be two dots": "names",
+    "a name of 255 bytes is none": "bounds", "a path of 4095 bytes is none": "bounds",
+    "the root's cgroup.max.depth bars no mkdir": "at the root",
+    "cgroup.freeze of a cgroup that they made is root's behind a control above it": "theirs",
+    "tells of others before the group": "classes",
+}
+MUTANTS = {name: turn for name, (_, *turn) in OF_ROWS.items()}
+TABLE_OF = {**{name: table for name, (table, *_) in OF_ROWS.items()}, **OF_OTHERS}

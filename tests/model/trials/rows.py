@@ -1,0 +1,274 @@
+"""Rows: whole tables of cases that are made by a script, with nothing drawn, so that each value, owner, bound, name and order is asked."""
+import functools
+import itertools
+import json
+import random
+
+from second import commands, rules
+from second.controllers import ALL_CONTROLLERS
+from second.further import ELSE, FURTHER_FILES, LONGEST_DEVICE, LONGEST_LINE, LONGEST_VALUE, OF_DEVICES
+from second.rules import LAST_PID, LIMIT_FILES, MAX, MOST
+from second.texts import LAST_ID
+from trials import directed, spelling
+from trials.cases import OPS, TREE, Case
+
+USER = ["--uid", "1000", "--gid", "5"]
+# an entry as five have it, by the subtree in which it stands: the user, a group of theirs, everybody, the user by a chmod alone, and root
+OWNERS = {"u": {"uid": 1000}, "g": {"gid": 5, "mode": 0o664}, "o": {"mode": 0o646}, "n": {"uid": 1000, "mode": 0o444}, "r": {}}
+PLACES = [f"/{name}" for name in OWNERS]
+SUBTREES = [word for place in PLACES for word in ("--subtree", place)]
+NUMBER_WORDS = ["00", "01", "+1", "-1", "-0", "", "1.0", "0x1", "1_0", "x", "1 ", str(2 ** 64)]
+
+
+def inline(value):
+    """A value of TOML on one line."""
+    if isinstance(value, dict):
+        return "{ " + ", ".join(f"{json.dumps(key)} = {inline(each)}" for key, each in value.items()) + " }"
+    if isinstance(value, list):
+        return "[" + ", ".join(map(inline, value)) + "]"
+    return json.dumps(value).replace("\x7f", "\\u007f") if isinstance(value, str) else str(value)
+
+
+def text_of(form, rows=(), processes=(), controllers=None):
+    """A tree text, whose root has and enables all controllers of its format, of rows by path."""
+    controllers = list(controllers if controllers is not None else ALL_CONTROLLERS if form == 4 else rules.CONTROLLERS)
+    rows = {"/": {}, **dict(rows)}
+    rows["/"] = {"enabled": controllers, **rows["/"]}
+    lines = [f"format = {form}", f"controllers = {inline(controllers)}"]
+    for path, row in rows.items():
+        lines += ["[[cgroup]]", f"path = {inline(path)}", *(f"{key} = {inline(value)}" for key, value in row.items())]
+    for row in processes:
+        lines += ["[[process]]", *(f"{key} = {inline(value)}" for key, value in row.items())]
+    return "".join(f"{line}\n" for line in lines).encode()
+
+
+def replayed(tree, lines, subtree=()):
+    text = b"".join((line if isinstance(line, bytes) else line.encode()) + b"\n" for line in lines)
+    return Case(["replay", *USER, *subtree, "--ops", OPS], tree, {OPS: text})
+
+
+# Limit files: each with a dozen values, in the hands of five
+
+
+def values_told(file):
+    """The tables of a limit file's entry in which a text tells a value, or none."""
+    if file in FURTHER_FILES:
+        loose, other = FURTHER_FILES[file][1], ELSE.get(file, "0")
+        values = [loose, other, MAX, "0", 5, "5", [loose, other], [other, loose], [loose, loose], f"8:0 {loose}",
+                  [f"8:0 {other}", f"8:16 {loose}"],
+                  f"{'d' * LONGEST_DEVICE} {loose}", f"{'d' * (LONGEST_DEVICE + 1)} {loose}"]
+    else:
+        _, default, least, greatest, takes_max = LIMIT_FILES[file]
+        values = [default, *[MAX] * takes_max, least, least + 1, 2, 99, 100, 101, 4096, greatest // 2, greatest - 1, greatest]
+    return [{}, *({"value": value} for value in dict((str(each), each) for each in values if not isinstance(each, list)).values()),
+            *({"value": value} for value in values if isinstance(value, list))]
+
+
+def texts_set(file):
+    if file not in FURTHER_FILES:
+        return ["max", "0", "1", "100", str(MOST)]
+    loose, other = FURTHER_FILES[file][1], ELSE.get(file, "0")
+    return [loose, other, MAX, "0", *[f"8:0 {loose}", f"8:0 {other}"] * (file in OF_DEVICES)]
+
+
+def limit_file(file):
+    form = 4 if file in FURTHER_FILES else 2
+    for told in values_told(file):
+        tree = text_of(form, {f"/{name}": {"files": {file: {**entry, **told}}} for name, entry in OWNERS.items()})
+        for place in PLACES:
+            yield Case(["check", *USER, "--subtree", place], tree)
+            yield Case(["settle", *USER, "--subtree", place], tree)
+        yield Case(["advise", *USER, *SUBTREES], tree)
+        yield replayed(tree, [f"set {place} {file} {text}" for text in texts_set(file) for place in PLACES])
+        for place in PLACES[:2]:
+            yield replayed(tree, [f"set {place} {file} {texts_set(file)[0]}", f"chmod {place} {file} 600", f"set {place} {file} 1"],
+                           ["--subtree", place])
+    yield Case(["upgrade"], tree)
+
+
+# Bounds of each number
+
+
+def of_texts():
+    """Each number of a tree text at its bounds."""
+    tables = [("dir", None), ("files", rules.PROCS), ("files", "memory.max"), ("files", "io.max")]
+    for (key, file), form in itertools.product(tables, (1, 2, 4)):
+        for name, value in [*itertools.product(("uid", "gid"), (-1, 0, 1, LAST_ID - 1, LAST_ID, LAST_ID + 1, MOST)),
+                            *itertools.product(("mode",), (-1, 0, 0o20, 0o2, 0o200, 0o777, 0o1000, 0o1777, 0o7777))]:
+            entry = {name: value}
+            yield Case(["upgrade"], text_of(form, {"/a": {key: entry if file is None else {file: entry}}}))
+    for file, value in itertools.product(LIMIT_FILES, (-1, 0, 1, 100, 10000, 10001, MOST, "max", "0", "MAX", "")):
+        yield Case(["upgrade"], text_of(2, {"/a": {"files": {file: {"value": value}}}}))
+    for pid, uid in [*((pid, 1) for pid in (-1, 0, 1, LAST_PID, LAST_PID + 1, MOST)), *((1, uid) for uid in (-1, 0, LAST_ID, LAST_ID + 1))]:
+        yield Case(["upgrade"], text_of(2, processes=[{"pid": pid, "uid": uid, "at": "/"}]))
+    for form in range(-1, 7):
+        yield Case(["upgrade"], text_of(form, controllers=[]))
+
+
+def of_lines():
+    """Each number of an operation line at its bounds, and as it may not be spelled."""
+    for form in (2, 4):
+        tree = text_of(form, {"/a": {"files": {file: {"uid": 1000} for file in LIMIT_FILES}}},
+                       [{"pid": pid, "uid": 1000, "at": "/"} for pid in (1, LAST_PID)])
+        for file in LIMIT_FILES:
+            greatest = LIMIT_FILES[file][3]
+            numbers = 9999, greatest - 1, greatest, greatest + 1, 2 ** 63 - 1, 2 ** 63, 2 ** 64 - 1
+            words = ["max", "0", "1", *map(str, numbers)]
+            yield replayed(tree, [f"set /a {file} {word}" for word in words])
+        for word in NUMBER_WORDS:
+            yield from (replayed(tree, [f"set /a {file} {word}"]) for file in ("cpu.weight", "memory.min"))
+        for word in ["1", "2", str(LAST_PID), str(LAST_PID - 1), str(LAST_PID + 1), "0", *NUMBER_WORDS]:
+            for line in f"move {word} /a", f"fork {word} 7", f"fork 1 {word}", f"exit {word}":
+                yield replayed(tree, [line])
+        for word in ["000", "777", "778", "888", "64", "0644", "1777", "+64", "0o6", "6 4", ""]:
+            yield replayed(tree, [f"chmod /a memory.max {word}", "set /a memory.max 1"])
+
+
+def of_words():
+    """Each number of a command line at its bounds, and as it may not be spelled."""
+    tree = text_of(2, {"/a": {}}, [{"pid": 1, "uid": 1000, "at": "/"}])
+    for word in ["0", "1", "007", str(LAST_ID), str(LAST_ID + 1), str(2 ** 63), *NUMBER_WORDS]:
+        for command in commands.OF_ONE:
+            yield Case([command, f"--uid={word}", "--subtree", "/a"], tree)
+            yield Case([command, "--uid", "1", f"--gid={word}", "--subtree", "/a"], tree)
+        for users in [word], [f"1:{word}"], [f"1:5,{word}"], ["1", word]:
+            for command in "audit", "explain", "advise":
+                yield Case([command, *(f"--uid={user}" for user in users), "--subtree", "/a"], tree)
+        yield Case(["may", "--uid", "1", f"--pid={word}", "--to", "/a"], tree)
+    for pid in (LAST_PID - 1, LAST_PID, LAST_PID + 1):
+        yield Case(["may", "--uid", "1", "--pid", str(pid), "--to", "/a"], tree)
+    for count in (1, 31, 32, 33):
+        yield Case(["check", "--uid", "1", *["--gid", "5"] * count, "--subtree", "/a"], tree)
+        yield Case(["audit", "--uid", "1:" + ",".join(["5"] * count), "--subtree", "/a"], tree)
+
+
+def of_lengths():
+    """Names, paths, lines, values and devices as long as they may be, one byte less, and one more."""
+    tree = text_of(4, {"/a": {"dir": {"uid": 1000}, "files": {"io.max": {"uid": 1000}}}})
+    paths = ["/a/" + "n" * length for length in (254, 255, 256)]
+    paths += ["/a" + ("/" + "n" * 255) * 15 + "/" + "x" * length for length in (251, 252, 253)]
+    for path in paths:
+        yield replayed(tree, [f"mkdir {path}"])
+        yield Case(["check", *USER, "--subtree", path], tree)
+        rows = {"/": {}, **{path[:at]: {} for at in range(2, len(path)) if path[at] == "/"}, path: {}}
+        yield Case(["upgrade"], text_of(2, rows))
+        yield Case(["check", *USER, "--subtree", path], text_of(2, {**rows, "/": {"files": {rules.PROCS: {"uid": 1000}}}}))
+    for length in (LONGEST_VALUE - 1, LONGEST_VALUE, LONGEST_VALUE + 1):
+        yield replayed(tree, ["set /a io.max " + "v" * length])
+        yield replayed(tree, ["set /a io.max " + "v " * ((length - 1) // 2) + "v" * (2 - length % 2)])
+    for length in (commands.LONGEST_LINE - 1, commands.LONGEST_LINE, commands.LONGEST_LINE + 1):
+        rest = length - len("control /a")
+        many = next(count for count in range(5) if (rest - 8 * count) % 5 == 0)
+        yield replayed(tree, ["control /a" + " +memory" * many + " -cpu" * ((rest - 8 * many) // 5)])
+    for length, device in itertools.product(*((most - 1, most, most + 1) for most in (LONGEST_LINE, LONGEST_DEVICE))):
+        value = "d" * device + " " + "v" * (length - device - 1)
+        told = text_of(4, {"/a": {"files": {"io.max": {"uid": 1000, "value": value}}}})
+        yield Case(["check", *USER, "--subtree", "/a"], told)
+        yield Case(["upgrade"], told)
+
+
+# Names
+
+
+def names():
+    """Each byte of a name, alone and among others, and each word that is no name, in a line, in a text and on a command line."""
+    tree = text_of(2, {"/a": {"dir": {"uid": 1000}}})
+    for byte in range(256):
+        for name in bytes([byte]), b"y" + bytes([byte]), bytes([byte]) + b"y":
+            yield replayed(tree, [b"mkdir /a/" + name])
+    words = [*map(chr, range(0x80)), *sorted(rules.RESERVED), *FURTHER_FILES, *directed.NEAR_NAMES, ".", "..", "x.", ".x", "-",
+             "cgroup.procs2", "dir"]
+    for word in words:
+        yield Case(["upgrade"], text_of(2, {"/a": {}, f"/a/{word}": {}}))
+        yield replayed(tree, [f"mkdir /a/{word}", f"rmdir /a/{word}"])
+        if word != "\0":
+            yield Case(["check", *USER, "--subtree", f"/a/{word}"], tree)
+    for path in "", "a", "//", "/a/", "//a", "/a//b", "/", "/./a", "/a/..":
+        yield Case(["upgrade"], text_of(2, {"/a": {}, path: {}}))
+        yield replayed(tree, [f"mkdir {path}"])
+        yield Case(["check", *USER, f"--subtree={path}"], tree)
+
+
+# Two tries, of which the first is the one that is printed
+
+
+def two_tries():
+    for first, later in itertools.combinations(directed.TRIED, 2):
+        rng = random.Random(f"{first} {later}")
+        tree, words, _ = directed.two_tries(rng, 0, first, later)
+        yield Case(words, spelling.document(rng, tree.document(rng)))
+
+
+# Each limit at the root
+
+
+def at_the_root():
+    theirs = {"dir": {"uid": 1000}, "files": {name: {"uid": 1000} for name in (rules.PROCS, rules.CONTROL)}}
+    for form, file in itertools.product((2, 4), rules.ALL_FILES):
+        yield replayed(text_of(form, {"/": theirs}), [f"set / {file} max", f"set / {file} 0", f"chmod / {file} 600"])
+        for table in {}, {"uid": 1000}, {"value": "max"}:
+            tree = text_of(form, {"/": {"files": {file: table}}, "/a": {}})
+            yield Case(["check", *USER, "--subtree", "/a"], tree)
+            yield Case(["upgrade"], tree)
+    for file, value, process in itertools.product((rules.DESCENDANTS, rules.DEPTH), ("max", 0, 1, 2, 3), (False, True)):
+        root = {"dir": {"uid": 1000}, "files": {file: {"uid": 1000, "value": value}, rules.PROCS: {"uid": 1000}}}
+        tree = text_of(2, {"/": root, "/a": {"dir": {"uid": 1000}, "files": {rules.PROCS: {"uid": 1000}}}},
+                       [{"pid": 7, "uid": 1000, "at": "/a"}] * process)
+        yield replayed(tree, ["mkdir /a/x", "mkdir /b", "mkdir /a/x/y", "mkdir /a/x/y/z", f"set / {file} 1", "mkdir /c",
+                              f"set / {file} max", "mkdir /c"])
+        for command in commands.OF_ONE:
+            yield Case([command, *USER, "--subtree", "/a"], tree)
+        yield Case(["advise", *USER, "--subtree", "/a"], tree)
+        yield Case(["explain", "--uid", "1000:5", "--subtree", "/a"], tree)
+
+
+# What a control brings is theirs, and what a cgroup that they made has stays so
+
+
+def theirs():
+    for sign, name in itertools.product("+-", ALL_CONTROLLERS):
+        rest = [each for each in ALL_CONTROLLERS if each != name]
+        parent = {"dir": {"uid": 1000}, "enabled": rest if sign == "+" else list(ALL_CONTROLLERS), "files": {rules.CONTROL: {"uid": 1000}}}
+        files = ["cgroup.freeze", *(file for file in rules.ALL_FILES if file not in rules.STANDING and file != "cgroup.freeze")]
+        lines = ["mkdir /a/new", f"control /a {sign}{name}"]
+        tree = text_of(4, {"/a": parent, "/a/old": {}})
+        yield replayed(tree, [*lines, *(f"set {place} {file} {texts_set(file)[0]}" for file in files for place in ("/a/new", "/a/old"))])
+        yield replayed(tree, [*lines, *(f"chmod {place} {file} 600" for file in files for place in ("/a/new", "/a/old"))])
+
+
+# Classes of one entry, in each order of the users
+
+
+def classes():
+    entry = {"uid": 1000, "gid": 5, "mode": 0o666}
+    for key, table in (("dir", entry), ("files", {rules.PROCS: entry}), ("files", {"pids.max": entry})):
+        tree = text_of(2, {"/a": {key: table}, "/a/b": {}})
+        for count in (2, 3):
+            for users in itertools.permutations(("1000", "1001:5", "1002"), count):
+                for subtree in ("/a", "/a/b"):
+                    yield Case(["advise", *(word for user in users for word in ("--uid", user)), "--subtree", subtree], tree)
+
+
+# What is written of a tree
+
+
+def written():
+    """Texts that have to be quoted in each way, arrays, and trees without what may be missing."""
+    words = ["x", '"', "'", "\\", "'\"", "'\\", "\"\"\"'", "'''\"", "'''\\", "'''\"\"\"", "a\\'\"b", "\"\"'\"\"", "''\"''", "\\\"", "'''"]
+    for word in words:
+        yield Case(["upgrade"], text_of(2, {f"/{word}": {}}, [{"pid": 7, "uid": 1, "at": f"/{word}"}]))
+        yield Case(["upgrade"], text_of(4, {"/a": {"files": {"io.max": {"value": word}, "cpu.max": {"value": [word, "1 " + word]}}}}))
+    for form, named in itertools.product((1, 2, 4), ([], ["pids", "cpu"], list(rules.CONTROLLERS))):
+        yield Case(["upgrade"], text_of(form, {"/": {"enabled": named}, "/b": {"enabled": named}, "/a": {}}, controllers=named))
+    processes = [{"pid": pid, "uid": pid, "at": place} for pid, place in ((100, "/a/b"), (9, "/"), (10, "/a-"))]
+    yield Case(["upgrade"], text_of(2, {"/a/b": {}, "/a-": {}, "/a": {}}, processes))
+    yield Case(["upgrade", "--tree", TREE], files={TREE: text_of(4, {"/a": {"files": {file: {} for file in FURTHER_FILES}}})})
+
+
+def bounds():
+    for table in of_texts, of_lines, of_words, of_lengths:
+        yield from table()
+
+
+TABLES = {**{file: functools.partial(limit_file, file) for file in rules.ALL_FILES}, "bounds": bounds, "names": names, "two tries": two_tries,
+          "at the root": at_the_root, "theirs": theirs, "classes": classes, "written": written}
