@@ -342,17 +342,16 @@ struct tried rattle_realloc(void *it, size_t kept, size_t size, size_t alignment
     return tried(found);
 }
 
-/* The start, and the words of the command line. */
-static char **words;
-static size_t count;
+/* The start, and the command line: the count of its words, and these. */
+static size_t *line;
 
 /* Puts a word where there is room for it, and gives its length, -1 where there is none, or -2 where it has no room. */
 long rattle_arg(size_t number, byte *into, size_t room) {
-    if (number >= count) {
+    if (number >= line[0]) {
         return -1;
     }
     size_t length = 0;
-    for (const char *at = words[number]; *at; at++) {
+    for (const char *at = (const char *)line[1 + number]; *at; at++) {
         if (length == room) {
             return -2;
         }
@@ -379,22 +378,23 @@ static void relocate(byte *base, const size_t *entry) {
 }
 
 /* execve(2): the stack begins with the count of words, and then has them. elf(5): the header, at the base, has the place and the count
-   of the program's parts, of 7 numbers each: one has the dynamic entries, PT_DYNAMIC, and a later one, whose pages are its own, is only
-   read from then on, PT_GNU_RELRO, mprotect(2). The end is exit_group(2). */
+   of the program's parts, of 7 numbers each: one has the dynamic entries, PT_DYNAMIC, and a later one, PT_GNU_RELRO, is only read from
+   then on, mprotect(2): its pages are its own, of the size that Linux has here, the least that it takes. The end is exit_group(2). */
 __attribute__((visibility("hidden"), noreturn)) void begin(size_t *stack, byte *base) {
     const size_t *part = (const size_t *)(base + *(const size_t *)(base + 32));
     const size_t *end = part + 7 * *(const unsigned short *)(base + 56);
     for (; part < end; part += 7) {
         if ((unsigned)part[0] == 2) {
             relocate(base, (const size_t *)(base + part[2]));
-        } else if ((unsigned)part[0] == 0x6474e552) {
-            size_t from = part[2] & -(size_t)PAGE;
-            call(MPROTECT, (long)(base + from), (long)(part[2] + part[5] - from), 1, 0, 0);
+        }
+        long given = (unsigned)part[0] == 0x6474e552 ? -1 : 0;
+        for (size_t page = 4096; given && page <= PAGE; page *= 4) {
+            size_t from = part[2] & -page;
+            given = call(MPROTECT, (long)(base + from), (long)(part[2] + part[5] - from), 1, 0, 0);
         }
     }
-    count = stack[0];
-    words = (char **)(stack + 1);
-    for (int status = main((int)count, words);;) {
+    line = stack;
+    for (int status = main((int)line[0], (char **)(line + 1));;) {
         call(EXIT_GROUP, status, 0, 0, 0, 0);
     }
 }
