@@ -307,7 +307,8 @@ no_status (Err fault) is zero = cc
 
 module _ {W : Type 0} (contents : W → Option (List ℕ)) (P : W → Type 0) (words : List (List ℕ)) (files : Files)
     (given old : Option (List ℕ)) (answer : Result ℕ Fault) (status : ℕ) (is : status ≡ exit_status answer)
-    (runs : (below : W) → P below → (written : Result (Unit {0}) WriteFailed) × RunsTo words files given old (contents below) answer written) where
+    (runs : (below : W) → P below
+        → (written : Result (Unit {0}) WriteFailed) × RunsTo words files given old (contents below) answer written) where
   zero_runs : (out : Option W) → MatchOption out (answer ≡ Err (Cli NoMemory)) P → status ≡ 0
       → (said : Option (List ℕ)) × LeadsTo words files given old said (Ok 0)
   zero_runs None none zero = absurd (no_status answer none (sym is ∙ zero))
