@@ -1,10 +1,11 @@
 """docs/THEOREMS.md against the sources: the statements that it shows, and what one has to believe of each theorem.
 
 A theorem is a part of the page under a heading `## N. NAME`, which names its law once. A statement may stand in it between ``` below a
-line with the law, and behind a comma the clause, that it is of, and a colon. What the part names by a path, each with clauses behind a colon or
-with all, carries the theorem, and behind "Turned by" stands an edit that the prover refuses by it. A line that begins with `Read: ` names definitions in the order in which they are read. Below a line that begins
-with `All that LAW names` stand between ``` all definitions and types that the law reaches and that stand in no such place above, with
-their comments, file by file.
+line with the law, and behind a comma the clause, that it is of, and a colon. What the part names by a path, each with clauses behind a
+colon or with all, carries the theorem, and behind "Turned by" stands an edit that the prover refuses by it. A line that begins with
+`Read: ` names definitions in the order in which they are read. Below a line that begins with `All that LAW names`, or with LAW, a comma
+and a clause, stand between ``` all definitions and types that the law reaches and that stand in no such place above, with their comments,
+file by file.
 """
 import re
 
@@ -18,7 +19,7 @@ ITEM = re.compile(r"`(\w+(?:::\w+)+)`(?:: (`\w+`(?:(?:, | and )`\w+`)*))?")
 PART = re.compile(r"^## (\d+)\. (.*?)(?=^## |\Z)", re.M | re.S)
 STATEMENT = re.compile(r"^(`([\w:]+)`(?:, `(\w+)`)?:\n\n```\n)(.*?)^```$", re.M | re.S)
 SAID = re.compile(r"(?:--.*\n)*")
-PRINTED = re.compile(r"^(All that `([\w:]+)` names\b[^`]*?:\n\n```\n)(.*?)^```$", re.M | re.S)
+PRINTED = re.compile(r"^(All that `([\w:]+)`(?:, `(\w+)`,)? names\b[^`]*?:\n\n```\n)(.*?)^```$", re.M | re.S)
 LISTED = re.compile(rf"`({LAWS}::\w+)`")
 TURNED = re.compile(r"Turned\s+by\s+`(\w+)`")
 READ = re.compile(r"^Read: (.*?)\n(?:\n|\Z)", re.M | re.S)
@@ -100,13 +101,13 @@ def named_in(paragraph):
     return (heads[0][1] or heads[0][2]) if heads else None
 
 
-def printed(world, name, above):
+def printed(world, name, clause, above):
     """Returns the definitions and types that a contract reaches and that aren't above, with their comments, in the order of files and in
     these of lines, and adds them to what is above.
 
     What the files of the contract's own crate say at their heads comes first.
     """
-    own, heads, found = [it for it in closure([world.named(name)])[0] if it not in above], [], []
+    own, heads, found = [it for it in closure([world.named(name, [clause] if clause else [])])[0] if it not in above], [], []
     above.update(own)
     for file in sorted(lines_of(own), key=place_of(world)):
         here, text = {it.name: it for it in own if it.file == file}, text_of(f"{world.top}/{file}")
@@ -118,10 +119,10 @@ def printed(world, name, above):
     return "\n\n".join([*heads, *found])
 
 
-def unexplained(world, name, part):
+def unexplained(world, name, clause, part):
     """Returns the libraries' words that a contract reaches and that no text of its part has, between `."""
     said = {*re.findall(r"`([^`\n]+)`", re.sub(r"(?ms)^```$.*?^```$", "", part))}
-    reached = {word for it in closure([world.named(name)])[1] for word in words_of(it.name)}
+    reached = {word for it in closure([world.named(name, [clause] if clause else [])])[1] for word in words_of(it.name)}
     return sorted(reached - said)
 
 
@@ -130,7 +131,7 @@ def mended(text, top="."):
     world = World(top)
     text = STATEMENT.sub(lambda it: f"{it[1]}{statement_of(world, it[2], it[3])}\n```", text)
     above = set()
-    return PRINTED.sub(lambda it: f"{it[1]}{printed(world, it[2], above)}\n```", text)
+    return PRINTED.sub(lambda it: f"{it[1]}{printed(world, it[2], it[3], above)}\n```", text)
 
 
 def unknown_in(world, contract, linked):
@@ -146,8 +147,8 @@ def faults_of_part(world, part, linked):
     for name, clause in [*stated, *((it, "") for it in LISTED.findall(part) if it not in dict(stated))]:
         for it in unknown_in(world, world.named(name, [clause] if clause else []), linked):
             yield f"`{it}` of {name} is on no page that tools/believed prints, nor linked to a row of MODEL.md"
-    for _, name, _ in PRINTED.findall(part):
-        yield from (f"`{it}` of {name} is a library's, and its part says nothing of it" for it in unexplained(world, name, part))
+    for _, name, clause, _ in PRINTED.findall(part):
+        yield from (f"`{it}` of {name} is a library's, and its part says nothing of it" for it in unexplained(world, name, clause, part))
     reached = {it.name for it in closure(roots_of(world, part))[0]}
     for it in (word for line in READ.findall(part) for word in re.findall(r"`([^`]+)`", line)):
         if it not in reached:

@@ -1,5 +1,6 @@
 mod CommandLaws
 mod FoundLaws
 mod GivenLaws
+pub mod MadeLaws
 pub mod UserWordLaws
 mod WordLaws

@@ -6,3 +6,4 @@ mod ProgramLaws
 mod RequestLaws
 mod RunLaws
 mod WaitingLaws
+pub mod YesLaws

@@ -4,3 +4,4 @@ pub mod PairLines
 pub mod Requests
 pub mod Runs
 pub mod Waiting
+pub mod Yes

@@ -1,9 +1,10 @@
 //! The whole program: what the host gives it in, its status and its streams out.
-ghost use Rattle.std.specs.Prelude.{◌≡◌, ◌≢◌, ◌⊎◌, ℕ, map, string_bytes, Option, Result, Err, IsErrAnd, MatchOption, MatchResult};
+ghost use Rattle.std.specs.Prelude.{◌≡◌, ◌≢◌, ◌⊎◌, ℕ, map, string_bytes, Option, Result, Err, IfOk, IsErrAnd, MatchOption, MatchResult};
 ghost use Rattle.std.specs.IoError.{error_kind};
 ghost use Rattle.std.specs.Io.KnownBytes.{Keeps};
 ghost use Rattle.commands.specs.Beside.{IsBeside};
 ghost use Rattle.commands.specs.Runs.{exit_status, TellsFault, TellsBeside, Tells, RunsTo};
+ghost use Rattle.commands.specs.Yes.{CheckMeans, AuditMeans};
 ghost use Rattle.commands.specs.declared.fault.Fault.{Fault};
 ghost use Rattle.commands.specs.declared.fault.Fault.TheVariants.{Cli, Usage as UsageFault};
 ghost use Rattle.streams.specs.declared.write.WriteFailed.{WriteFailed};
@@ -53,6 +54,9 @@ pub struct Ended<W, E> {
 /// Runs the program on the words of a command line, where they can be had, with the files that there are and its three streams. The
 /// status is the command's, or 3 where there is a fault; then its line is printed to `errors`, and below it help, from a second look
 /// at the words, the files and the input.
+///
+/// Where the words ask `check` or `audit`, status 0 says that the text that was read tells of a machine in which what they name is
+/// contained against whom they name.
 pub fn run_program<F: Files, I: Read + Drop, W: Write + Drop, E: Write + Drop>(
     alloc: Global,
     version: &str,
@@ -62,7 +66,7 @@ pub fn run_program<F: Files, I: Read + Drop, W: Write + Drop, E: Write + Drop>(
     out: W,
     errors: E,
 ) -> Ended<W, E>
-    ensures { (answer : Result ℕ Fault) × (beside : Beside) × (result.status ≡ exit_status answer)
+    ensures runs { (answer : Result ℕ Fault) × (beside : Beside) × (result.status ≡ exit_status answer)
         × Tells answer beside (E.contents errors) (E.contents result.errors) result.told
         × MatchOption result.out (answer ≡ Err (Cli MemoryFault)) (λ below. MatchResult words
         (λ words. (written : Result (Unit {0}) WriteFailed) × RunsTo (map string_bytes words.items) (F.given files.now)
@@ -71,6 +75,8 @@ pub fn run_program<F: Files, I: Read + Drop, W: Write + Drop, E: Write + Drop>(
         (λ error. Keeps (W.contents out) (W.contents below)
         × IsErrAnd answer (λ fault. ((fault ≡ UsageFault) × (error_kind error ≢ ErrorKind.OutOfMemory))
         ⊎ ((fault ≡ Cli MemoryFault) × (error_kind error ≡ ErrorKind.OutOfMemory))))) }
+    ensures check { IfOk words (λ words. CheckMeans (map string_bytes words.items) (F.given files.now) (I.remaining input) result.status) }
+    ensures audit { IfOk words (λ words. AuditMeans (map string_bytes words.items) (F.given files.now) (I.remaining input) result.status) }
 {
     match words {
         Ok(words) => {

@@ -62,12 +62,13 @@ use Rattle.arguments.specs.declared.request.Request.{Request}
 use Rattle.arguments.specs.declared.request.Request.TheVariants as request
 use Rattle.streams.specs.declared.write.WriteFailed.{WriteFailed}
 use Rattle.commands.specs.PairLines.{GivenPair, pairs_read, AsksSomething}
-use Rattle.commands.specs.Requests.{Files, IsUnread, source, name_of, may_said, check_said, SettlesAs, AdviseSays, AdvisesOn, AuditsOn, ExplainsOn, OnLines, OnPairsText, GuardsSay, FurtherSay, AuditSays, ExplainSays, replay_said, OnTreeText, OnTree, ReplaysOver, CarriesOut}
-use Rattle.commands.specs.Runs.{IsFlushed, CarriesOutBuffered, LeadsTo, LiesBelow, RunsTo}
+use Rattle.commands.specs.Requests.{Files, source, name_of, may_said, check_said, SettlesAs, AdviseSays, AdvisesOn, AuditsOn, ExplainsOn, OnLines, OnPairsText, GuardsSay, FurtherSay, AuditSays, ExplainSays, replay_said, OnTreeText, OnTree, ReplaysOver, CarriesOut}
+use Rattle.commands.specs.Runs.{CarriesOutBuffered, LeadsTo, LiesBelow, RunsTo}
 use Rattle.commands.specs.declared.fault.Fault.{Fault}
 use Rattle.commands.specs.declared.fault.Fault.TheVariants.{Usage, Cli}
 use Rattle.commands.proofs.BufferedLaws.{CarriesOut-Keeps}
 use Rattle.commands.proofs.PairLaws.{asked_about}
+use Rattle.commands.proofs.YesLaws.{not_unread, flushed_is}
 use Rattle.machine_answers.proofs.GuardedLaws.{named_read, contained_by_status}
 use Rattle.theorems.proofs.SettledLaws.{settled_as}
 use Rattle.theorems.proofs.FurtherLaws.{settled_told, all_told, first_told}
@@ -81,11 +82,6 @@ use Rattle.cg_format.specs.Readings.{vocabulary_in}
 use Rattle.cg_format.specs.TreeTexts.{most_read}
 
 -- ---- what lies in the first writer
-
-flushed_is : (ended : Result ℕ CliFault) (status : ℕ) → IsFlushed ended (Ok status) → ended ≡ Ok status
-flushed_is (Ok one) status (inl same) = cc
-flushed_is (Ok one) status (inr never) = cc
-flushed_is (Err fault) status never = cc
 
 lies_whole : (written : Result (Unit {0}) WriteFailed) (said new : Option (List ℕ)) → IsOk written → LiesBelow written said new
     → Keeps said new
@@ -127,10 +123,6 @@ module _ (words : List (List ℕ)) (files : Files) (given old new : Option (List
 
 -- ---- what is answered on the text of a tree is answered on its state
 
-read_whole : {P : Type 0} (known new : Option (List ℕ)) (status : ℕ) → IsUnread known new (Ok status) → P
-read_whole known new status (inl never, keeps) = let none : ⊥ = cc in absurd none
-read_whole known new status (inr never, keeps) = let none : ⊥ = cc in absurd none
-
 module _ (answers : Vocabulary → Reading → Type 0) (known old new : Option (List ℕ)) (status : ℕ) (text : List ℕ) (st : State)
     (of_known : known ≡ Some text) (of_text : IsTextOf st text) where
   of_state : (tree : List ℕ) → tree ≡ text → (read : Reading) → IsReading tree read → answers (vocabulary_in tree) read
@@ -146,7 +138,7 @@ module _ (answers : Vocabulary → Reading → Type 0) (known old new : Option (
 
   on_text : OnTreeText known answers old new (Ok status) → answers (vocabulary_in text) (Ok st)
   on_text (inl read) = of_state read.0 (whole read.0 read.1) read.2.0 read.2.1 read.2.2
-  on_text (inr unread) = read_whole old new status unread
+  on_text (inr unread) = not_unread old new status unread
 
 -- where it doesn't matter which controllers the text names
 on_state : (answers : Reading → Type 0) (known old new : Option (List ℕ)) (status : ℕ) (text : List ℕ) (st : State)
@@ -167,7 +159,7 @@ on_operations said known old new status ops of_known (inl over) =
     let replays = over.1 in
     let same : replays.0 ≡ ops = subst (λ k. IfSome k (λ bytes. replays.0 ≡ bytes)) of_known replays.1 in
     subst (λ bytes. Replays closed said bytes old new (Ok status)) same replays.2
-on_operations said known old new status ops of_known (inr unread) = read_whole old new status unread
+on_operations said known old new status ops of_known (inr unread) = not_unread old new status unread
 
 -- what is answered of the pairs that there are
 on_pairs : (Says : List GivenPair → Reading → CallEnding) (known known_pairs old new : Option (List ℕ)) (status : ℕ)
@@ -180,9 +172,9 @@ on_pairs Says known known_pairs old new status text pairs st of_known of_pairs o
     (⊎_elim (λ said.
     on_state (λ read. OnLines Says (pairs_read both.1) read old new (Ok status)) known old new status text st of_known of_text
     (inl (both.0, both.2, said)))
-    (λ unread. read_whole old new status unread) both.4)
+    (λ unread. not_unread old new status unread) both.4)
 on_pairs Says known known_pairs old new status text pairs st of_known of_pairs of_text short (inr unread) =
-    read_whole old new status unread
+    not_unread old new status unread
 
 -- they are named
 pairs_named : (Says : List GivenPair → Reading → CallEnding) (pairs : List ℕ) (read : Result (List GivenPair) CliFault)

@@ -1,0 +1,325 @@
+-- What status 0 says of the machine that the tree's text tells of.
+use Rattle.std.proofs.Common.{◌≡◌, ℕ, ◌+◌, ◌≤◌, Bool, true, false, cond, List, [], map, length, take, get_or, unwrap_or, true≢false, Option, Some, None, Result, Ok, Err, refl, sym, ap, ◌∙◌, subst, inl, inr, arith}
+use Rattle.std.specs.Prelude.{codes, nat_eq, IfSome, MatchBool, MatchOption}
+use Rattle.std.specs.Option.{option_map}
+use Rattle.std.proofs.lemmas.List.{take_all, length-take, take-take}
+use Rattle.clap.specs.Matches.{first_value, one_text}
+use Rattle.clap.specs.declared.parser.matches.Found.{Found}
+use Rattle.cg_cgroup.proofs.Options.{same_some}
+use Rattle.cg_faults.specs.Faults.{lifted}
+use Rattle.cg_format.specs.declared.fault.TreeFault.{TreeFault}
+use Rattle.cg_format.specs.Readings.{Reading, IsReading}
+use Rattle.cg_format.specs.TreeTexts.{says_large, longest_text, most_read}
+use Rattle.cg_model.specs.Listed.{Listed}
+use Rattle.cg_cgroup.specs.Identity.{Identity}
+use Rattle.cg_cgroup.specs.Paths.{Names, same_path}
+use Rattle.cg_model.specs.States.{State}
+use Rattle.cg_cli.specs.Arguments.{user_read, path_read}
+use Rattle.cg_cli.specs.AllPairs.{read_then, pairs_found, all_report, ReportsPairs}
+use Rattle.cg_cli.specs.Containment.{subtree_report, check_report}
+use Rattle.cg_cli.specs.Audits.{users_read, paths_read, pairs_report, audit_report}
+use Rattle.cg_cli.specs.Once.{same_user}
+use Rattle.cg_model.specs.Once.{once}
+use Rattle.cg_cli.specs.Reports.{Report, Reports, report_on}
+use Rattle.cg_faults.specs.declared.fault.CliFault.{CliFault}
+use Rattle.cg_faults.specs.declared.fault.CliFault.TheVariants.{NoMemory}
+use Rattle.arguments.specs.Given.{words_at, file_at, user_given, users_given, ids_of, IsCheck, IsAudit, IsOfPairs, Holds, command_of}
+use Rattle.arguments.specs.declared.request.Check.{Check}
+use Rattle.arguments.specs.declared.request.Audit.{Audit}
+use Rattle.arguments.specs.declared.request.Request.{Request}
+use Rattle.arguments.specs.declared.request.Request.TheVariants as request
+use Rattle.arguments.proofs.MadeLaws.{named_as}
+use Rattle.machine_answers.specs.Contained.{of_ids, IsContainedIn, AreContainedIn}
+use Rattle.machine_answers.proofs.MachineLaws.{contained_in}
+use Rattle.machine_answers.proofs.AuditedLaws.{audited_in, all_audited_in}
+use Rattle.commands.specs.Requests.{Files, source, name_of, IsTree, IsUnread, OnTree, ReportsOnTree, check_said, GuardsSay, FurtherSay, AuditSays, CarriesOut}
+use Rattle.commands.specs.Runs.{IsFlushed, LeadsTo, RunsTo, exit_status}
+use Rattle.commands.specs.Yes.{AsksCheck, AsksAudit, WasRead, CheckMeans, AuditMeans}
+use Rattle.commands.specs.declared.fault.Fault.{Fault}
+use Rattle.commands.specs.declared.fault.Fault.TheVariants.{Cli}
+use Rattle.streams.specs.declared.write.WriteFailed.{WriteFailed}
+
+-- ---- a text that isn't too long was read whole
+
+longest_same : (bytes : List ℕ) → longest_text (take (longest_text bytes + 1) bytes) ≡ longest_text bytes
+longest_same bytes = ap (λ (front : List ℕ). cond (says_large front) 67108864 16777216) fronts
+  where
+    by_size : (b : Bool) → 128 ≤ cond b 67108864 16777216 + 1
+    by_size true = omega arith
+    by_size false = omega arith
+
+    fronts : take 128 (take (longest_text bytes + 1) bytes) ≡ take 128 bytes
+    fronts = take-take 128 (longest_text bytes + 1) bytes (by_size (says_large (take 128 bytes)))
+
+whole : (bytes text : List ℕ) → text ≡ take (most_read bytes) bytes → length text ≤ longest_text text → text ≡ bytes
+whole bytes text is short =
+    let most = longest_text bytes in
+    let least : length (take (most + 1) bytes) ≤ most =
+    subst (λ n. length (take (most + 1) bytes) ≤ n) (longest_same bytes) (subst (λ (t : List ℕ). length t ≤ longest_text t) is short) in
+    let long = length-take (most + 1) bytes in
+    is ∙ take_all (most + 1) bytes (omega (arith, least, long))
+
+read_whole : (known : Option (List ℕ)) (text : List ℕ) → IsTree known text → length text ≤ longest_text text
+    → IfSome known (λ bytes. text ≡ bytes)
+read_whole None text is short = tt
+read_whole (Some bytes) text is short = whole bytes text is short
+
+-- ---- of status 0 the text was read
+
+refused : {A B C : Type 0} (one : Result A CliFault) (two : Result B CliFault) (fault : CliFault) (report : A → B → C → Report)
+    → (report_on one (λ a. report_on two (λ b. report_on (Err fault) (report a b)))).ending ≡ Ok 0 → ⊥
+refused (Ok a) (Ok b) fault report is = cc
+refused (Ok a) (Err other) fault report is = cc
+refused (Err other) two fault report is = cc
+
+unread_pairs : {A B C D : Type 0} (one : Result A CliFault) (two : Result B CliFault) (fault : CliFault)
+    (report : A → B → C → Result D CliFault) (found : D)
+    → read_then one (λ a. read_then two (λ b. read_then (Err fault) (report a b))) ≡ Ok found → ⊥
+unread_pairs (Ok a) (Ok b) fault report found is = cc
+unread_pairs (Ok a) (Err other) fault report found is = cc
+unread_pairs (Err other) two fault report found is = cc
+
+check_refused : (fault : TreeFault) (uid : ℕ) (gids word : List ℕ) → (check_report (Err fault) uid gids word).ending ≡ Ok 0 → ⊥
+check_refused fault uid gids word is =
+    refused (user_read uid gids) (path_read word) (lifted fault)
+        (λ (user : Identity) (path : Names) (st : State). subtree_report st user path) is
+
+audit_refused : (fault : TreeFault) (users : List (ℕ × List ℕ)) (subtrees : List (List ℕ))
+    → (audit_report (Err fault) users subtrees).ending ≡ Ok 0 → ⊥
+audit_refused fault users subtrees is =
+    refused (users_read users) (paths_read subtrees) (lifted fault)
+        (λ (users : List Identity) (paths : List Names) (st : State). pairs_report st users paths) is
+
+all_refused : (fault : TreeFault) (users : List (ℕ × List ℕ)) (subtrees : List (List ℕ)) (pairs : List Listed)
+    → all_report (Err fault) users subtrees ≡ Ok pairs → ⊥
+all_refused fault users subtrees pairs is =
+    unread_pairs (users_read users) (paths_read subtrees) (lifted fault)
+        (λ (users : List Identity) (paths : List Names) (st : State). pairs_found st (once same_user users) (once same_path paths)) pairs is
+
+pub not_unread : {P : Type 0} (old new : Option (List ℕ)) (status : ℕ) → IsUnread old new (Ok status) → P
+not_unread old new status (inl never, keeps) = let none : ⊥ = cc in absurd none
+not_unread old new status (inr never, keeps) = let none : ⊥ = cc in absurd none
+
+module _ (files : Files) (given old new : Option (List ℕ)) where
+  check_carried : (check : Check) → CarriesOut (request.Check check) files given old new (Ok 0)
+      → (text : List ℕ) × WasRead files (name_of check.tree) given text × IsContainedIn text (of_ids (ids_of check.user)) check.subtree.now
+  check_carried check (inl (text, is_tree, (read, reading, reports))) = by_reading read reading reports
+    where
+      by_reading : (read : Reading) → IsReading text read → Reports (check_said check read) old new (Ok 0)
+          → (text : List ℕ) × WasRead files (name_of check.tree) given text
+          × IsContainedIn text (of_ids (ids_of check.user)) check.subtree.now
+      by_reading (Ok st) reading reports = (
+        text,
+        read_whole (source files (name_of check.tree) given) text is_tree reading.short,
+        contained_in text (Ok st) check.user.uid check.user.gids.items check.subtree.now reading reports.0,
+      )
+      by_reading (Err fault) reading reports =
+          absurd (check_refused fault check.user.uid check.user.gids.items check.subtree.now reports.0)
+  check_carried check (inr it) = not_unread old new 0 it
+
+  audit_carried : (audit : Audit) → audit.settle ≡ false → CarriesOut (request.Audit audit) files given old new (Ok 0)
+      → (text : List ℕ) × WasRead files (name_of audit.tree) given text
+      × AreContainedIn text (map of_ids (map ids_of audit.users.items)) (map (λ subtree. subtree.now) audit.subtrees.items)
+  audit_carried audit settle (inl (text, is_tree, (read, reading, says))) =
+      by_flag audit.all (subst (λ settle. MatchBool settle (FurtherSay audit.all users subtrees old new (Ok 0) read)
+      (GuardsSay audit.all users subtrees old new (Ok 0) read)) settle says)
+    where
+      users : List (ℕ × List ℕ)
+      users = map ids_of audit.users.items
+
+      subtrees : List (List ℕ)
+      subtrees = map (λ subtree. subtree.now) audit.subtrees.items
+
+      first_of : (read : Reading) → IsReading text read → Reports (audit_report read users subtrees) old new (Ok 0)
+          → (text : List ℕ) × WasRead files (name_of audit.tree) given text × AreContainedIn text (map of_ids users) subtrees
+      first_of (Ok st) reading reports = (
+        text,
+        read_whole (source files (name_of audit.tree) given) text is_tree reading.short,
+        audited_in text (Ok st) users subtrees reading reports.0,
+      )
+      first_of (Err fault) reading reports = absurd (audit_refused fault users subtrees reports.0)
+
+      all_of : (read : Reading) → IsReading text read → (found : Result (List Listed) CliFault) → all_report read users subtrees ≡ found
+          → ReportsPairs found old new (Ok 0)
+          → (text : List ℕ) × WasRead files (name_of audit.tree) given text × AreContainedIn text (map of_ids users) subtrees
+      all_of read reading (Err fault) is never = absurd never
+      all_of (Ok st) reading (Ok pairs) is reports = (
+        text,
+        read_whole (source files (name_of audit.tree) given) text is_tree reading.short,
+        all_audited_in text (Ok st) users subtrees pairs reading is reports.0,
+      )
+      all_of (Err fault) reading (Ok pairs) is reports = absurd (all_refused fault users subtrees pairs is)
+
+      by_flag : (all : Bool) → GuardsSay all users subtrees old new (Ok 0) read
+          → (text : List ℕ) × WasRead files (name_of audit.tree) given text × AreContainedIn text (map of_ids users) subtrees
+      by_flag false says = first_of read reading says
+      by_flag true says = all_of read reading (all_report read users subtrees) refl says
+  audit_carried audit settle (inr it) = not_unread old new 0 it
+
+-- ---- names of commands are apart
+
+may-check : ◌≡◌ {A = Option (List ℕ)} (Some (codes "may")) (Some (codes "check")) → ⊥
+may-check is = cc
+
+settle-check : ◌≡◌ {A = Option (List ℕ)} (Some (codes "settle")) (Some (codes "check")) → ⊥
+settle-check is = cc
+
+audit-check : ◌≡◌ {A = Option (List ℕ)} (Some (codes "audit")) (Some (codes "check")) → ⊥
+audit-check is = true≢false (ap (λ (o : Option (List ℕ)). nat_eq (get_or (unwrap_or o []) 0 0) 97) is)
+
+explain-check : ◌≡◌ {A = Option (List ℕ)} (Some (codes "explain")) (Some (codes "check")) → ⊥
+explain-check is = cc
+
+advise-check : ◌≡◌ {A = Option (List ℕ)} (Some (codes "advise")) (Some (codes "check")) → ⊥
+advise-check is = cc
+
+replay-check : ◌≡◌ {A = Option (List ℕ)} (Some (codes "replay")) (Some (codes "check")) → ⊥
+replay-check is = cc
+
+upgrade-check : ◌≡◌ {A = Option (List ℕ)} (Some (codes "upgrade")) (Some (codes "check")) → ⊥
+upgrade-check is = cc
+
+none-check : ◌≡◌ {A = Option (List ℕ)} None (Some (codes "check")) → ⊥
+none-check is = cc
+
+may-audit : ◌≡◌ {A = Option (List ℕ)} (Some (codes "may")) (Some (codes "audit")) → ⊥
+may-audit is = cc
+
+settle-audit : ◌≡◌ {A = Option (List ℕ)} (Some (codes "settle")) (Some (codes "audit")) → ⊥
+settle-audit is = cc
+
+explain-audit : ◌≡◌ {A = Option (List ℕ)} (Some (codes "explain")) (Some (codes "audit")) → ⊥
+explain-audit is = cc
+
+advise-audit : ◌≡◌ {A = Option (List ℕ)} (Some (codes "advise")) (Some (codes "audit")) → ⊥
+advise-audit is = cc
+
+replay-audit : ◌≡◌ {A = Option (List ℕ)} (Some (codes "replay")) (Some (codes "audit")) → ⊥
+replay-audit is = cc
+
+upgrade-audit : ◌≡◌ {A = Option (List ℕ)} (Some (codes "upgrade")) (Some (codes "audit")) → ⊥
+upgrade-audit is = cc
+
+check-audit : ◌≡◌ {A = Option (List ℕ)} (Some (codes "check")) (Some (codes "audit")) → ⊥
+check-audit is = true≢false (ap (λ (o : Option (List ℕ)). nat_eq (get_or (unwrap_or o []) 0 0) 99) is)
+
+none-audit : ◌≡◌ {A = Option (List ℕ)} None (Some (codes "audit")) → ⊥
+none-audit is = cc
+
+-- ---- what the words ask
+
+pub flushed_is : (ended : Result ℕ CliFault) (status : ℕ) → IsFlushed ended (Ok status) → ended ≡ Ok status
+flushed_is (Ok one) status (inl same) = cc
+flushed_is (Ok one) status (inr never) = cc
+flushed_is (Err fault) status never = cc
+
+module _ (words : List (List ℕ)) (files : Files) (given old said : Option (List ℕ))
+    (leads : LeadsTo words files given old said (Ok 0)) where
+  carried : CarriesOut leads.0 files given old said (Ok 0)
+  carried =
+      subst (λ (ended : Result ℕ CliFault). CarriesOut leads.0 files given old said ended) (flushed_is leads.2.0 0 leads.2.2) leads.2.1
+
+  check_means : (tree : Option (List ℕ)) (ids : ℕ × List ℕ) (subtree : List ℕ) → AsksCheck words tree ids subtree
+      → (text : List ℕ) × WasRead files tree given text × IsContainedIn text (of_ids ids) subtree
+  check_means tree ids subtree asks =
+      let of = named_as words (codes "check") asks.0 asks.1 asks.2 leads.0 leads.1 in by_request leads.0 of.0 of.1 carried
+    where
+      by_request : (asked : Request) → command_of asked ≡ Some (codes "check") → Holds asks.0 asked
+          → CarriesOut asked files given old said (Ok 0)
+          → (text : List ℕ) × WasRead files tree given text × IsContainedIn text (of_ids ids) subtree
+      by_request (request.Check check) is holds done =
+          let means = check_carried files given old said check done in
+          let of_tree : name_of check.tree ≡ tree = holds.tree ∙ asks.3.0 in
+          let of_ids_is : ids_of check.user ≡ ids = same_some (ids_of check.user) ids (sym holds.user ∙ asks.3.1) in
+          let of_subtree : check.subtree.now ≡ subtree = same_some check.subtree.now subtree (sym holds.subtree ∙ asks.3.2) in (
+            means.0,
+            subst (λ (tree : Option (List ℕ)). WasRead files tree given means.0) of_tree means.1,
+            subst (λ (word : List ℕ). IsContainedIn means.0 (of_ids ids) word) of_subtree
+                (subst (λ (ids : ℕ × List ℕ). IsContainedIn means.0 (of_ids ids) check.subtree.now) of_ids_is means.2),
+          )
+      by_request (request.Help help) is holds done = absurd (none-check is)
+      by_request (request.May may) is holds done = absurd (may-check is)
+      by_request (request.Settle check) is holds done = absurd (settle-check is)
+      by_request (request.Audit audit) is holds done = absurd (audit-check is)
+      by_request (request.AuditPairs pairs) is holds done = absurd (audit-check is)
+      by_request (request.Explain explain) is holds done = absurd (explain-check is)
+      by_request (request.ExplainPairs pairs) is holds done = absurd (explain-check is)
+      by_request (request.Advise advise) is holds done = absurd (advise-check is)
+      by_request (request.AdvisePairs pairs) is holds done = absurd (advise-check is)
+      by_request (request.Replay replay) is holds done = absurd (replay-check is)
+      by_request (request.Upgrade upgrade) is holds done = absurd (upgrade-check is)
+
+  audit_means : (tree : Option (List ℕ)) (users : List (ℕ × List ℕ)) (subtrees : List (List ℕ)) → AsksAudit words tree users subtrees
+      → (text : List ℕ) × WasRead files tree given text × AreContainedIn text (map of_ids users) subtrees
+  audit_means tree users subtrees asks =
+      let of = named_as words (codes "audit") asks.0 asks.1 asks.2 leads.0 leads.1 in by_request leads.0 of.0 of.1 carried
+    where
+      by_request : (asked : Request) → command_of asked ≡ Some (codes "audit") → Holds asks.0 asked
+          → CarriesOut asked files given old said (Ok 0)
+          → (text : List ℕ) × WasRead files tree given text × AreContainedIn text (map of_ids users) subtrees
+      by_request (request.Audit audit) is holds done =
+          let means = audit_carried files given old said audit (holds.settle.1 asks.3.4) done in
+          let of_tree : name_of audit.tree ≡ tree = holds.tree ∙ asks.3.0 in
+          let of_users : map ids_of audit.users.items ≡ users =
+          same_some (map ids_of audit.users.items) users (sym holds.users ∙ asks.3.1) in
+          let of_subtrees : map (λ subtree. subtree.now) audit.subtrees.items ≡ subtrees = sym holds.subtrees ∙ asks.3.2 in (
+            means.0,
+            subst (λ (tree : Option (List ℕ)). WasRead files tree given means.0) of_tree means.1,
+            subst (λ (words : List (List ℕ)). AreContainedIn means.0 (map of_ids users) words) of_subtrees
+                (subst (λ (users : List (ℕ × List ℕ)). AreContainedIn means.0 (map of_ids users)
+                (map (λ subtree. subtree.now) audit.subtrees.items)) of_users means.2),
+          )
+      by_request (request.AuditPairs pairs) is holds done = absurd (holds.some_pairs asks.3.3)
+      by_request (request.Help help) is holds done = absurd (none-audit is)
+      by_request (request.May may) is holds done = absurd (may-audit is)
+      by_request (request.Check check) is holds done = absurd (check-audit is)
+      by_request (request.Settle check) is holds done = absurd (settle-audit is)
+      by_request (request.Explain explain) is holds done = absurd (explain-audit is)
+      by_request (request.ExplainPairs pairs) is holds done = absurd (explain-audit is)
+      by_request (request.Advise advise) is holds done = absurd (advise-audit is)
+      by_request (request.AdvisePairs pairs) is holds done = absurd (advise-audit is)
+      by_request (request.Replay replay) is holds done = absurd (replay-audit is)
+      by_request (request.Upgrade upgrade) is holds done = absurd (upgrade-audit is)
+
+-- ---- of a run
+
+answer_is : (answer : Result ℕ Fault) → exit_status answer ≡ 0 → answer ≡ Ok 0
+answer_is (Ok status) is = ap Ok is
+answer_is (Err fault) is = cc
+
+module _ (words : List (List ℕ)) (files : Files) (given old new : Option (List ℕ)) (answer : Result ℕ Fault)
+    (written : Result (Unit {0}) WriteFailed) (runs : RunsTo words files given old new answer written) where
+  leads_to : answer ≡ Ok 0 → LeadsTo words files given old runs.0 (Ok 0)
+  leads_to is = subst (λ (answer : Result ℕ Fault). LeadsTo words files given old runs.0 answer) is runs.1
+
+  pub run_checks : CheckMeans words files given (exit_status answer)
+  run_checks tree ids subtree asks is = check_means words files given old runs.0 (leads_to (answer_is answer is)) tree ids subtree asks
+
+  pub run_audits : AuditMeans words files given (exit_status answer)
+  run_audits tree users subtrees asks is =
+      audit_means words files given old runs.0 (leads_to (answer_is answer is)) tree users subtrees asks
+
+-- ---- of the program
+
+no_status : (answer : Result ℕ Fault) → answer ≡ Err (Cli NoMemory) → exit_status answer ≡ 0 → ⊥
+no_status (Ok status) is zero = cc
+no_status (Err fault) is zero = cc
+
+module _ {W : Type 0} (contents : W → Option (List ℕ)) (P : W → Type 0) (words : List (List ℕ)) (files : Files)
+    (given old : Option (List ℕ)) (answer : Result ℕ Fault) (status : ℕ) (is : status ≡ exit_status answer)
+    (runs : (below : W) → P below
+        → (written : Result (Unit {0}) WriteFailed) × RunsTo words files given old (contents below) answer written) where
+  zero_runs : (out : Option W) → MatchOption out (answer ≡ Err (Cli NoMemory)) P → status ≡ 0
+      → (said : Option (List ℕ)) × LeadsTo words files given old said (Ok 0)
+  zero_runs None none zero = absurd (no_status answer none (sym is ∙ zero))
+  zero_runs (Some below) ran zero =
+      let run = runs below ran in
+      (run.1.0, leads_to words files given old (contents below) answer run.0 run.1 (answer_is answer (sym is ∙ zero)))
+
+  pub program_checks : (out : Option W) → MatchOption out (answer ≡ Err (Cli NoMemory)) P → CheckMeans words files given status
+  program_checks out ran tree ids subtree asks zero =
+      let found = zero_runs out ran zero in check_means words files given old found.0 found.1 tree ids subtree asks
+
+  pub program_audits : (out : Option W) → MatchOption out (answer ≡ Err (Cli NoMemory)) P → AuditMeans words files given status
+  program_audits out ran tree users subtrees asks zero =
+      let found = zero_runs out ran zero in audit_means words files given old found.0 found.1 tree users subtrees asks

@@ -1,0 +1,35 @@
+-- What status 0 says, by the words of a command line, the files that there are and standard input alone. Own.
+use Rattle.std.specs.Prelude.{◌≡◌, ℕ, List, map, codes, Option, Some, None, IfSome}
+use Rattle.clap.specs.Matches.{first_value, one_text}
+use Rattle.clap.specs.Walk.{Text}
+use Rattle.cg_cgroup.specs.Identity.{Identity}
+use Rattle.arguments.specs.Given.{words_at, file_at, user_given, users_given}
+use Rattle.arguments.specs.Words.{NamesCommand}
+use Rattle.machine_answers.specs.Contained.{of_ids, IsContainedIn, AreContainedIn}
+use Rattle.commands.specs.Requests.{Files, source}
+
+-- The words are faultless, and name `check` with a file for the tree, or none, a user and a subtree.
+abbrev pub AsksCheck : List Text → Option (List ℕ) → ℕ × List ℕ → List ℕ → Type 0
+AsksCheck words tree ids subtree = NamesCommand words (codes "check") (λ found.
+    (file_at found (codes "tree") ≡ tree) × (user_given found ≡ Some ids) × (first_value found (codes "subtree") ≡ Some subtree))
+
+-- They name `audit` with users and subtrees, no text of pairs, and not to look further.
+abbrev pub AsksAudit : List Text → Option (List ℕ) → List (ℕ × List ℕ) → List (List ℕ) → Type 0
+AsksAudit words tree given subtrees = NamesCommand words (codes "audit") (λ found.
+    (file_at found (codes "tree") ≡ tree) × (users_given found ≡ Some given) × (words_at found (codes "subtree") ≡ subtrees)
+    × (first_value found (codes "pairs") ≡ None) × (one_text found (codes "settle") ≡ Some (codes "false")))
+
+-- The text that was read for the tree: that of the named file, or of standard input where none is named, where it is known what that
+-- holds.
+abbrev pub WasRead : Files → Option (List ℕ) → Option (List ℕ) → List ℕ → Type 0
+WasRead files tree given text = IfSome (source files tree given) (λ bytes. text ≡ bytes)
+
+abbrev pub CheckMeans : List Text → Files → Option (List ℕ) → ℕ → Type 0
+CheckMeans words files given status =
+    (tree : Option (List ℕ)) (ids : ℕ × List ℕ) (subtree : List ℕ) → AsksCheck words tree ids subtree → status ≡ 0
+    → (text : List ℕ) × WasRead files tree given text × IsContainedIn text (of_ids ids) subtree
+
+abbrev pub AuditMeans : List Text → Files → Option (List ℕ) → ℕ → Type 0
+AuditMeans words files given status =
+    (tree : Option (List ℕ)) (users : List (ℕ × List ℕ)) (subtrees : List (List ℕ)) → AsksAudit words tree users subtrees → status ≡ 0
+    → (text : List ℕ) × WasRead files tree given text × AreContainedIn text (map of_ids users) subtrees

@@ -1,0 +1,2 @@
+mod Guarding
+mod LetIn

@@ -1,0 +1,10 @@
+use Rattle.machine_everybody.proofs.LetIn.{reached}
+use Rattle.machine_everybody.proofs.Guarding.{unlisted, listed}
+use Rattle.machine_everybody.proofs.classes.Goals as goal
+
+pub returns : goal.returns
+returns c = record {
+  reached = reached;
+  unlisted = λ machine users subtree present fits none. unlisted machine users subtree present fits none;
+  listed = λ machine user subtree real fits. listed machine subtree user real fits;
+}
