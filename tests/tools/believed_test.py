@@ -307,11 +307,11 @@ class Page(Small):
         self.assertEqual(theorems.faults_of(f"`theorems::shown`\n\n{right}", self.top)[1], missing)
 
     def test_all_that_a_clause_names(self):
-        for what, is_there in (("`high::called`", True), ("`high::called`, `kept`,", True), ("`high::called`, `many`,", False)):
+        told = [("`high::called`", (True, True)), ("`high::called`, `kept`,", (False, True)), ("`high::called`, `many`,", (True, False))]
+        for what, are_there in told:
             page = PAGE.replace("Read: `stepped`, and then\n`Keeps`.", f"All that {what} names:\n\n```\n```")
             named = theorems.mended(page, self.top).partition("names:\n\n```\n")[2].partition("\n```\n")[0]
-            self.assertIn("many Single = 1", named)
-            self.assertEqual("ghost held: " in named, is_there)
+            self.assertEqual(("many Single = 1" in named, "ghost held: " in named), are_there)
 
     def test_each_edit_is_there(self):
         page = "Turned by `one_less`. Turned\nby `two_less`."
