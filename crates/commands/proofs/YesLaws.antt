@@ -1,10 +1,7 @@
 -- What status 0 says of the machine that the tree's text tells of.
 use Rattle.std.proofs.Common.{◌≡◌, ℕ, ◌+◌, ◌≤◌, Bool, true, false, cond, List, [], map, length, take, get_or, unwrap_or, true≢false, Option, Some, None, Result, Ok, Err, refl, sym, ap, ◌∙◌, subst, inl, inr, arith}
 use Rattle.std.specs.Prelude.{codes, nat_eq, IfSome, MatchBool, MatchOption}
-use Rattle.std.specs.Option.{option_map}
 use Rattle.std.proofs.lemmas.List.{take_all, length-take, take-take}
-use Rattle.clap.specs.Matches.{first_value, one_text}
-use Rattle.clap.specs.declared.parser.matches.Found.{Found}
 use Rattle.cg_cgroup.proofs.Options.{same_some}
 use Rattle.cg_faults.specs.Faults.{lifted}
 use Rattle.cg_format.specs.declared.fault.TreeFault.{TreeFault}
@@ -23,7 +20,7 @@ use Rattle.cg_model.specs.Once.{once}
 use Rattle.cg_cli.specs.Reports.{Report, Reports, report_on}
 use Rattle.cg_faults.specs.declared.fault.CliFault.{CliFault}
 use Rattle.cg_faults.specs.declared.fault.CliFault.TheVariants.{NoMemory}
-use Rattle.arguments.specs.Given.{words_at, file_at, user_given, users_given, ids_of, IsCheck, IsAudit, IsOfPairs, Holds, command_of}
+use Rattle.arguments.specs.Given.{ids_of, Holds, command_of}
 use Rattle.arguments.specs.declared.request.Check.{Check}
 use Rattle.arguments.specs.declared.request.Audit.{Audit}
 use Rattle.arguments.specs.declared.request.Request.{Request}
@@ -32,7 +29,7 @@ use Rattle.arguments.proofs.MadeLaws.{named_as}
 use Rattle.machine_answers.specs.Contained.{of_ids, IsContainedIn, AreContainedIn}
 use Rattle.machine_answers.proofs.MachineLaws.{contained_in}
 use Rattle.machine_answers.proofs.AuditedLaws.{audited_in, all_audited_in}
-use Rattle.commands.specs.Requests.{Files, source, name_of, IsTree, IsUnread, OnTree, ReportsOnTree, check_said, GuardsSay, FurtherSay, AuditSays, CarriesOut}
+use Rattle.commands.specs.Requests.{Files, source, name_of, IsTree, IsUnread, check_said, GuardsSay, FurtherSay, CarriesOut}
 use Rattle.commands.specs.Runs.{IsFlushed, LeadsTo, RunsTo, exit_status}
 use Rattle.commands.specs.Yes.{AsksCheck, AsksAudit, WasRead, CheckMeans, AuditMeans}
 use Rattle.commands.specs.declared.fault.Fault.{Fault}
@@ -82,19 +79,19 @@ unread_pairs (Err other) two fault report found is = cc
 check_refused : (fault : TreeFault) (uid : ℕ) (gids word : List ℕ) → (check_report (Err fault) uid gids word).ending ≡ Ok 0 → ⊥
 check_refused fault uid gids word is =
     refused (user_read uid gids) (path_read word) (lifted fault)
-        (λ (user : Identity) (path : Names) (st : State). subtree_report st user path) is
+    (λ (user : Identity) (path : Names) (st : State). subtree_report st user path) is
 
 audit_refused : (fault : TreeFault) (users : List (ℕ × List ℕ)) (subtrees : List (List ℕ))
     → (audit_report (Err fault) users subtrees).ending ≡ Ok 0 → ⊥
 audit_refused fault users subtrees is =
     refused (users_read users) (paths_read subtrees) (lifted fault)
-        (λ (users : List Identity) (paths : List Names) (st : State). pairs_report st users paths) is
+    (λ (users : List Identity) (paths : List Names) (st : State). pairs_report st users paths) is
 
 all_refused : (fault : TreeFault) (users : List (ℕ × List ℕ)) (subtrees : List (List ℕ)) (pairs : List Listed)
     → all_report (Err fault) users subtrees ≡ Ok pairs → ⊥
 all_refused fault users subtrees pairs is =
     unread_pairs (users_read users) (paths_read subtrees) (lifted fault)
-        (λ (users : List Identity) (paths : List Names) (st : State). pairs_found st (once same_user users) (once same_path paths)) pairs is
+    (λ (users : List Identity) (paths : List Names) (st : State). pairs_found st (once same_user users) (once same_path paths)) pairs is
 
 pub not_unread : {P : Type 0} (old new : Option (List ℕ)) (status : ℕ) → IsUnread old new (Ok status) → P
 not_unread old new status (inl never, keeps) = let none : ⊥ = cc in absurd none
@@ -308,7 +305,7 @@ no_status (Err fault) is zero = cc
 module _ {W : Type 0} (contents : W → Option (List ℕ)) (P : W → Type 0) (words : List (List ℕ)) (files : Files)
     (given old : Option (List ℕ)) (answer : Result ℕ Fault) (status : ℕ) (is : status ≡ exit_status answer)
     (runs : (below : W) → P below
-        → (written : Result (Unit {0}) WriteFailed) × RunsTo words files given old (contents below) answer written) where
+    → (written : Result (Unit {0}) WriteFailed) × RunsTo words files given old (contents below) answer written) where
   zero_runs : (out : Option W) → MatchOption out (answer ≡ Err (Cli NoMemory)) P → status ≡ 0
       → (said : Option (List ℕ)) × LeadsTo words files given old said (Ok 0)
   zero_runs None none zero = absurd (no_status answer none (sym is ∙ zero))

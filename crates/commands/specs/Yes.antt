@@ -2,7 +2,6 @@
 use Rattle.std.specs.Prelude.{◌≡◌, ℕ, List, map, codes, Option, Some, None, IfSome}
 use Rattle.clap.specs.Matches.{first_value, one_text}
 use Rattle.clap.specs.Walk.{Text}
-use Rattle.cg_cgroup.specs.Identity.{Identity}
 use Rattle.arguments.specs.Given.{words_at, file_at, user_given, users_given}
 use Rattle.arguments.specs.Words.{NamesCommand}
 use Rattle.machine_answers.specs.Contained.{of_ids, IsContainedIn, AreContainedIn}

@@ -33,7 +33,7 @@ reached user entry real =
       | true ↦ λ is. or_true (has_bit entry.mode 128)
           ∙ sym (not_zero entry.uid (λ root. real (sym (eqb-true entry.uid user.uid is) ∙ root)))
       | false ↦ λ is.
-        or_false (cond (in_group user entry.gid) (has_bit entry.mode 16) (has_bit entry.mode 2)) ∙ by_group (in_group user entry.gid)
+          or_false (cond (in_group user entry.gid) (has_bit entry.mode 16) (has_bit entry.mode 2)) ∙ by_group (in_group user entry.gid)
     ] refl
   where
     by_group : (b : Bool) → cond b (has_bit entry.mode 16) (has_bit entry.mode 2) ≡ lets_class_in entry (cond b class.Members class.Others)
@@ -43,7 +43,7 @@ reached user entry real =
 -- ---- somebody
 
 class_in : (entry : Entry) (it : Class) → lets_anybody_in entry ≡ false → lets_class_in entry it ≡ false
-class_in entry it none = 
+class_in entry it none =
     by_each it (lets_class_in entry class.Owner) (lets_class_in entry class.Members) (lets_class_in entry class.Others) refl refl refl none
   where
     by_each : (it : Class) (a b c : Bool)
