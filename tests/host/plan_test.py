@@ -185,7 +185,8 @@ class CommandTest(HostTest):
     def test_nothing_changes(self):
         said = self.plan("--tree", DELEGATION, ops="# nothing\n")
         self.assertEqual((without_makers(said.stdout.splitlines()), said.returncode), (
-            ["nothing is new, worse, changed or gone beside the tree as it is", *LIMIT_LINES, f"0; 2 asked: 2 contained [limited]; {LIMITS}"], 0))
+            ["nothing is new, worse, changed or gone beside the tree as it is", *LIMIT_LINES,
+             f"0; 2 asked: 2 contained [limited]; {LIMITS}"], 0))
         # what stands before counts as before
         said = self.plan("--tree", f"{TOP}/examples/delegation-ancestor-owned.toml", ops="set /c0 memory.max 9\n")
         self.assertEqual((said.returncode, said.stdout.splitlines()[-1]), (0, f"0; 2 asked: 2 escapes; {LIMITS}"))
@@ -204,10 +205,9 @@ class CommandTest(HostTest):
             *LIMIT_LINES]))
         self.assertNotIn("isn't told: ", last)
         said = self.plan("--tree", DELEGATION, ops=f"{ops}chown /new cgroup.type 1001:1001\n")
-        last = said.stdout.splitlines()[-1]
+        *lines, last = without_makers(said.stdout.splitlines())
         self.assertEqual((said.returncode, last.partition(";")[0]), (2, "2 by what a plan doesn't know"))
-        self.assertTrue(last.endswith(
-            "; what may give entries away isn't known: cgroup.type of /new: the text has no place for it"))
+        self.assertEqual(lines[-1], "limit: plan: what may give entries away isn't known: cgroup.type of /new: the text has no place for it")
 
     def test_in_place_of_answers(self):
         ops = "# a comment\nmkdir   /new\nchown /new dir 9:9\n"
