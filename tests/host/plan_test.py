@@ -207,7 +207,8 @@ class CommandTest(HostTest):
         said = self.plan("--tree", DELEGATION, ops=f"{ops}chown /new cgroup.type 1001:1001\n")
         *lines, last = without_makers(said.stdout.splitlines())
         self.assertEqual((said.returncode, last.partition(";")[0]), (2, "2 by what a plan doesn't know"))
-        self.assertEqual(lines[-1], "limit: plan: what may give entries away isn't known: cgroup.type of /new: the text has no place for it")
+        self.assertEqual(lines[-1],
+                         "limit: plan: what may give entries away isn't known: cgroup.type of /new: the text has no place for it")
 
     def test_in_place_of_answers(self):
         ops = "# a comment\nmkdir   /new\nchown /new dir 9:9\n"
