@@ -140,9 +140,9 @@ PARTS = [
     of_folder("tests/runtime", "tests/runtime", "runtime", packages=COMPILER),
     *host_tests(),
     Part("unit_tests", "host/lint", ("host", "tests/host"), ("mypy", "flake8")),
-    of_folder("tests/model/tests", *MODEL, "gate/kept.py", "examples", "tools/bench", PROGRAM),
+    of_folder("tests/model/tests", *MODEL, "tests/program/upgrade_bytes.py", "gate/kept.py", "examples", "tools/bench", PROGRAM),
     of_folder("tests/kernel/tests", "tests/tap.py", "tests/kernel/[!fd]*", *MODEL, "tools/program.py", "tools/linked.py", "gate/crates.py", "gate/kit.py",
-              "docs/MODEL.md", "examples", packages=COMPILER),
+              "docs/MODEL.md", "examples", PROGRAM, packages=COMPILER),
     of_folder("tests/packaging", *PACKAGING, packages=MAKERS, words=" package_test.py"),
     of_folder("tests/packaging", *PACKAGING, packages=("systemd", "python3-pip", "python3-setuptools", "python3-wheel"), words=" parts_test.py"),
 ]

@@ -153,7 +153,7 @@ class ElsewhereTest(HostTest):
         compared = baseline.compared(made(found), replace(made(found), accepted=True), "/before.json")
         self.assertEqual(list(comparison_lines(replace(made(found), baseline=compared))),
                          ["nothing is new, worse, changed or gone since /before.json",
-                          "0; limits of this answer: threads' places and held entries aren't known"])
+                          "limit: premises: threads' places and held entries aren't known", "0; limits of this answer: premises"])
         self.write()
         self.assertRegex(page.page([made(self.elsewhere())]),
                          r'at <time datetime="20[^"]*Z">20[^<]*Z</time>, with made-up 1.0 and zirofen-host ')

@@ -1,6 +1,7 @@
 """Tests of lists of operations that can be tried, with the real program."""
 import os
 import unittest
+import unittest.mock
 from dataclasses import replace
 
 from called import called
@@ -149,6 +150,28 @@ class ReplayTest(HostTest):
         found = lists.tried(self.host.snapshot(), program, ALICE, path("/a"), ["move 7 /"])
         self.assertEqual(found.lines, ("move 7 /",))
         self.assertIn("isn't shown to break", found.why)
+
+    def graver(self, own, breaks):
+        """Which list is shown in place of the program's own, where it says of these that they break the subtree."""
+        program = unittest.mock.Mock()
+        program.breaks = lambda user, subtree, lines: lines[-1] in breaks
+        found = lists.graver(self.host.snapshot(), program, ALICE, path("/a"), own)
+        return found and found.lines
+
+    def test_what_is_most_harmful_for_a_reader_is_shown(self):
+        """Memory, processors, processes, crossing, and then depth."""
+        self.host.cgroup("/", enabled="memory pids", modes={"cgroup.procs": 0o646})
+        self.host.cgroup("/a", owners={**owned(1000), "memory.max": 1000, "pids.max": 1000, "cgroup.max.depth": 1000},
+                         more=("pids.max",), pids=(7,))
+        self.host.process(7, uid=1000)
+        memory, pids, depth, move = "set /a memory.max max", "set /a pids.max max", "set /a cgroup.max.depth 0", "move 7 /"
+        self.assertEqual(self.graver([depth], {memory, pids, move}), (memory,))
+        self.assertEqual(self.graver([pids], {memory, move}), (memory,))
+        self.assertEqual(self.graver([depth], {pids, move}), (pids,))
+        self.assertEqual(self.graver([depth], {move}), (move,))
+        self.assertIsNone(self.graver([depth], set()))
+        self.assertIsNone(self.graver([pids], {move}))
+        self.assertIsNone(self.graver([move], {memory}))
 
 
 if __name__ == "__main__":

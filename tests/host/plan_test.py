@@ -46,8 +46,9 @@ uid = 1000
 at = "/a/b"
 """
 # what is told of a text that carries nothing of its host
-LIMITS = ("limits of this answer: it was asked by number, without groups and subordinate ids; threads' places and held entries aren't "
-          "told")
+LIMITS = "limits of this answer: accounts, premises"
+LIMIT_LINES = ["limit: accounts: it was asked by number, without groups and subordinate ids",
+               "limit: premises: threads' places and held entries aren't known"]
 
 
 def snapshot_of(text=TREE, is_carrying=True):
@@ -179,12 +180,13 @@ class CommandTest(HostTest):
             "new: /new: contained, by 1001 who holds it",
             "worse: /c0: escapes, by 1000 who holds it", "    before: /c0: contained, by 1000 who holds it",
             "worse: /c1: escapes, by 1000 who holds it", "    before: /c1: contained, by 1000 who holds it",
-            f"1 by 1 new and 2 worse; 3 asked: 3 escapes; {LIMITS}"])
+            *LIMIT_LINES, f"1 by 1 new and 2 worse; 3 asked: 3 escapes; {LIMITS}"])
 
     def test_nothing_changes(self):
         said = self.plan("--tree", DELEGATION, ops="# nothing\n")
         self.assertEqual((without_makers(said.stdout.splitlines()), said.returncode), (
-            ["nothing is new, worse, changed or gone beside the tree as it is", f"0; 2 asked: 2 contained [limited]; {LIMITS}"], 0))
+            ["nothing is new, worse, changed or gone beside the tree as it is", *LIMIT_LINES,
+             f"0; 2 asked: 2 contained [limited]; {LIMITS}"], 0))
         # what stands before counts as before
         said = self.plan("--tree", f"{TOP}/examples/delegation-ancestor-owned.toml", ops="set /c0 memory.max 9\n")
         self.assertEqual((said.returncode, said.stdout.splitlines()[-1]), (0, f"0; 2 asked: 2 escapes; {LIMITS}"))
@@ -199,13 +201,14 @@ class CommandTest(HostTest):
         said = self.plan("--tree", DELEGATION, ops=ops)
         *lines, last = without_makers(said.stdout.splitlines())
         self.assertEqual((said.returncode, said.stderr, lines), (0, "", [
-            "new: /new: contained, by 1001 who holds it", "not-told: cgroup.threads memory.pressure: no answer rests on these"]))
+            "new: /new: contained, by 1001 who holds it", "not-told: cgroup.threads memory.pressure: no answer rests on these",
+            *LIMIT_LINES]))
         self.assertNotIn("isn't told: ", last)
         said = self.plan("--tree", DELEGATION, ops=f"{ops}chown /new cgroup.type 1001:1001\n")
-        last = said.stdout.splitlines()[-1]
+        *lines, last = without_makers(said.stdout.splitlines())
         self.assertEqual((said.returncode, last.partition(";")[0]), (2, "2 by what a plan doesn't know"))
-        self.assertTrue(last.endswith(
-            "; what may give entries away isn't known: cgroup.type of /new: the text has no place for it"))
+        self.assertEqual(lines[-1],
+                         "limit: plan: what may give entries away isn't known: cgroup.type of /new: the text has no place for it")
 
     def test_in_place_of_answers(self):
         ops = "# a comment\nmkdir   /new\nchown /new dir 9:9\n"

@@ -244,7 +244,7 @@ class TableTest(unittest.TestCase):
             found = re.findall(r"\b([0-4])\s+where|else\s+(0)\.", told)
             self.assertEqual(found, [(each, "") for each in statuses[:-1]] + [("", "0")], name)
         with open(f"{TOP}/docs/REPORTS.md", encoding="utf-8") as page_of_reports:
-            section = page_of_reports.read().partition("## How a host stands\n")[2].partition("\n## ")[0]
+            section = page_of_reports.read().partition("## How grave a host is\n")[2].partition("\n## ")[0]
         self.assertEqual(re.findall(r"^\| `([a-z ]+)` \|.*\| ([0-4]) \|$", section, re.M),
                          [(each.value, str(each.status)) for each in Severity])
 

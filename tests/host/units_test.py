@@ -369,17 +369,20 @@ class CommandTest(UnitsTest):
         self.assertEqual((said.returncode, said.stderr), (2, ""))
         self.assertEqual(without_makers(said.stdout.splitlines()), [
             "new: /system.slice/a.service: contained, by 900 who holds it [limited]", f"not-told: {slices}",
-            "2 by what a plan doesn't know; 3 asked: 3 contained [limited]; limits of this answer: it was asked by number, without groups "
-            f"and subordinate ids; threads' places and held entries aren't known; what may give entries away isn't known: {untold}"])
+            "limit: accounts: it was asked by number, without groups and subordinate ids",
+            "limit: premises: threads' places and held entries aren't known",
+            f"limit: plan: what may give entries away isn't known: {untold}",
+            "2 by what a plan doesn't know; 3 asked: 3 contained [limited]; limits of this answer: accounts, premises, plan"])
         lines = self.plan("--unit", file, "--print", "lines")
         self.assertEqual((lines.stdout.splitlines()[:2], lines.stderr, lines.returncode),
                          ([f"# not known: {slices}", f"# not known: {untold}"], "", 2))
         # what was printed is what can be read again
         ops = self.write("ops", lines.stdout)
-        new, last = without_makers(self.plan("--ops", ops).stdout.splitlines())
+        new, *narrowed, last = without_makers(self.plan("--ops", ops).stdout.splitlines())
         self.assertEqual((new, last.split("; ")[:2]), ("new: /system.slice/a.service: contained, by 900 who holds it",
                                                        ["0", "3 asked: 3 contained [limited]"]))
-        self.assertNotIn("isn't told: ", last)
+        self.assertEqual(len(narrowed), 2)
+        self.assertNotIn("plan", last)
 
     def test_what_root_carries_out_makes_it_no_yes(self):
         """In each form, with the status of what escapes or of a fault before it."""
@@ -389,9 +392,9 @@ class CommandTest(UnitsTest):
         self.assertEqual((said.returncode, said.stderr), (2, ""))
         last = said.stdout.splitlines()[-1]
         self.assertTrue(last.startswith("2 by what a plan doesn't know; 3 asked: 3 contained [limited]; limits of this answer: "))
+        self.assertIn("\nlimit: plan: what may give entries away isn't known: a.service: ExecStartPost=+/bin/chown -R 1000 ", said.stdout)
         for form in ("lines", "text"):
             self.assertEqual(self.plan("--unit", file, "--print", form).returncode, 2)
-        self.assertIn("; what may give entries away isn't known: a.service: ExecStartPost=+/bin/chown -R 1000 ", last)
         value = json.loads(self.plan("--unit", file, "--json").stdout)
         self.assertEqual((report_schema.faults_of(value), value["status"], value["baseline"]["status"]), ([], 2, 2))
         self.assertEqual([each["kind"] for each in value["limits"]][-1], "plan")

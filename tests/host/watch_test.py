@@ -17,7 +17,7 @@ from zirofen_host.judge.severity import Severity
 from zirofen_host.options import WatchOptions
 from zirofen_host.collect.snapshot import take
 from zirofen_host.ask.questions import subtrees_by
-from zirofen_host.watch import backs, checks, hooks, journal, kernel, known, lanes, messages, numbers
+from zirofen_host.watch import backs, checks, findings, hooks, journal, kernel, known, lanes, loop, messages, numbers
 from zirofen_host.watch.doers import Doer, doer_of
 from zirofen_host.watch.kernel import ATTRIB, CREATE, DELETE, IS_FOLDER, LOST, MODIFY, Event
 
@@ -166,10 +166,10 @@ class LanesTest(unittest.TestCase):
         lane.touch(Event(b"/", b"cgroup.procs", ATTRIB, 8), 1, 2.0, chown)
         lane.touch(Event(b"/a", b"", ATTRIB | IS_FOLDER, 8), 1, 3.0, chown)
         asked = lane.take()
-        self.assertEqual(asked.touched[asked.near(b"/", "cgroup.procs")], lanes.Touched(ATTRIB, 3, 1.0, 2.0, (chmod, chown)))
+        self.assertEqual(asked.touched[lanes.near(asked.touched, b"/", "cgroup.procs")], lanes.Touched(ATTRIB, 3, 1.0, 2.0, (chmod, chown)))
         for path, entry, told in ((b"/a", "memory.max", (b"/a", "dir")), (b"/a/b", "memory.max", (b"/a", "dir")),
                                   (b"/b", "dir", (b"/", "cgroup.procs"))):
-            self.assertEqual(asked.near(path, entry), told)
+            self.assertEqual(lanes.near(asked.touched, path, entry), told)
         lane.give_back(asked)
         self.assertEqual(lane.touched, asked.touched)
         lane.give_back(asked._replace(touched={(b"/a", "dir"): lanes.Touched(ATTRIB, 1, 4.0, 4.0, (chmod,))}))
@@ -180,10 +180,14 @@ class LanesTest(unittest.TestCase):
         lane, late = lanes.Lane(0, 0.0), lanes.Lane(0, 0.0)
         lane.touch(Event(b"/a", b"", ATTRIB | IS_FOLDER, 8), 1, 3.0, Doer(8))
         late.touch(Event(b"/a", b"memory.max", ATTRIB, 7), 1, 4.0, Doer(7))
+        beside = lanes.Lane(0, 0.0)
+        beside.touch(Event(b"/b", b"cgroup.procs", ATTRIB, 9), 1, 4.0, Doer(9))
         asked = lane.take()
         for path, entry, waiting, told in (("/a", "memory.max 0:0", late.touched, 7), ("/a", "memory.max", {}, 8),
-                                           ("/a", "cgroup.procs", late.touched, 8), ("docker:a", "memory.max", late.touched, None)):
-            found = messages.touched_of(asked, change_at(path, entry), waiting.get, 3.5, 0.0)
+                                           ("/a", "cgroup.procs", late.touched, 8), ("docker:a", "memory.max", late.touched, None),
+                                           ("/a", "", late.touched, 8), ("/b", "", beside.touched, 9), ("/b", "memory.max", {}, None),
+                                           ("/b", "memory.max", beside.touched, None)):
+            found = messages.touched_of(asked, change_at(path, entry), waiting, 3.5, 0.0)
             self.assertEqual(found and found.doers[0].pid, told)
 
     def test_who_did_the_last_of_it(self):
@@ -193,12 +197,20 @@ class LanesTest(unittest.TestCase):
         late.touch(Event(b"/a", b"memory.max", ATTRIB, 8), 1, 5.0, Doer(8))
         asked = lane.take()
         for entry in ("memory.max", ""):
-            for began, reported, told in ((4.0, 0.0, 7), (6.0, 0.0, 8), (4.0, 2.0, 7), (4.0, 3.0, 8)):
-                found = messages.touched_of(asked, change_at("/a", entry), late.touched.get, began, reported)
+            for began, after, told in ((4.0, 0.0, 7), (6.0, 0.0, 8), (4.0, 2.0, 7), (4.0, 3.0, 8)):
+                found = messages.touched_of(asked, change_at("/a", entry), late.touched, began, after)
                 self.assertEqual(found.doers[0].pid, told)
-        # an earlier one waits too, for a check of the whole host
-        found = messages.touched_of(late.take(), change_at("/a", "memory.max"), asked.touched.get, 6.0, 3.0)
-        self.assertEqual(found.doers[0].pid, 8)
+        self.assertIsNone(messages.touched_of(asked, change_at("/a", ""), {}, 4.0, 3.0))
+
+    def test_what_opened_something_doesnt_mend_it(self):
+        """What was reported once is no cause of the opposite, which a later event is, if one was seen."""
+        lane, late, found = lanes.Lane(0, 0.0), lanes.Lane(0, 0.0), findings.Findings(lambda _: None, None)
+        lane.touch(Event(b"/a", b"memory.max", ATTRIB, 7), 1, 3.0, Doer(7))
+        late.touch(Event(b"/a", b"memory.max", ATTRIB, 8), 1, 5.0, Doer(8))
+        asked = lane.take()
+        for kind, waiting, told in (("new", {}, 7), ("worse", {}, 7), ("mended", {}, None), ("new", {}, 7), ("mended", late.touched, 8)):
+            touched = found.touched(asked, change_at("/a", "memory.max", kind=kind), waiting, 4.0)
+            self.assertEqual(touched and touched.doers[0].pid, told)
 
     def test_what_no_event_inside_explains(self):
         """A container that isn't held, or an option that is missing, is by nobody who changed something further inside."""
@@ -208,8 +220,19 @@ class LanesTest(unittest.TestCase):
         asked = lane.take()
         for path, what, told in (("/a", "subtree", 7), ("/a", "root-inside", None), ("/", "mount-options", None),
                                  ("/c/d", "root-inside", 8)):
-            found = messages.touched_of(asked, change_at(path, "", what), {}.get, 4.0, 0.0)
+            found = messages.touched_of(asked, change_at(path, "", what), {}, 4.0, 0.0)
             self.assertEqual(found and found.doers[0].pid, told)
+
+    def test_what_was_lost_within_a_minute(self):
+        """All is asked again at once, and then at the end of a minute in which something was lost."""
+        asked = []
+        made = argparse.Namespace(lost=0, has_lost=False, next_lost=0.0, next_minute=1e9, next_hour=1e9, is_asked_for_forms=False,
+                                  limit=lambda *_: None, ask_whole=asked.append)
+        for now, is_lost, number in ((1.0, True, 1), (30.0, True, 1), (60.0, False, 1), (61.5, False, 2), (200.0, False, 2)):
+            if is_lost:
+                loop.Loop.events_were_lost(made)
+            loop.Loop.by_the_clock(made, now)
+            self.assertEqual((len(asked), now), (number, now))
 
     def test_what_is_kept_of_a_flood(self):
         lane = lanes.Lane(1000, 0.0)
@@ -220,8 +243,8 @@ class LanesTest(unittest.TestCase):
         self.assertEqual((len(lane.touched), len(lane.touched[b"/a/0", "dir"].doers)), (lanes.MOST_TOUCHED, lanes.MOST_DOERS))
 
 
-def change_at(path, entry, what="entry"):
-    return argparse.Namespace(path=path, entry=entry, difference=argparse.Namespace(what=what))
+def change_at(path, entry, what="entry", kind="new"):
+    return argparse.Namespace(path=path, entry=entry, kind=kind, difference=argparse.Namespace(what=what))
 
 
 def item(path, severity=Severity.ESCAPES, lets_in=(), is_accepted=False, line=""):

@@ -29,6 +29,8 @@ from elsewhere_trial import image_of
 
 TOP = "zirofen-trial"
 HOLDER, OTHER, HOSTILE = 61001, 61002, 61003
+# what is made inside of others' is told beside
+OTHERS = re.compile(f"/({TOP}-hostile|zirofen-test-)")
 HANDED = ("", "/cgroup.procs", "/cgroup.subtree_control")
 
 
@@ -242,7 +244,7 @@ def hostile(mount):
 def told(watch, pid, name, kinds, within):
     """Whether something that was done is told as that in time, with whom, and says it."""
     def is_it(line):
-        return any(f" {kind}: " in line for kind in kinds)
+        return any(f" {kind}: " in line for kind in kinds) and not OTHERS.search(line)
     began = time.monotonic()
     found = watch.wait(is_it, within)
     if not found:

@@ -9,7 +9,7 @@ sys.path[:0] = [os.path.join(TOP, "tests", folder) for folder in ("model", "prog
 
 import help as told_below  # noqa: E402
 import migrations  # noqa: E402
-from trials import mutants, row_mutants  # noqa: E402
+from trials import mutants, row_mutants, row_tables  # noqa: E402
 
 
 class FiguresTest(unittest.TestCase):
@@ -20,7 +20,9 @@ class FiguresTest(unittest.TestCase):
         self.assertEqual(tuple(map(int, told.groups())), counts)
 
     def test_mutants(self):
-        self.assert_told(r"each of (\d+) mutants of the model ", len(mutants.MUTANTS))
+        own = len(row_tables.MUTANTS)
+        self.assert_told(r"each of (\d+) mutants of the model ", len(mutants.MUTANTS) - own)
+        self.assert_told(r"tell (\d+) mutants, (\d+) of them of its own", len(row_tables.TABLE_OF), own)
         self.assert_told(r"each of (\d+) mutants of the row\.", len(row_mutants.SEARCHED))
 
     def test_rows_of_help(self):

@@ -85,6 +85,18 @@ def mark_of(report: Report) -> str:
     return (VERSION_1_MARK if VERSION_1 in kinds else "") + (MARK if kinds - {VERSION_1} else "")
 
 
+def lines_of(report: Report) -> Iterator[str]:
+    """Each by itself, in a line of its own."""
+    yield from (f"limit: {each.kind}: {each.text}" for each in narrowing(report))
+
+
+def kinds_of(report: Report) -> str:
+    """Which there are, in the last line of a report, or nothing."""
+    kinds = Counter(each.kind for each in narrowing(report))
+    found = [f"{count} {kind}" if count > 1 else kind for kind, count in kinds.items()]
+    return f"{HEAD}: {', '.join(found)}" if found else ""
+
+
 def line_of(report: Report) -> str:
     """All of it in one line, or nothing."""
     found: List[str] = [each.text for each in narrowing(report)]

@@ -12,10 +12,12 @@ from zirofen_host.collect.model import Snapshot, User
 from zirofen_host.judge.checked import Checked
 from zirofen_host.judge.long_lists import is_whole
 from zirofen_host.judge.model import EntryFinding, ShownList, Subtree
-from zirofen_host.profile import CgroupPath, is_number, path_of, text_of
+from zirofen_host.profile import CgroupPath, ancestors, is_inside, is_number, path_of, text_of
 
 # operations whose first word behind their own is a process
 OF_PROCESSES = ("move", "fork", "exit")
+# cgroups above and processes that are tried to cross an edge with
+PLACES_TRIED = 3
 # limits by how much it matters that somebody lifts them, and what they write
 LIFTED = {"memory.max": "max", "memory.high": "max", "memory.swap.max": "max", "cpu.max": "max 100000", "cpu.weight": "10000",
           "pids.max": "max"}
@@ -52,10 +54,12 @@ def tried(snapshot: Snapshot, program: Program, user: User, subtree: CgroupPath,
 def graver(snapshot: Snapshot, program: Program, user: User, subtree: CgroupPath, lines: Sequence[str]) -> Optional[Tried]:
     """A list that lifts the limit which matters most, where these set one that matters less; None where there is none."""
     words = lines[-1].split(" ") if lines else []
-    if len(words) < 3 or words[0] != "set" or words[1] != text_of(subtree) or words[2] in LIFTED:
+    if len(words) < 3 or words[0] != "set" or words[1] != text_of(subtree):
         return None
     row = snapshot.tree.rows[subtree]
-    for name in (each for each in LIFTED if each in row.files and user.reaches(row.files[each])):
+    ranked = list(LIFTED)
+    before = ranked[:ranked.index(words[2])] if words[2] in LIFTED else ranked
+    for name in (each for each in before if each in row.files and user.reaches(row.files[each])):
         entry, place = row.files[name], f"{words[1]} {name}"
         opened = () if user.writes(entry) else (f"chmod {place} {entry.mode | 0o200:03o}",)
         changed = (*opened, f"set {place} {LIFTED[name]}")
@@ -64,6 +68,22 @@ def graver(snapshot: Snapshot, program: Program, user: User, subtree: CgroupPath
                 return Tried(changed, f"the program says of this list, too, that it breaks the subtree; its own is: {'; '.join(lines)}")
         except Refused:
             continue
+    return None if words[2] in LIFTED else crossing(snapshot, program, user, subtree, lines)
+
+
+def crossing(snapshot: Snapshot, program: Program, user: User, subtree: CgroupPath, lines: Sequence[str]) -> Optional[Tried]:
+    """A list that moves a process over the subtree's edge, where these change a limit of numbers; None where none is found."""
+    outer = [each for each in ancestors(subtree) if user.writes(snapshot.tree.rows[each].entry("cgroup.procs"))]
+    moved = [each.pid for each in snapshot.tree.processes if is_inside(each.at, subtree) and is_movable(snapshot, each.pid)]
+    for place in outer[:PLACES_TRIED]:
+        for pid in moved[:PLACES_TRIED]:
+            changed = (f"move {pid} {text_of(place)}",)
+            try:
+                if program.breaks(user, subtree, changed):
+                    return Tried(changed, "the program says of this list, too, that it breaks the subtree; its own is: "
+                                 f"{'; '.join(lines)}")
+            except Refused:
+                continue
     return None
 
 

@@ -218,11 +218,23 @@ def note_lines(found: Iterable[ReportNote], is_each: bool) -> Iterator[str]:
     """What no answer looks at; of what somebody made, so many lines of each kind."""
     notes = list(found)
     listed = [each for each in notes if is_each or each.kind not in JOINED]
-    yield from (each.line for each in listed if each.within is ABSENT)
+    yield from few_of_each_kind([each for each in listed if each.within is ABSENT], is_each)
     yield from joined_lines(each for each in notes if not is_each and each.kind in JOINED)
     for kind in sorted({each.kind for each in listed}):
         yield from folded((Part(each.within, (number,), each.kind, None, [each.line]) for number, each in enumerate(listed)
                            if each.kind == kind and not isinstance(each.within, Absent)), is_each, LINES_OF_KIND)
+
+
+def few_of_each_kind(found: Sequence[ReportNote], is_each: bool) -> Iterator[str]:
+    """So many lines of each kind, and how many more there are."""
+    counts: Counter[str] = Counter()
+    for each in found:
+        counts[each.kind] += 1
+        if is_each or counts[each.kind] <= LINES_OF_KIND:
+            yield each.line
+    for kind, count in counts.items():
+        if not is_each and count > LINES_OF_KIND:
+            yield f"{kind}: .. and {count - LINES_OF_KIND} more: --each lists them"
 
 
 def joined_lines(found: Iterable[ReportNote]) -> Iterator[str]:
@@ -254,7 +266,7 @@ def asked_line(report: Report) -> str:
     roots = counts.pop(NOT_ASKED, 0)
     counted = ", ".join(f"{counts[word]} {standing_text(word, report)}" for word in STANDINGS if counts[word])
     asked = (f"{sum(counts.values())} asked: {counted or 'nothing'}", f"{roots} {ROOT_ALONE}" if roots else "")
-    return "; ".join(filter(None, (*asked, inside_sum(report), limits.line_of(report))))
+    return "; ".join(filter(None, (*asked, inside_sum(report), limits.kinds_of(report))))
 
 
 def inside_sum(report: Report) -> str:
@@ -306,7 +318,8 @@ def lines_of(report: Report, is_each: bool = False) -> Iterator[str]:
 
 
 def made_lines(report: Report) -> Iterator[str]:
-    """Which program and which helper a report is of, before its last line."""
+    """What narrows a report, each in its line, and which program and which helper it is of, before its last line."""
+    yield from limits.lines_of(report)
     names = listed(made_by(report))
     if names:
         yield f"made with {names}"
@@ -354,7 +367,7 @@ def compared_line(report: Report, compared: Comparison) -> str:
     counted = [f"{counts[kind]} {word}" for kind, word in COUNTED.items() if counts[kind]] if compared.status else []
     other = Severity.NOTHING_ASKED if compared.status == Severity.NOTHING_ASKED.status else Severity.STALE
     by = listed(counted) or (cause_of(report, other) if compared.status else "")
-    return "; ".join(filter(None, (f"{compared.status} by {by}" if by else str(compared.status), limits.line_of(report))))
+    return "; ".join(filter(None, (f"{compared.status} by {by}" if by else str(compared.status), limits.kinds_of(report))))
 
 
 def difference_lines(kind: str, each: Difference) -> Iterator[str]:

@@ -10,8 +10,8 @@ from zirofen_host.watch.checks import Result
 from zirofen_host.watch.lanes import Asked
 from zirofen_host.watch.messages import WATCH, Message
 
-# things that were reported, of which it is known when they were
-MOST_REPORTED = 4096
+# things that were reported, of which it is known when they were, and seconds within which two times are one
+MOST_REPORTED, SAME = 4096, 0.001
 
 
 class Then(NamedTuple):
@@ -30,8 +30,8 @@ class Findings:
         self.out = tell
         self.entries, self.folding = Entries(), messages.Folding()
         self.counts: "Counter[str]" = Counter()
-        # when what happened that was reported last, by what it is of
-        self.reported: Dict[Tuple[str, str, str], float] = {}
+        # when what happened that was reported last, by what it is of, and whether that opened it
+        self.reported: Dict[Tuple[str, str, str], Tuple[float, bool]] = {}
 
     def begin_hour(self) -> None:
         self.folding.begin_hour()
@@ -41,11 +41,12 @@ class Findings:
         self.out(each)
 
     def touched(self, asked: Asked, change: known.Change, waiting: messages.Waiting, began: float) -> Optional[lanes.Touched]:
-        """What events say of a change, and keeps when that was: a later change of the same thing has a later one."""
-        key = change.difference.what, change.path, change.entry
-        touched = messages.touched_of(asked, change, waiting, began, self.reported.pop(key, 0.0))
+        """What events say of a change, and keeps when that was: what opened something doesn't mend it, nor the other way round."""
+        key, is_open = (change.difference.what, change.path, change.entry), change.kind in known.OPEN
+        when, was_open = self.reported.pop(key, (0.0, is_open))
+        touched = messages.touched_of(asked, change, waiting, began, when if is_open != was_open else when - SAME)
         if touched:
-            self.reported[key] = touched.last
+            self.reported[key] = touched.last, is_open
             if len(self.reported) > MOST_REPORTED:
                 del self.reported[next(iter(self.reported))]
         return touched

@@ -8,6 +8,7 @@ from zirofen_host.judge.severity import Severity
 from zirofen_host.profile import is_inside, is_root
 
 NEW, WORSE, MENDED, GONE = KINDS = ("new", "worse", "mended", "gone")
+OPEN = (NEW, WORSE)
 
 # what the program answers: what is unsettled of it in a part, a check of the whole host may settle
 ANSWERED = {"subtree", "entry"}

@@ -5,7 +5,7 @@ the mount on: what is root's inside of what somebody holds is theirs.
 """
 import os
 from collections import Counter
-from typing import Callable, Dict, Iterable, List, NamedTuple, Optional, Tuple
+from typing import Callable, Dict, Iterable, List, Mapping, NamedTuple, Optional, Tuple
 
 from zirofen_host.collect.bounded import ChargedUser
 from zirofen_host.profile import ROOT, CgroupPath, is_inside, parent_of
@@ -68,6 +68,15 @@ def together(one: Touched, other: Touched) -> Touched:
     earlier, later = sorted((one, other), key=lambda each: each.last)
     doers = (*later.doers, *(doer for doer in earlier.doers if doer not in later.doers))[:MOST_DOERS]
     return Touched(one.mask | other.mask, one.number + other.number, min(one.first, other.first), later.last, doers)
+
+
+def near(touched: Mapping[Place, Touched], path: CgroupPath, entry: str, has_inside: bool = True) -> Optional[Place]:
+    """Where something happened that concerns an entry: itself, else its cgroup, else above, else inside where that may be why."""
+    for wanted in ((path, entry), (path, DIRECTORY)):
+        if wanted in touched:
+            return wanted
+    found = [place for place in touched if is_inside(path, place[0]) or has_inside and is_inside(place[0], path)]
+    return max(found, key=lambda place: (is_inside(path, place[0]), len(place[0]))) if found else None
 
 
 class Owners:
@@ -174,14 +183,6 @@ class Asked(NamedTuple):
     why: str
     first: float
     touched: Dict[Place, Touched]
-
-    def near(self, path: CgroupPath, entry: str, has_inside: bool = True) -> Optional[Place]:
-        """Where something happened that concerns an entry: itself, else its cgroup, else above, else inside where that may be why."""
-        for wanted in ((path, entry), (path, DIRECTORY)):
-            if wanted in self.touched:
-                return wanted
-        near = [place for place in self.touched if is_inside(path, place[0]) or has_inside and is_inside(place[0], path)]
-        return max(near, key=lambda place: (is_inside(path, place[0]), len(place[0]))) if near else None
 
 
 class Lanes:

@@ -77,7 +77,7 @@ class Loop:
         self.done: List[Tuple[float, known.Asked]] = []
         self.reading: Optional["Child[str]"] = None
         self.processes, self.mounts = "", checks.mounts_seen(options)
-        self.has_begun = self.is_ending = self.is_asked_for_forms = self.is_listening = self.has_surveyed = False
+        self.has_begun = self.is_ending = self.is_asked_for_forms = self.is_listening = self.has_surveyed = self.has_lost = False
         now = time.monotonic()
         self.next_minute, self.next_hour = now + MINUTE, now + HOUR
         self.next_lost, self.next_word, self.next_deep = now, now, now
@@ -138,7 +138,7 @@ class Loop:
             self.ready(opened)
         now = time.monotonic()
         if now >= self.events.next_read and self.events.take(now):
-            self.events_were_lost(now)
+            self.events_were_lost()
         self.by_the_clock(now)
         self.lanes.refill(now)
         self.name_who_waits()
@@ -152,7 +152,8 @@ class Loop:
         """How long nothing is to be done."""
         now = time.monotonic()
         due = (lane.due() for lane in self.lanes.all.values())
-        whens = [self.next_minute, self.next_hour, self.next_word, *(when for when in due if when is not None)]
+        whens = [self.next_minute, self.next_hour, self.next_word, *([self.next_lost] if self.has_lost else []),
+                 *(when for when in due if when is not None)]
         self.listen(self.events.next_read <= now)
         if not self.is_listening:
             whens.append(self.events.next_read)
@@ -193,15 +194,16 @@ class Loop:
 
     # what is asked
 
-    def events_were_lost(self, now: float) -> None:
-        """Has all of it asked again, at most once in a minute."""
+    def events_were_lost(self) -> None:
+        """Has all of it asked again, at most once in a minute: what is lost within one, at its end."""
         self.lost += 1
         self.limit("lost", "events were lost, since more happened than a kernel keeps: all is asked again, at most once in a minute")
-        if now >= self.next_lost:
-            self.next_lost = now + MINUTE
-            self.ask_whole("events were lost")
+        self.has_lost = True
 
     def by_the_clock(self, now: float) -> None:
+        if self.has_lost and now >= self.next_lost:
+            self.has_lost, self.next_lost = False, now + MINUTE
+            self.ask_whole("events were lost")
         if now >= self.next_minute:
             self.next_minute = now + MINUTE
             if self.reading is None:
@@ -313,7 +315,7 @@ class Loop:
     def compare(self, run: Running, made: Result) -> None:
         """Reports what differs, and asks more where that takes it."""
         is_first = run.lane.person == lanes.HOST and not self.has_surveyed or run.lane.person == lanes.DEEP and not self.has_begun
-        then = self.findings.take(run.asked, made, is_first, self.waiting, time.time() - (time.monotonic() - run.began))
+        then = self.findings.take(run.asked, made, is_first, self.waiting(), time.time() - (time.monotonic() - run.began))
         self.events.know(made.inodes, then.gone, run.began)
         if is_first:
             self.begin(run, made)
@@ -324,10 +326,11 @@ class Loop:
         elif then.has_reported and not made.part.is_whole and self.outside.leave_numbers:
             run.lane.ask_whole(time.monotonic(), "a check that counts what is open", False)
 
-    def waiting(self, place: lanes.Place) -> Optional[lanes.Touched]:
-        """What happened to an entry that waits to be asked of, or is asked of now."""
-        waiting = (*(lane.touched for lane in self.lanes.all.values()), *(each.asked.touched for each in self.running.values()))
-        return next((touched[place] for touched in waiting if place in touched), None)
+    def waiting(self) -> Dict[lanes.Place, lanes.Touched]:
+        """What happened to entries that wait to be asked of, or are asked of now; what a check of the whole host waits for was asked of."""
+        there = [each.asked.touched for each in self.running.values() if each.lane.person != lanes.DEEP]
+        return {place: each for touched in (*there, *(lane.touched for lane in self.lanes.all.values() if lane.person != lanes.DEEP))
+                for place, each in touched.items()}
 
     def watch_all(self, run: Running, made: Result) -> None:
         """Watches what was found, where each folder is watched by itself; what wasn't yet is asked of once more."""

@@ -1,6 +1,6 @@
 """From what differs while a host is watched to messages of it: as lines, and as fields with names."""
 import time
-from typing import Callable, Dict, Iterable, Iterator, List, Mapping, NamedTuple, Optional, Tuple
+from typing import Dict, Iterable, Iterator, List, Mapping, NamedTuple, Optional, Tuple
 
 from zirofen_host.collect import bounded
 from zirofen_host.judge.host_model import Absent
@@ -9,10 +9,10 @@ from zirofen_host.profile import path_of
 from zirofen_host.show.lines import difference_lines
 from zirofen_host.watch.doers import Doer
 from zirofen_host.watch.known import NEW, WORSE, Change, is_counted
-from zirofen_host.watch.lanes import DIRECTORY, Asked, Place, Touched
+from zirofen_host.watch.lanes import DIRECTORY, Asked, Place, Touched, near
 
-# what happened to an entry that waits to be asked of
-Waiting = Callable[[Place], Optional[Touched]]
+# what happened to entries that wait to be asked of
+Waiting = Mapping[Place, Touched]
 # what opened and closed between two checks, what narrows the answers, and how the watch itself goes
 BACK, LIMIT, WATCH = "back", "limit", "watch"
 # lines of a holder's own making in an hour, beside those of one check
@@ -102,18 +102,20 @@ class Folding:
         return kept, more
 
 
-def touched_of(asked: Asked, change: Change, waiting: Waiting, began: float, reported: float) -> Optional[Touched]:
-    """What events say of where something differs: those that it was asked of by, else one of that very entry that waits to be asked of,
-    which a check that was on its way has found. What waits and was later is what it found, too, where that was before the check began,
-    or where the other was reported of the same thing already."""
+def touched_of(asked: Asked, change: Change, waiting: Waiting, began: float, after: float) -> Optional[Touched]:
+    """What events say of where something differs, of those after a time: those that it was asked of by, else one that waits to be asked
+    of, which a check that was on its way has found: of that very entry, since before the check began, or the only one after that time."""
     if not change.path.startswith("/"):
         return None
     place = path_of(change.path), change.entry.split(" ")[0] if change.entry else DIRECTORY
-    if place not in asked.touched and waiting(place):
-        return waiting(place)
-    near = asked.near(*place, has_inside=change.difference.what not in OF_PROCESSES)
-    if near is None:
-        return None
-    here, other = asked.touched[near], waiting(near)
-    is_found = other is not None and other.last > here.last and (other.first <= began or here.last <= reported)
-    return other if is_found else here
+    has_inside = change.difference.what not in OF_PROCESSES
+    mine, others = ({at: each for at, each in some.items() if each.last > after} for some in (asked.touched, waiting))
+    here, there = near(mine, *place, has_inside), near(others, *place, has_inside)
+    if there is None:
+        return mine[here] if here else None
+    # a subtree's row rests on entries of its cgroup
+    is_of_it = there == place or not change.entry and there[0] == place[0]
+    if here is None:
+        return others[there] if is_of_it or near(asked.touched, *place, has_inside) else None
+    is_nearer = is_of_it and here[0] != place[0] or there == place != here
+    return others[there] if is_nearer or there == here and others[there].first <= began else mine[here]
