@@ -11,10 +11,13 @@ from dataclasses import dataclass
 
 # PROGRAM stands for the program's path, in words and among what is read
 PROGRAM = "PROGRAM"
+# OBJECT and OTHER_OBJECT for the paths of its objects, for x86-64 and arm64, and OTHER_PROGRAM for the program for arm64
+OBJECT, OTHER_OBJECT, OTHER_PROGRAM = "OBJECT", "OTHER_OBJECT", "OTHER_PROGRAM"
 # SOURCES stands for src/ of the crates below the program
 SOURCES = "SOURCES"
-# what ./zirofen needs to see that a program is of these sources
-WRAPPER = ("zirofen", "tools/program.py", "gate/kit.py", "gate/crates.py", "crates.txt", SOURCES, PROGRAM)
+# what ./zirofen needs to see that a program is of these sources, and what tools/released and tools/package take beside it
+WRAPPER = ("zirofen", "tools/program.py", "tools/linked.py", "runtime", "gate/kit.py", "gate/crates.py", "crates.txt", SOURCES, PROGRAM,
+           OTHER_PROGRAM)
 # CRATE NAME stands for all of a crate and of those below it, but for their mutants, and for the lines of these in crates.txt
 CRATE = "CRATE "
 BASE = ("bash", "coreutils", "findutils", "grep", "sed", "gawk", "mawk", "tar", "gzip", "libc6", "procps", "util-linux", "dash")
@@ -48,6 +51,12 @@ def of_program(words, *reads, packages=(), is_fresh=False):
 
 def program_tests(name, *reads):
     return of_program(f"tests/program/{name}.py", *WRAPPER, "tests/program/case.py", "tests/program/of_one.py", "examples", *reads)
+
+
+def of_object(words, *reads, packages=()):
+    """A test of the program's object, once that is built and linked with more."""
+    linked = ("tools/linked.py", "runtime", "gate/kit.py", "gate/crates.py")
+    return Part("objects", words, (words.split()[0], *linked, *reads), packages, needs_toolchain=True)
 
 
 def of_model(words, *reads, **more):
@@ -92,6 +101,8 @@ USERS = ("/etc/passwd", "/etc/group", "/etc/subuid", "/etc/subgid", "/etc/localt
 READERS = {"debian_readers.py": ("prometheus", "prometheus-node-exporter", "python3-jsonschema", "python3-junitparser"), "browser.py": ("chromium", "chromium-common")}
 PACKAGING = ("tests/packaging/*.py", "tools", "host", "examples", "docs", "*.md", *WRAPPER)
 MODEL = ("tests/model/[!d]*",)
+EMULATOR = ("qemu-user-static",)
+DEVICES = ("tests/program/case.py", "tests/program/device_rows.py", "tests/program/of_one.py", "tests/program/failing.c", "examples")
 MAKERS = ("lintian", "groff", "mandoc", "man-db", "fish", "zsh", "ansible-core", "python3-pip", "python3-setuptools", "python3-wheel")
 PARTS = [
     Part("released", "tools/released", ("tools/released", *WRAPPER)),
@@ -109,8 +120,11 @@ PARTS = [
     program_tests("migrations"),
     program_tests("words"),
     program_tests("help"),
-    of_program("tests/program/devices.py PROGRAM", PROGRAM, "tests/program/case.py", "tests/program/device_rows.py", "tests/program/of_one.py",
-               "tests/program/failing.c", "examples", packages=COMPILER),
+    program_tests("surroundings"),
+    of_program("tests/program/emulated.py OTHER_PROGRAM", OTHER_PROGRAM, "tests/program", "tests/model/run", "gate/kept.py", "tests/model/second",
+               "tests/model/trials", "examples", "host/zirofen_host", SOURCES, "crates.txt", "gate/crates.py", packages=EMULATOR),
+    of_object("tests/program/devices.py PROGRAM OBJECT", PROGRAM, OBJECT, *DEVICES),
+    of_object("tests/program/devices.py PROGRAM OTHER_OBJECT --emulated", PROGRAM, OTHER_OBJECT, *DEVICES, packages=EMULATOR),
     of_model("run PROGRAM --seed 51 --cases 7500 --blind --table --kept"),
     of_model("run PROGRAM --cases 1000", is_fresh=True),
     of_model("rows PROGRAM"),
@@ -118,15 +132,16 @@ PARTS = [
     of_model("search PROGRAM --blind", is_fresh=True),
     of_model("search PROGRAM --large --trees 40", is_fresh=True),
     of_program("tests/model/walks --trees 500", "tests/model/second", "tests/model/trials", is_fresh=True),
-    of_folder("tests/gate", "tests/gate", "gate", "verify", "tools", "zirofen", "crates.txt", "crates/machine",
+    of_folder("tests/gate", "tests/gate", "gate", "verify", "tools", "runtime", "zirofen", "crates.txt", "crates/machine",
               "tests/program/trial_rows.py", "tests/program/of_one.py"),
     of_folder("tests/tools", "tests/tools", "tests/model/trials", "tests/model/second", "tests/program/*.py", "tools", "gate", "crates.txt", "crates", "docs", "*.md",
               "tests/kernel/RESULTS.md", "host/zirofen_host",
-              "examples", "zirofen", PROGRAM),
+              "examples", "runtime", "zirofen", PROGRAM),
+    of_folder("tests/runtime", "tests/runtime", "runtime", packages=COMPILER),
     *host_tests(),
     Part("unit_tests", "host/lint", ("host", "tests/host"), ("mypy", "flake8")),
     of_folder("tests/model/tests", *MODEL, "tests/program/upgrade_bytes.py", "gate/kept.py", "examples", "tools/bench", PROGRAM),
-    of_folder("tests/kernel/tests", "tests/tap.py", "tests/kernel/[!fd]*", *MODEL, "tools/program.py", "gate/crates.py", "gate/kit.py",
+    of_folder("tests/kernel/tests", "tests/tap.py", "tests/kernel/[!fd]*", *MODEL, "tools/program.py", "tools/linked.py", "gate/crates.py", "gate/kit.py",
               "docs/MODEL.md", "examples", PROGRAM, packages=COMPILER),
     of_folder("tests/packaging", *PACKAGING, packages=MAKERS, words=" package_test.py"),
     of_folder("tests/packaging", *PACKAGING, packages=("systemd", "python3-pip", "python3-setuptools", "python3-wheel"), words=" parts_test.py"),

@@ -7,8 +7,9 @@ import sys
 import tempfile
 
 TOP = os.path.dirname(os.path.dirname(os.path.abspath(__file__)))
-FILES = ("zirofen", "tools/build", "tools/program.py", "tools/released", "gate/from_nothing", "gate/kit.py",
-         "gate/crates.py")
+FILES = ("zirofen", "tools/build", "tools/program.py", "tools/linked.py", "tools/released", "gate/from_nothing", "gate/kit.py",
+         "gate/crates.py", "runtime/errors.h", "runtime/runtime.c")
+MACHINES = ("", "-aarch64")
 KIT = "some-kit logic 1"
 
 CRATES = """# name: the libraries that it uses
@@ -31,7 +32,7 @@ exit 2
 
 TOOLCHAIN = """#!/bin/sh
 if [ "$1" = version ]; then cat "$PLAYED/kit"; exit; fi
-if [ "$1" = doc ]; then echo /none/START-HERE.md; exit; fi
+if [ "$1" = doc ]; then echo "$PLAYED/START-HERE.md"; exit; fi
 echo "$*" >>"$PLAYED/starts"
 echo 'logic=proved functions=179'
 echo 'rt: waiting for another rt to finish in /somewhere' >&2
@@ -40,10 +41,31 @@ mktemp >"$PLAYED/temporary"
 mkdir -p out
 sed "s/(DIGITS)/($(sed -n 's/.*(\\([0-9a-f]*\\)).*/\\1/p' src/version.rt))/" "$PLAYED/program" >out/zirofen
 chmod +x out/zirofen
+cp out/zirofen out/zirofen.o
 if [ -e "$PLAYED/slow" ]; then sleep 600 & echo $! >"$PLAYED/child"; wait; fi
 if [ -e "$PLAYED/fails" ]; then echo 'error: no proof of it' >&2; exit 1; fi
 if [ -e "$PLAYED/changes" ]; then echo changed >../low/src/lib.rt; fi
 out/zirofen --help
+"""
+
+# of a compiler and a linker that only play their part a program is its object
+COMPILER = """#!/bin/sh
+while [ "$1" != -o ]; do shift; done
+: >"$2"
+"""
+LINKER = """#!/bin/sh
+while [ "$1" != -o ]; do shift; done
+cp "$3" "$2"
+"""
+OBJECTS = """#!/bin/sh
+[ ! -e "$PLAYED/fails" ] || { echo 'gate: the library of low is neither'; exit 1; }
+[ "$1" != --left ] || shift
+cd "$1/crates/zirofen" || exit 1
+mkdir -p out
+for it in "$@"; do
+    sed "s/(DIGITS)/($(sed -n 's/.*(\\([0-9a-f]*\\)).*/\\1/p' src/version.rt))/" "$PLAYED/program" >"out/zirofen-${it##*/}.o"
+done
+rm "out/zirofen-${1##*/}.o"
 """
 
 
@@ -82,6 +104,9 @@ class Checkout:
         write(f"{self.played}/kit", KIT + "\n")
         write(f"{self.played}/program", PROGRAM.replace("NAME", "built"))
         write(f"{self.played}/tools/rt", TOOLCHAIN, executable=True)
+        write(f"{self.played}/toolchain/bin/clang", COMPILER, executable=True)
+        write(f"{self.played}/toolchain/bin/ld.lld", LINKER, executable=True)
+        write(f"{self.top}/gate/objects", OBJECTS, executable=True)
         self.environment = dict(os.environ, PLAYED=self.played, TMPDIR=self.temporary,
                                 PATH=f"{self.played}/tools:{os.environ['PATH']}")
         self.release(PROGRAM.replace("NAME", "released"))
@@ -91,9 +116,10 @@ class Checkout:
         sources = self.sum_of_sources()
         program = program.replace("DIGITS", sources[:12])
         write(f"{self.top}/crates/zirofen/src/version.rt", f'"0.3.1 ({sources[:12]})"')
-        write(f"{self.top}/release/zirofen", program, executable=True)
-        lines = {"version": "0.3.1", "kit": KIT, "sources": sources,
-                 "program": hashlib.sha256(program.encode()).hexdigest()}
+        lines = {"version": "0.3.1", "kit": KIT, "sources": sources}
+        for machine in MACHINES:
+            write(f"{self.top}/release/zirofen{machine}", program, executable=True)
+            lines |= {f"{key}{machine}": hashlib.sha256(program.encode()).hexdigest() for key in ("object", "program")}
         write(f"{self.top}/release/MANIFEST", "".join(f"{key} {value}\n" for key, value in lines.items()))
 
     def sum_of_sources(self):

@@ -1,14 +1,15 @@
 """Which program answers for this checkout, and how one is proved and built: for ./zirofen, tools/build and whoever measures it.
 
-A program stands in a folder with a MANIFEST: its version, the toolchain that proved and built it, the sum of the sources that
-decide its bytes, and the sum of its bytes. Run by ./zirofen this chooses one, and builds one where none is of these sources.
+A program stands in a folder, a file for each kind of processor, with a MANIFEST: its version, the toolchain that proved and built it,
+the sum of the sources that decide its bytes, and of each file the sum of the object that it was linked of, and of its bytes. Run by
+./zirofen this chooses one, and builds one where none is of these sources.
 """
-import contextlib, hashlib, os, re, resource, shutil, signal, subprocess, sys, tempfile, time
+import contextlib, glob, hashlib, os, re, resource, shutil, signal, subprocess, sys, tempfile, time
 
 sys.dont_write_bytecode = True
 TOP = os.path.dirname(os.path.dirname(os.path.realpath(__file__)))
-sys.path[:0] = [f"{TOP}/gate"]
-import crates, kit
+sys.path[:0] = [f"{TOP}/gate", f"{TOP}/tools"]
+import crates, kit, linked
 
 # where it is closed, what is said goes nowhere
 sys.stderr = sys.stderr or open(os.devnull, "w")
@@ -19,6 +20,11 @@ SHOWN = re.compile(r"so far:|rt: (waiting|chose --jobs)")
 # which version the program says that it is, and of which sources: the first digits of their sum, which leaves this file out
 VERSIONED = f"{TOP}/crates/zirofen/src/version.rt"
 SAYS = re.compile(r'"(\d+\.\d+\.\d+) \(([0-9a-f]{12})\)"')
+# beside the crates
+LINKING = ("runtime/errors.h", "runtime/runtime.c", "tools/linked.py")
+# the kinds of processors that a release is for, as `uname -m` calls them, and this one
+MACHINES = (*linked.MACHINES,)
+MACHINE = os.uname().machine
 # a function of the wrapper
 IN_WRAPPER = ["bash", "-p", "-c", '. "$1"; "${@:2}"', "zirofen", f"{TOP}/zirofen"]
 HEARD = {"stdin": subprocess.DEVNULL, "stdout": subprocess.PIPE, "errors": "replace"}
@@ -52,7 +58,7 @@ def write_digits(sources):
 
 def sum_of_sources():
     """Returns the sum of what decides the program's bytes, the version, src/ of the crates that it stands on and their lines of
-    crates.txt, but for the file that says this sum, or nothing where that can't be read."""
+    crates.txt, runtime/ and how it is linked, but for the file that says this sum, or nothing where that can't be read."""
     with contextlib.suppress(OSError, ValueError, AttributeError):
         lines = {name: line.partition("#")[0].rstrip("\n") for line, name, _ in crates.rows(TOP) if name}
         names = crates.in_order(crates.read(TOP), "zirofen")
@@ -60,15 +66,31 @@ def sum_of_sources():
                  for name in names for at, _, found in os.walk(f"{TOP}/crates/{name}/src") for it in found}
         files.remove(os.path.relpath(VERSIONED, f"{TOP}/crates"))
         sums = [f"{sum_of(f'{TOP}/crates/{it}')}  {it}" for it in sorted(files, key=os.fsencode)]
+        sums += [f"{sum_of(f'{TOP}/{it}')}  {it}" for it in LINKING]
         return hashlib.sha256("".join(f"{it}\n" for it in [version()[0], *(lines[it] for it in names), *sums]).encode()).hexdigest()
     return ""
+
+
+def name_of(machine):
+    """Returns the name of the program's file for a kind of processor."""
+    return "zirofen" if machine == "x86_64" else f"zirofen-{machine}"
+
+
+def key_of(key, machine):
+    """Returns the key of a MANIFEST for a kind of processor."""
+    return key if machine == "x86_64" else f"{key}-{machine}"
 
 
 class Program:
     """The program in a folder of this checkout."""
 
     def __init__(self, folder):
-        self.folder, self.path, self.manifest = folder, f"{TOP}/{folder}/zirofen", f"{TOP}/{folder}/MANIFEST"
+        self.folder, self.manifest = folder, f"{TOP}/{folder}/MANIFEST"
+        self.name = f"{folder}/{name_of(MACHINE)}"
+        self.path = f"{TOP}/{self.name}"
+
+    def file(self, machine):
+        return f"{TOP}/{self.folder}/{name_of(machine)}"
 
     def text(self):
         with contextlib.suppress(OSError), open(self.manifest, encoding="utf-8", errors="replace") as it:
@@ -78,12 +100,17 @@ class Program:
     def says(self, key):
         return dict(line.partition(" ")[::2] for line in self.text().splitlines()).get(key, "").strip()
 
+    def changed(self, machine=MACHINE):
+        """Returns why the file for a kind of processor isn't the one of the MANIFEST, or nothing."""
+        if not os.path.isfile(self.file(machine)):
+            return "it isn't there" if machine in MACHINES else f"there is none for {machine}"
+        same = sum_of(self.file(machine)) == self.says(key_of("program", machine))
+        return "" if same else "its bytes aren't those of its MANIFEST"
+
     def unfit(self):
         """Returns what keeps it from answering here, or nothing."""
-        if not os.path.isfile(self.path):
-            return "it isn't there"
-        if sum_of(self.path) != self.says("program"):
-            return "its bytes aren't those of its MANIFEST"
+        if self.changed():
+            return self.changed()
         if not os.access(self.path, os.X_OK):
             return "it can't be executed: its run bit is lost, or the file system is mounted without execution"
         try:
@@ -98,8 +125,17 @@ class Program:
 BUILT, RELEASED = Program("crates/zirofen/out"), Program("release")
 
 
-def manifest_of(program, version, kit, sources):
-    return f"version {version}\nkit {kit}\nsources {sources}\nprogram {sum_of(program.path)}\n"
+def object_of(machine):
+    """Returns the object of the program for a kind of processor, as a build leaves it."""
+    return f"{TOP}/{BUILT.folder}/zirofen-{machine}.o"
+
+
+def manifest_of(program, version, kit, sources, objects):
+    """Returns the lines of a MANIFEST: `objects` has the sum of the object of each file."""
+    lines = {"version": version, "kit": kit, "sources": sources}
+    for machine, made in objects.items():
+        lines |= {key_of("object", machine): made, key_of("program", machine): sum_of(program.file(machine))}
+    return "".join(f"{key} {value}\n" for key, value in lines.items())
 
 
 def of_sources(sources=None):
@@ -119,10 +155,11 @@ def choose():
         if os.stat(TOP).st_uid == os.geteuid() and newest < began - 1:
             with contextlib.suppress(OSError):
                 with tempfile.NamedTemporaryFile("w", prefix=".chosen.", dir=TOP, delete=False) as out:
-                    out.write(f"{chosen.folder}\n{seen}")
+                    out.write(f"{chosen.name}\n{seen}")
                 os.replace(out.name, f"{TOP}/.chosen")
     elif sources and RELEASED.says("sources") == sources:
-        say(f"the released program of these sources can't answer: {RELEASED.unfit()}. tools/build makes one here, with the toolchain")
+        mend = ". tools/build makes one here, with the toolchain" if MACHINE in MACHINES else ""
+        say(f"the released program of these sources can't answer: {RELEASED.unfit()}{mend}")
     else:
         say("a source of this checkout isn't the released program's, whose MANIFEST has another sum")
         chosen = BUILT if build() else None
@@ -155,12 +192,27 @@ def interrupt(number, _):
     raise KeyboardInterrupt(number)
 
 
-def run_toolchain(room):
-    """Proves and builds, and passes on how far that is; returns what hindered it, or nothing. The toolchain's own run takes what
-    earlier checks kept; it runs the program on --help, so its status tells whether that was built."""
+def build_object(room):
+    """Proves the program and builds its object; returns what hindered it, or nothing. The toolchain's own run takes what earlier checks
+    kept; it runs a program that it links itself on --help, so its status tells whether that was built."""
     words, at = [f"{TOP}/gate/from_nothing", "zirofen"], TOP
     if subprocess.run([words[0], "--is-best", words[1]], cwd=TOP, stderr=subprocess.DEVNULL, **HEARD).returncode:
         words, at = ["rt", "run", "--", "--help"], f"{TOP}/crates/zirofen"
+    why = run_toolchain(words, at, room)
+    if not why:
+        shutil.copyfile(f"{TOP}/{BUILT.folder}/zirofen.o", object_of("x86_64"))
+    return why
+
+
+def build_objects(room, machines, over_kept):
+    """Builds the objects for some kinds of processors over libraries that are kept, or were just proved; returns what hindered it, or
+    nothing."""
+    words = [f"{TOP}/gate/objects", *([] if over_kept else ["--left"]), TOP, *machines]
+    return run_toolchain(words, TOP, room) if machines else ""
+
+
+def run_toolchain(words, at, room):
+    """Runs the toolchain, and passes on how far that is; returns what hindered it, or nothing."""
     # in a session of its own, so that all of it can be ended and stopped
     ran = subprocess.Popen(words, cwd=at, env={**os.environ, "TMPDIR": room}, start_new_session=True, stderr=subprocess.STDOUT, **HEARD)
 
@@ -189,28 +241,36 @@ def run_toolchain(room):
 
 
 def keep_built(sources):
-    """Writes the manifest of what was built from the sources with that sum; returns why it can't answer for them, or nothing."""
+    """Links what was built from the sources with that sum, and writes its manifest; returns why it can't answer for them, or nothing."""
     if sum_of_sources() != sources:
         return "not built: a source was changed meanwhile. Build again"
-    with contextlib.suppress(OSError):
+    with contextlib.suppress(OSError, subprocess.CalledProcessError):
+        machines = [it for it in MACHINES if os.path.isfile(object_of(it))]
+        for it in machines:
+            linked.link(it, object_of(it), BUILT.file(it))
         with open(BUILT.manifest, "w", encoding="utf-8") as out:
-            out.write(manifest_of(BUILT, version()[0], toolchain(), sources))
+            out.write(manifest_of(BUILT, version()[0], toolchain(), sources, {it: sum_of(object_of(it)) for it in machines}))
     return BUILT.unfit() and f"what was built can't answer: {BUILT.unfit()}"
 
 
-def build():
-    """Proves and builds the program, and returns whether that is done. A signal ends it, and then the caller by that signal. What is
-    left of a build that failed has no manifest with its sum, and is no program."""
+def build(is_release=False, over_kept=False):
+    """Proves and builds the program, for a release for each kind of processor, and returns whether that is done; over what is kept the
+    program's own crate alone is proved. A signal ends it, and then the caller by that signal. What is left of a build that failed has no
+    manifest with its sum, and is no program."""
     why, sources = hinders(), sum_of_sources()
+    machines = [it for it in MACHINES if over_kept or is_release and it != "x86_64"]
     if not why:
         write_digits(sources)
-        say("proving and building; from nothing this took 23 minutes on 4 cores, and 3 GB of memory")
+        say("building over kept libraries; for each kind of processor this takes some minutes" if over_kept else
+            "proving and building; from nothing this took 23 minutes on 4 cores, and 3 GB of memory")
+        for it in glob.glob(f"{TOP}/{BUILT.folder}/zirofen*.o"):
+            os.remove(it)
         before = {it: signal.signal(it, interrupt) for it in ENDING}
         try:
             with tempfile.TemporaryDirectory(ignore_cleanup_errors=True) as room:
                 # the gate runs programs as nobody, who has to reach them
                 os.chmod(room, 0o711)
-                why = run_toolchain(room) or keep_built(sources)
+                why = ("" if over_kept else build_object(room)) or build_objects(room, machines, over_kept) or keep_built(sources)
         except KeyboardInterrupt as it:
             say("interrupted, and not built")
             resource.setrlimit(resource.RLIMIT_CORE, (0, 0))

@@ -7,7 +7,7 @@ import unittest
 
 from checkout import TOP, read, write
 
-ROWS = '''from part_rows_of_gate import BASE, CRATE, PROGRAM, SOURCES, Part
+ROWS = '''from part_rows_of_gate import BASE, CRATE, OBJECT, OTHER_OBJECT, OTHER_PROGRAM, PROGRAM, SOURCES, Part
 
 PARTS = [
     Part("group", "tests/one PROGRAM", ("tests/one", "data", "list/*.txt", PROGRAM), ("some-package",)),
@@ -16,6 +16,7 @@ PARTS = [
     Part("random", "tests/random", ("tests/random",), is_fresh=True),
     Part("crates", "tests/list", ("tests/list", f"{CRATE}middle")),
     Part("helpers", "tests/helpers", ("tests/helpers", "host")),
+    Part("objects", "tests/given OBJECT", ("tests/given", OBJECT, OTHER_OBJECT, OTHER_PROGRAM)),
 ]
 '''
 # writes what it sees and its environment, and passes unless data/row says otherwise
@@ -28,6 +29,7 @@ if grep -q wrong data/row; then echo '1 passed, 1 failed'; exit 1; fi
 echo '2 passed, 0 failed'
 """
 TWO = "#!/bin/sh\necho '3 passed, 0 failed'\n"
+GIVEN = "#!/bin/sh\necho \"$*\"\ngrep '' release/*\necho '1 passed, 0 failed'\n"
 LIST = "#!/bin/sh\nfind crates -type f | sort\ncat crates.txt\necho '1 passed, 0 failed'\n"
 HELPERS = "#!/bin/sh\nls -d host/*.py host/*/*.py host/__pycache__ host/deep/__pycache__\necho '1 passed, 0 failed'\n"
 DPKG = "#!/bin/sh\ncat \"$0.versions\"\n"
@@ -43,7 +45,7 @@ class PartsTest(unittest.TestCase):
             shutil.copy(f"{TOP}/gate/{file}", f"{self.top}/gate/{file}")
         shutil.copy(f"{TOP}/gate/part_rows.py", f"{self.top}/gate/part_rows_of_gate.py")
         write(f"{self.top}/gate/part_rows.py", ROWS.replace("MACHINE", self.room))
-        for name, text in (("one", ONE), ("two", TWO), ("random", TWO), ("list", LIST), ("helpers", HELPERS)):
+        for name, text in (("one", ONE), ("two", TWO), ("random", TWO), ("list", LIST), ("helpers", HELPERS), ("given", GIVEN)):
             write(f"{self.top}/tests/{name}", text, executable=True)
         for path in ("data/row", "data/deep/other", "list/a.txt", "list/b.md", "secret", "release/MANIFEST", "data/out/made"):
             write(f"{self.top}/{path}", path)
@@ -176,6 +178,17 @@ class FailureTest(PartsTest):
                     self.assertIn("group: tests/two", self.run_parts())
                     self.assertEqual(self.status, 1)
                     self.assertRegex(self.said[-1], r"\A\d passed, 1 failed\Z")
+
+    def test_objects_stand_beside_the_programs(self):
+        """And decide, wherever they were built."""
+        for path, text in (("release/zirofen-aarch64", "other"), ("built/zirofen-x86_64.o", "one"), ("built/zirofen-aarch64.o", "two")):
+            write(f"{self.top}/{path}", f"{text}\n")
+        self.assertEqual(self.run_parts("--objects", "built", "objects"), ["objects: tests/given OBJECT"])
+        self.assertEqual(self.said[1:5], ["release/zirofen-x86_64.o", "release/zirofen-aarch64:other", "release/zirofen-aarch64.o:two",
+                                          "release/zirofen-x86_64.o:one"])
+        self.assertEqual(self.run_parts("--objects", "built", "objects"), [])
+        write(f"{self.top}/built/zirofen-aarch64.o", "changed\n")
+        self.assertEqual(self.run_parts("--objects", "built", "objects"), ["objects: tests/given OBJECT"])
 
     def test_a_group_that_is_none(self):
         ended = subprocess.run([f"{self.top}/gate/parts", "none"], cwd=self.top, text=True, capture_output=True, env=self.environment)

@@ -1,8 +1,10 @@
 """Tests of tools/package: what is installed, byte for byte the same each time, and held against docs and --help."""
 import gzip
+import hashlib
 import importlib.machinery
 import importlib.util
 import io
+import itertools
 import json
 import os
 import re
@@ -13,6 +15,7 @@ import tarfile
 import tempfile
 import unittest
 
+import linked
 import program
 
 TOP = os.path.dirname(os.path.dirname(os.path.dirname(os.path.abspath(__file__))))
@@ -60,7 +63,7 @@ class PackageTest(unittest.TestCase):
         if source is None:
             print("package_test: left out: there is no program of these sources, neither in release/ nor in crates/zirofen/out/")
             raise unittest.SkipTest("there is no program of these sources")
-        cls.options = ["--built"] if source == package.BUILT else []
+        cls.source, cls.options = source, ["--built"] if source == package.BUILT else []
         cls.program = package.Program(source)
         cls.folder = tempfile.TemporaryDirectory()
         cls.addClassCleanup(cls.folder.cleanup)
@@ -97,13 +100,13 @@ class PackageTest(unittest.TestCase):
             for file in files:
                 self.assertEqual((file.uid, file.gid, file.mtime), (0, 0, 1577836800))
                 self.assertIn(file.mode, (0o755, 0o644))
-        with tarfile.open(fileobj=io.BytesIO(self.archive(".tar.gz"))) as files:
+        with tarfile.open(fileobj=io.BytesIO(self.archive(f"{os.uname().machine}.tar.gz"))) as files:
             # the licence and what says how it is used
             self.assertEqual(len([it for it in files if it.isfile()]), len(self.files) + 2)
 
     def test_dpkg_reads_it(self):
         out, version = f"{self.folder.name}/out", f"{self.program.version}-{package.REVISION}"
-        for name, told in (("zirofen", ["Architecture: amd64", "Depends: libc6 (>= 2.34)", "Recommends: zirofen-host"]),
+        for name, told in (("zirofen", ["Architecture: amd64", "Recommends: zirofen-host"]),
                            ("zirofen-host", ["Architecture: all", f"Depends: zirofen (= {version}), python3 (>= 3.11)",
                                              "Breaks: zirofen (<< 0.2.0-1~)", "Replaces: zirofen (<< 0.2.0-1~)"])):
             file = self.debian_file(name)
@@ -114,8 +117,25 @@ class PackageTest(unittest.TestCase):
         self.helpers_run(f"{out}/usr/bin", f"{out}/{package.DOCS}/examples/delegation.toml")
 
     def debian_file(self, name):
-        [found] = [it for it in os.listdir(self.made) if it.startswith(f"{name}_") and it.endswith(".deb")]
+        [found] = [it for it in os.listdir(self.made) if it.startswith(f"{name}_") and it.endswith(("_amd64.deb", "_all.deb"))]
         return f"{self.made}/{found}"
+
+    def test_each_kind_of_processor_has_its_program(self):
+        """And nothing else is of a kind."""
+        found = {}
+        for machine in package.machines(self.source):
+            data = members(self.archive(f"_{linked.MACHINES[machine].debian}.deb"))
+            with tarfile.open(fileobj=io.BytesIO(data["data.tar.xz"])) as files:
+                found[machine] = {it.name: files.extractfile(it).read() for it in files if it.isfile()}
+            with tarfile.open(fileobj=io.BytesIO(self.archive(f"{machine}.tar.gz"))) as files:
+                [program] = [it for it in files if it.name.endswith("/usr/bin/zirofen")]
+                self.assertEqual(files.extractfile(program).read(), found[machine]["./usr/bin/zirofen"])
+            # elf(5): the machine
+            kind = {62: "x86_64", 183: "aarch64"}[int.from_bytes(found[machine]["./usr/bin/zirofen"][18:20], "little")]
+            self.assertEqual((kind, hashlib.sha256(found[machine]["./usr/bin/zirofen"]).hexdigest()),
+                             (machine, package.Program(self.source, machine).sum))
+        for one, other in itertools.combinations(found.values(), 2):
+            self.assertEqual({name for name in one | other if one.get(name) != other.get(name)}, {"./usr/bin/zirofen"})
 
     def test_each_file_is_in_one_package(self):
         """And the program's needs no Python."""
@@ -132,7 +152,7 @@ class PackageTest(unittest.TestCase):
         """In a folder with a blank, for nobody, as its README says."""
         with tempfile.TemporaryDirectory() as room:
             os.chmod(room, 0o755)
-            with tarfile.open(fileobj=io.BytesIO(self.archive(".tar.gz"))) as files:
+            with tarfile.open(fileobj=io.BytesIO(self.archive(f"{os.uname().machine}.tar.gz"))) as files:
                 files.extractall(f"{room}/a blank")
             [top] = os.listdir(f"{room}/a blank")
             where = f"{room}/a blank/{top}"
@@ -164,8 +184,8 @@ class PackageTest(unittest.TestCase):
             for left, lines in self.jobs().items():
                 with self.subTest(tree, left=left), tempfile.TemporaryDirectory() as room:
                     # of several the newest is taken
-                    for version_of, content in (("0.9.0", b"none"), ("0.10.0", self.archive(".tar.gz"))):
-                        with open(f"{room}/zirofen-{version_of}-linux-x86_64.tar.gz", "wb") as out:
+                    for version_of, content in (("0.9.0", b"none"), ("0.10.0", self.archive(f"{os.uname().machine}.tar.gz"))):
+                        with open(f"{room}/zirofen-{version_of}-linux-{os.uname().machine}.tar.gz", "wb") as out:
                             out.write(content)
                     shutil.copy(f"{TOP}/examples/{tree}.toml", f"{room}/tree.toml")
                     ended = run("bash", "-e", "-c", lines, cwd=room, env={"PATH": "/usr/bin:/bin"})
@@ -221,7 +241,8 @@ class PackageTest(unittest.TestCase):
         self.assertIn("<!DOCTYPE html>", run(f"{folder}/zirofen-host", "page", out.name).stdout)
 
     def test_lintian_has_nothing_above_information(self):
-        said = run("lintian", "--allow-root", self.debian_file("zirofen"), self.debian_file("zirofen-host"))
+        packages = [f"{self.made}/{it}" for it in sorted(os.listdir(self.made)) if it.endswith(".deb")]
+        said = run("lintian", "--allow-root", *packages)
         self.assertEqual([line for line in said.stdout.splitlines() if line[:2] in ("E:", "W:")], [], said.stderr)
 
     def page(self, path):
@@ -324,7 +345,7 @@ class PackageTest(unittest.TestCase):
     def test_the_copyright_names_the_toolchain_of_the_program(self):
         for name in ("zirofen", "zirofen-host"):
             legal = next(file for file in package.legal_files(self.program, name) if file.path.endswith("/copyright"))
-            self.assertIn(f"\nwith, {self.program.manifest['kit'].split(' ')[0]}, and uses", legal.data.decode())
+            self.assertIn(f"\nwith, {self.program.manifest['kit'].split(' ')[0]}, and with no C library", legal.data.decode())
 
     def test_the_version_is_the_first_of_the_changes(self):
         with open(f"{TOP}/CHANGELOG.md", encoding="ascii") as text:

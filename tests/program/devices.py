@@ -1,7 +1,8 @@
 #!/usr/bin/env python3
 """Runs the program again and again, each time with one of its allocations, reads or writes failing.
 
-  tests/program/devices.py [PROGRAM]     PROGRAM: crates/zirofen/out/zirofen where it is left out
+  tests/program/devices.py PROGRAM OBJECT              the object of that program, as gate/objects builds it
+  tests/program/devices.py PROGRAM OBJECT --emulated   an object for arm64, under qemu's user emulation: each fifth row, and fewer calls
 
 Of each row, a command with what it writes, the first call fails, then the second, and so on until a run meets none that
 fails; behind the first thousand or so of a row in longer and longer steps. What then may come is the row's own answer, or
@@ -9,19 +10,24 @@ fails; behind the first thousand or so of a row in longer and longer steps. What
 ever. A read or write that moves one byte, or that a signal interrupts, changes nothing. The line of a fault may be cut where
 its own write fails.
 
-tests/program/failing.c does that, built by cc; where there is none that is a failure, and nothing is run. The last line is
-'N passed, M failed', each a run in which a call failed, and above it stands how many there were of each kind.
+tests/program/failing.c does that, linked with the object by the toolchain, and so with all but its calls the program itself. It
+tells whether a call failed, and how many there are: one of these that didn't fail is a failure. The last line is 'N passed, M failed',
+each a run in which a call failed, and above it stands how many there were of each kind. PROGRAM gives what a row has to answer.
 """
-import collections, concurrent.futures, itertools, os, shutil, signal, subprocess, sys, tempfile
+import argparse, collections, concurrent.futures, itertools, os, shutil, signal, subprocess, sys, tempfile
 
 sys.dont_write_bytecode = True
 from case import TOP
 from device_rows import rows_of
 
-PROGRAM = f"{TOP}/crates/zirofen/out/zirofen"
+sys.path[:0] = [f"{TOP}/tools"]
+import linked
+
+QEMU = "qemu-aarch64-static"
+WRAPPED = ("main", "read", "write", "rattle_alloc", "rattle_realloc")
 KINDS = (("alloc", "refused"), ("read", "refused"), ("read", "short"), ("read", "interrupted"), ("write", "refused"),
          ("write", "none"), ("write", "short"), ("write", "interrupted"))
-EACH_TO = 1200
+EACH_TO, EACH_TO_EMULATED, ROWS_EMULATED = 1200, 30, 5
 # what hangs is ended; a run may wait long for a processor, and all of a machine stand still
 SECONDS_OF_A_RUN = 7200
 FAULT = 3
@@ -33,42 +39,41 @@ MOST_SHOWN = 3
 Ended = collections.namedtuple("Ended", "status out err")
 
 
-def built(folder):
-    """The calls that fail, as a library to be loaded before all others; None where there is no compiler."""
-    if not shutil.which("cc"):
-        return None
-    library = f"{folder}/failing.so"
-    subprocess.run(["cc", "-O1", "-shared", "-fPIC", "-o", library, f"{TOP}/tests/program/failing.c"], check=True)
-    return library
+def built(machine, made, folder):
+    """The program whose calls fail, linked of its object."""
+    # it shows its own name
+    failing, program = f"{folder}/failing.o", f"{folder}/zirofen"
+    linked.compile_c(machine, f"{TOP}/tests/program/failing.c", failing)
+    linked.link(machine, made, program, failing, *(f"--wrap={it}" for it in WRAPPED))
+    return program
 
 
-def numbers():
+def numbers(each_to):
     """Which call fails: each of the first, then with longer and longer steps."""
     at = 1
     while True:
         yield at
-        at += 1 + max(0, at - EACH_TO) // 8
+        at += 1 + max(0, at - each_to) // 8
 
 
 class Runner:
     """Runs a program whose calls can be made to fail, and knows whether one did."""
 
-    def __init__(self, program, library, folder):
-        self.program, self.library = program, library
+    def __init__(self, words, each_to, folder):
+        self.words, self.each_to = words, each_to
         self.files = [open(f"{folder}/{os.getpid()}.{name}", "w+b", buffering=0) for name in ("told", "out", "err")]
 
     def run(self, row, call="", at=0, how=""):
-        """How the run ended, and whether the call failed in it."""
+        """How the run ended, and what the program told of its calls: nothing, that the call failed, or how many there are."""
         for file in self.files:
             file.seek(0)
             file.truncate()
         told, out, err = self.files
-        environment = {"LD_PRELOAD": self.library, "FAILING_CALL": call, "FAILING_AT": str(at), "FAILING_HOW": how,
-                       "FAILING_TOLD": str(told.fileno())}
+        environment = {"FAILING_CALL": call, "FAILING_AT": str(at), "FAILING_HOW": how, "FAILING_TOLD": str(told.fileno())}
         with open(row.tree or os.devnull, "rb") as tree:
-            ended = subprocess.run([self.program, *row.words], stdin=tree, stdout=out, stderr=err, env=environment,
+            ended = subprocess.run([*self.words, *row.words], stdin=tree, stdout=out, stderr=err, env=environment,
                                    pass_fds=[told.fileno()], cwd=TOP, timeout=SECONDS_OF_A_RUN, check=False)
-        return Ended(ended.returncode, self.text(out), self.text(err)), self.text(told) != b""
+        return Ended(ended.returncode, self.text(out), self.text(err)), self.text(told)
 
     @staticmethod
     def text(file):
@@ -133,15 +138,18 @@ def sweep(runner, row, kind):
     """Makes each call of a kind fail in turn: how many did, and what was wrong."""
     call, how = kind
     met, wrong = 0, []
-    for at in numbers():
+    ended, count = runner.run(row, call, 0, how)
+    if not count.isdigit():
+        return 0, [f"{call} {how}: how many there are wasn't told, but {count!r}"]
+    for at in numbers(runner.each_to):
         try:
-            ended, has_failed = runner.run(row, call, at, how)
+            ended, told = runner.run(row, call, at, how)
         except subprocess.TimeoutExpired:
             return met, wrong + [f"{call} {at} {how}: no end"]
         if not is_right(row, call, how, ended):
             wrong.append(f"{call} {at} {how}: {shown(ended)}")
-        if not has_failed:
-            return met, wrong
+        if not told:
+            return met, wrong + [f"{call} {at} {how} of {int(count)} didn't fail"] * (at <= int(count))
         met += 1
 
 
@@ -183,19 +191,20 @@ def report(results):
 
 
 def main():
-    words = sys.argv[1:]
-    if len(words) > 1 or words[:1] == ["--help"]:
-        print(__doc__, file=sys.stderr)
-        return 2
-    program = os.path.abspath(words[0]) if words else PROGRAM
+    parser = argparse.ArgumentParser(description=__doc__, formatter_class=argparse.RawDescriptionHelpFormatter)
+    parser.add_argument("program", metavar="PROGRAM", type=os.path.abspath)
+    parser.add_argument("object", metavar="OBJECT", type=os.path.abspath)
+    parser.add_argument("--emulated", action="store_true")
+    given = parser.parse_args()
+    machine, each_to, under = ("aarch64", EACH_TO_EMULATED, [QEMU]) if given.emulated else ("x86_64", EACH_TO, [])
     with tempfile.TemporaryDirectory() as folder:
-        library = built(folder)
-        if not library:
-            print("devices: FAILED: there is no cc to build tests/program/failing.c\n0 passed, 1 failed")
-            return 1
-        rows = rows_of(program, TOP, folder)
+        words = [*under, built(machine, given.object, folder)]
+        if under and not shutil.which(QEMU):
+            print("devices: it is linked, and no call was made to fail, for lack of Debian's package qemu-user-static\n1 passed, 0 failed")
+            return 0
+        rows = [*rows_of(given.program, TOP, folder)][::ROWS_EMULATED if given.emulated else 1]
         tasks = itertools.product(rows, (None, *KINDS))
-        with concurrent.futures.ProcessPoolExecutor(initializer=prepare, initargs=(program, library, folder)) as pool:
+        with concurrent.futures.ProcessPoolExecutor(initializer=prepare, initargs=(words, each_to, folder)) as pool:
             passed, failed = report(pool.map(work, tasks))
     print(f"{passed} passed, {failed} failed")
     return 1 if failed else 0

@@ -11,6 +11,7 @@ SHELL = """z=$PWD/zirofen r=release/zirofen out=crates/zirofen/out kept=.chosen
 low() { printf %s "$1" >crates/low/src/lib.rt; }
 alone() { PATH=/usr/bin:/bin "$@"; }
 of_sums() { sed -i "s/^program .*/program $(sha256sum <$r | cut -c1-64)/" release/MANIFEST; }
+objects() { mkdir -p ../built && cp $r ../built/zirofen-x86_64.o && cp $r-aarch64 ../built/zirofen-aarch64.o; }
 digits() { sed -n 's/^sources \\(.\\{12\\}\\).*/\\1/p' release/MANIFEST; }
 played() { printf '%s\\n' '#!/bin/sh' "case \\$1 in --version) echo 'zirofen 0.3.1 ($(digits))'; exit;; esac" "$1" >$r; of_sums; }
 builds() { [ "$(wc -l <"$PLAYED/starts")" = "$1" ] || echo "not $1 builds" >&2; }
@@ -45,7 +46,7 @@ stopped() {
 }
 """
 SOURCE, NO_RT, UNFIT = "a source of this checkout isn't the released program's", "no rt on the PATH", "it doesn't run here"
-OTHER_BYTES, LINES = "its bytes aren't those of its MANIFEST", "other lines than the four"
+OTHER_BYTES, LINES = "its bytes aren't those of its MANIFEST", "other lines than those that are written"
 MEND, PASSED, FAILED = "tools/build --release makes it anew", "1 passed, 0 failed", "0 passed, 1 failed"
 # by a name steps in one checkout: commands, and what these give: which program ran, or else the status, and what is said, line by line
 ROWS = {
@@ -55,7 +56,7 @@ ROWS = {
     "for another user, of whose checkout nothing is kept, and what they keep isn't read": (
         ("chmod 755 ..; cd /; nobody $z may", "released"),
         ("chown 65534 .; sleep 2.1; $z may; s=$?; ls -A | grep chosen >&2; exit $s", "released"),
-        ("chown 0 .; low x; printf 'release\\n%s' \"$(seen)\" >$kept; chown 65534 $kept; alone $z may", 70, SOURCE, NO_RT)),
+        ("chown 0 .; low x; printf '%s\\n%s' $r \"$(seen)\" >$kept; chown 65534 $kept; alone $z may", 70, SOURCE, NO_RT)),
     "whatever the environment has bash do": (
         *((f"printf '%s\\n' '{text}' >../turned; BASH_ENV=../turned ENV=../turned $z may", "released")
           for text in ("exit 0", "readlink() { echo /none; }; export -f readlink")),
@@ -79,7 +80,8 @@ ROWS = {
             "#!/bin/sh\\necho GLIBC_2.34 not found >&2; exit 1\\n", "#!/bin/sh\\necho zirofen 0.3.0\\n", "#!/none\\n", "\\177ELF\\2\\1\\1",
             "#!/bin/sh\\necho zirofen 0.3.1; exit 1\\n")),
         ("printf '#!/bin/sh\\necho GLIBC_2.34 not found >&2; exit 1' >$r; of_sums; $z may", 70, "status 1: GLIBC_2.34 not found"),
-        ("chmod a-x $r; $z may", 70, "its run bit is lost"), ("rm $r; $z may", 70, "it isn't there")),
+        ("chmod a-x $r; $z may", 70, "its run bit is lost"), ("rm $r; $z may", 70, "it isn't there"),
+        ("setarch i686 $z may", 70, "can't answer: there is none for i686")),
     "where nothing can be executed": (
         ("mount -t tmpfs -o noexec none ../temporary || exit 77; cp -a . ../temporary; bash ../temporary/zirofen may; s=$?; "
          "umount ../temporary; exit $s", 70, "without execution"),),
@@ -91,16 +93,21 @@ ROWS = {
         ("at=$(date +%s); touch crates.txt; $z may; s=$?; [ ! -e $kept ] || [ $(date +%s) -gt $((at + 1)) ] || echo kept >&2; exit $s",
          "released"),
         ("sleep 2.1; $z may", "released"),
-        ("ls -A | grep -c '^[.]c' | grep -qx 1 && head -1 $kept | grep -qx release && $z may", "released"),
+        ("ls -A | grep -c '^[.]c' | grep -qx 1 && head -1 $kept | grep -qx $r && $z may", "released"),
+        # what is kept on another kind of processor doesn't run here
+        ("sed -i 1s/$/-other/ $kept; alone $z may", "released"), ("sleep 2.1; $z may; head -1 $kept | grep -qx $r; exit 2", "released"),
         ("was=$(stat -c %y%i $kept); alone $z may; s=$?; [ \"$was\" = \"$(stat -c %y%i $kept)\" ] || echo anew >&2; exit $s", "released"),
         ("sed -i 's/^sources 0*/sources 1/' release/MANIFEST; alone $z may", 70, SOURCE, NO_RT),
-        ("printf 'release\\n%s' \"$(seen)\" >$kept; alone $z may", "released"),
-        ("played 'exit 2'; sed -i 's/exit;;/exit 1;;/' $r; printf 'release\\n%s' \"$(seen)\" >$kept; alone $z may", 70, SOURCE, NO_RT)),
+        ("printf '%s\\n%s' $r \"$(seen)\" >$kept; alone $z may", "released"),
+        ("played 'exit 2'; sed -i 's/exit;;/exit 1;;/' $r; printf '%s\\n%s' $r \"$(seen)\" >$kept; alone $z may", 70, SOURCE, NO_RT)),
     "a change is seen whatever its time and size, and a program that was replaced": (
         ("sleep 2.1; $z may", "released"),
         ("touch -r crates/low/src/lib.rt ../at; low wol; touch -r ../at crates/low/src/lib.rt; alone $z may", 70, SOURCE, NO_RT),
         ("low low; sleep 2.1; $z may", "released"),
         ("sed s/ran/fun/ $r >../other; chmod +x ../other; mv ../other $r; $z may", 70, OTHER_BYTES)),
+    "how it is linked counts": (
+        ("sleep 2.1; $z may", "released"), ("echo >>runtime/runtime.c; alone $z may", 70, SOURCE, NO_RT),
+        ("sed -i '$d' runtime/runtime.c; echo >>tools/linked.py; alone $z may", 70, SOURCE, NO_RT)),
     "each source counts, is built once, and again where what was built is unfit": (
         ("low x; touch -d '-1000 seconds' crates/low/src/lib.rt; $z may",
          "built", SOURCE, "23 minutes on 4 cores, and 3 GB", "waiting", "so far"),
@@ -124,9 +131,14 @@ ROWS = {
         ("rm $PLAYED/fails; echo >$PLAYED/changes; low x; tools/build", 1, "proving", "waiting", "so far", "a source was changed meanwhile"),
         ("low x; alone $z may", 70, SOURCE, NO_RT)),
     "a release is written": (
-        ("low x; tools/build --release 2>/dev/null; rm -r $out; ls -A release | tr '\\n' , | grep -qx MANIFEST,zirofen, && alone $z may",
+        ("low x; tools/build --release 2>/dev/null; rm -r $out; ls -A release | tr '\\n' , | grep -qx MANIFEST,zirofen,zirofen-aarch64, && alone $z may",
          "built"),
         ("tools/build --other 2>/dev/null", 2)),
+    "a release is written over kept libraries": (
+        ("low x; tools/build --release-kept; s=$?; rm -r $out; exit $s", 0, "building over kept libraries"),
+        ("alone $z may", "built"), ("tools/released >&2; [ ! -e $PLAYED/starts ] || echo started >&2", 0, PASSED),
+        ("low y; echo >$PLAYED/fails; tools/build --release-kept", 1, "building over kept", "the library of low is neither", "not built"),
+        ("alone $z may", 70, SOURCE, NO_RT)),
     "a status of its own is passed on, and all else is no answer": (
         *((f"played 'exit {status}'; $z may", status) for status in range(4)),
         *((f"played 'exit {status}'; $z may", 70, f"ended with status {status}, which is none of its own, and this is no answer")
@@ -145,8 +157,12 @@ ROWS = {
     "a build that is stopped goes on": (
         ("echo >$PLAYED/slow; low x; stopped", "built", SOURCE, "proving and building", "waiting", "so far"),),
     "a release is of these sources": (
-        ("tools/released >&2", 0, PASSED), ("tools/released --as $r >&2", 0, PASSED),
-        *((f"tools/released --as {it} >&2", 1, f"isn't what these sources give. {MEND}", FAILED) for it in ("/none", "$z")),
+        ("tools/released >&2", 0, PASSED), ("objects; tools/released --as ../built >&2", 0, PASSED),
+        *((f"objects; {it}; tools/released --as ../built >&2", 1, f"isn't what these sources give. {MEND}", FAILED)
+          for it in ("rm ../built/*64.o", "echo >>../built/zirofen-x86_64.o", "rm ../built/*aarch64.o", "echo >>../built/zirofen-aarch64.o")),
+        ("objects; cp $r ../was; echo >>$r; tools/released --as ../built >&2; s=$?; cp ../was $r; exit $s",
+         1, "the released program for x86_64 isn't what these sources give", FAILED),
+        ("echo >>$r-aarch64; alone $z may", "released"), ("tools/released >&2", 1, OTHER_BYTES, FAILED), ("cp $r $r-aarch64; alone $z may", "released"),
         *((f"sed -i 's/^kit .*/kit {made}/' release/MANIFEST; echo '{here}' >$PLAYED/kit; tools/released >&2", 0, PASSED)
           for made, here in ((TRIED[0], TRIED[1]), (TRIED[1], TRIED[0]), (TRIED[0], KIT))),
         *((f"cp release/MANIFEST ..; sed -i '{it}' release/MANIFEST; tools/released >&2; s=$?; cp ../MANIFEST release; exit $s",
