@@ -345,29 +345,35 @@ def check(given, mount, *words):
 def churn(watch, given, room):
     """Starts and ends services in a loop; whether the watch takes no more memory after the last thousand changes than after the first, and
     says of what is left what a check says."""
-    mount, base, seen, changes = mount_here(), f"{room}/base", [], 0
-    kind = Units if os.path.isdir("/run/systemd/system") else ByHand
-    services = kind(mount, room)
+    mount, base = mount_here(), f"{room}/base"
+    services = (Units if os.path.isdir("/run/systemd/system") else ByHand)(mount, room)
     check(given, mount, "--baseline-update", base)
     at_first = set(watch.standing)
-    until = time.monotonic() + 60 * given.churn
+    try:
+        seen = churned(watch, services, 60 * given.churn)
+        services.end(services.names[5:])
+        os.chmod(services.entry(services.names[0]), 0o666)
+        time.sleep(given.settle)
+        lines, stands = check(given, mount, "--baseline", base).splitlines(), watch.standing - at_first
+    finally:
+        services.end(services.names)
+    found = {line.partition(": ")[2] for line in lines if line.startswith(("new: ", "worse: "))}
+    print(f"what stands of it: {len(found)} lines of a check, {len(stands)} of the watch", flush=True)
+    for line in sorted(found ^ stands):
+        print(f"  the {'check' if line in found else 'watch'} alone: {line}")
+    return seen[-1] <= 1.05 * seen[0] and found == stands
+
+
+def churned(watch, services, seconds):
+    """The memory after each thousand changes, at least two."""
+    until, changes, seen = time.monotonic() + seconds, 0, []
     while time.monotonic() < until or changes < 2000:
         changes += services.restart()
         if changes // 1000 > len(seen):
             seen.append(watch.memory())
             print(f"{changes} changes: {seen[-1]} KiB", flush=True)
     print(f"{changes} changes, {seen[-1] / seen[0]:.3f} of the memory after the first thousand", flush=True)
-    services.end(services.names[5:])
-    os.chmod(services.entry(services.names[0]), 0o666)
-    time.sleep(given.settle)
-    lines = check(given, mount, "--baseline", base).splitlines()
-    found = {line.partition(": ")[2] for line in lines if line.startswith(("new: ", "worse: "))}
-    stands = watch.standing - at_first
-    print(f"what stands of it: {len(found)} lines of a check, {len(stands)} of the watch", flush=True)
-    for line in sorted(found ^ stands):
-        print(f"  the {'check' if line in found else 'watch'} alone: {line}")
-    services.end(services.names[:5])
-    return seen[-1] <= 1.05 * seen[0] and found == stands
+    return seen
 
 
 def openings(watch, ways, given):
