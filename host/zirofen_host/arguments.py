@@ -179,7 +179,8 @@ def uri(word: str) -> str:
 
 
 def add_help_uri(parser: argparse.ArgumentParser) -> None:
-    parser.add_argument("--help-uri", metavar="URI", type=uri, help="where docs/HOSTS.md is on the web: sarif leads there from its rules")
+    parser.add_argument("--help-uri", metavar="URI", type=uri,
+                        help="where the page of findings is on the web: sarif leads there from its rules")
 
 
 def add_text(parser: argparse.ArgumentParser) -> None:
