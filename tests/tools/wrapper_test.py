@@ -131,7 +131,8 @@ ROWS = {
         ("rm $PLAYED/fails; echo >$PLAYED/changes; low x; tools/build", 1, "proving", "waiting", "so far", "a source was changed meanwhile"),
         ("low x; alone $z may", 70, SOURCE, NO_RT)),
     "a release is written": (
-        ("low x; tools/build --release 2>/dev/null; rm -r $out; ls -A release | tr '\\n' , | grep -qx MANIFEST,zirofen,zirofen-aarch64, && alone $z may",
+        ("low x; tools/build --release 2>/dev/null; rm -r $out; "
+         "ls -A release | tr '\\n' , | grep -qx MANIFEST,zirofen,zirofen-aarch64, && alone $z may",
          "built"),
         ("tools/build --other 2>/dev/null", 2)),
     "a release is written over kept libraries": (
@@ -159,10 +160,12 @@ ROWS = {
     "a release is of these sources": (
         ("tools/released >&2", 0, PASSED), ("objects; tools/released --as ../built >&2", 0, PASSED),
         *((f"objects; {it}; tools/released --as ../built >&2", 1, f"isn't what these sources give. {MEND}", FAILED)
-          for it in ("rm ../built/*64.o", "echo >>../built/zirofen-x86_64.o", "rm ../built/*aarch64.o", "echo >>../built/zirofen-aarch64.o")),
+          for it in ("rm ../built/*64.o", "echo >>../built/zirofen-x86_64.o", "rm ../built/*aarch64.o",
+                     "echo >>../built/zirofen-aarch64.o")),
         ("objects; cp $r ../was; echo >>$r; tools/released --as ../built >&2; s=$?; cp ../was $r; exit $s",
          1, "the released program for x86_64 isn't what these sources give", FAILED),
-        ("echo >>$r-aarch64; alone $z may", "released"), ("tools/released >&2", 1, OTHER_BYTES, FAILED), ("cp $r $r-aarch64; alone $z may", "released"),
+        ("echo >>$r-aarch64; alone $z may", "released"), ("tools/released >&2", 1, OTHER_BYTES, FAILED),
+        ("cp $r $r-aarch64; alone $z may", "released"),
         *((f"sed -i 's/^kit .*/kit {made}/' release/MANIFEST; echo '{here}' >$PLAYED/kit; tools/released >&2", 0, PASSED)
           for made, here in ((TRIED[0], TRIED[1]), (TRIED[1], TRIED[0]), (TRIED[0], KIT))),
         *((f"cp release/MANIFEST ..; sed -i '{it}' release/MANIFEST; tools/released >&2; s=$?; cp ../MANIFEST release; exit $s",
