@@ -2,9 +2,9 @@
 """Runs the program where what surrounds it is bad: streams that are closed, a full device, little memory, stack or room in files, and
 signals.
 
-Usage: tests/program/surroundings.py [PROGRAM]. Without PROGRAM it is ./zirofen. Of each command every answer has to be its own, or
-the fault that its surroundings cause, and nothing half written counts as an answer: where standard output is closed or full the
-status is 3. The last line is 'N passed, M failed', each a run, and above it stands how many there were of each kind.
+Usage: tests/program/surroundings.py PROGRAM, and not ./zirofen, whose shell has surroundings too. Of each command every answer has to be
+its own, or the fault that its surroundings cause, and nothing half written counts as an answer: where standard output is closed or
+full the status is 3. The last line is 'N passed, M failed', each a run, and above it stands how many there were of each kind.
 """
 import collections
 import itertools
@@ -14,9 +14,10 @@ import signal
 import subprocess
 import sys
 import tempfile
+import time
 
 sys.dont_write_bytecode = True
-from case import EXAMPLES, TOP
+from case import EXAMPLES
 
 Call = collections.namedtuple("Call", "tree words")
 Ended = collections.namedtuple("Ended", "status out err")
@@ -169,20 +170,20 @@ class Runs:
 
 
 def waiting(pid):
-    """Waits until a program waits for its input: it sleeps in a read, or the system doesn't tell in what."""
-    for _ in range(10000):
+    """Waits until a program sleeps, which it does in the read of its input, but no longer than a minute."""
+    end = time.monotonic() + 60
+    while time.monotonic() < end:
         with open(f"/proc/{pid}/stat", encoding="ascii") as it:
             state = it.read().rpartition(")")[2].split()[0]
-        with open(f"/proc/{pid}/comm", encoding="ascii") as it:
-            has_begun = it.read() != "python3\n"
-        if state == "S" and has_begun:
+        if state == "S":
             return
-        os.sched_yield()
+        time.sleep(0.001)
 
 
 def main():
-    program = os.path.abspath(sys.argv[1]) if len(sys.argv) > 1 else f"{TOP}/zirofen"
-    runs = Runs(program)
+    if len(sys.argv) != 2:
+        sys.exit(__doc__)
+    runs = Runs(os.path.abspath(sys.argv[1]))
     runs.closed_streams()
     runs.full_devices()
     runs.limits()
