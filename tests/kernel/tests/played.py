@@ -151,4 +151,5 @@ def line_of(path, entries, values, enabled, brought):
 
 TAKERS = {"case": Kernel.start, "watch": Kernel.watch, "mkdir": Kernel.build, "control": Kernel.build, "set": Kernel.build, "process": Kernel.process,
           "own": Kernel.own, "user": Kernel.name, "mend": Kernel.mend, "do": Kernel.operate, "try": Kernel.operate,
-          "state": Kernel.tell, "refusals": Kernel.refuse, "way": Kernel.way, "files": lambda *_: None, "others": lambda *_: None}
+          "state": Kernel.tell, "refusals": Kernel.refuse, "way": Kernel.way, "files": lambda *_: None, "others": lambda *_: None,
+          "selftests": lambda *_: None}

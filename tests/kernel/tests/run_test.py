@@ -22,7 +22,9 @@ def loaded():
     return module
 
 
-class RunTest(unittest.TestCase):
+class Called(unittest.TestCase):
+    """Tests that call the whole program."""
+
     def run_with(self, room, *words, kernel=lambda _kernel, script, _seconds, _wide: (played.Kernel().run(script), ""),
                  program=played.report_of):
         """The status of a call and what it writes."""
@@ -38,6 +40,8 @@ class RunTest(unittest.TestCase):
                 stack.enter_context(patch)
             return run.main(), said.getvalue()
 
+
+class RunTest(Called):
     def test_a_turn_runs_every_kind_on_both_kernels(self):
         with tempfile.TemporaryDirectory() as room:
             results = os.path.join(room, "results")

@@ -7,7 +7,7 @@ import os
 from second.controllers import ALL_CONTROLLERS
 from second.further import FURTHER_FILES
 import tap
-from trial import asking, classes, comparing, further, made, refusals, script, settled, shown, mutants
+from trial import asking, classes, comparing, further, made, refusals, script, selftests, settled, shown, mutants
 from trials.format_4 import FURTHER
 
 OF_OPERATIONS = {**mutants.MUTANTS, **mutants.OF_FORMAT_4}
@@ -22,6 +22,8 @@ class Tally:
         # of each way of threads and descriptors the turns in which it was as the list says
         self.ways = collections.Counter()
         self.failures, self.told, self.seconds, self.controllers, self.files, self.runs = 0, {}, 0, (), (), []
+        # what the kernel's own test says of each of its cases
+        self.selftests = {}
         # by what came of a set of a further limit file in which an escape ends the texts of each file; "as it is" marks those of a file
         # of whose value the tree's text tells nothing, and so no device
         self.sets = collections.defaultdict(lambda: collections.defaultdict(set))
@@ -61,6 +63,15 @@ class Tally:
                 self.failures += differs is not None
                 if differs:
                     print(f"kernel: FAILED: {self.kernel}: ways: {differs}")
+
+    def take_selftests(self, told):
+        """What the kernel's own test says of each of its cases; one that it doesn't say has passed is a failure."""
+        self.selftests = told
+        for name, became in told.items():
+            self.counts["selftest cases"] += 1
+            self.failures += became != selftests.PASSED
+            if became != selftests.PASSED:
+                print(f"kernel: FAILED: {self.kernel}: selftests: {name}: {became}")
 
     def fail(self, case, name, what):
         os.makedirs(self.folder, exist_ok=True)
@@ -275,7 +286,7 @@ def lines_of(tally):
         f"- Mutants of the program: {len(tally.told)} of {len(WRONG)} found" + (f"; not found: {', '.join(missed)}" if missed else "")
         + ". By the case of its kind: " + ", ".join(f"{name} {number}" for name, number in tally.told.items()) + "."]
     return [f"## {tally.kernel}", "", f"- Controllers: {in_order(tally.controllers)}.", refusals.line_of(tally.runs),
-            *way_lines(tally),
+            *way_lines(tally), *selftests.lines_of(tally.selftests),
             *(line for kind, line in kinds.items() if of[f"{kind} cases"]), *settled_lines(tally), *further_lines(tally),
             f"- Differences by kind: {listed(tally.kinds)}.", f"- Unexplained: {tally.failures}.",
             *(found if of["operations cases"] else []), *lines_of_files(tally), f"- Time: {tally.seconds:.0f} s.", ""]
