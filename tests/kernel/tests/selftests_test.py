@@ -1,4 +1,4 @@
-"""Tests of the kernel's own test of cgroups: how it is compiled, read and counted; a short one is in its place, and no machine is started."""
+"""Tests of the kernel's own test of cgroups: how it is compiled, read and counted; a short one is in its place."""
 import contextlib
 import io
 import os

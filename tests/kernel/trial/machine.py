@@ -71,7 +71,7 @@ def archive(files):
 
 
 def run(kernel, script, seconds, wide=False, *more):
-    """What the init writes of a script in one boot, of the wide machine or the other one, and the console's text; there may be more files."""
+    """What the init writes of a script in one boot, of the wide machine or the other one, beside more files, and the console's text."""
     with tempfile.TemporaryDirectory() as room:
         files = [(name, 0o040755, b"") for name in FOLDERS] + [*programs_in(room), *more, ("cases", 0o100644, script.encode())]
         with open(os.path.join(room, "archive"), "wb") as out:
