@@ -120,7 +120,7 @@ PARTS = [
     program_tests("migrations"),
     program_tests("words"),
     program_tests("help"),
-    program_tests("surroundings"),
+    of_program("tests/program/surroundings.py PROGRAM", PROGRAM, "tests/program/case.py", "examples"),
     of_program("tests/program/emulated.py OTHER_PROGRAM", OTHER_PROGRAM, "tests/program", "tests/model/run", "gate/kept.py", "tests/model/second",
                "tests/model/trials", "examples", "host/zirofen_host", SOURCES, "crates.txt", "gate/crates.py", packages=EMULATOR),
     of_object("tests/program/devices.py PROGRAM OBJECT", PROGRAM, OBJECT, *DEVICES),

@@ -56,7 +56,7 @@ class AskTest(HostTest):
             path += f"/d{gid}"
             self.host.cgroup(path, owners={"cgroup.procs": (0, gid)})
         self.assertEqual(self.ask("alice", "/d100/d101"), (["contained"], 0))
-        self.assertRegex(self.warnings[0], "^[0-9]+ of their groups that stand in the tree are left out")
+        self.assertRegex(self.warnings[0], "^[0-9]+ of their groups that are in the tree are left out")
         with self.assertRaisesRegex(Fault, "40 of their groups matter here, and the program takes 32"):
             self.ask("alice", path)
 

@@ -30,7 +30,7 @@ class BaselineTest(HostTest):
         self.assertEqual(made(self.value_of(found)).baseline, compared)
         *lines, last = comparison_lines(found)
         self.assertRegex(last, f"^{compared.status}($| by |;)")
-        told = [line for line in lines if not re.match("    |[0-9]+ findings? stands? since|only |limits of ", line)]
+        told = [line for line in lines if not re.match("    |[0-9]+ findings? (?:is|are) open since|only |limit: |limits of ", line)]
         self.assertEqual(all(line.split(":")[0] in baseline.KINDS for line in told), any(
             getattr(compared, kind) for kind in baseline.KINDS))
         return compared.status, lines

@@ -285,7 +285,7 @@ class ProcessesTest(ThreeTest):
         self.others(found)
         self.assertLess(self.bytes, 1200000)
         (line,) = self.told(found, "capability")
-        self.assertRegex(line, r"^alice\(1000\): 4[67] threads weren't looked at: uid 1000 has over 300000 bytes in what /proc tells")
+        self.assertRegex(line, r"^alice\(1000\): 4[67] threads weren't looked at: uid 1000 has over 300000 bytes in what /proc has")
 
     def test_a_long_list_is_hashed_once(self):
         groups = group_list(range(1000))

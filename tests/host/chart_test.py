@@ -53,10 +53,11 @@ class ChartTest(unittest.TestCase):
         to_x, to_y = map(float, re.search(r'class="head" d="M([0-9.]+) ([0-9.]+)L', made_.arrow(move)).groups())
         for at, (left, top, width, height) in (((x, y), made_.places[move.before]), ((to_x, to_y), made_.places[move.behind])):
             self.assertTrue(left < at[0] < left + width and top < at[1] < top + height)
-        # a limit of one's own: out of the box
+        # a limit of one's own: to the edge of the box, and into no neighbour
         own = next(arrow for arrow in made_.chart.arrows if arrow.before == arrow.behind)
         to_y = float(re.search(r'class="head" d="M[0-9.]+ ([0-9.]+)L', made_.arrow(own)).group(1))
-        self.assertGreater(to_y, made_.places[own.before].top + made_.places[own.before].height)
+        _, top, _, height = made_.places[own.before]
+        self.assertTrue(top + height / 2 < to_y < top + height)
 
     def test_boxes_stay_in_their_picture_and_each_delegation_has_one(self):
         for report in (example.kept(), crowded.report(300), crowded.report(100, 95, 15)):

@@ -62,7 +62,7 @@ class PageTest(unittest.TestCase):
         report = accepted()
         self.assertEqual(report.status, 0)
         told = self.reader(report)
-        self.assertIn("3 of 6 delegations stand open by what somebody accepted, and 3 are shown to be contained.", told)
+        self.assertIn("3 of 6 delegations are open by what somebody accepted, and 3 are shown to be contained.", told)
         self.assertIn("0 findings open", told)
 
     def test_an_acceptance_that_doesnt_hold(self):

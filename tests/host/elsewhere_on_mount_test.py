@@ -189,7 +189,8 @@ class FormsTest(HolderTest):
         given = [self.given("runs-elsewhere", "/alice/a", self.program),
                  self.given("held-entry", "/beside", f"cgroup.procs {self.program}")]
         for whom, status in (("uid 1000", real_mount_test.GOOD), ("uid 1001", 1)):
-            report = acceptances.applied(made(self.found), [each(whom) for each in given], acceptances.datetime.date(2026, 1, 1))
+            of_whom = [one for each in given for one in each(whom)]
+            report = acceptances.applied(made(self.found), of_whom, acceptances.datetime.date(2026, 1, 1))
             self.assertEqual(report.status, status)
         without = {key: value for key, value in self.found.items() if key not in ("runs_elsewhere", "held_entries")}
         compared = baseline.compared(made(self.found), made({**without, "status": 0}), "base")

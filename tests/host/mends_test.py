@@ -86,7 +86,7 @@ class MendsTest(HostTest):
         self.assertEqual((kept.unit.drop_in, kept.unit.section, kept.settings, kept.why),
                          ("/etc/systemd/system/a.service.d/60-zirofen.conf", "Service", ("MemoryMax=8192",),
                           "it is the value of now, which alice(1000) could write"))
-        self.assertEqual(found.remarks, (LOOK_AT_SERVICE.format("a.service"), "what the settings of a.service say isn't told here: its "
+        self.assertEqual(found.remarks, (LOOK_AT_SERVICE.format("a.service"), "what the settings of a.service say isn't known here: its "
                                          "next start brings that, and no value is written"))
 
     def test_a_service_that_was_handed_over_by_hand(self):

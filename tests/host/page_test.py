@@ -317,7 +317,7 @@ class MadeUpTest(HostTest, PageTest):
     def test_contained_with_something_open(self):
         self.host.cgroup("/good", owners=owned(1000))
         self.host.cgroup("/web", more=("cgroup.kill",), modes={"cgroup.kill": 0o222})
-        self.assertIn("1 limit stands open to somebody, and 1 of 1 delegation is shown to be contained.",
+        self.assertIn("1 limit is open to somebody, and 1 of 1 delegation is shown to be contained.",
                       self.read(self.report(json=True)).text())
 
     @unittest.skipUnless(os.geteuid() == 0, "only root gives files away")

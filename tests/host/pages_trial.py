@@ -172,7 +172,7 @@ def filled(command, row):
 def is_json(name, *keys):
     """Whether a file of the clone is JSON with these keys."""
     def holds(_):
-        with open(f"{ROOM}/{name}", encoding="utf-8") as text:
+        with open(os.path.join(ROOM, name), encoding="utf-8") as text:
             found = json.load(text)
         return all(key in found for key in keys)
     return holds
@@ -185,7 +185,7 @@ def is_tree(_):
 
 def has_page(name):
     def holds(_):
-        with open(f"{ROOM}/{name}", encoding="utf-8") as text:
+        with open(os.path.join(ROOM, name), encoding="utf-8") as text:
             return text.read(15).lower() == "<!doctype html>"
     return holds
 
@@ -250,18 +250,18 @@ HOSTS = (
     Row(f"{CHECK} --json", (1,), page="the same for programs", fill={"--json": "--json > REPORT.json"},
         holds=is_json("REPORT.json", "subtrees")),
     Row(f"{CHECK} --accept FILE", (0, 2), ("accepted",), "each accepted for a reason and until a day",
-        {"FILE": "accept.toml"}, lambda: accept()),
+        {"FILE": "/root/accept.toml"}, lambda: accept()),
     Row("host/zirofen-host accept", said=(r"\[\[accept\]\]", 'reason = "it is split"'), page="a draft of such a FILE",
         fill={"--reason ..": "--reason 'it is split'"}),
     Row(f"{CHECK} --mends shell", (1,), ("^chown ",), "fixes as a script"),
-    Row(f"{CHECK} --baseline FILE", (0, 2), page="since an earlier --json", fill={"FILE": "REPORT.json"}),
+    Row(f"{CHECK} --baseline FILE", (0, 2), page="since an earlier --json", fill={"FILE": "/root/REPORT.json"}),
     Row("sudo host/zirofen-host plan --ops FILE", (1,), ("^new: /lab memory.max",), "how planned changes would be answered", OF),
     Row("sudo host/zirofen-host ask alice", (1,), ("escapes",), "one user and one subtree", OF),
     Row("sudo host/zirofen-host snapshot", page="the tree text alone", holds=is_tree),
     Row("sudo host/zirofen-host tree", said=("escapes", r"alice\(")),
-    Row(f"{CHECK} --html page.html", (1,), page="the answers, and one page of them", holds=has_page("page.html")),
-    Row("host/zirofen-host check --format sarif=FILE", ANY, fill={"FILE": "out.sarif"}, page="for code scanning",
-        holds=is_json("out.sarif", "runs")),
+    Row(f"{CHECK} --html /root/it.html", (1,), page="the answers, and one page of them", holds=has_page("/root/it.html")),
+    Row(f"{CHECK} --format sarif=FILE", (1,), fill={"FILE": "/root/out.sarif"}, page="for code scanning",
+        holds=is_json("/root/out.sarif", "runs")),
     Row("host/zirofen-host fleet FOLDER", (1,), ("REPORT.json|trials",), "a table with the worst on top, a page of each",
         {"FOLDER": "fleet", "OUT": "fleet-pages"}, lambda: root(f"mkdir -p {ROOM}/fleet; cp {ROOM}/REPORT.json {ROOM}/fleet/web1.json"),
         has_page("fleet-pages/index.html")),
@@ -271,8 +271,8 @@ HOSTS = (
     Row("host/zirofen-host plan --tree tree.toml", (1, 2), ("^new: /lab memory.max",), "of a text, without root and without a host", OF),
     Row("host/zirofen-host ask 1000 --may", said=("cgroup.procs",), page="lists the entries of the subtree"),
     Row("host/zirofen-host ask 1000 --explain", said=("/c0",), page="says in words, with names"),
-    Row("host/zirofen-host ask alice", said=("^setpriv --reuid 1000 ",), page="prints the operations as commands under",
-        fill={**OF, "host/zirofen-host ask": "sudo host/zirofen-host ask"}, holds=do_they_work),
+    Row("sudo host/zirofen-host ask alice", said=("^setpriv --reuid 1000 ",), page="prints the operations as commands under", fill=OF,
+        holds=do_they_work),
     Row("systemctl enable --now zirofen-check.timer", page="switches it on"),
     Row("journalctl -u zirofen-check", said=(" by ",), page="has the lines", before=check_by_service),
     Row("zirofen-host check --baseline-update", ANY, page="accepts what is there now"),
@@ -283,8 +283,8 @@ HOSTS = (
 
 
 def accept():
-    """A draft of acceptances, as the page's next command makes it."""
-    typed("host/zirofen-host accept REPORT.json --reason 'it is split' > accept.toml")
+    """A draft of acceptances, as the page's next command makes it; it and the report where root alone writes."""
+    typed("host/zirofen-host accept REPORT.json --reason 'it is split' | sudo tee /root/accept.toml; sudo cp REPORT.json /root")
 
 
 # what comes of it

@@ -203,7 +203,7 @@ class CommandTest(HostTest):
         self.assertEqual((said.returncode, said.stderr, lines), (0, "", [
             "new: /new: contained, by 1001 who holds it", "not-told: cgroup.threads memory.pressure: no answer rests on these",
             *LIMIT_LINES]))
-        self.assertNotIn("isn't told: ", last)
+        self.assertNotIn("isn't known: ", last)
         said = self.plan("--tree", DELEGATION, ops=f"{ops}chown /new cgroup.type 1001:1001\n")
         *lines, last = without_makers(said.stdout.splitlines())
         self.assertEqual((said.returncode, last.partition(";")[0]), (2, "2 by what a plan doesn't know"))

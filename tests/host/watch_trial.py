@@ -54,8 +54,8 @@ class Watch:
         self.lines = queue.Queue()
         # events name who did it
         self.has_pids = True
-        # what was new or worse, and wasn't mended or gone since
-        self.standing = set()
+        # what was new or worse, and wasn't mended or gone since, by what it is of
+        self.standing = {}
         self.start(words)
         threading.Thread(target=self.read, daemon=True).start()
         self.said = self.wait(lambda line: " watch: " in line and word in line, 600)
@@ -70,7 +70,10 @@ class Watch:
                 print(f"  {line.rstrip()}", flush=True)
             found = re.search(r" (new|worse|mended|gone): (.*?)(, by pid .*)?$", line.rstrip("\n"))
             if found:
-                (self.standing.add if found[1] in ("new", "worse") else self.standing.discard)(found[2])
+                head = re.split(r" \(|: ", found[2])[0]
+                self.standing.pop(head, None)
+                if found[1] in ("new", "worse"):
+                    self.standing[head] = found[2]
             self.lines.put((time.monotonic(), line.rstrip("\n")))
 
     def wait(self, is_it, seconds):
@@ -345,29 +348,40 @@ def check(given, mount, *words):
 def churn(watch, given, room):
     """Starts and ends services in a loop; whether the watch takes no more memory after the last thousand changes than after the first, and
     says of what is left what a check says."""
-    mount, base, seen, changes = mount_here(), f"{room}/base", [], 0
-    kind = Units if os.path.isdir("/run/systemd/system") else ByHand
-    services = kind(mount, room)
+    mount, base = mount_here(), f"{room}/base"
+    services = (Units if os.path.isdir("/run/systemd/system") else ByHand)(mount, room)
     check(given, mount, "--baseline-update", base)
-    at_first = set(watch.standing)
-    until = time.monotonic() + 60 * given.churn
+    at_first = set(watch.standing.values())
+    try:
+        seen = churned(watch, services, 60 * given.churn)
+        services.end(services.names[5:])
+        os.chmod(services.entry(services.names[0]), 0o666)
+        time.sleep(given.settle)
+        lines, stands = check(given, mount, "--baseline", base).splitlines(), findings(watch.standing.values()) - at_first
+    finally:
+        services.end(services.names)
+    found = findings(line.partition(": ")[2] for line in lines if line.startswith(("new: ", "worse: ")))
+    print(f"what stands of it: {len(found)} lines of a check, {len(stands)} of the watch", flush=True)
+    for line in sorted(found ^ stands):
+        print(f"  the {'check' if line in found else 'watch'} alone: {line}")
+    return seen[-1] <= 1.05 * seen[0] and found == stands
+
+
+def findings(lines):
+    """What is told of this trial's, but for rows of subtrees: what those rest on is told in their place."""
+    return {line for line in lines if not re.match(r"\S+: (contained|escapes|unsettled), by ", line) and not OTHERS.search(line)}
+
+
+def churned(watch, services, seconds):
+    """The memory after each thousand changes, at least two."""
+    until, changes, seen = time.monotonic() + seconds, 0, []
     while time.monotonic() < until or changes < 2000:
         changes += services.restart()
         if changes // 1000 > len(seen):
             seen.append(watch.memory())
             print(f"{changes} changes: {seen[-1]} KiB", flush=True)
     print(f"{changes} changes, {seen[-1] / seen[0]:.3f} of the memory after the first thousand", flush=True)
-    services.end(services.names[5:])
-    os.chmod(services.entry(services.names[0]), 0o666)
-    time.sleep(given.settle)
-    lines = check(given, mount, "--baseline", base).splitlines()
-    found = {line.partition(": ")[2] for line in lines if line.startswith(("new: ", "worse: "))}
-    stands = watch.standing - at_first
-    print(f"what stands of it: {len(found)} lines of a check, {len(stands)} of the watch", flush=True)
-    for line in sorted(found ^ stands):
-        print(f"  the {'check' if line in found else 'watch'} alone: {line}")
-    services.end(services.names[:5])
-    return seen[-1] <= 1.05 * seen[0] and found == stands
+    return seen
 
 
 def openings(watch, ways, given):

@@ -66,7 +66,7 @@ def main():
         with tempfile.TemporaryDirectory() as room:
             launcher = f"{room}/zirofen"
             with open(launcher, "w", encoding="utf-8") as out:
-                out.write(f'#!/bin/sh\nexec {QEMU} "{given.program}" "$@"\n')
+                out.write(f'#!/bin/sh\nexec {QEMU} -0 zirofen "{given.program}" "$@"\n')
             os.chmod(launcher, 0o755)
             calls = [[f"{TOP}/tests/model/run", launcher, "--cases", str(given.cases), "--seed", str(SEED)]]
             calls += [[f"{HERE}/{it}.py", launcher] for it in TABLES]

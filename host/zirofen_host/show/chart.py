@@ -217,12 +217,12 @@ class Drawn:
         return self.places[next(each for each in (path, *ancestors(path)) if each in self.places)]
 
     def arrow(self, arrow: Arrow) -> str:
-        """A line from one box to another; out of a box, where both are the same."""
+        """A line from one box to another; to the edge of a box, where both are the same."""
         start, end = self.place(arrow.before), self.place(arrow.behind)
         (x, y), (to_x, to_y) = start.middle, end.middle
         if start == end:
-            # over its own edge, and not into what is below
-            to_y = min(start.top + start.height + GAP, self.size[1] - 2)
+            # it ends within its own edge, so that it leads into no neighbour
+            to_y = start.top + start.height - GAP
         length = max(((to_x - x) ** 2 + (to_y - y) ** 2) ** 0.5, 1)
         along_x, along_y = (to_x - x) / length, (to_y - y) / length
         base_x, base_y = to_x - 9 * along_x, to_y - 9 * along_y

@@ -12,7 +12,7 @@ import unittest.mock
 TOP = os.path.dirname(os.path.dirname(os.path.abspath(__file__)))
 sys.path[:0] = [TOP, os.path.join(TOP, "..", "model")]
 import played
-from trial import asking, machine, packages, tally
+from trial import asking, comparing, machine, mutants, near, packages, settled, tally, wrong
 
 
 def loaded():
@@ -23,11 +23,12 @@ def loaded():
 
 
 class RunTest(unittest.TestCase):
-    def run_with(self, room, *words, kernel=lambda _kernel, script, _seconds, _wide: (played.Kernel().run(script), "")):
+    def run_with(self, room, *words, kernel=lambda _kernel, script, _seconds, _wide: (played.Kernel().run(script), ""),
+                 program=played.report_of):
         """The status of a call and what it writes."""
         run = loaded()
-        patches = [unittest.mock.patch.object(asking, "report_of", played.report_of),
-                   unittest.mock.patch.object(asking, "asked", played.report_of),
+        patches = [unittest.mock.patch.object(asking, "report_of", program),
+                   unittest.mock.patch.object(asking, "asked", program),
                    unittest.mock.patch.object(machine, "run", kernel),
                    unittest.mock.patch.object(machine, "need_machine", lambda: None),
                    unittest.mock.patch.object(packages, "kernel_of", lambda version, _kept: ("", f"linux-image-{version}")),
@@ -47,7 +48,7 @@ class RunTest(unittest.TestCase):
                 report = text.read()
             for part in ("## 6.1\n", "## 6.12\n", "- Refusals: 2 of 2 cases are refused, and 2 are let through where ",
                          "- Ways of threads and descriptors, as the list says in so many of 3 turns: dead first thread 3, exec 3, ",
-                         "- Operations: 7 cases", "- Contained: 2 cases", "- Settled, escapes: 2 lists",
+                         "- Operations: 7 cases", "- Contained: 32 cases", "- Settled, escapes: 2 lists",
                          "- Settled, contained: 2 pairs", "- Controllers: cpuset, cpu, io, memory, hugetlb, pids, rdma, misc.",
                          "- Of format 4: operations ", "one controller 16", "- Further limit files: the kernel has 23 of the 43",
                          "- Further limit files, operations: 2 cases", "- Unexplained: 0."):
@@ -78,6 +79,34 @@ class RunTest(unittest.TestCase):
             self.assertEqual(status, 1)
             self.assertRegex(said.splitlines()[-1], r"^\d+ passed, 1 failed$")
             self.assertIn("not found: is right", said.replace("\n  ", " "))
+
+    def test_each_wrong_program_is_noticed_by_made_cases(self):
+        """But for the one that has trees of its own: further_test."""
+        for name in [it for it in wrong.NAMES if it != mutants.FORGETS]:
+            with self.subTest(name), tempfile.TemporaryDirectory() as room:
+                kind = settled.CONTAINED if name in wrong.SETTLES else "contained"
+                status, said = self.run_with(room, "--seed", "1", "--cases", "1", "--kernel", "6", "--only", kind, "--wrong", name)
+                self.assertEqual(status, 1, said)
+                self.assertRegex(said, f"kernel: FAILED: {kind}, kept as ")
+
+    def test_a_text_without_an_answer_is_a_failure_and_ends_nothing(self):
+        def report_of(program, text, command, *words):
+            asked.append(command)
+            if command == "audit" and len(asked) % 7 == 0:
+                raise asking.NoReport("status 3, fault: tree shape cgroup 2")
+            return played.report_of(program, text, command, *words)
+        asked = []
+        with tempfile.TemporaryDirectory() as room, unittest.mock.patch.object(near, "made_cases", lambda *_: []):
+            status, said = self.run_with(room, "--seed", "1", "--cases", "6", "--kernel", "6", "--only", "contained", program=report_of)
+            self.assertEqual(status, 1, said)
+            self.assertIn("kernel: FAILED: no answer: contained 1, draw ", said)
+            self.assertRegex(said.splitlines()[-1], r"^[1-9]\d* passed, [1-9]\d* failed$")
+
+    def test_a_case_that_cannot_be_taken_is_a_failure_and_ends_nothing(self):
+        with tempfile.TemporaryDirectory() as room, unittest.mock.patch.object(comparing, "break_of", lambda *_: {}["nothing"]):
+            status, said = self.run_with(room, "--seed", "1", "--cases", "1", "--kernel", "6", "--only", "escapes")
+            self.assertEqual(status, 1, said)
+            self.assertIn("KeyError: 'nothing'", said)
 
     def test_what_a_kernel_lets_through_is_found(self):
         def kernel(_kernel, script, _seconds, _wide):

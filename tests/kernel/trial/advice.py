@@ -45,11 +45,10 @@ CHANGES = {"chown": with_owner,
 
 def text_of_state(state):
     """The text of a tree that a kernel has; the weight 0 of what is idle is written as 1."""
-    call = []
     rows = {path: replace(row, values={file: 1 if (file, value) == (WEIGHT, 0) else value for file, value in row.values.items()})
             for path, row in state.cgroups.items()}
-    commands.upgrade(None, replace(state, cgroups=rows), None, None, call)
-    return spelling.document(random.Random(0), call[0]).decode().removeprefix("\ufeff")
+    document = commands.document_of(replace(state, cgroups=rows))
+    return spelling.document(random.Random(0), document).decode().removeprefix("\ufeff")
 
 
 def cases_of(rng, program, tree, text, state, tries=TRIES):

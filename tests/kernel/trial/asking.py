@@ -7,12 +7,17 @@ import tempfile
 
 from second import commands, rules
 from second.rules import text_of
+from trial import wrong
 from trial.machine import Missing
 
 sys.path.append(os.path.join(os.path.dirname(os.path.abspath(__file__)), "../../../tools"))
 import program as programs  # noqa: E402
 
 CHANGES = ("chown", "chmod", "set")
+# the name of the wrong program that is asked in place of the right one
+WRONG = []
+# what the program didn't answer while cases were made
+UNANSWERED = []
 
 
 def program_of_sources():
@@ -77,6 +82,8 @@ def has_settle(program):
 
 def settle(program, text, user, top):
     """The answer's first line, and the operations of an escape."""
+    if WRONG and wrong.settles(WRONG[0], text, user, top):
+        return "contained", []
     return answer_of(asked(program, text, "settle", *words_of(user), "--subtree", text_of(top)))
 
 
@@ -108,4 +115,5 @@ def contained(program, text, users, tops):
     words = [word for user in users for word in ("--uid", listed(user))]
     words += [word for top in tops for word in ("--subtree", text_of(top))]
     found = [line.split(" ")[2] for line in asked(program, text, "audit", "--all", *words) if line.startswith("pair ")]
-    return [top for top in tops if top not in set(map(rules.path_of, found))]
+    found = set(map(rules.path_of, found))
+    return [top for top in tops if top not in found or WRONG and wrong.says_contained(WRONG[0], text, users, top)]

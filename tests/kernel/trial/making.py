@@ -4,7 +4,7 @@ import random
 from dataclasses import dataclass, field
 
 from second import rules, texts
-from trial import asking, script
+from trial import aimed, asking, script
 from trial.classes import GREATEST
 from trials import cases, format_4, spelling, trees
 
@@ -197,7 +197,10 @@ def of_contained(rng, program, controllers):
     tops = asking.contained(program, text, users, [path for path in state.cgroups if path])
     if not tops or not state.live:
         return []
-    return [Case("contained", text, [], tops[:3], state, tries=tries_of(rng, tree, state, users, TRIES))]
+    found, behind = aimed.tries_of(state, users, tops[:3])
+    few = [found[at] for at in sorted(rng.sample(range(len(found)), min(len(found), aimed.MOST)))]
+    first = [(user, settled_step(rng, state, step)) for user, step in few]
+    return [Case("contained", text, [], tops[:3], state, tries=first + tries_of(rng, tree, state, users, TRIES) + behind[:aimed.MOST])]
 
 
 def tries_of(rng, tree, state, users, count, first=0):
@@ -228,8 +231,12 @@ MAKERS = {"operations": of_operations, "escapes": of_escape, "contained": of_con
 
 def random_cases(maker, name, count, program, controllers):
     """The first so many cases that a maker gives of a name, for kernels with some controllers."""
-    found, number = [], 0
-    while len(found) < count:
-        found += maker(random.Random(f"kernel {name} {number}"), program, controllers)
+    found, number, unanswered = [], 0, 0
+    while len(found) < count and unanswered <= count:
+        try:
+            found += maker(random.Random(f"kernel {name} {number}"), program, controllers)
+        except asking.NoReport as what:
+            asking.UNANSWERED.append(f"{name}, draw {number}: {what}")
+            unanswered += 1
         number += 1
     return found

@@ -37,8 +37,9 @@ class Tally:
         self.counts[f"{case.kind} of format 4"] += case.state.form == 4
         try:
             self.takers[case.kind](case, name, record)
-        except asking.NoReport as what:
-            self.fail(case, name, str(what))
+        # whatever a case comes to, the others are taken
+        except Exception as what:  # pylint: disable=broad-except
+            self.fail(case, name, f"{type(what).__name__}: {what}")
 
     def take_refusals(self, runs):
         """Takes the two runs of what a kernel was asked to refuse."""

@@ -30,6 +30,13 @@ def ask(words, tree, operations=()):
     return lines + [fault] * bool(fault), status
 
 
+def written_of(tree):
+    """The document that is written of a tree."""
+    lines, status = ask("upgrade", tree)
+    assert status == 0, lines
+    return tomllib.loads("\n".join(lines))
+
+
 class RowsTest(unittest.TestCase):
     def test_texts(self):
         for change, answer in rows.TEXTS:
@@ -92,18 +99,18 @@ class RowsTest(unittest.TestCase):
     def test_upgrade_of_told_files(self):
         for value, written in rows.TOLD_VALUES:
             text = changed(rows.H, [rows.told(f'"io.max" = {{ value = {value} }}', '"cpu.max" = { uid = 5, gid = 6, mode = 0o660 }')])
-            files = {row["path"]: row["files"] for row in ask("upgrade", text)[0][0]["cgroup"]}
+            files = {row["path"]: row["files"] for row in written_of(text)["cgroup"]}
             self.assertEqual(files["/s"]["io.max"], {"uid": 0, "gid": 0, "mode": 0o644, "value": written}, value)
             self.assertEqual(files["/s"]["cpu.max"], {"uid": 5, "gid": 6, "mode": 0o660})
             self.assertEqual({name for path, names in files.items() for name in names if name in FURTHER_FILES}, {"io.max", "cpu.max"})
-            self.assertEqual(ask("upgrade", spelling.document(random.Random(value), ask("upgrade", text)[0][0])), ask("upgrade", text))
+            self.assertEqual(ask("upgrade", spelling.document(random.Random(value), written_of(text))), ask("upgrade", text))
 
     def test_upgrade(self):
         for text in (rows.UPGRADED, rows.WRITTEN):
-            self.assertEqual(ask("upgrade", text.encode()), ([tomllib.loads(rows.WRITTEN)], 0))
+            self.assertEqual(written_of(text.encode()), tomllib.loads(rows.WRITTEN))
         for form, written in ((1, 2), (2, 2), (4, 4)):
             text = changed(rows.TWO, [("format = 2", f"format = {form}")])
-            self.assertEqual(ask("upgrade", text)[0][0]["format"], written)
+            self.assertEqual(written_of(text)["format"], written)
 
 
 class SizesTest(unittest.TestCase):

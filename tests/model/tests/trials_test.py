@@ -8,7 +8,9 @@ import sys
 import tomllib
 import unittest
 
-sys.path[:0] = [os.path.dirname(os.path.dirname(os.path.abspath(__file__))), os.path.join(os.path.dirname(__file__), "../../program")]
+sys.path.insert(0, os.path.dirname(os.path.dirname(os.path.abspath(__file__))))
+# behind all else: another module there has a name of one here
+sys.path.append(os.path.join(os.path.dirname(os.path.abspath(__file__)), "../../program"))
 import upgrade_bytes
 from second import commands, rules
 from trials import cases, directed, format_4, labels, programs, row_tables, rows, spelling, trees, mutants

@@ -5,6 +5,7 @@ import os
 import random
 import sys
 import unittest
+from unittest import mock
 
 FOLDER = os.path.dirname(os.path.dirname(os.path.abspath(__file__)))
 sys.path.insert(0, FOLDER)
@@ -89,6 +90,13 @@ class MachineTest(unittest.TestCase):
         counts = [steps.compared(random.Random(number), small.random_state(random.Random(number)), None, small.USERS[0], 30) for number in range(40)]
         self.assertEqual([wrong for _, wrong in counts if wrong], [])
         self.assertGreater(sum(count for count, _ in counts), 200)
+
+    def test_a_wrong_step_of_the_exact_model_is_found(self):
+        def compared():
+            return [it for number in range(40) for it in steps.compared(random.Random(number), small.random_state(random.Random(number)), None,
+                                                                       small.USERS[0], 30)[1]]
+        with mock.patch.dict(rules.NEXT, {"set": lambda state, *_: state}):
+            self.assertEqual({it.removeprefix("no act of the machine: ").split()[0] for it in compared()}, {"set"})
 
 
 class WalksTest(unittest.TestCase):
