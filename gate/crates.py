@@ -6,21 +6,35 @@
 """
 import re, sys
 
+# a crate's name, that it is a static library, which is for other languages, and the libraries that it uses
+ROW = re.compile(r"(\w+)( +staticlib)?\s*:\s*([\w ]*)")
+
+
+def row_of(line):
+    """Returns what a line of the file says of a crate, or None where it says nothing."""
+    said = line.partition("#")[0].strip()
+    row = ROW.fullmatch(said)
+    if said and not row:
+        raise ValueError(f"crates.txt has a line that is not 'NAME [staticlib]: LIBRARY ..': {said}")
+    return row
+
 
 def rows(top):
     """Yields each line of the file, the name of the crate that it tells of or None, and what that uses."""
     with open(f"{top}/crates.txt", encoding="utf-8") as file:
         for line in file:
-            told = line.partition("#")[0].strip()
-            row = re.fullmatch(r"(\w+)\s*:\s*([\w ]*)", told)
-            if told and not row:
-                raise ValueError(f"crates.txt has a line that is not 'NAME: LIBRARY ..': {told}")
-            yield line, row and row[1], row[2].split() if row else []
+            row = row_of(line)
+            yield line, row and row[1], row[3].split() if row else []
 
 
 def read(top):
     """Returns what each crate uses, by name, in the order of the file."""
     return {name: uses for _, name, uses in rows(top) if name}
+
+
+def static_libraries(top):
+    """Returns the names of the crates that are static libraries: no crate can use one."""
+    return {name for line, name, _ in rows(top) if name and row_of(line)[2]}
 
 
 def below(crates, name):

@@ -13,6 +13,8 @@ from dataclasses import dataclass
 PROGRAM = "PROGRAM"
 # OBJECT and OTHER_OBJECT for the paths of its objects, for x86-64 and arm64, and OTHER_PROGRAM for the program for arm64
 OBJECT, OTHER_OBJECT, OTHER_PROGRAM = "OBJECT", "OTHER_OBJECT", "OTHER_PROGRAM"
+# for the path of the archive of the library for C, for x86-64
+ARCHIVE = "ARCHIVE"
 # SOURCES stands for src/ of the crates below the program
 SOURCES = "SOURCES"
 # what ./zirofen needs to see that a program is of these sources, and what tools/released and tools/package take beside it
@@ -99,7 +101,7 @@ OF_THE_MACHINE = ("real_mount_test.py", "refusals_test.py")
 USERS = ("/etc/passwd", "/etc/group", "/etc/subuid", "/etc/subgid", "/etc/localtime")
 # what reads what the helpers write, by the module that calls it
 READERS = {"debian_readers.py": ("prometheus", "prometheus-node-exporter", "python3-jsonschema", "python3-junitparser"), "browser.py": ("chromium", "chromium-common")}
-PACKAGING = ("tests/packaging/*.py", "tools", "host", "examples", "docs", "*.md", *WRAPPER)
+PACKAGING = ("tests/packaging/*.py", "tools", "host", "python", "examples", "docs", "*.md", *WRAPPER)
 MODEL = ("tests/model/[!d]*",)
 EMULATOR = ("qemu-user-static",)
 DEVICES = ("tests/program/case.py", "tests/program/device_rows.py", "tests/program/of_one.py", "tests/program/failing.c", "examples")
@@ -136,10 +138,11 @@ PARTS = [
               "tests/program/trial_rows.py", "tests/program/of_one.py"),
     of_folder("tests/tools", "tests/tools", "tests/model/trials", "tests/model/second", "tests/program/*.py", "tools", "gate", "crates.txt", "crates", "docs", "*.md",
               "tests/kernel/RESULTS.md", "host/zirofen_host",
-              "examples", "runtime", "zirofen", PROGRAM),
+              "examples", "runtime", "include", "python", "zirofen", PROGRAM),
     of_folder("tests/runtime", "tests/runtime", "runtime", packages=COMPILER),
     *host_tests(),
-    Part("unit_tests", "host/lint", ("host", "tests/host"), ("mypy", "flake8")),
+    of_folder("tests/python", "tests/python", "python", "examples", "include", "docs/PROGRAMS.md", "crates/library/src/version.rt", "host", *WRAPPER, *USERS),
+    Part("unit_tests", "host/lint", ("host", "tests/host", "python", "tests/python"), ("mypy", "flake8")),
     of_folder("tests/model/tests", *MODEL, "tests/program/upgrade_bytes.py", "gate/kept.py", "examples", "tools/bench", PROGRAM),
     of_folder("tests/kernel/tests", "tests/tap.py", "tests/kernel/[!fd]*", *MODEL, "tools/program.py", "tools/linked.py", "gate/crates.py", "gate/kit.py",
               "docs/MODEL.md", "examples", PROGRAM, packages=COMPILER),

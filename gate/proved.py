@@ -30,7 +30,7 @@ class Sums:
     """The sum of each crate of a repository."""
 
     def __init__(self, top):
-        self.top, self.uses, self.of_crates = top, crates.read(top), {}
+        self.top, self.uses, self.of_crates, self.static = top, crates.read(top), {}, crates.static_libraries(top)
         options = sorted(it for it in os.environ.items() if it[0].startswith(OPTIONS) and it[0] not in NOT_READ)
         self.common = kept.sum_of(kit.stamp(), options, scripts(PROVING), kept.sums_of_files(top, ["HANDLES"]))
         self.files = {name: self.read(name) for name in self.uses}
@@ -43,7 +43,7 @@ class Sums:
     def of(self, name):
         if name not in self.of_crates:
             below = [self.of(it) for it in self.uses[name] if it in self.uses]
-            self.of_crates[name] = kept.sum_of(self.common, name, self.uses[name], self.files[name], below)
+            self.of_crates[name] = kept.sum_of(self.common, name, name in self.static, self.uses[name], self.files[name], below)
         return self.of_crates[name]
 
     def below(self, name):

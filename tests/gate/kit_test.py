@@ -36,9 +36,10 @@ class Crate:
 
     def __init__(self, name):
         self.name, self.is_program, self.folder = name, name == "program", f"crates/{name}"
+        self.is_static = name == "for_c"
 
     def ci(self, flags, tests):
-        statements = [] if self.is_program else ["--statements"]
+        statements = [] if self.is_program or self.is_static else ["--statements"]
         return self.prove(["build", self.name, *flags, *statements])
 
     def prove(self, *commands):
@@ -126,6 +127,14 @@ class VersionTest(ToolchainTest):
 
 
 class GateTest(ToolchainTest):
+    def test_a_static_library_is_proved_and_leaves_nothing(self):
+        self.bring(NEW, SCRIPT.replace('"high"', '"for_c"'))
+        write(f"{self.room}/crates.txt", "low:\nfor_c staticlib: low\nprogram: low\n")
+        ended = self.prove()
+        self.assertEqual(ended.stdout.splitlines()[-1], "3 passed, 0 failed", ended.stderr)
+        self.assertEqual([*kit.PROVED.findall(ended.stdout)], ["low", "for_c", "program"])
+        self.assertRegex(ended.stdout, r"called: build for_c --jobs [1-4]\n")
+
     def test_libraries_keep_their_work_and_are_said_to_be_proved(self):
         said = self.prove().stdout
         self.assertEqual([*kit.PROVED.findall(said)], ["low", "high", "program"])

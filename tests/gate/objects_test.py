@@ -93,6 +93,19 @@ class ObjectsTest(unittest.TestCase):
         self.assertEqual(self.build("x86_64"), (0, "", []))
         self.assertEqual(read(f"{self.out}/zirofen-x86_64.o"), "left")
 
+    def test_the_archive_of_the_library(self):
+        """It is built as a static library, or taken as the toolchain left it."""
+        self.proves("low", "middle")
+        write(f"{self.top}/crates/c_library/src/lib.rt", "c")
+        write(f"{self.top}/crates.txt", read(f"{self.top}/crates.txt") + "c_library staticlib: middle\n")
+        out = f"{self.top}/crates/c_library/out"
+        status, said, [call] = self.build("aarch64", left=["--library"])
+        self.assertEqual((status, said, os.listdir(out)), (0, "", ["c_library-aarch64.a"]))
+        self.assertRegex(call, r"^build --crate-name c_library src/lib.rt .* --backend llvm --crate-type staticlib -o \S+/c_library-aarch64.a$")
+        write(f"{out}/libc_library.a", "left")
+        self.assertEqual(self.build("x86_64", left=["--left", "--library"]), (0, "", []))
+        self.assertEqual(read(f"{out}/c_library-x86_64.a"), "left")
+
     def test_words_that_are_none(self):
         for words in ((self.top, "sparc"), ("/none",)):
             ended = subprocess.run([f"{self.top}/gate/objects", *words], text=True, capture_output=True, env=self.environment)

@@ -7,7 +7,7 @@ import unittest
 
 from checkout import TOP, read, write
 
-ROWS = '''from part_rows_of_gate import BASE, CRATE, OBJECT, OTHER_OBJECT, OTHER_PROGRAM, PROGRAM, SOURCES, Part
+ROWS = '''from part_rows_of_gate import ARCHIVE, BASE, CRATE, OBJECT, OTHER_OBJECT, OTHER_PROGRAM, PROGRAM, SOURCES, Part
 
 PARTS = [
     Part("group", "tests/one PROGRAM", ("tests/one", "data", "list/*.txt", PROGRAM), ("some-package",)),
@@ -17,6 +17,7 @@ PARTS = [
     Part("crates", "tests/list", ("tests/list", f"{CRATE}middle")),
     Part("helpers", "tests/helpers", ("tests/helpers", "host")),
     Part("objects", "tests/given OBJECT", ("tests/given", OBJECT, OTHER_OBJECT, OTHER_PROGRAM)),
+    Part("archives", "tests/given ARCHIVE", ("tests/given", ARCHIVE)),
 ]
 '''
 # writes what it sees and its environment, and passes unless data/row says otherwise
@@ -189,6 +190,12 @@ class FailureTest(PartsTest):
         self.assertEqual(self.run_parts("--objects", "built", "objects"), [])
         write(f"{self.top}/built/zirofen-aarch64.o", "changed\n")
         self.assertEqual(self.run_parts("--objects", "built", "objects"), ["objects: tests/given OBJECT"])
+
+    def test_the_archive_of_the_library_stands_in_the_folder_of_its_crate(self):
+        write(f"{self.top}/copy/c_library/out/c_library-x86_64.a", "made\n")
+        os.makedirs(f"{self.top}/copy/zirofen/out")
+        self.assertEqual(self.run_parts("--objects", "copy/zirofen/out", "archives"), ["archives: tests/given ARCHIVE"])
+        self.assertEqual(self.said[1:3], ["release/c_library-x86_64.a", "made"])
 
     def test_a_group_that_is_none(self):
         ended = subprocess.run([f"{self.top}/gate/parts", "none"], cwd=self.top, text=True, capture_output=True, env=self.environment)

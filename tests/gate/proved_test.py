@@ -105,6 +105,11 @@ class SumTest(ProvedTest):
         self.write_list(low=[])
         self.assert_ahead(ABOVE["low"])
 
+    def test_whether_a_crate_is_a_static_library(self):
+        text = "".join(f"{name}{' staticlib' * (name == 'beside')}: {' '.join(used)}\n" for name, used in USES.items())
+        write(f"{self.top}/crates.txt", text)
+        self.assert_ahead(["beside"])
+
     def test_handles_toolchain_options_and_scripts(self):
         self.toolchain = "two"
         self.assert_ahead(USES)

@@ -13,8 +13,8 @@ e2fsprogs, cpio, qemu-utils and qemu-system-x86; it fetches packages by apt, and
   machine.py halt m && machine.py boot m --as-left && machine.py do m python3 openings_trial.py /usr/bin --booted
 
 Whatever is booted is an overlay of the disk, which stays as it was made. A command's status is that of `do`. With --by-instructions the
-machine's own clock goes on by a nanosecond with each instruction, for both processors together: what it takes by that clock is the same on
-a busy host, and is about what a slow machine takes.
+machine's own clock goes on by a nanosecond with each instruction of its one processor (Linux 6.1 starts no second one so): what it takes by
+that clock is the same on a busy host, and is about what a slow machine takes.
 """
 import argparse
 import base64
@@ -60,7 +60,7 @@ for each in $(/bin/busybox cat /order); do /bin/busybox insmod /modules/$each; d
 PORT = "/dev/virtio-ports/trials"
 DISK = "8G"
 # seconds until a machine answers
-BOOTING = 600
+BOOTING = 1800
 # letters of a command that carries a part of a file
 PART = 100000
 
@@ -96,7 +96,7 @@ def make(folder, suite, packages):
 def put_packages(root):
     with tempfile.TemporaryDirectory(dir=f"{root}/tmp") as room:
         run(f"{TOP}/tools/package", room, stdout=subprocess.DEVNULL)
-        inside = [file[len(root):] for file in glob.glob(f"{room}/*.deb")]
+        inside = [file[len(root):] for kind in ("amd64", "all") for file in glob.glob(f"{room}/*_{kind}.deb")]
         run("chroot", root, "dpkg", "--install", *inside, stdout=subprocess.DEVNULL)
 
 
@@ -156,7 +156,7 @@ def boot(folder, as_left, by_instructions):
     if not as_left:
         run("qemu-img", "create", "-q", "-f", "qcow2", "-b", os.path.realpath(f"{folder}/disk"), "-F", "raw", overlay)
     how = ["tcg,thread=single", "-icount", "shift=0,sleep=on"] if by_instructions else ["tcg,thread=multi"]
-    words = ["qemu-system-x86_64", "-accel", *how, "-cpu", "Nehalem,+rdrand,+rdseed", "-m", "3072", "-smp", "2",
+    words = ["qemu-system-x86_64", "-accel", *how, "-cpu", "Nehalem,+rdrand,+rdseed", "-m", "3072", "-smp", "1" if by_instructions else "2",
              "-nodefaults", "-no-user-config", "-display", "none", "-no-reboot",
              "-kernel", f"{folder}/kernel", "-initrd", f"{folder}/first", "-append", WORDS, "-serial", f"file:{folder}/console",
              "-drive", f"file={overlay},format=qcow2,if=virtio,cache=unsafe", "-device", "virtio-rng-pci",

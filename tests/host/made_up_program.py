@@ -1,7 +1,7 @@
 #!/usr/bin/env python3
 """Plays the program's part: it answers by the guards alone, so that whatever isn't contained is unsettled, or an escape
-where a limit file is open. What it can is told by the environment: MADE_UP=all,advise,pairs, or 70 for the status
-of a wrapper that has nothing built. A subtree named odd is a fault,
+where a limit file is open. What it can is told by the environment: MADE_UP=all,advise,pairs,everybody, or 70 for the status
+of a wrapper that has nothing built. A subtree named odd is a fault, and against everybody one named strange,
 and each call is written into the file CALLS."""
 import contextlib
 import functools
@@ -104,6 +104,23 @@ def audit(delegations, pairs, is_all):
     return 1 if 1 in statuses else max(statuses)
 
 
+def let_in(entry):
+    return [name for name, lets in (("owner", entry.uid), ("group", entry.mode & 0o020), ("others", entry.mode & 0o002)) if lets]
+
+
+def audit_everybody(delegations, subtrees):
+    is_listed = False
+    for subtree in dict.fromkeys(subtrees):
+        guarded = [(each, delegations.entry(each.path, each.name)) for each in delegations.guarded(path_of(subtree))]
+        lines = [f"fails {each.guard} {text_of(each.path)} {each.name} {entry.uid}:{entry.gid} {entry.mode:03o} {name}"
+                 for each, entry in guarded for name in let_in(entry)]
+        print("".join(f"{line}\n" for line in ([f"subtree {subtree}", *lines] if lines else [])), end="")
+        is_listed = is_listed or bool(lines)
+    if not is_listed:
+        print("contained")
+    return 1 if is_listed else 0
+
+
 def advise(delegations, pairs):
     met = {}
     for user, subtree in pairs:
@@ -161,7 +178,7 @@ def main(words):
     if words[-1] == "--help":
         if words[0] == "advise" and not can("advise") or words[0] == "explain" and not can("explain"):
             return fault("fault: usage")
-        known = {"audit": "".join(f"  --{name}  x\n" for name in ("all", "pairs", "settle") if can(name)),
+        known = {"audit": "".join(f"  --{name}  x\n" for name in ("all", "pairs", "settle", "everybody") if can(name)),
                  "advise": "  --pairs <FILE>  x\n", "explain": "  --subtree <PATH>  x\n"}
         print("Options:\n  --tree <FILE>\n" + known.get(words[0], ""))
         return 0
@@ -170,12 +187,13 @@ def main(words):
         return 0
     if can("70"):
         return fault("zirofen: not built: there is no rt on the PATH", 70)
-    flags = [word for word in words[1:3] if word in ("--all", "--settle")]
+    flags = [word for word in words[1:3] if word in ("--all", "--settle", "--everybody")]
     is_all = "--all" in flags
     given = options(words[1 + len(flags):])
     named = itertools.product(given.get("--uid", ()), given.get("--subtree", ()))
     pairs = pairs_in(given["--pairs"][0]) if "--pairs" in given else list(named)
-    if any(path.endswith("/odd") for _, path in pairs):
+    if any(path.endswith("/odd") for _, path in pairs) or "--everybody" in flags and any(
+            path.endswith("/strange") for path in given["--subtree"]):
         return fault("fault: subtree missing")
     file = given["--tree"][0]
     try:
@@ -184,6 +202,8 @@ def main(words):
         return fault("fault: tree not-toml")
     if words[0] == "replay":
         return 0
+    if "--everybody" in flags:
+        return audit_everybody(delegations, given["--subtree"])
     if words[0] == "audit" and "--settle" in flags:
         return audit_settled(delegations, given["--uid"], given["--subtree"])
     if words[0] == "audit":

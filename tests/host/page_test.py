@@ -22,7 +22,8 @@ from zirofen_host.fault import Fault
 PARTS = ("subtrees", "entries", "opened", "faults", "differs", "above", "unseen", "snapshot")
 # keys of a report that nothing is drawn from, or that are asked for elsewhere
 NOT_NEEDED = ("enabled", "capabilities", "value", "version", "users", "names", "marks", "files", "above[0].uid",
-              "version_1", "lists", "made_by", "why", "within", "stand", "limits", "options", "helper", "premises", "causes", "fact")
+              "version_1", "lists", "made_by", "why", "within", "stand", "limits", "options", "helper", "premises", "causes", "fact",
+              "against")
 REAL = sorted(name for name in os.listdir(f"{HERE}/data") if name.endswith(".json.gz"))
 HOSTILE = ("<script>alert(1)</script>", '"onload="alert(2)" x="', "'><img src=//x.y onerror=alert(3)>",
            "</title></svg></style></script>", "${title}$id&lt;&#60;", "javascript:alert(4)", "\u202egnp.exe\u2066", "x" * 250,

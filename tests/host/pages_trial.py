@@ -4,7 +4,7 @@ their status. By hand, as root, on a machine with systemd, podman, Docker, sudo 
 
   pages_trial.py HOST_FOLDER [--docs FOLDER] [--page NAME]
 
-HOST_FOLDER has zirofen-host and zirofen, FOLDER (/usr/share/doc/zirofen) the pages and examples/. Whoever types is the user alice, who may
+HOST_FOLDER has zirofen-host and zirofen, FOLDER (/usr/share/doc/zirofen) docs/ and examples/. Whoever types is the user alice, who may
 use sudo, in a folder like a clone. What stands below a command is in its output, in that order; what the page says in sentences, the rows
 here have, each with the sentence: a row without its command or its sentence has failed, and so has a command without a row and without
 lines below it. Words that stand for something (FILE, ..) are filled in. The last line is 'N passed, M failed'.
@@ -254,7 +254,8 @@ HOSTS = (
     Row("host/zirofen-host accept", said=(r"\[\[accept\]\]", 'reason = "it is split"'), page="a draft of such a FILE",
         fill={"--reason ..": "--reason 'it is split'"}),
     Row(f"{CHECK} --mends shell", (1,), ("^chown ",), "fixes as a script"),
-    Row(f"{CHECK} --baseline FILE", (0, 2), page="since an earlier --json", fill={"FILE": "/root/REPORT.json"}),
+    Row(f"{CHECK} --baseline FILE", (1,), ("^1 finding is open since .*memory.max", "^1 by 1 that have been open"),
+        "since an earlier --json", {"FILE": "/root/REPORT.json"}),
     Row("sudo host/zirofen-host plan --ops FILE", (1,), ("^new: /lab memory.max",), "how planned changes would be answered", OF),
     Row("sudo host/zirofen-host ask alice", (1,), ("escapes",), "one user and one subtree", OF),
     Row("sudo host/zirofen-host snapshot", page="the tree text alone", holds=is_tree),
@@ -364,7 +365,7 @@ def main():
         prepare()
         with open(f"{ROOM}/manager", "w", encoding="ascii") as out:
             out.write(manager())
-        with open(f"{given.docs}/{name}.md", encoding="utf-8") as page:
+        with open(f"{given.docs}/docs/{name}.md", encoding="utf-8") as page:
             text = page.read()
         for command, wrong, said in carried_out(text, rows):
             print(f"{'FAILED' if wrong else 'ok'}: {command}", flush=True)

@@ -49,6 +49,8 @@ at = "/a/b"
 LIMITS = "limits of this answer: accounts, premises"
 LIMIT_LINES = ["limit: accounts: it was asked by number, without groups and subordinate ids",
                "limit: premises: threads' places and held entries aren't known"]
+# what holds against everybody rests on no account
+EVERYBODY_LIMITS, EVERYBODY_LIMIT_LINES = "limits of this answer: premises", LIMIT_LINES[1:]
 
 
 def snapshot_of(text=TREE, is_carrying=True):
@@ -185,14 +187,14 @@ class CommandTest(HostTest):
     def test_nothing_changes(self):
         said = self.plan("--tree", DELEGATION, ops="# nothing\n")
         self.assertEqual((without_makers(said.stdout.splitlines()), said.returncode), (
-            ["nothing is new, worse, changed or gone beside the tree as it is", *LIMIT_LINES,
-             f"0; 2 asked: 2 contained [limited]; {LIMITS}"], 0))
+            ["nothing is new, worse, changed or gone beside the tree as it is", *EVERYBODY_LIMIT_LINES,
+             f"0; 2 asked: 2 contained [limited]; {EVERYBODY_LIMITS}"], 0))
         # what stands before counts as before
         said = self.plan("--tree", f"{TOP}/examples/delegation-ancestor-owned.toml", ops="set /c0 memory.max 9\n")
         self.assertEqual((said.returncode, said.stdout.splitlines()[-1]), (0, f"0; 2 asked: 2 escapes; {LIMITS}"))
         said = self.plan("--tree", f"{TOP}/examples/delegation-ancestor-owned.toml",
                          ops="chown / cgroup.procs 0:0\nchmod / cgroup.procs 644\n")
-        self.assertEqual((said.returncode, said.stdout.splitlines()[-1]), (0, f"0; 2 asked: 2 contained [limited]; {LIMITS}"))
+        self.assertEqual((said.returncode, said.stdout.splitlines()[-1]), (0, f"0; 2 asked: 2 contained [limited]; {EVERYBODY_LIMITS}"))
         self.assertIn("gone: / cgroup.procs (1000:0 446): escapes", said.stdout)
 
     def test_what_no_answer_rests_on_is_said_once(self):
@@ -202,7 +204,7 @@ class CommandTest(HostTest):
         *lines, last = without_makers(said.stdout.splitlines())
         self.assertEqual((said.returncode, said.stderr, lines), (0, "", [
             "new: /new: contained, by 1001 who holds it", "not-told: cgroup.threads memory.pressure: no answer rests on these",
-            *LIMIT_LINES]))
+            *EVERYBODY_LIMIT_LINES]))
         self.assertNotIn("isn't known: ", last)
         said = self.plan("--tree", DELEGATION, ops=f"{ops}chown /new cgroup.type 1001:1001\n")
         *lines, last = without_makers(said.stdout.splitlines())

@@ -369,10 +369,9 @@ class CommandTest(UnitsTest):
         self.assertEqual((said.returncode, said.stderr), (2, ""))
         self.assertEqual(without_makers(said.stdout.splitlines()), [
             "new: /system.slice/a.service: contained, by 900 who holds it [limited]", f"not-told: {slices}",
-            "limit: accounts: it was asked by number, without groups and subordinate ids",
             "limit: premises: threads' places and held entries aren't known",
             f"limit: plan: what may give entries away isn't known: {untold}",
-            "2 by what a plan doesn't know; 3 asked: 3 contained [limited]; limits of this answer: accounts, premises, plan"])
+            "2 by what a plan doesn't know; 3 asked: 3 contained [limited]; limits of this answer: premises, plan"])
         lines = self.plan("--unit", file, "--print", "lines")
         self.assertEqual((lines.stdout.splitlines()[:2], lines.stderr, lines.returncode),
                          ([f"# not known: {slices}", f"# not known: {untold}"], "", 2))
@@ -381,7 +380,7 @@ class CommandTest(UnitsTest):
         new, *narrowed, last = without_makers(self.plan("--ops", ops).stdout.splitlines())
         self.assertEqual((new, last.split("; ")[:2]), ("new: /system.slice/a.service: contained, by 900 who holds it",
                                                        ["0", "3 asked: 3 contained [limited]"]))
-        self.assertEqual(len(narrowed), 2)
+        self.assertEqual(len(narrowed), 1)
         self.assertNotIn("plan", last)
 
     def test_what_root_carries_out_makes_it_no_yes(self):

@@ -31,12 +31,18 @@ TOP = "zirofen-trial"
 HOLDER, OTHER, HOSTILE = 61001, 61002, 61003
 # what is made inside of others' is told beside
 OTHERS = re.compile(f"/({TOP}-hostile|zirofen-test-)")
+TOLD = re.compile(r" (new|worse|mended|gone): (.*?)(, by pid .*)?$")
 HANDED = ("", "/cgroup.procs", "/cgroup.subtree_control")
 
 
 def mount_here():
     with open("/proc/self/mounts", encoding="ascii") as text:
         return next(line.split()[1] for line in text if line.split()[2] == "cgroup2")
+
+
+def head_of(line):
+    """What a line is of; others may be named behind it."""
+    return re.split(r" \(|: ", line)[0]
 
 
 def run(*words):
@@ -68,9 +74,9 @@ class Watch:
             self.has_pids &= "without who does it" not in line
             if re.search(" (limit|watch): ", line):
                 print(f"  {line.rstrip()}", flush=True)
-            found = re.search(r" (new|worse|mended|gone): (.*?)(, by pid .*)?$", line.rstrip("\n"))
+            found = TOLD.search(line.rstrip("\n"))
             if found:
-                head = re.split(r" \(|: ", found[2])[0]
+                head = head_of(found[2])
                 self.standing.pop(head, None)
                 if found[1] in ("new", "worse"):
                     self.standing[head] = found[2]
@@ -247,7 +253,8 @@ def hostile(mount):
 def told(watch, pid, name, kinds, within):
     """Whether something that was done is told as that in time, with whom, and says it."""
     def is_it(line):
-        return any(f" {kind}: " in line for kind in kinds) and not OTHERS.search(line)
+        found = TOLD.search(line)
+        return found and found[1] in kinds and not OTHERS.search(head_of(found[2]))
     began = time.monotonic()
     found = watch.wait(is_it, within)
     if not found:
@@ -369,7 +376,7 @@ def churn(watch, given, room):
 
 def findings(lines):
     """What is told of this trial's, but for rows of subtrees: what those rest on is told in their place."""
-    return {line for line in lines if not re.match(r"\S+: (contained|escapes|unsettled), by ", line) and not OTHERS.search(line)}
+    return {line for line in lines if not re.match(r"\S+: (contained|escapes|unsettled), by ", line) and not OTHERS.search(head_of(line))}
 
 
 def churned(watch, services, seconds):

@@ -609,8 +609,8 @@ static int keep_words(char **kept, char **words, int count)
     return count - 1;
 }
 
-/* Runs the program /refusals with the words behind its name, and tells its lines. */
-static void run_refusals(char **words)
+/* Runs a program with the words behind its name, and tells its lines, each behind a sign. */
+static void run_program(const char *program, char sign, char **words)
 {
     char line[LONGEST];
     int ends[2];
@@ -618,25 +618,33 @@ static void run_refusals(char **words)
     FILE *said;
 
     if (pipe2(ends, O_CLOEXEC) < 0 || (pid = fork()) < 0) {
-        fprintf(out, "! %d refusals\n", errno);
+        fprintf(out, "! %d %s\n", errno, words[0]);
         return;
     }
     if (pid == 0) {
         dup2(ends[1], STDOUT_FILENO);
-        execv("/refusals", words);
+        execv(program, words);
         _exit(127);
     }
     close(ends[1]);
     said = fdopen(ends[0], "r");
     while (said && fgets(line, sizeof line, said))
-        fprintf(out, "t %s", line);
+        fprintf(out, "%c %s", sign, line);
     if (said)
         fclose(said);
     waitpid(pid, NULL, 0);
 }
 
-/* case NUMBER | state | files NAME .. | watch NAME .. | others NAME .. | user UID GID .. | refusals [--opened] | way NAME |
-   an operation | a line of building */
+/* The kernel's own test skips a case where the mount doesn't hold processes within their cgroup namespace. */
+static void run_selftests(char **words)
+{
+    if (mount(NULL, TOP, NULL, MS_REMOUNT, "nsdelegate") < 0)
+        fprintf(out, "! %d %s\n", errno, words[0]);
+    run_program("/test_core", 's', words);
+}
+
+/* case NUMBER | state | files NAME .. | watch NAME .. | others NAME .. | user UID GID .. | refusals [--opened] | selftests |
+   way NAME | an operation | a line of building */
 static void take(char **words, int count)
 {
     int wrong;
@@ -657,7 +665,9 @@ static void take(char **words, int count)
     } else if (strcmp(words[0], "user") == 0) {
         name_user(words, count);
     } else if (strcmp(words[0], "refusals") == 0) {
-        run_refusals(words);
+        run_program("/refusals", 't', words);
+    } else if (strcmp(words[0], "selftests") == 0) {
+        run_selftests(words);
     } else if (strcmp(words[0], "way") == 0 && count > 1) {
         carry_out_way(out, TOP, words[1]);
     } else if (!carry_out(words, count) && (wrong = do_word(building, words, count)) != 0) {

@@ -108,13 +108,19 @@ class PackageTest(unittest.TestCase):
         out, version = f"{self.folder.name}/out", f"{self.program.version}-{package.REVISION}"
         for name, told in (("zirofen", ["Architecture: amd64", "Recommends: zirofen-host"]),
                            ("zirofen-host", ["Architecture: all", f"Depends: zirofen (= {version}), python3 (>= 3.11)",
-                                             "Breaks: zirofen (<< 0.2.0-1~)", "Replaces: zirofen (<< 0.2.0-1~)"])):
+                                             "Breaks: zirofen (<< 0.2.0-1~)", "Replaces: zirofen (<< 0.2.0-1~)"]),
+                           ("python3-zirofen", ["Architecture: all", f"Depends: zirofen (= {version}), python3 (>= 3.9)"])):
             file = self.debian_file(name)
             said = run("dpkg-deb", "--field", file, "Package", "Version", "Architecture", "Depends", "Recommends", "Breaks", "Replaces")
             self.assertEqual(said.stdout.splitlines(), [f"Package: {name}", f"Version: {version}", *told])
             self.assertEqual(run("dpkg-deb", "--extract", file, out).returncode, 0)
         self.assertEqual(run(f"{out}/usr/bin/zirofen", "--version").stdout, f"{self.program.line()}\n")
         self.helpers_run(f"{out}/usr/bin", f"{out}/{package.DOCS}/examples/delegation.toml")
+        # the module finds the program on the PATH, where no library is
+        asking = "import zirofen; print(zirofen.version(), zirofen.asked().name)"
+        environment = {"PATH": f"{out}/usr/bin", "PYTHONPATH": f"{out}/usr/lib/python3/dist-packages", "ZIROFEN_LIBRARY": "/none"}
+        said = run(sys.executable, "-B", "-c", asking, env=environment)
+        self.assertEqual(said.stdout, f"{self.program.line()} {out}/usr/bin/zirofen\n", said.stderr)
 
     def debian_file(self, name):
         [found] = [it for it in os.listdir(self.made) if it.startswith(f"{name}_") and it.endswith(("_amd64.deb", "_all.deb"))]
@@ -138,14 +144,15 @@ class PackageTest(unittest.TestCase):
             self.assertEqual({name for name in one | other if one.get(name) != other.get(name)}, {"./usr/bin/zirofen"})
 
     def test_each_file_is_in_one_package(self):
-        """And the program's needs no Python."""
+        """And the program's needs no Python, but to read an example."""
         listed = {}
         for name in ("zirofen", "zirofen-host"):
             said = run("dpkg-deb", "--contents", self.debian_file(name)).stdout
             listed[name] = {line.split()[5][2:] for line in said.splitlines() if not line.endswith("/")}
         self.assertEqual(listed["zirofen"] & listed["zirofen-host"], set())
         self.assertLessEqual(set(self.files), listed["zirofen"] | listed["zirofen-host"])
-        self.assertFalse([path for path in listed["zirofen"] if path.endswith(".py") or "systemd" in path or path.startswith("etc/")])
+        run_by_python = {path for path in listed["zirofen"] if path.endswith(".py")} - {"usr/share/doc/zirofen/examples/before.py"}
+        self.assertFalse([*run_by_python, *(path for path in listed["zirofen"] if "systemd" in path or path.startswith("etc/"))])
         self.assertIn("usr/share/doc/zirofen/NEWS.Debian.gz", listed["zirofen"])
 
     def test_the_archive_works_wherever_it_is_unpacked(self):
@@ -294,7 +301,7 @@ class PackageTest(unittest.TestCase):
         for known in (package.completions.read(self.program.help), package.completions.read_helpers(package.host_help)):
             for name, (_, options) in known.items():
                 for option in options:
-                    self.assertNotRegex(option.told, r"^$|,$|\b(the|a|of|in|and|or|with|by)$", f"{name} {option.name}")
+                    self.assertNotRegex(option.told, r"^$|,$|\b(the|a|of|(?<!lets )in|and|or|with|by)$", f"{name} {option.name}")
         self.assertIn("that cgroup, its ancestors and what is inside it, and no more",
                       self.files["usr/share/fish/vendor_completions.d/zirofen-host.fish"].data.decode())
 

@@ -184,6 +184,37 @@ def paired(_):
         yield fault("read", command, "--pairs", f"{EXAMPLES}/none.pairs")
 
 
+def everybody(_):
+    """Of each subtree that isn't held against everybody, whom which guarded entry lets in."""
+    both, other = ["--subtree", "/c0", "--subtree", "/c1"], ["--subtree", "/c1", "--subtree", "/c0", "--subtree", "/c1"]
+    told = {"delegation-second-user": {"/c0": ["limit-file /c0 memory.max 1001:0 644 owner"]},
+            "delegation-over-limit": {"/c0": ["already-over /c0"]},
+            **{name: {top: fails for top in ("/c0", "/c1")} for name, fails in {
+                "delegation-ancestor-group": ["common-ancestor / cgroup.procs 0:50 664 group"],
+                "delegation-ancestor-owned": [f"common-ancestor / cgroup.procs 1000:0 446 {name}" for name in ("owner", "others")],
+                "delegation-ancestor-writable": ["common-ancestor / cgroup.procs 0:0 646 others"],
+                "delegation-parent-directory": ["parent-dir / dir 1000:0 755 owner"]}.items()}}
+    for name, fails in told.items():
+        for words in both, other:
+            lines = [line for top in dict.fromkeys(words[1::2]) if top in fails
+                     for line in (f"subtree {top}", *(f"fails {each}" for each in fails[top]))]
+            yield Case(["audit", "--everybody", *tree(name), *words], 1, lines)
+    for name in "delegation", "delegation-at-limit", "delegation-process-at-top":
+        yield Case(["audit", *tree(name), *other, "--everybody"], 0, ["contained"])
+    for beside in ["--uid", "1000"], ["--all"], ["--settle"], ["--pairs", "-"], ["--everybody"], ["--gid", "5"]:
+        yield fault("usage", "audit", "--everybody", *both, *beside)
+    yield fault("usage", "audit", "--everybody")
+    yield fault("usage", "audit", "--everybody=true", *both)
+    for command in "check", "settle", "explain", "advise":
+        yield fault("usage", command, "--everybody", *both[:2])
+    yield fault("subtree missing", "audit", "--everybody", "--subtree", "/zz", "--subtree", "/")
+    yield fault("subtree root", "audit", "--everybody", *both, "--subtree", "/", "--subtree", "/zz")
+    yield fault("path", "audit", "--everybody", *tree("fault-no-parent"), "--subtree", "c0")
+    yield fault("tree no-parent cgroup 2", "audit", "--everybody", *tree("fault-no-parent"), "--subtree", "/zz")
+    yield fault("read", "audit", "--everybody", *tree("none"), "--subtree", "c0")
+    yield Case(["audit", "--everybody", *both], 3, fault="fault: write", output="/dev/full")
+
+
 def advices(_):
     yield Case(["advise", *asked("1000", "/c0")], 0, ["contained"])
     yield Case(["advise", *tree("delegation-ancestor-group"), "--gid", "50", *asked("1000", "/c0")], 1,
@@ -256,7 +287,7 @@ def upgrades(program):
 
 
 def cases(program):
-    for table in command_lines, migrations, of_one_subtree, explained, audits, paired, advices, replays, upgrades:
+    for table in command_lines, migrations, of_one_subtree, explained, audits, paired, everybody, advices, replays, upgrades:
         yield from table(program)
     yield from format_4_rows()
 

@@ -90,6 +90,11 @@ FAULTS = (
     ("audit --pairs {none}", "no-pair", ""),
     ("audit --pairs {cut_pair}", "line 2 cut", ""),
     ("audit --pairs {pair_missing}", "subtree missing", ""),
+    ("audit --everybody", "usage", ""),
+    ("audit --everybody --uid 1000 --subtree /c0", "usage", ""),
+    ("audit --everybody --subtree c0", "path", ""),
+    ("audit --everybody --subtree /c0 --subtree /", "subtree root", ""),
+    ("audit --everybody --subtree /zz", "subtree missing", ""),
     ("explain --pairs {pairs} --subtree /c0", "usage", ""),
     ("explain --pairs {mistyped_pair}", "line 2 bad-word", ""),
     ("replay --uid 1000 --ops {many}", "too-many-steps", "|".join(65536 * ["refused no-such-process 99"])),
@@ -166,6 +171,11 @@ ASKED = (
     ("delegation-second-user", "audit --pairs {pairs}", 1),
     ("delegation-parent-directory", "audit --tree {tree} --pairs {pairs}", 2),
     ("delegation-second-user", "explain --pairs {pairs}", 1),
+    ("delegation", "audit --everybody --subtree /c0 --subtree /c1", 0),
+    ("delegation-second-user", "audit --everybody --tree {tree} --subtree /c0 --subtree /c1", 1),
+    ("delegation-ancestor-owned", "audit --everybody --subtree /c0 --subtree /c1 --subtree /c0", 1),
+    ("delegation-over-limit", "audit --everybody --subtree /c0", 1),
+    ("service-limits-handed-over", "audit --everybody --subtree /system.slice/transcode.service", 1),
     ("delegation", "audit --all --uid 1000 --uid 1001 --subtree /c0 --subtree /c1", 0),
     ("delegation-second-user", "audit --all --tree {tree} --uid 1000 --uid 1001 --subtree /c0 --subtree /c1", 1),
     ("delegation-parent-directory", "audit --all --uid 1000 --uid 1001 --subtree /c0 --subtree /c1", 2),
@@ -194,7 +204,7 @@ def ended(program, words, tree):
 
 def knows(program, words):
     """Whether the program has a command, and the option behind it where there is one."""
-    words = [words[0], *(word for word in words if word in ("--all", "--pairs"))]
+    words = [words[0], *(word for word in words if word in ("--all", "--pairs", "--everybody"))]
     told = ended(program, [words[0], "--help"], None)
     return told.returncode == 0 and all(word.encode() in told.stdout for word in words[1:])
 

@@ -40,6 +40,7 @@ OPS = "set /c0 memory.max max\nmove 10 /c0\n"
 CHECK = ["check", "--uid", "1000", "--subtree", "/c0"]
 MAY = ["may", "--uid", "1000", "--pid", "10", "--to", "/c0"]
 REPLAY = ["replay", "--uid", "1000", "--ops", "OPS"]
+EVERYBODY = ["audit", "--everybody", *CHECK[3:]]
 # what else is asked of a user and a subtree
 OF_TREE = [[*words.split(), *CHECK[1:]] for words in (*FURTHER, "audit", "audit --all", "audit --settle", "explain", "advise", "advise --settle")]
 BOTH = ["both the tree and the operations", "./-"]
@@ -346,6 +347,8 @@ def strangers():
         yield Row(["audit", "--uid", "1001:7", *at], None, helps, tree)
     yield Row(["audit", "--uid", "1002", "--uid", "1001", *at], None, [said.replace("1001", "1002")])
     yield Row(CHECK, None, ())
+    yield Row(EVERYBODY, None, ())
+    yield Row(EVERYBODY, None, (), of_all)
     yield Row(["may", "--uid", "1001", "--pid", "10", "--to", "/c0"], None, ())
     yield Row(["replay", "--uid", "1001", "--ops", "OPS"], None, ())
     yield Row([*check, *at], None, [said, "mode 400 is 0o620"], edited("mode = 0o644", "mode = 400"))
@@ -358,7 +361,7 @@ def modes():
         said = f"mode {mode} is {octal}, since it is decimal: an octal mode begins with 0o, as 0o{mode}"
         yield Row(CHECK, None, [said], edited("mode = 0o644", f"mode={mode}"))
     said = "mode 400 is 0o620"
-    others = (*OF_TREE, MAY, ["upgrade"], REPLAY, [*CHECK, "--tree", "TREE"], [*REPLAY, "--tree", "TREE"])
+    others = (*OF_TREE, EVERYBODY, MAY, ["upgrade"], REPLAY, [*CHECK, "--tree", "TREE"], [*REPLAY, "--tree", "TREE"])
     for words in others:
         yield Row(words, None, [said], edited("gid = 1000 }", "gid = 1000, mode\t=  400 }"))
     tree = edited("mode = 0o644", "mode = 400")
@@ -400,7 +403,7 @@ def terminals():
     """What is said where standard input is a terminal: what is read from it, where anything is."""
     said = "{} read from this terminal: end {} with Ctrl-D, or name a file with {}"
     tree = said.format("the tree is", "it", "--tree")
-    for words in (CHECK, [*CHECK, "--tree", "-"], *OF_TREE, MAY, ["upgrade"], REPLAY):
+    for words in (CHECK, [*CHECK, "--tree", "-"], *OF_TREE, EVERYBODY, MAY, ["upgrade"], REPLAY):
         yield Row(words, None, terminal=tree)
     yield Row(CHECK, None, ["mode 400 is 0o620"], edited("mode = 0o644", "mode = 400"), terminal=tree)
     yield Row(subtree("/c9"), "subtree missing", ["the nearest is '/c0'"], terminal=tree)

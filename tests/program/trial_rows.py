@@ -158,6 +158,9 @@ def byte_trials():
     for call in "audit_settled", "audit_all_settled":
         yield f"{call}_bytes", SECOND_USER, [call, "1000", "1001", "/c0", "/c1"], "pair 1001 /c0\nescapes\nset /c0 memory.max max\nstatus 1\n"
     yield "audit_all_bytes", SECOND_USER, ["audit_all", "1000", "1001", "/c0", "/c1"], "pair 1001 /c0\nescapes\nset /c0 memory.max max\nstatus 1\n"
+    yield "everybody_bytes", DELEGATION, ["everybody", "/c0", "/c1"], "contained\nstatus 0\n"
+    yield ("everybody_bytes", SECOND_USER, ["everybody", "/c1", "/c0", "/c0"],
+           "subtree /c0\nfails limit-file /c0 memory.max 1001:0 644 owner\nstatus 1\n")
     yield "advise_bytes", DELEGATION, ["advise", "1000", "/c0"], "contained\nstatus 0\n"
     yield ("advise_bytes", ANCESTOR_OWNED, ["advise", "1000", "/c0"],
            "fails common-ancestor / cgroup.procs 1000:0 446 owner\nchown / cgroup.procs 0:0\nchmod / cgroup.procs 444\nstatus 1\n")

@@ -240,6 +240,7 @@ def asked_of_users(tree):
     yield Asked(["audit", "--all", *listed, *subtrees], "")
     yield Asked(["audit", "--settle", *listed, *subtrees], "")
     yield Asked(["audit", "--settle", "--all", *listed, *subtrees], "")
+    yield Asked(["audit", "--everybody", *subtrees], "")
     yield Asked(["explain", *listed, *subtrees], "")
 
 

@@ -123,6 +123,15 @@ def spelled():
     yield ["audit", "--settle", "--uid", "1000", "--uid", "1001", "--subtree", "/c0"], False
     yield ["audit", "--all", "--settle", "--uid", "1000", "--subtree", "/c0"], False
     yield ["audit", "--settle=true", "--uid", "1000", "--subtree", "/c0"], True
+    everybody = ["audit", "--everybody"]
+    yield [*everybody, "--subtree", "/c0", "--subtree", "/c1"], False
+    yield ["audit", "--subtree", "/c0", "--everybody"], False
+    yield from ((words, True) for words in (
+        everybody, ["audit", "--everybody=true", "--subtree", "/c0"], ["audit", "--everybody=", "--subtree", "/c0"], [*everybody, "/c0"],
+        *([*everybody, "--subtree", "/c0", *more] for more in (
+            ["--uid", "1000"], ["--gid", "5"], ["--all"], ["--settle"], ["--everybody"], ["--pairs", os.devnull])),
+        [*everybody, "--uid", "1000"], [*everybody, "--pairs", os.devnull], [*everybody, "--subtree"], [*everybody, "--subtree", "--all"],
+        ["explain", "--everybody", "--subtree", "/c0"], ["advise", "--everybody", "--subtree", "/c0"], ["may", "--everybody"]))
     yield ["advise", "--settle", "--uid", "1000", "--uid", "1001", "--subtree", "/c0"], False
     yield ["advise", "--settle=true", "--uid", "1000", "--subtree", "/c0"], True
     yield from ((words, True) for words in (

@@ -60,6 +60,7 @@ module _ (f g : Found) (same : rows_of f ≡ rows_of g) where
     no_group = sym (words_same (codes "gid")) ∙ h.no_group;
     no_subtree = sym (words_same (codes "subtree")) ∙ h.no_subtree;
     no_settle = λ said. h.no_settle (first_same (codes "settle") ∙ said);
+    not_everybody = λ said. h.not_everybody (first_same (codes "everybody") ∙ said);
   }
 
   pub holds_same : (asked : Request) → Holds f asked → Holds g asked
@@ -89,6 +90,17 @@ module _ (f g : Found) (same : rows_of f ≡ rows_of g) where
     some_user = λ none. h.some_user (words_same (codes "uid") ∙ none);
     some_subtree = λ none. h.some_subtree (words_same (codes "subtree") ∙ none);
     no_pairs = sym (first_same (codes "pairs")) ∙ h.no_pairs;
+    not_everybody = λ said. h.not_everybody (first_same (codes "everybody") ∙ said);
+  }
+  holds_same (request.AuditEverybody asked) h = record {
+    tree = h.tree ∙ file_same (codes "tree");
+    subtrees = sym (words_same (codes "subtree")) ∙ h.subtrees;
+    everybody = sym (first_same (codes "everybody")) ∙ h.everybody;
+    some_subtree = λ none. h.some_subtree (words_same (codes "subtree") ∙ none);
+    no_user = sym (words_same (codes "uid")) ∙ h.no_user;
+    no_pairs = sym (first_same (codes "pairs")) ∙ h.no_pairs;
+    no_all = λ said. h.no_all (first_same (codes "all") ∙ said);
+    no_settle = λ said. h.no_settle (first_same (codes "settle") ∙ said);
   }
   holds_same (request.AuditPairs pairs) h = pairs_same pairs h
   holds_same (request.Explain explain) h = record {

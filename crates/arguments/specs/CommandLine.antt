@@ -48,7 +48,7 @@ pairs_command name = command_with name
 
 abbrev pub audit_command : Shape
 audit_command = record (pairs_command (codes "audit")) {
-  rules = (pairs_command (codes "audit")).rules ++ flag (codes "all") ∷ flag (codes "settle") ∷ [];
+  rules = (pairs_command (codes "audit")).rules ++ flag (codes "all") ∷ flag (codes "settle") ∷ flag (codes "everybody") ∷ [];
 }
 
 -- by users and subtrees, or by pairs of them

@@ -12,6 +12,7 @@ use Rattle.arguments.specs.declared.named_user.NamedUser.{NamedUser}
 use Rattle.arguments.specs.declared.request.May.{May}
 use Rattle.arguments.specs.declared.request.Check.{Check}
 use Rattle.arguments.specs.declared.request.Audit.{Audit}
+use Rattle.arguments.specs.declared.request.Everybody.{Everybody}
 use Rattle.arguments.specs.declared.request.Explain.{Explain}
 use Rattle.arguments.specs.declared.request.Advise.{Advise}
 use Rattle.arguments.specs.declared.request.Pairs.{Pairs}
@@ -105,7 +106,7 @@ pub record IsCheck (found : Found) (check : Check) : Type 0 where
   pub user : user_given found ≡ Some (ids_of check.user)
   pub subtree : first_value found (codes "subtree") ≡ Some check.subtree.now
 
--- of one user and one subtree at least, and of no text of pairs
+-- of one user and one subtree at least, of no text of pairs, and not of everybody
 pub record IsAudit (found : Found) (audit : Audit) : Type 0 where
   pub tree : option_map (λ file. file.now) audit.tree ≡ file_at found (codes "tree")
   pub users : users_given found ≡ Some (map ids_of audit.users.items)
@@ -115,6 +116,18 @@ pub record IsAudit (found : Found) (audit : Audit) : Type 0 where
   pub some_user : words_at found (codes "uid") ≢ []
   pub some_subtree : words_at found (codes "subtree") ≢ []
   pub no_pairs : first_value found (codes "pairs") ≡ None
+  pub not_everybody : first_value found (codes "everybody") ≢ Some (codes "true")
+
+-- of everybody, and of no user, of one subtree at least, and neither of every pair nor looked at further
+pub record IsEverybody (found : Found) (asked : Everybody) : Type 0 where
+  pub tree : option_map (λ file. file.now) asked.tree ≡ file_at found (codes "tree")
+  pub subtrees : words_at found (codes "subtree") ≡ map (λ subtree. subtree.now) asked.subtrees.items
+  pub everybody : first_value found (codes "everybody") ≡ Some (codes "true")
+  pub some_subtree : words_at found (codes "subtree") ≢ []
+  pub no_user : words_at found (codes "uid") ≡ []
+  pub no_pairs : first_value found (codes "pairs") ≡ None
+  pub no_all : first_value found (codes "all") ≢ Some (codes "true")
+  pub no_settle : first_value found (codes "settle") ≢ Some (codes "true")
 
 pub record IsExplain (found : Found) (explain : Explain) : Type 0 where
   pub tree : option_map (λ file. file.now) explain.tree ≡ file_at found (codes "tree")
@@ -143,6 +156,7 @@ pub record IsOfPairs (found : Found) (asked : Pairs) : Type 0 where
   pub no_group : words_at found (codes "gid") ≡ []
   pub no_subtree : words_at found (codes "subtree") ≡ []
   pub no_settle : first_value found (codes "settle") ≢ Some (codes "true")
+  pub not_everybody : first_value found (codes "everybody") ≢ Some (codes "true")
 
 pub record IsReplay (found : Found) (replay : Replay) : Type 0 where
   pub tree : tree_file replay.sources ≡ file_at found (codes "tree")
@@ -159,6 +173,7 @@ command_of (request.May may) = Some (codes "may")
 command_of (request.Check check) = Some (codes "check")
 command_of (request.Settle check) = Some (codes "settle")
 command_of (request.Audit audit) = Some (codes "audit")
+command_of (request.AuditEverybody asked) = Some (codes "audit")
 command_of (request.AuditPairs pairs) = Some (codes "audit")
 command_of (request.Explain explain) = Some (codes "explain")
 command_of (request.ExplainPairs pairs) = Some (codes "explain")
@@ -173,6 +188,7 @@ Holds found (request.May may) = IsMay found may
 Holds found (request.Check check) = IsCheck found check
 Holds found (request.Settle check) = IsCheck found check
 Holds found (request.Audit audit) = IsAudit found audit
+Holds found (request.AuditEverybody asked) = IsEverybody found asked
 Holds found (request.AuditPairs pairs) = IsOfPairs found pairs
 Holds found (request.Explain explain) = IsExplain found explain
 Holds found (request.ExplainPairs pairs) = IsOfPairs found pairs

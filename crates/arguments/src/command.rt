@@ -79,6 +79,10 @@ neither --uid, --subtree nor --settle beside it. A subtree is contained against 
 With --settle it is looked further where check says `unsettled`, as settle does. Users against whom a list of operations is
 planned escape; where the second row of guards holds of a subtree against all others together none of these is listed with it,
 and else each whom check doesn't call contained. So a subtree is contained against all with whom it isn't listed, together.
+With --everybody, beside --subtree alone, `contained` means that every subtree is held whatever anybody but root does, whoever there
+is. Else, with status 1, a line `subtree PATH` of each for which that isn't shown has below it, for each entry on which a guard stands
+and each class of users that it lets in, the line `fails` of advise: `owner`, `group`, who are in its group and don't own it, or
+`others`. Against all who are in no class that is listed below it a subtree is contained, unless it is over its limits.
 A user is UID or UID:GID,GID.. in decimal digits, with up to 32 gids, of which the first is the primary one.
 `fault: usage` means that the command line isn't as it says above.
 zirofen-tree(5) and zirofen(1), or docs/FORMATS.md, have the tree's format, and every line of an answer and of a fault.
@@ -285,7 +289,8 @@ fn audit_command<'a>(alloc: Global) -> Result<Command<'a>, AllocError>
 {
     pairs_command(alloc, "audit", AUDIT, AUDIT_HELP)?
         .arg(all_argument(alloc))?
-        .arg(settle_argument(alloc))
+        .arg(settle_argument(alloc))?
+        .arg(everybody_argument(alloc))
 }
 
 fn advise_command<'a>(alloc: Global) -> Result<Command<'a>, AllocError>
@@ -381,6 +386,17 @@ fn settle_argument<'a>(alloc: Global) -> Arg<'a>
         .long("settle")
         .action(ArgAction::SetTrue)
         .help("Looks further where check says unsettled, as settle does")
+}
+
+fn everybody_argument<'a>(alloc: Global) -> Arg<'a>
+    ensures { IsOption (flag (codes "everybody")) result }
+{
+    Arg::new(alloc, "everybody")
+        .long("everybody")
+        .action(ArgAction::SetTrue)
+        .help(
+            "Everybody but root in place of --uid, whoever there is: whom each guarded entry lets in",
+        )
 }
 
 fn number_argument<'a>(alloc: Global, name: &'a str, value: &'a str) -> Arg<'a>

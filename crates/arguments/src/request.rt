@@ -3,8 +3,9 @@ ghost use Rattle.std.specs.Prelude.{◌≡◌, ◌≢◌, ◌⊎◌, [], Some, N
 ghost use Rattle.std.specs.Option.{option_map};
 ghost use Rattle.clap.specs.Matches.{found_of, first_value};
 ghost use Rattle.arguments.specs.UserWords.{id_at, ids_at, all_read, user_at};
-ghost use Rattle.arguments.specs.Given.{words_at, file_named, file_at, NamesNoFile, number_at, numbers_at, user_given, users_given, plain_number, users_beside, advised_given, ids_of, IsMay, IsCheck, IsAudit, IsExplain, IsAdvise, IsOfPairs, tree_file, other_file, IsReplay, IsUpgrade, command_of, Holds, IsOf};
+ghost use Rattle.arguments.specs.Given.{words_at, file_named, file_at, NamesNoFile, number_at, numbers_at, user_given, users_given, plain_number, users_beside, advised_given, ids_of, IsMay, IsCheck, IsAudit, IsEverybody, IsExplain, IsAdvise, IsOfPairs, tree_file, other_file, IsReplay, IsUpgrade, command_of, Holds, IsOf};
 ghost use Rattle.arguments.specs.Words.{Makes, IsNone};
+ghost use Rattle.arguments.specs.declared.request.Everybody.{Everybody};
 ghost use Rattle.arguments.specs.declared.request.Pairs.{Pairs};
 ghost use Rattle.arguments.specs.declared.request.Request.{Request};
 
@@ -25,6 +26,7 @@ pub enum Request<'a> {
     /// What `check` is asked, looked at further.
     Settle(Check<'a>),
     Audit(Audit<'a>),
+    AuditEverybody(Everybody<'a>),
     AuditPairs(Pairs<'a>),
     Explain(Explain<'a>),
     ExplainPairs(Pairs<'a>),
@@ -88,7 +90,7 @@ impl<'a> Request<'a> {
         }
     }
 
-    /// The request of `audit`, which is of the pairs of a text where one is named.
+    /// The request of `audit`, which is of the pairs of a text where one is named, and of everybody where that is said.
     fn of_audit(alloc: Global, given: &ArgMatches<'a>) -> Result<Request<'a>, ArgumentsFault>
         ensures name { IfOk result (λ asked. command_of asked ≡ Some (codes "audit")) }
         ensures given { IfOk result (Holds (found_of given.now)) }
@@ -96,8 +98,11 @@ impl<'a> Request<'a> {
             → (asked : Request) → command_of asked ≡ Some (codes "audit") → Holds (found_of given.now) asked → ⊥) }
     {
         match given.get_str("pairs") {
-            None => Ok(Request::Audit(Audit::from_matches(alloc, given)?)),
             Some(_) => Ok(Request::AuditPairs(Pairs::from_matches(given)?)),
+            None if is_said(given, "everybody", "true") => {
+                Ok(Request::AuditEverybody(Everybody::from_matches(alloc, given)?))
+            }
+            None => Ok(Request::Audit(Audit::from_matches(alloc, given)?)),
         }
     }
 
@@ -190,9 +195,10 @@ pub struct Audit<'a> {
 }
 
 impl<'a> Audit<'a> {
-    /// What was given to the command, where no text of pairs is named.
+    /// What was given to the command, where no text of pairs is named, and it isn't of everybody.
     fn from_matches(alloc: Global, matches: &ArgMatches<'a>) -> Result<Audit<'a>, ArgumentsFault>
-        requires { first_value (found_of matches.now) (codes "pairs") ≡ None }
+        requires pairs { first_value (found_of matches.now) (codes "pairs") ≡ None }
+        requires everybody { first_value (found_of matches.now) (codes "everybody") ≢ Some (codes "true") }
         ensures given { IfOk result (IsAudit (found_of matches.now)) }
         ensures fault { IfErr result (λ fault. fault ≢ ArgumentsFault.NoMemory → (users_given (found_of matches.now) ≡ None)
             ⊎ (words_at (found_of matches.now) (codes "uid") ≡ [])
@@ -204,6 +210,39 @@ impl<'a> Audit<'a> {
             subtrees: given(matches, "subtree")?.to_vec(alloc)?,
             all: matches.get_flag("all"),
             settle: matches.get_flag("settle"),
+        })
+    }
+}
+
+/// Whether several subtrees are contained against everybody but root.
+#[derive(Drop)]
+pub struct Everybody<'a> {
+    pub tree: Option<&'a str>,
+    pub subtrees: Vec<&'a str>,
+}
+
+impl<'a> Everybody<'a> {
+    /// What was given to the command, where no text of pairs is named, and it is of everybody: beside that no user, and neither
+    /// every pair nor a further look.
+    fn from_matches(
+        alloc: Global,
+        matches: &ArgMatches<'a>,
+    ) -> Result<Everybody<'a>, ArgumentsFault>
+        requires pairs { first_value (found_of matches.now) (codes "pairs") ≡ None }
+        requires everybody { first_value (found_of matches.now) (codes "everybody") ≡ Some (codes "true") }
+        ensures given { IfOk result (IsEverybody (found_of matches.now)) }
+        ensures fault { IfErr result (λ fault. fault ≢ ArgumentsFault.NoMemory
+            → (asked : Everybody) → IsEverybody (found_of matches.now) asked → ⊥) }
+    {
+        if is_given(matches, "uid") || is_said(matches, "all", "true") {
+            return Err(ArgumentsFault::Usage);
+        }
+        if is_said(matches, "settle", "true") {
+            return Err(ArgumentsFault::Usage);
+        }
+        Ok(Everybody {
+            tree: file_of(matches, "tree"),
+            subtrees: given(matches, "subtree")?.to_vec(alloc)?,
         })
     }
 }
@@ -269,7 +308,8 @@ pub struct Pairs<'a> {
 }
 
 impl<'a> Pairs<'a> {
-    /// What was given to the command, where a text of pairs is named: beside it no user and no subtree, and no further look.
+    /// What was given to the command, where a text of pairs is named: beside it no user and no subtree, nor everybody, and no
+    /// further look.
     fn from_matches(matches: &ArgMatches<'a>) -> Result<Pairs<'a>, ArgumentsFault>
         requires { first_value (found_of matches.now) (codes "pairs") ≢ None }
         ensures { MatchResult result
@@ -279,7 +319,7 @@ impl<'a> Pairs<'a> {
         if is_given(matches, "uid") || is_given(matches, "gid") || is_given(matches, "subtree") {
             return Err(ArgumentsFault::Usage);
         }
-        if is_said(matches, "settle", "true") {
+        if is_said(matches, "settle", "true") || is_said(matches, "everybody", "true") {
             return Err(ArgumentsFault::Usage);
         }
         Ok(Pairs {

@@ -177,7 +177,7 @@ fn push_limits<H: Hierarchy>(
 }
 
 /// The line of a subtree that is over its limits.
-fn over_line(alloc: Global, subtree: &Path) -> Result<String, AllocError>
+pub fn over_line(alloc: Global, subtree: &Path) -> Result<String, AllocError>
     ensures { IfOk result (λ line. string_bytes line ≡ over_line subtree.now) }
 {
     let guard = Guard::AlreadyOver.name();

@@ -18,6 +18,7 @@ mod NamedReads
 mod AuditReports
 mod Once
 mod AllPairs
+mod EverybodyReports
 mod Explaining
 mod SettledPairs
 pub mod FurtherPairs

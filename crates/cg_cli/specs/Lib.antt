@@ -23,6 +23,7 @@ pub mod SettledAdvice
 pub mod FurtherAdvice
 pub mod FurtherPairs
 pub mod Pairs
+pub mod Everybody
 pub mod Explaining
 pub mod EachPair
 pub mod SettledPairs

@@ -169,7 +169,7 @@ fn push_pairs<'a>(
 }
 
 /// The line where nothing is to be changed.
-fn contained_line(alloc: Global) -> Result<Vec<u8>, NoMemory>
+pub(crate) fn contained_line(alloc: Global) -> Result<Vec<u8>, NoMemory>
     ensures { IfOk result (λ line. line.items ≡ contained_line) }
 {
     Ok(b"contained\n".to_vec(alloc)?)

@@ -1,5 +1,5 @@
 //! What to change so that every subtree is contained against every user, where more is asked than guards.
-ghost use Rattle.std.specs.Prelude.{◌≡◌, ◌≢◌, List, [], map, Ok, Err, None, IfOk, MatchResult};
+ghost use Rattle.std.specs.Prelude.{◌≡◌, ◌≢◌, List, [], map, cond, Ok, Err, Some, None, IfOk, MatchResult};
 ghost use Rattle.std.specs.List.{flat_map};
 ghost use Rattle.std.specs.Option.{option_map};
 ghost use Rattle.cg_model.specs.Clauses.{first};
@@ -91,7 +91,8 @@ fn advised<H: Hierarchy + Drop>(
     }
 }
 
-/// Nothing where the second row of each subtree holds, and else the advice.
+/// Nothing where no guard fails, or the second row of each subtree holds, and else the advice. The second row is asked last, since it
+/// takes longer.
 fn settled_lines<H: Hierarchy>(
     alloc: Global,
     tree: &H,
@@ -103,10 +104,20 @@ fn settled_lines<H: Hierarchy>(
     ensures { IfOk result (λ found. option_map (λ text. text.items) found
         ≡ settled_lines (H.state tree.now) users.now subtrees.now) }
 {
-    if are_held(alloc, tree, users, subtrees)? {
+    match advice(alloc, tree, users, subtrees)? {
+        None => Ok(None),
+        Some(lines) => lines_unless(are_held(alloc, tree, users, subtrees)?, lines),
+    }
+}
+
+/// The lines, but where the second row of each subtree holds none.
+fn lines_unless(is_held: bool, lines: Vec<u8>) -> Result<Option<Vec<u8>>, NoMemory>
+    ensures { result ≡ Ok (cond is_held None (Some lines)) }
+{
+    if is_held {
         return Ok(None);
     }
-    advice(alloc, tree, users, subtrees)
+    Ok(Some(lines))
 }
 
 /// Whether the second row of each subtree holds for all users together.

@@ -11,6 +11,7 @@ pub mod audit_all;
 pub mod audit_pairs;
 pub mod audit_settle;
 pub mod check;
+pub mod everybody;
 pub mod explain;
 pub mod explain_pairs;
 pub mod laws;

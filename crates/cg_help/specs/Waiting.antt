@@ -36,6 +36,7 @@ awaited (request.May may) = tree_awaited may.tree
 awaited (request.Check check) = tree_awaited check.tree
 awaited (request.Settle check) = tree_awaited check.tree
 awaited (request.Audit audit) = tree_awaited audit.tree
+awaited (request.AuditEverybody asked) = tree_awaited asked.tree
 awaited (request.Explain explain) = tree_awaited explain.tree
 awaited (request.Advise advise) = tree_awaited advise.tree
 awaited (request.AdvisePairs asked) = awaited_of asked.sources pairs_words

@@ -8,6 +8,7 @@ pub(crate) fn tree_of<'a>(request: &Request<'a>) -> Option<&'a str> {
         Request::May(request) => request.tree,
         Request::Check(request) | Request::Settle(request) => request.tree,
         Request::Audit(request) => request.tree,
+        Request::AuditEverybody(request) => request.tree,
         Request::Explain(request) => request.tree,
         Request::Advise(request) => request.tree,
         Request::AdvisePairs(request)
@@ -41,6 +42,7 @@ pub(crate) fn paths_of<'a>(
             Vec::from_slice(alloc, &[request.subtree])
         }
         Request::Audit(request) => Vec::from_slice(alloc, request.subtrees.as_slice()),
+        Request::AuditEverybody(request) => Vec::from_slice(alloc, request.subtrees.as_slice()),
         Request::Explain(request) => Vec::from_slice(alloc, request.subtrees.as_slice()),
         Request::Advise(request) => Vec::from_slice(alloc, request.subtrees.as_slice()),
         Request::Replay(request) => match request.subtree {

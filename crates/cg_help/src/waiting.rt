@@ -36,6 +36,7 @@ fn awaited(request: &Request<'_>) -> Option<&'static str>
         Request::May(asked) => tree_awaited(asked.tree),
         Request::Check(asked) | Request::Settle(asked) => tree_awaited(asked.tree),
         Request::Audit(asked) => tree_awaited(asked.tree),
+        Request::AuditEverybody(asked) => tree_awaited(asked.tree),
         Request::Explain(asked) => tree_awaited(asked.tree),
         Request::Advise(asked) => tree_awaited(asked.tree),
         Request::AdvisePairs(asked) | Request::AuditPairs(asked) | Request::ExplainPairs(asked) =>

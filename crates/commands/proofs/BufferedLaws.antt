@@ -27,7 +27,7 @@ use Rattle.cg_cli.specs.Replaying.{Reporting, Replays, ReplaysFrom}
 use Rattle.cg_cli.specs.Reports.{Report, Reports, report_on}
 use Rattle.cg_faults.specs.declared.fault.CliFault.{CliFault}
 use Rattle.cg_faults.specs.declared.fault.CliFault.TheVariants.{Read, Write, NoMemory}
-use Rattle.commands.specs.Requests.{Files, source, name_of, may_said, check_said, SettlesAs, AdviseSays, GuardsSay, FurtherSay}
+use Rattle.commands.specs.Requests.{Files, source, name_of, may_said, check_said, everybody_asked, SettlesAs, AdviseSays, GuardsSay, FurtherSay}
 use Rattle.commands.specs.Requests.{AuditSays, ExplainSays, AdvisesOn, AuditsOn, ExplainsOn, OnLines, OnPairsText, replay_said, IsUnread, OnTreeText, OnTree, ReportsOnTree, ReplaysOver, CarriesOut}
 use Rattle.commands.specs.PairLines.{GivenPair, pairs_read}
 use Rattle.cg_cgroup.specs.declared.files.Vocabulary.{Vocabulary}
@@ -200,6 +200,8 @@ CarriesOut-Keeps (request.Settle check) files given old mid new result h k =
 CarriesOut-Keeps (request.Audit audit) files given old mid new result h k =
     OnTree-Keeps (source files (name_of audit.tree) given) (AuditSays audit old mid result) (AuditSays audit old new result) old mid new
     result (λ tree said. AuditSays-Keeps audit old mid new result tree said k) h k
+CarriesOut-Keeps (request.AuditEverybody asked) files given old mid new result h k =
+    ReportsOnTree-Keeps (source files (name_of asked.tree) given) (everybody_asked asked) old mid new result h k
 CarriesOut-Keeps (request.Explain explain) files given old mid new result h k =
     OnTree-Keeps (source files (name_of explain.tree) given) (ExplainSays explain old mid result) (ExplainSays explain old new result) old
     mid new result (λ tree said. ExplainSays-Keeps explain old mid new result tree said k) h k

@@ -15,23 +15,29 @@ use Rattle.cg_cli.specs.Arguments.{user_read, path_read}
 use Rattle.cg_cli.specs.AllPairs.{read_then, pairs_found, all_report, ReportsPairs}
 use Rattle.cg_cli.specs.Containment.{subtree_report, check_report}
 use Rattle.cg_cli.specs.Audits.{users_read, paths_read, pairs_report, audit_report}
+use Rattle.cg_cli.specs.Everybody.{everybody_said, everybody_report}
 use Rattle.cg_cli.specs.Once.{same_user}
 use Rattle.cg_model.specs.Once.{once}
 use Rattle.cg_cli.specs.Reports.{Report, Reports, report_on}
 use Rattle.cg_faults.specs.declared.fault.CliFault.{CliFault}
 use Rattle.cg_faults.specs.declared.fault.CliFault.TheVariants.{NoMemory}
-use Rattle.arguments.specs.Given.{ids_of, Holds, command_of}
+use Rattle.clap.specs.declared.parser.matches.Found.{Found}
+use Rattle.arguments.specs.Given.{ids_of, words_at, users_given, IsAudit, IsEverybody, Holds, command_of}
+use Rattle.arguments.specs.UserWords.{all_read, user_at}
 use Rattle.arguments.specs.declared.request.Check.{Check}
 use Rattle.arguments.specs.declared.request.Audit.{Audit}
+use Rattle.arguments.specs.declared.request.Everybody.{Everybody}
+use Rattle.arguments.specs.declared.request.Pairs.{Pairs}
 use Rattle.arguments.specs.declared.request.Request.{Request}
 use Rattle.arguments.specs.declared.request.Request.TheVariants as request
 use Rattle.arguments.proofs.MadeLaws.{named_as}
-use Rattle.machine_answers.specs.Contained.{of_ids, IsContainedIn, AreContainedIn}
+use Rattle.machine_answers.specs.Contained.{of_ids, IsContainedIn, AreContainedIn, AreHeldAgainstEverybody}
 use Rattle.machine_answers.proofs.MachineLaws.{contained_in}
 use Rattle.machine_answers.proofs.AuditedLaws.{audited_in, all_audited_in}
-use Rattle.commands.specs.Requests.{Files, source, name_of, IsTree, IsUnread, check_said, GuardsSay, FurtherSay, CarriesOut}
+use Rattle.machine_answers.proofs.EverybodyLaws.{held_against_everybody}
+use Rattle.commands.specs.Requests.{Files, source, name_of, IsTree, IsUnread, check_said, everybody_asked, GuardsSay, FurtherSay, CarriesOut}
 use Rattle.commands.specs.Runs.{IsFlushed, LeadsTo, RunsTo, exit_status}
-use Rattle.commands.specs.Yes.{AsksCheck, AsksAudit, WasRead, CheckMeans, AuditMeans}
+use Rattle.commands.specs.Yes.{AsksCheck, AsksAudit, AsksEverybody, WasRead, CheckMeans, AuditMeans, EverybodyMeans}
 use Rattle.commands.specs.declared.fault.Fault.{Fault}
 use Rattle.commands.specs.declared.fault.Fault.TheVariants.{Cli}
 use Rattle.streams.specs.declared.write.WriteFailed.{WriteFailed}
@@ -93,6 +99,11 @@ all_refused fault users subtrees pairs is =
     unread_pairs (users_read users) (paths_read subtrees) (lifted fault)
     (λ (users : List Identity) (paths : List Names) (st : State). pairs_found st (once same_user users) (once same_path paths)) pairs is
 
+everybody_refused : (fault : TreeFault) (subtrees : List (List ℕ)) → (everybody_report (Err fault) subtrees).ending ≡ Ok 0 → ⊥
+everybody_refused fault subtrees is =
+    refused {A = Unit {0}} (Ok tt) (paths_read subtrees) (lifted fault)
+    (λ (none : Unit {0}) (paths : List Names) (st : State). everybody_said st (once same_path paths)) is
+
 pub not_unread : {P : Type 0} (old new : Option (List ℕ)) (status : ℕ) → IsUnread old new (Ok status) → P
 not_unread old new status (inl never, keeps) = let none : ⊥ = cc in absurd none
 not_unread old new status (inr never, keeps) = let none : ⊥ = cc in absurd none
@@ -153,6 +164,24 @@ module _ (files : Files) (given old new : Option (List ℕ)) where
       by_flag true says = all_of read reading (all_report read users subtrees) refl says
   audit_carried audit settle (inr it) = not_unread old new 0 it
 
+  everybody_carried : (asked : Everybody) → CarriesOut (request.AuditEverybody asked) files given old new (Ok 0)
+      → (text : List ℕ) × WasRead files (name_of asked.tree) given text
+      × AreHeldAgainstEverybody text (map (λ subtree. subtree.now) asked.subtrees.items)
+  everybody_carried asked (inl (text, is_tree, (read, reading, reports))) = by_reading read reading reports
+    where
+      subtrees : List (List ℕ)
+      subtrees = map (λ subtree. subtree.now) asked.subtrees.items
+
+      by_reading : (read : Reading) → IsReading text read → Reports (everybody_asked asked read) old new (Ok 0)
+          → (text : List ℕ) × WasRead files (name_of asked.tree) given text × AreHeldAgainstEverybody text subtrees
+      by_reading (Ok st) reading reports = (
+        text,
+        read_whole (source files (name_of asked.tree) given) text is_tree reading.short,
+        held_against_everybody text (Ok st) subtrees reading reports.0,
+      )
+      by_reading (Err fault) reading reports = absurd (everybody_refused fault subtrees reports.0)
+  everybody_carried asked (inr it) = not_unread old new 0 it
+
 -- ---- names of commands are apart
 
 may-check : ◌≡◌ {A = Option (List ℕ)} (Some (codes "may")) (Some (codes "check")) → ⊥
@@ -203,6 +232,42 @@ check-audit is = true≢false (ap (λ (o : Option (List ℕ)). nat_eq (get_or (u
 none-audit : ◌≡◌ {A = Option (List ℕ)} None (Some (codes "audit")) → ⊥
 none-audit is = cc
 
+-- what is said of all requests of `audit` is said of them
+of_audit : (P : Request → Type 0) → ((audit : Audit) → P (request.Audit audit)) → ((asked : Everybody) → P (request.AuditEverybody asked))
+    → ((pairs : Pairs) → P (request.AuditPairs pairs)) → (asked : Request) → command_of asked ≡ Some (codes "audit") → P asked
+of_audit P one everybody each (request.Audit audit) is = one audit
+of_audit P one everybody each (request.AuditEverybody asked) is = everybody asked
+of_audit P one everybody each (request.AuditPairs pairs) is = each pairs
+of_audit P one everybody each (request.Help help) is = absurd (none-audit is)
+of_audit P one everybody each (request.May may) is = absurd (may-audit is)
+of_audit P one everybody each (request.Check check) is = absurd (check-audit is)
+of_audit P one everybody each (request.Settle check) is = absurd (settle-audit is)
+of_audit P one everybody each (request.Explain explain) is = absurd (explain-audit is)
+of_audit P one everybody each (request.ExplainPairs pairs) is = absurd (explain-audit is)
+of_audit P one everybody each (request.Advise advise) is = absurd (advise-audit is)
+of_audit P one everybody each (request.AdvisePairs pairs) is = absurd (advise-audit is)
+of_audit P one everybody each (request.Replay replay) is = absurd (replay-audit is)
+of_audit P one everybody each (request.Upgrade upgrade) is = absurd (upgrade-audit is)
+
+-- where nobody is named, whoever there is holds for them
+none_given : (found : Found) (users : List (ℕ × List ℕ)) → words_at found (codes "uid") ≡ [] → users_given found ≡ Some users → users ≡ []
+none_given found users none given =
+    same_some users [] (sym given ∙ ap (λ (words : List (List ℕ)). all_read user_at words) none)
+
+for_nobody : (text : List ℕ) (words : List (List ℕ)) → AreHeldAgainstEverybody text words → AreContainedIn text [] words
+for_nobody text words held = record {
+  machine = held.machine;
+  told = held.told;
+  each = λ word among.
+      let it = held.each word among in record {
+        subtree = it.subtree;
+        named = it.named;
+        below = it.below;
+        there = it.there;
+        contained = it.contained [] tt;
+      };
+}
+
 -- ---- what the words ask
 
 pub flushed_is : (ended : Result ℕ CliFault) (status : ℕ) → IsFlushed ended (Ok status) → ended ≡ Ok status
@@ -238,6 +303,7 @@ module _ (words : List (List ℕ)) (files : Files) (given old said : Option (Lis
       by_request (request.May may) is holds done = absurd (may-check is)
       by_request (request.Settle check) is holds done = absurd (settle-check is)
       by_request (request.Audit audit) is holds done = absurd (audit-check is)
+      by_request (request.AuditEverybody asked) is holds done = absurd (audit-check is)
       by_request (request.AuditPairs pairs) is holds done = absurd (audit-check is)
       by_request (request.Explain explain) is holds done = absurd (explain-check is)
       by_request (request.ExplainPairs pairs) is holds done = absurd (explain-check is)
@@ -249,12 +315,14 @@ module _ (words : List (List ℕ)) (files : Files) (given old said : Option (Lis
   audit_means : (tree : Option (List ℕ)) (users : List (ℕ × List ℕ)) (subtrees : List (List ℕ)) → AsksAudit words tree users subtrees
       → (text : List ℕ) × WasRead files tree given text × AreContainedIn text (map of_ids users) subtrees
   audit_means tree users subtrees asks =
-      let of = named_as words (codes "audit") asks.0 asks.1 asks.2 leads.0 leads.1 in by_request leads.0 of.0 of.1 carried
+      let of = named_as words (codes "audit") asks.0 asks.1 asks.2 leads.0 leads.1 in
+      of_audit (λ (asked : Request). Holds asks.0 asked → CarriesOut asked files given old said (Ok 0)
+      → (text : List ℕ) × WasRead files tree given text × AreContainedIn text (map of_ids users) subtrees)
+      by_audit by_everybody (λ pairs holds done. absurd (holds.some_pairs asks.3.3)) leads.0 of.0 of.1 carried
     where
-      by_request : (asked : Request) → command_of asked ≡ Some (codes "audit") → Holds asks.0 asked
-          → CarriesOut asked files given old said (Ok 0)
+      by_audit : (audit : Audit) → IsAudit asks.0 audit → CarriesOut (request.Audit audit) files given old said (Ok 0)
           → (text : List ℕ) × WasRead files tree given text × AreContainedIn text (map of_ids users) subtrees
-      by_request (request.Audit audit) is holds done =
+      by_audit audit holds done =
           let means = audit_carried files given old said audit (holds.settle.1 asks.3.4) done in
           let of_tree : name_of audit.tree ≡ tree = holds.tree ∙ asks.3.0 in
           let of_users : map ids_of audit.users.items ≡ users =
@@ -266,17 +334,39 @@ module _ (words : List (List ℕ)) (files : Files) (given old said : Option (Lis
                 (subst (λ (users : List (ℕ × List ℕ)). AreContainedIn means.0 (map of_ids users)
                 (map (λ subtree. subtree.now) audit.subtrees.items)) of_users means.2),
           )
-      by_request (request.AuditPairs pairs) is holds done = absurd (holds.some_pairs asks.3.3)
-      by_request (request.Help help) is holds done = absurd (none-audit is)
-      by_request (request.May may) is holds done = absurd (may-audit is)
-      by_request (request.Check check) is holds done = absurd (check-audit is)
-      by_request (request.Settle check) is holds done = absurd (settle-audit is)
-      by_request (request.Explain explain) is holds done = absurd (explain-audit is)
-      by_request (request.ExplainPairs pairs) is holds done = absurd (explain-audit is)
-      by_request (request.Advise advise) is holds done = absurd (advise-audit is)
-      by_request (request.AdvisePairs pairs) is holds done = absurd (advise-audit is)
-      by_request (request.Replay replay) is holds done = absurd (replay-audit is)
-      by_request (request.Upgrade upgrade) is holds done = absurd (upgrade-audit is)
+
+      by_everybody : (asked : Everybody) → IsEverybody asks.0 asked → CarriesOut (request.AuditEverybody asked) files given old said (Ok 0)
+          → (text : List ℕ) × WasRead files tree given text × AreContainedIn text (map of_ids users) subtrees
+      by_everybody asked holds done =
+          let means = everybody_carried files given old said asked done in
+          let of_tree : name_of asked.tree ≡ tree = holds.tree ∙ asks.3.0 in
+          let of_users : [] ≡ users = sym (none_given asks.0 users holds.no_user asks.3.1) in
+          let of_subtrees : map (λ subtree. subtree.now) asked.subtrees.items ≡ subtrees = sym holds.subtrees ∙ asks.3.2 in (
+            means.0,
+            subst (λ (tree : Option (List ℕ)). WasRead files tree given means.0) of_tree means.1,
+            subst (λ (words : List (List ℕ)). AreContainedIn means.0 (map of_ids users) words) of_subtrees
+                (subst (λ (users : List (ℕ × List ℕ)). AreContainedIn means.0 (map of_ids users)
+                (map (λ subtree. subtree.now) asked.subtrees.items)) of_users
+                (for_nobody means.0 (map (λ subtree. subtree.now) asked.subtrees.items) means.2)),
+          )
+
+  everybody_means : (tree : Option (List ℕ)) (subtrees : List (List ℕ)) → AsksEverybody words tree subtrees
+      → (text : List ℕ) × WasRead files tree given text × AreHeldAgainstEverybody text subtrees
+  everybody_means tree subtrees asks =
+      let of = named_as words (codes "audit") asks.0 asks.1 asks.2 leads.0 leads.1 in
+      of_audit (λ (asked : Request). Holds asks.0 asked → CarriesOut asked files given old said (Ok 0)
+      → (text : List ℕ) × WasRead files tree given text × AreHeldAgainstEverybody text subtrees)
+      (λ audit holds done. absurd (holds.not_everybody asks.3.2)) by_everybody
+      (λ pairs holds done. absurd (holds.not_everybody asks.3.2)) leads.0 of.0 of.1 carried
+    where
+      by_everybody : (asked : Everybody) → IsEverybody asks.0 asked → CarriesOut (request.AuditEverybody asked) files given old said (Ok 0)
+          → (text : List ℕ) × WasRead files tree given text × AreHeldAgainstEverybody text subtrees
+      by_everybody asked holds done =
+          let means = everybody_carried files given old said asked done in (
+            means.0,
+            subst (λ (tree : Option (List ℕ)). WasRead files tree given means.0) (holds.tree ∙ asks.3.0) means.1,
+            subst (λ (words : List (List ℕ)). AreHeldAgainstEverybody means.0 words) (sym holds.subtrees ∙ asks.3.1) means.2,
+          )
 
 -- ---- of a run
 
@@ -295,6 +385,10 @@ module _ (words : List (List ℕ)) (files : Files) (given old new : Option (List
   pub run_audits : AuditMeans words files given (exit_status answer)
   run_audits tree users subtrees asks is =
       audit_means words files given old runs.0 (leads_to (answer_is answer is)) tree users subtrees asks
+
+  pub run_audits_everybody : EverybodyMeans words files given (exit_status answer)
+  run_audits_everybody tree subtrees asks is =
+      everybody_means words files given old runs.0 (leads_to (answer_is answer is)) tree subtrees asks
 
 -- ---- of the program
 
@@ -320,3 +414,8 @@ module _ {W : Type 0} (contents : W → Option (List ℕ)) (P : W → Type 0) (w
   pub program_audits : (out : Option W) → MatchOption out (answer ≡ Err (Cli NoMemory)) P → AuditMeans words files given status
   program_audits out ran tree users subtrees asks zero =
       let found = zero_runs out ran zero in audit_means words files given old found.0 found.1 tree users subtrees asks
+
+  pub program_audits_everybody : (out : Option W) → MatchOption out (answer ≡ Err (Cli NoMemory)) P
+      → EverybodyMeans words files given status
+  program_audits_everybody out ran tree subtrees asks zero =
+      let found = zero_runs out ran zero in everybody_means words files given old found.0 found.1 tree subtrees asks

@@ -7,6 +7,7 @@ use Rattle.arguments.specs.Given.{ids_of, tree_file, other_file}
 use Rattle.arguments.specs.declared.request.May.{May}
 use Rattle.arguments.specs.declared.request.Check.{Check}
 use Rattle.arguments.specs.declared.request.Audit.{Audit}
+use Rattle.arguments.specs.declared.request.Everybody.{Everybody}
 use Rattle.arguments.specs.declared.request.Explain.{Explain}
 use Rattle.arguments.specs.declared.request.Advise.{Advise}
 use Rattle.arguments.specs.declared.request.Replay.{Replay}
@@ -21,6 +22,7 @@ use Rattle.cg_cli.specs.Audits.{audit_report}
 use Rattle.cg_cli.specs.AllPairs.{all_report, ReportsPairs}
 use Rattle.cg_cli.specs.Asking.{CallEnding}
 use Rattle.cg_cli.specs.EachPair.{audit_pairs_report, explain_pairs_asked}
+use Rattle.cg_cli.specs.Everybody.{everybody_report}
 use Rattle.cg_cli.specs.Explaining.{explain_asked, ReportsTold}
 use Rattle.cg_cli.specs.Advising.{advise_report, advise_pairs_report}
 use Rattle.cg_cli.specs.SettledAdvice.{advise_settled_report}
@@ -69,6 +71,9 @@ may_said may tree = may_report tree may.user.uid may.user.gids.items may.pid may
 
 abbrev pub check_said : Check → Reading → Report
 check_said check tree = check_report tree check.user.uid check.user.gids.items check.subtree.now
+
+abbrev pub everybody_asked : Everybody → Reading → Report
+everybody_asked asked tree = everybody_report tree (map (λ subtree. subtree.now) asked.subtrees.items)
 
 -- what check says, or where that is unsettled what the second row of guards and the planner know
 abbrev pub SettlesAs : Check → Option (List ℕ) → Option (List ℕ) → Result ℕ CliFault → Reading → Type 0
@@ -176,6 +181,8 @@ CarriesOut (request.Settle check) files given old new result =
     SettlesOnTree (source files (name_of check.tree) given) check old new result
 CarriesOut (request.Audit audit) files given old new result =
     OnTree (source files (name_of audit.tree) given) (AuditSays audit old new result) old new result
+CarriesOut (request.AuditEverybody asked) files given old new result =
+    ReportsOnTree (source files (name_of asked.tree) given) (everybody_asked asked) old new result
 CarriesOut (request.Explain explain) files given old new result =
     OnTree (source files (name_of explain.tree) given) (ExplainSays explain old new result) old new result
 CarriesOut (request.Advise advise) files given old new result =

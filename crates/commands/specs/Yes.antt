@@ -4,7 +4,7 @@ use Rattle.clap.specs.Matches.{first_value, one_text}
 use Rattle.clap.specs.Walk.{Text}
 use Rattle.arguments.specs.Given.{words_at, file_at, user_given, users_given}
 use Rattle.arguments.specs.Words.{NamesCommand}
-use Rattle.machine_answers.specs.Contained.{of_ids, IsContainedIn, AreContainedIn}
+use Rattle.machine_answers.specs.Contained.{of_ids, IsContainedIn, AreContainedIn, AreHeldAgainstEverybody}
 use Rattle.commands.specs.Requests.{Files, source}
 
 -- The words are faultless, and name `check` with a file for the tree, or none, a user and a subtree.
@@ -17,6 +17,12 @@ abbrev pub AsksAudit : List Text → Option (List ℕ) → List (ℕ × List ℕ
 AsksAudit words tree given subtrees = NamesCommand words (codes "audit") (λ found.
     (file_at found (codes "tree") ≡ tree) × (users_given found ≡ Some given) × (words_at found (codes "subtree") ≡ subtrees)
     × (first_value found (codes "pairs") ≡ None) × (one_text found (codes "settle") ≡ Some (codes "false")))
+
+-- They name `audit` with everybody, and subtrees.
+abbrev pub AsksEverybody : List Text → Option (List ℕ) → List (List ℕ) → Type 0
+AsksEverybody words tree subtrees = NamesCommand words (codes "audit") (λ found.
+    (file_at found (codes "tree") ≡ tree) × (words_at found (codes "subtree") ≡ subtrees)
+    × (first_value found (codes "everybody") ≡ Some (codes "true")))
 
 -- The text that was read for the tree: that of the named file, or of standard input where none is named, where it is known what that
 -- holds.
@@ -32,3 +38,8 @@ abbrev pub AuditMeans : List Text → Files → Option (List ℕ) → ℕ → Ty
 AuditMeans words files given status =
     (tree : Option (List ℕ)) (users : List (ℕ × List ℕ)) (subtrees : List (List ℕ)) → AsksAudit words tree users subtrees → status ≡ 0
     → (text : List ℕ) × WasRead files tree given text × AreContainedIn text (map of_ids users) subtrees
+
+abbrev pub EverybodyMeans : List Text → Files → Option (List ℕ) → ℕ → Type 0
+EverybodyMeans words files given status =
+    (tree : Option (List ℕ)) (subtrees : List (List ℕ)) → AsksEverybody words tree subtrees → status ≡ 0
+    → (text : List ℕ) × WasRead files tree given text × AreHeldAgainstEverybody text subtrees

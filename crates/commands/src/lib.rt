@@ -6,7 +6,7 @@ mod carried;
 pub mod fault;
 mod on_pairs;
 mod on_tree;
-mod pairs;
+pub mod pairs;
 pub mod program;
 pub mod run;
 mod texts;

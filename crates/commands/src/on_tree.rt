@@ -9,18 +9,19 @@ ghost use Rattle.cg_cli.specs.Upgrades.{Upgrades};
 ghost use Rattle.cg_faults.specs.declared.fault.CliFault.{CliFault};
 ghost use Rattle.arguments.specs.Given.{ids_of};
 ghost use Rattle.commands.specs.Beside.{IsNoted};
-ghost use Rattle.commands.specs.Requests.{source, name_of, may_said, check_said, SettlesAs, AdviseSays, AuditSays, ExplainSays, IsUnread, OnTreeText};
+ghost use Rattle.commands.specs.Requests.{source, name_of, may_said, check_said, everybody_asked, SettlesAs, AdviseSays, AuditSays, ExplainSays, IsUnread, OnTreeText};
 
 use crate::both::plain;
 use crate::texts::tree_text;
 use crate::users::{all_ids, ids};
-use arguments::request::{Advise, Audit, Check, Explain, May, Upgrade};
+use arguments::request::{Advise, Audit, Check, Everybody, Explain, May, Upgrade};
 use cg_cli::advise::advise_bytes;
 use cg_cli::advise_settle::advise_settled_bytes;
 use cg_cli::audit::audit_bytes;
 use cg_cli::audit_all::audit_all_bytes;
 use cg_cli::audit_settle::{audit_all_settled_bytes, audit_settled_bytes};
 use cg_cli::check::check_bytes;
+use cg_cli::everybody::everybody_bytes;
 use cg_cli::explain::explain_bytes;
 use cg_cli::may::may_bytes;
 use cg_cli::settle::settle_bytes;
@@ -196,6 +197,30 @@ impl OnTree for Audit<'_> {
             (true, false) => audit_settled_bytes(alloc, tree, users, subtrees, stranger, out),
             (true, true) => audit_all_settled_bytes(alloc, tree, users, subtrees, stranger, out),
         }
+    }
+}
+
+impl OnTree for Everybody<'_> {
+    ghost file = { λ asked. name_of asked.tree };
+
+    ghost users = { λ _. None };
+
+    ghost path = { λ _. None };
+
+    ghost answers = { λ asked _ read old new result. Reports (everybody_asked asked read) old new result };
+
+    fn tree(&self) -> Option<&str> {
+        self.tree
+    }
+
+    fn answer<W: Write>(
+        &self,
+        alloc: Global,
+        tree: &[u8],
+        _: &mut Beside,
+        out: &mut W,
+    ) -> Result<u8, CliFault> {
+        everybody_bytes(alloc, tree, self.subtrees.as_slice(), out)
     }
 }
 

@@ -217,7 +217,7 @@ fn test_end(is_long: bool, done: u32, rest: &[u8]) -> Result<(), CliFault>
 }
 
 /// What is before the first newline, and what is behind it.
-fn cut_at_newline(bytes: &[u8]) -> Option<(&[u8], &[u8])>
+pub fn cut_at_newline(bytes: &[u8]) -> Option<(&[u8], &[u8])>
     ensures pieces { MatchOption result (slice_split is_newline bytes.now ≡ bytes.now ∷ [])
         (λ parts. slice_split is_newline bytes.now ≡ parts.0.now ∷ slice_split is_newline parts.1.now) }
     ensures less { IfSome result (λ parts. length parts.1.now < length bytes.now) }

@@ -4,7 +4,7 @@ ghost use Rattle.std.specs.IoError.{error_kind};
 ghost use Rattle.std.specs.Io.KnownBytes.{Keeps};
 ghost use Rattle.commands.specs.Beside.{IsBeside};
 ghost use Rattle.commands.specs.Runs.{exit_status, TellsFault, TellsBeside, Tells, RunsTo};
-ghost use Rattle.commands.specs.Yes.{CheckMeans, AuditMeans};
+ghost use Rattle.commands.specs.Yes.{CheckMeans, AuditMeans, EverybodyMeans};
 ghost use Rattle.commands.specs.declared.fault.Fault.{Fault};
 ghost use Rattle.commands.specs.declared.fault.Fault.TheVariants.{Cli, Usage as UsageFault};
 ghost use Rattle.streams.specs.declared.write.WriteFailed.{WriteFailed};
@@ -56,7 +56,7 @@ pub struct Ended<W, E> {
 /// at the words, the files and the input.
 ///
 /// Where the words ask `check` or `audit`, status 0 says that the text that was read tells of a machine in which what they name is
-/// contained against whom they name.
+/// contained against whom they name, or where they ask `audit --everybody` against everybody but root, whoever there is.
 pub fn run_program<F: Files, I: Read + Drop, W: Write + Drop, E: Write + Drop>(
     alloc: Global,
     version: &str,
@@ -77,6 +77,7 @@ pub fn run_program<F: Files, I: Read + Drop, W: Write + Drop, E: Write + Drop>(
         ⊎ ((fault ≡ Cli MemoryFault) × (error_kind error ≡ ErrorKind.OutOfMemory))))) }
     ensures check { IfOk words (λ words. CheckMeans (map string_bytes words.items) (F.given files.now) (I.remaining input) result.status) }
     ensures audit { IfOk words (λ words. AuditMeans (map string_bytes words.items) (F.given files.now) (I.remaining input) result.status) }
+    ensures everybody { IfOk words (λ words. EverybodyMeans (map string_bytes words.items) (F.given files.now) (I.remaining input) result.status) }
 {
     match words {
         Ok(words) => {

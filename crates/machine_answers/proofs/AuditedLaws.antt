@@ -60,7 +60,7 @@ users_are (ids ∷ given) users is =
     let user = user_is ids.0 ids.1 both.0 (user_named _ (user_of ids.0 ids.1) both.0 both.2) in
     both.4 ∙ (λ i. user i ∷ users_are given both.1 both.3 i)
 
-paths_held : (Q : Names → Type 0) (P : List ℕ → Type 0)
+pub paths_held : (Q : Names → Type 0) (P : List ℕ → Type 0)
     → ((word : List ℕ) (subtree : Names) → path_at word ≡ Some subtree → Q subtree → P word)
     → (words : List (List ℕ)) (subtrees : List Names) → paths_read words ≡ Ok subtrees → AllByRecursion Q subtrees → AllByRecursion P words
 paths_held Q P holds [] subtrees is each = tt
@@ -203,7 +203,7 @@ none_status (pair ∷ pairs) none = by_escape (list_any (λ (each : Listed). is_
     by_escape true h = let never : ⊥ = cc in absurd never
     by_escape false h = let never : ⊥ = cc in absurd never
 
-one_by_one : {A : Type 0} (P : A → Type 0) (xs : List A) → All P xs → AllByRecursion P xs
+pub one_by_one : {A : Type 0} (P : A → Type 0) (xs : List A) → All P xs → AllByRecursion P xs
 one_by_one P [] all = tt
 one_by_one P (x ∷ xs) all = (all 0 x (omega arith), one_by_one P xs (λ k d within. all (suc k) d (omega (arith, within))))
 

@@ -1,3 +1,4 @@
 pub mod GuardedLaws
 pub mod MachineLaws
 pub mod AuditedLaws
+pub mod EverybodyLaws

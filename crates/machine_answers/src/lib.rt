@@ -8,7 +8,8 @@ ghost use Rattle.cg_cli.specs.Containment.{check_report};
 ghost use Rattle.cg_model.specs.Listed.{Listed};
 ghost use Rattle.cg_cli.specs.AllPairs.{pairs_status, all_report};
 ghost use Rattle.cg_cli.specs.Audits.{audit_report};
-ghost use Rattle.machine_answers.specs.Contained.{of_ids, IsContainedIn, AreContainedIn};
+ghost use Rattle.cg_cli.specs.Everybody.{everybody_report};
+ghost use Rattle.machine_answers.specs.Contained.{of_ids, IsContainedIn, AreContainedIn, AreHeldAgainstEverybody};
 
 /// Where the report of `check` on a text ends with status 0, the text tells of a machine in which the subtree is contained against the
 /// user.
@@ -27,4 +28,11 @@ pub fn audited()
     ensures all { (text : List ℕ) (tree : Reading) (given : List (ℕ × List ℕ)) (words : List (List ℕ)) (pairs : List Listed)
         → IsReading text tree → all_report tree given words ≡ Ok pairs → pairs_status pairs ≡ 0
         → AreContainedIn text (map of_ids given) words }
+{}
+
+/// Where the report of `audit --everybody` does, each of the subtrees is contained there against everybody but root.
+pub fn audited_against_everybody()
+    ensures { (text : List ℕ) (tree : Reading) (words : List (List ℕ))
+        → IsReading text tree → (everybody_report tree words).ending ≡ Ok 0
+        → AreHeldAgainstEverybody text words }
 {}

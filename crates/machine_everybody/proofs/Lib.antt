@@ -1,2 +1,2 @@
-mod Guarding
-mod LetIn
+pub mod Guarding
+pub mod LetIn

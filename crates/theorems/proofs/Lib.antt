@@ -9,3 +9,4 @@ mod ExplainedLaws
 mod FurtherLaws
 mod MayLaws
 mod ProgramLaws
+mod EverybodyLaws

@@ -1,8 +1,8 @@
 -- What the program's status and its writers say, by the request that its words make.
 use Rattle.std.proofs.Common.{◌≡◌, ◌≢◌, ℕ, Bool, true, false, List, [], map, take, Option, Some, Result, Ok, Err, ap, sym, ◌∙◌, subst, inl, inr, ⊎_elim, ◌≤◌, length, refl, arith}
-use Rattle.std.specs.Prelude.{◌⊎◌, None, IsOk, IfSome, MatchBool, codes}
+use Rattle.std.specs.Prelude.{◌⊎◌, ◌↔◌, None, IsOk, IfSome, MatchBool, codes}
 use Rattle.std.specs.Io.KnownBytes.{Keeps}
-use Rattle.std.specs.List.{All}
+use Rattle.std.specs.List.{All, AllByRecursion}
 use Rattle.std.specs.Option.{ok_or}
 use Rattle.std.proofs.lemmas.List.{take_all}
 use Rattle.cg_cgroup.specs.Paths.{Names, path_at, same_path}
@@ -36,6 +36,8 @@ use Rattle.cg_cli.specs.Asking.{CallEnding}
 use Rattle.cg_cli.specs.EachPair.{audit_pairs_report, explain_pairs_asked, UnlistedAsNamed}
 use Rattle.cg_cli.specs.Containment.{answer_report}
 use Rattle.cg_cli.specs.Explaining.{explain_asked, ReportsTold}
+use Rattle.cg_everybody.specs.Everybody.{GuardsHoldForEverybody}
+use Rattle.machine_everybody.specs.Everybody.{IsNotRoot}
 use Rattle.cg_cli.specs.Settled.{IsSettledFrom}
 use Rattle.cg_cli.specs.SettledAdvice.{advise_settled_report}
 use Rattle.cg_cli.specs.Settling.{IsFurther}
@@ -53,6 +55,7 @@ use Rattle.arguments.specs.Given.{ids_of, tree_file, other_file}
 use Rattle.arguments.specs.declared.request.May.{May}
 use Rattle.arguments.specs.declared.request.Check.{Check}
 use Rattle.arguments.specs.declared.request.Audit.{Audit}
+use Rattle.arguments.specs.declared.request.Everybody.{Everybody}
 use Rattle.arguments.specs.declared.request.Explain.{Explain}
 use Rattle.arguments.specs.declared.request.Advise.{Advise}
 use Rattle.arguments.specs.declared.request.Pairs.{Pairs}
@@ -62,7 +65,7 @@ use Rattle.arguments.specs.declared.request.Request.{Request}
 use Rattle.arguments.specs.declared.request.Request.TheVariants as request
 use Rattle.streams.specs.declared.write.WriteFailed.{WriteFailed}
 use Rattle.commands.specs.PairLines.{GivenPair, pairs_read, AsksSomething}
-use Rattle.commands.specs.Requests.{Files, source, name_of, may_said, check_said, SettlesAs, AdviseSays, AdvisesOn, AuditsOn, ExplainsOn, OnLines, OnPairsText, GuardsSay, FurtherSay, AuditSays, ExplainSays, replay_said, OnTreeText, OnTree, ReplaysOver, CarriesOut}
+use Rattle.commands.specs.Requests.{Files, source, name_of, may_said, check_said, everybody_asked, SettlesAs, AdviseSays, AdvisesOn, AuditsOn, ExplainsOn, OnLines, OnPairsText, GuardsSay, FurtherSay, AuditSays, ExplainSays, replay_said, OnTreeText, OnTree, ReplaysOver, CarriesOut}
 use Rattle.commands.specs.Runs.{CarriesOutBuffered, LeadsTo, LiesBelow, RunsTo}
 use Rattle.commands.specs.declared.fault.Fault.{Fault}
 use Rattle.commands.specs.declared.fault.Fault.TheVariants.{Usage, Cli}
@@ -73,6 +76,7 @@ use Rattle.machine_answers.proofs.GuardedLaws.{named_read, contained_by_status}
 use Rattle.theorems.proofs.SettledLaws.{settled_as}
 use Rattle.theorems.proofs.FurtherLaws.{settled_told, all_told, first_told}
 use Rattle.theorems.proofs.StatusLaws.{all_contained_by_status, all_contained_by_pairs, all_contained_by_advice}
+use Rattle.theorems.proofs.EverybodyLaws.{all_hold, all_contained}
 use Rattle.theorems.proofs.ExplainedLaws.{explained_contained}
 use Rattle.theorems.proofs.MayLaws.{nothing_bars}
 use Rattle.theorems.proofs.PairedLaws.{contained_as_they_are, audited_as_named, explained_as_named}
@@ -224,6 +228,23 @@ module _ (files : Files) (given old new : Option (List ℕ)) (status : ℕ) wher
           λ zero user subtree of_user of_path.
               contained_by_status text st check.user.uid check.user.gids.items user check.subtree.now subtree of_text of_user of_path
               (report.0 ∙ ap Ok zero),
+        )
+
+    pub everybody_ended : (asked : Everybody) (subtrees : List Names)
+        → CarriesOut (request.AuditEverybody asked) files given old new (Ok status)
+        → source files (name_of asked.tree) given ≡ Some text → IsTextOf st text
+        → paths_read (map (λ subtree. subtree.now) asked.subtrees.items) ≡ Ok subtrees
+        → Reports (everybody_asked asked (Ok st)) old new (Ok status)
+        × ((status ≡ 0) ↔ All (GuardsHoldForEverybody st) subtrees)
+        × (status ≡ 0 → (users : List Identity) → AllByRecursion IsNotRoot users → users ≢ [] → AreContained st users subtrees)
+    everybody_ended asked subtrees carried of_known of_text of_paths =
+        let words : List (List ℕ) = map (λ subtree. subtree.now) asked.subtrees.items in
+        let report =
+        on_state (λ read. Reports (everybody_asked asked read) old new (Ok status)) (source files (name_of asked.tree) given) old new status
+        text st of_known of_text carried in (
+          report,
+          all_hold st words subtrees status of_paths report.0,
+          all_contained st words subtrees status of_paths report.0 of_text.says.formed,
         )
 
     pub settle_ended : (check : Check) (user : Identity) (subtree : Names)

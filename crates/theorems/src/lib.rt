@@ -3,7 +3,7 @@
 #![tactic(auto)]
 
 ghost use Rattle.std.specs.Prelude.{◌≡◌, ◌≢◌, ◌↔◌, ◌⊎◌, ◌≤◌, ℕ, ◌+◌, true, false, List, [], ◌∷◌, ◌++◌, length, map, codes, Option, Some, None, Result, Ok, Err, IsOk};
-ghost use Rattle.std.specs.List.{All, Contains};
+ghost use Rattle.std.specs.List.{All, AllByRecursion, Contains};
 ghost use Rattle.cg_cgroup.specs.Paths.{Names, path_at, same_path};
 ghost use Rattle.cg_cgroup.specs.Numbers.{pid_of};
 ghost use Rattle.cg_cgroup.specs.Users.{IsUser, user_of};
@@ -58,6 +58,8 @@ ghost use Rattle.cg_cli.specs.Audits.{users_read, paths_read, audit_report};
 ghost use Rattle.cg_cli.specs.Once.{same_user};
 ghost use Rattle.cg_cli.specs.AllPairs.{all_report, ReportsPairs, UnlistedAreContained};
 ghost use Rattle.cg_cli.specs.Explaining.{explain_asked, ReportsTold};
+ghost use Rattle.cg_everybody.specs.Everybody.{GuardsHoldForEverybody};
+ghost use Rattle.machine_everybody.specs.Everybody.{IsNotRoot};
 ghost use Rattle.cg_cli.specs.EachPair.{audit_pairs_report, explain_pairs_asked, UnlistedAsNamed};
 ghost use Rattle.cg_cli.specs.Upgrades.{upgrade_report, IsNewText};
 ghost use Rattle.cg_cli.specs.FurtherAdvice.{AreHeld};
@@ -75,6 +77,7 @@ ghost use Rattle.arguments.specs.Given.{ids_of, tree_file, other_file};
 ghost use Rattle.arguments.specs.declared.request.May.{May};
 ghost use Rattle.arguments.specs.declared.request.Check.{Check};
 ghost use Rattle.arguments.specs.declared.request.Audit.{Audit};
+ghost use Rattle.arguments.specs.declared.request.Everybody.{Everybody};
 ghost use Rattle.arguments.specs.declared.request.Explain.{Explain};
 ghost use Rattle.arguments.specs.declared.request.Advise.{Advise};
 ghost use Rattle.arguments.specs.declared.request.Pairs.{Pairs};
@@ -83,7 +86,7 @@ ghost use Rattle.arguments.specs.declared.request.Replay.{Replay};
 ghost use Rattle.arguments.specs.declared.request.Request.{Request};
 ghost use Rattle.arguments.specs.declared.request.Request.TheVariants as request;
 ghost use Rattle.commands.specs.PairLines.{pairs_read, AsksSomething};
-ghost use Rattle.commands.specs.Requests.{Files, source, name_of, may_said, check_said, CarriesOut};
+ghost use Rattle.commands.specs.Requests.{Files, source, name_of, may_said, check_said, everybody_asked, CarriesOut};
 ghost use Rattle.commands.specs.Runs.{LeadsTo, RunsTo};
 ghost use Rattle.commands.specs.declared.fault.Fault.{Fault};
 ghost use Rattle.streams.specs.declared.write.WriteFailed.{WriteFailed};
@@ -291,6 +294,13 @@ pub fn the_program()
         → ReportsPairs (all_report (Ok st) (map ids_of audit.users.items) (map (λ subtree. subtree.now) audit.subtrees.items)) old new (Ok status)
         × (status ≡ 0 → (users : List Identity) (subtrees : List Names) → users_read (map ids_of audit.users.items) ≡ Ok users
         → paths_read (map (λ subtree. subtree.now) audit.subtrees.items) ≡ Ok subtrees → users ≢ [] → AreContained st users subtrees) }
+    ensures audit_everybody { (asked : Everybody) (files : Files) (given old new : Option (List ℕ)) (status : ℕ) (text : List ℕ) (st : State) (subtrees : List Names)
+        → CarriesOut (request.AuditEverybody asked) files given old new (Ok status)
+        → source files (name_of asked.tree) given ≡ Some text → IsTextOf st text
+        → paths_read (map (λ subtree. subtree.now) asked.subtrees.items) ≡ Ok subtrees
+        → Reports (everybody_asked asked (Ok st)) old new (Ok status)
+        × ((status ≡ 0) ↔ All (GuardsHoldForEverybody st) subtrees)
+        × (status ≡ 0 → (users : List Identity) → AllByRecursion IsNotRoot users → users ≢ [] → AreContained st users subtrees) }
     ensures audit_settled { (audit : Audit) (files : Files) (given old new : Option (List ℕ)) (status : ℕ) (text : List ℕ) (st : State) (users : List Identity) (subtrees : List Names)
         → CarriesOut (request.Audit audit) files given old new (Ok status) → audit.settle ≡ true → audit.all ≡ false
         → source files (name_of audit.tree) given ≡ Some text → IsTextOf st text → users_read (map ids_of audit.users.items) ≡ Ok users

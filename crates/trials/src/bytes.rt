@@ -13,6 +13,7 @@ use cg_cli::audit_all::audit_all_bytes;
 use cg_cli::audit_pairs::audit_pairs_bytes;
 use cg_cli::audit_settle::{audit_all_settled_bytes, audit_settled_bytes};
 use cg_cli::check::check_bytes;
+use cg_cli::everybody::everybody_bytes;
 use cg_cli::explain::explain_bytes;
 use cg_cli::explain_pairs::explain_pairs_bytes;
 use cg_cli::may::may_bytes;
@@ -96,6 +97,7 @@ impl Named<'_> {
 enum Call<'a> {
     May(UserIds<'a>, u32, &'a str),
     Named(Asked, Named<'a>),
+    Everybody(Vec<&'a str>),
     AdvisePairs(Vec<PairIds<'a>>),
     AuditPairs(Vec<PairIds<'a>>),
     ExplainPairs(Vec<PairIds<'a>>),
@@ -109,6 +111,7 @@ impl Call<'_> {
         match self {
             Call::May(user, pid, to) => may_bytes(alloc, tree, *user, *pid, to, &mut None, out),
             Call::Named(asked, named) => named.ask(alloc, *asked, tree, out),
+            Call::Everybody(subtrees) => everybody_bytes(alloc, tree, subtrees.as_slice(), out),
             Call::AdvisePairs(pairs) => advise_pairs_bytes(alloc, tree, pairs.as_slice(), out),
             Call::AuditPairs(pairs) => audit_pairs_bytes(alloc, tree, pairs.as_slice(), out),
             Call::ExplainPairs(pairs) => explain_pairs_bytes(alloc, tree, pairs.as_slice(), out),
@@ -168,6 +171,15 @@ fn all_named<'a>(alloc: Global, words: &'a [String]) -> Result<Named<'a>, Stoppe
     Ok(named)
 }
 
+/// The subtrees of words.
+fn all_paths<'a>(alloc: Global, words: &'a [String]) -> Result<Vec<&'a str>, Stopped> {
+    let mut paths = Vec::new(alloc);
+    for word in words {
+        paths.push(word.as_str())?;
+    }
+    Ok(paths)
+}
+
 /// The pairs of words, a uid and a path by turns.
 fn paired<'a>(alloc: Global, words: &mut Words<'a>) -> Result<Vec<PairIds<'a>>, Stopped> {
     let mut pairs = Vec::new(alloc);
@@ -187,6 +199,7 @@ fn call_told<'a>(alloc: Global, words: &mut Words<'a>) -> Result<Call<'a>, Stopp
     }
     match name {
         "may" => Ok(Call::May(user(words.id()?), words.id()?, words.next()?)),
+        "everybody" => Ok(Call::Everybody(all_paths(alloc, words.rest())?)),
         "advise_pairs" => Ok(Call::AdvisePairs(paired(alloc, words)?)),
         "audit_pairs" => Ok(Call::AuditPairs(paired(alloc, words)?)),
         "explain_pairs" => Ok(Call::ExplainPairs(paired(alloc, words)?)),

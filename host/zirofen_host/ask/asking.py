@@ -1,11 +1,11 @@
 """From a snapshot to its questions, the texts in which they are asked, and everybody's answers."""
-from dataclasses import dataclass
-from typing import Callable, Iterable, List, Mapping, Sequence
+from dataclasses import dataclass, replace
+from typing import AbstractSet, Callable, Iterable, List, Mapping, Sequence
 
 from zirofen_host.ask.held import movers
 from zirofen_host.ask.in_time import NotInTime
 from zirofen_host.ask.model import Answers, Plan, Question
-from zirofen_host.ask.program import TooLarge, abilities_of
+from zirofen_host.ask.program import UNSETTLED, TooLarge, abilities_of
 from zirofen_host.ask.affordable import Runs, bounded_further, bounded_plan
 from zirofen_host.ask.questions import Questions, further_of, plan_of, questions_of
 from zirofen_host.ask.unanswerable import unanswerable
@@ -59,6 +59,22 @@ def ask_all(snapshot: Snapshot, accounts: Accounts, options: Options, folder: st
         return ask_in_texts(snapshot, accounts, options, folder, False)
 
 
+def runs_of(questions: Questions) -> Runs:
+    return Runs(questions.makers, Spent(bounded.RUNS, questions.accounts.charged_user))
+
+
+def plan_of_listed(questions: Questions, held: AbstractSet[CgroupPath]) -> Plan:
+    """What to ask of people: of the subtrees that aren't held against everybody. Where everybody is let in to one of them, whoever has
+    something elsewhere is asked of it, too."""
+    listed = questions.without(held)
+    if not held or not any(map(listed.is_open, listed.subtrees)):
+        return plan_of(listed)
+    plan = plan_of(questions)
+    some = (Question(users, tuple(path for path in paths if path not in held)) for users, paths in plan.questions)
+    return replace(plan, questions=tuple(each for each in some if each.subtrees),
+                   cut=tuple(each for each in plan.cut if each.subtree not in held))
+
+
 def ask_in_texts(snapshot: Snapshot, accounts: Accounts, options: Options, folder: str, is_large: bool) -> Asked:
     questions = questions_of(snapshot, accounts)
     lost = unanswerable(snapshot, questions)
@@ -73,8 +89,9 @@ def ask_in_texts(snapshot: Snapshot, accounts: Accounts, options: Options, folde
     if not abilities.has_audit_all:
         raise Fault(f"{options.program} has no audit --all, which zirofen has since 0.2.0: name a newer one by --zirofen")
     programs = programs.able_to(abilities)
-    runs = Runs(questions.makers, Spent(bounded.RUNS, accounts.charged_user))
-    plan, over = bounded_plan(questions, plan_of(questions), runs)
+    held = programs.held() if abilities.has_everybody else None
+    runs = runs_of(questions)
+    plan, over = bounded_plan(questions.without(held or ()), plan_of_listed(questions, held or frozenset()), runs)
     lost.update(over)
     questions = questions.without(over)
     found, refused = programs.ask(plan.questions, questions.person_of)
@@ -82,12 +99,14 @@ def ask_in_texts(snapshot: Snapshot, accounts: Accounts, options: Options, folde
     further, not_asked = bounded_further(*further_of(questions, plan, found), runs)
     more, refused_then = programs.ask(further, questions.person_of)
     found.update(more)
-    if abilities.has_settle:
-        settled = programs.settled(found, everybody(snapshot.tree, plan, further), settleable(
-            has_all_cgroups(snapshot, options, texts.texts), plan, not_asked), made)
+    if abilities.has_settle and any(answer.status == UNSETTLED for answer in found.values()):
+        # it rests on all users, also on those of what is held
+        whole = bounded_plan(questions, plan_of(questions), runs_of(questions))[0] if held else plan
+        settled = programs.settled(found, everybody(snapshot.tree, whole, further), settleable(
+            has_all_cgroups(snapshot, options, texts.texts), whole, not_asked), made)
         moving = movers(snapshot, accounts)
         found = {**settled, **{pair: answer for pair, answer in found.items() if pair.user.uid in moving}}
     refused = {**lost, **refused, **refused_then}
     return Asked(questions.without(refused),
                  Answers(plan, further, found, not_asked, refused, () if options.no_processes else texts.without_processes(),
-                         abilities.version, abilities.has_advise), programs)
+                         abilities.version, abilities.has_advise, held), programs)

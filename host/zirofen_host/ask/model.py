@@ -85,6 +85,8 @@ class Abilities:
     has_explain: bool = False
     # whether `audit` takes lines of pairs
     has_pairs: bool = False
+    # whether it asks everybody
+    has_everybody: bool = False
 
 
 @dataclass(frozen=True)
@@ -102,3 +104,5 @@ class Answers:
     without_processes: Tuple[CgroupPath, ...]
     version: Optional[str]
     has_advise: bool
+    # the subtrees that are contained against everybody but root, of which nobody is asked further; None where a program can't tell
+    against_everybody: Optional[FrozenSet[CgroupPath]] = None

@@ -9,7 +9,7 @@ import subprocess
 import time
 from concurrent.futures import ThreadPoolExecutor
 from dataclasses import dataclass, replace
-from typing import Callable, Collection, Container, Dict, Iterable, List, NamedTuple, Optional, Sequence, Tuple, TypeVar
+from typing import Callable, Collection, Container, Dict, Iterable, List, NamedTuple, Optional, Sequence, Set, Tuple, TypeVar
 
 from zirofen_host import ending, output, progress
 from zirofen_host.ask.gathered import ROOM, Pairs, Run, blocks_of, fitting, gathered, halves_of, pair_line, pairs_of, size, user_word
@@ -180,8 +180,16 @@ class Program:
 
     def audit(self, users: Sequence[User], subtrees: Sequence[CgroupPath], *options: str) -> Ended:
         words = [word for user in users for word in ("--uid", user_word(user))]
-        words += [word for path in subtrees for word in ("--subtree", text_of(path))]
-        return self.run("audit", *options, "--tree", self.tree, *words)
+        return self.run("audit", *options, "--tree", self.tree, *words, *subtree_words(subtrees))
+
+    def held(self, subtrees: Sequence[CgroupPath]) -> Set[CgroupPath]:
+        """Those of some subtrees that are contained against everybody but root; Refused is for the caller."""
+        found = set(subtrees)
+        for some in blocks_of(subtrees, lambda path: ["--subtree", text_of(path)], ROOM):
+            ended = self.run("audit", "--everybody", "--tree", self.tree, *subtree_words(some))
+            paths = {text_of(path): path for path in some}
+            found -= {paths[word] for word in listed_in(ended, paths)}
+        return found
 
     def settled(self, found: Answered, users: Sequence[User], made: Container[CgroupPath] = ()) -> Answered:
         """The answers, with what `audit --settle` says of those that are unsettled, where all users can be asked of in one run: it
@@ -252,7 +260,11 @@ def abilities_of(path: str) -> Abilities:
     program = Program(path, "")
     audit, advise = help_of(program, "audit"), help_of(program, "advise")
     return Abilities("--all" in audit.split(), "--pairs" in advise.split(), version_of(program), "--settle" in audit.split(),
-                     "--subtree" in help_of(program, "explain").split(), "--pairs" in audit.split())
+                     "--subtree" in help_of(program, "explain").split(), "--pairs" in audit.split(), "--everybody" in audit.split())
+
+
+def subtree_words(subtrees: Iterable[CgroupPath]) -> List[str]:
+    return [word for path in subtrees for word in ("--subtree", text_of(path))]
 
 
 def help_of(program: Program, *words: str) -> str:
@@ -321,11 +333,22 @@ def answers_in(ended: Ended, pair_of: Callable[[str, str], Optional[Pair]]) -> A
     return found
 
 
-def sections(lines: Iterable[str]) -> List[Tuple[str, List[str]]]:
-    """The lines behind each `pair`."""
+def listed_in(ended: Ended, asked: Container[str]) -> List[str]:
+    """The subtrees that an audit against everybody lists, each of which was asked of and has lines of what fails."""
+    found = sections(ended.lines, "subtree")
+    for head, lines in found:
+        if head.partition(" ")[2] not in asked or not lines or any(not line.startswith("fails ") for line in lines):
+            raise Refused(f"an answer that wasn't asked for: {head!r}", False)
+    if ended.status != (ESCAPES if found else CONTAINED) or not found and ended.lines != NOTHING_FOUND.lines:
+        raise Refused(f"ended with status {ended.status}, which its answers don't have", False)
+    return [head.partition(" ")[2] for head, _ in found]
+
+
+def sections(lines: Iterable[str], word: str = "pair") -> List[Tuple[str, List[str]]]:
+    """The lines behind each that begins with a word."""
     found: List[Tuple[str, List[str]]] = []
     for line in lines:
-        if line.startswith("pair "):
+        if line.startswith(f"{word} "):
             found.append((line, []))
         elif found:
             found[-1][1].append(line)

@@ -93,6 +93,13 @@ class Questions:
         """The entries of a subtree that its guards stand on."""
         return self.delegations.guarded(subtree)
 
+    def names_anybody(self, subtrees: Collection[CgroupPath]) -> bool:
+        """Whether anybody but root holds one of some subtrees, or has a process in one."""
+        if any(self.holders[path].uids for path in subtrees):
+            return True
+        tops = set(subtrees)
+        return any(uid and not tops.isdisjoint((at, *ancestors(at))) for _, uid, at in self.tree.processes)
+
     def is_open(self, subtree: CgroupPath) -> bool:
         """Whether everybody writes an entry on which a guard of a subtree stands."""
         return any(self.delegations.entry(each.path, each.name).mode & 0o002 for each in self.guarded(subtree))

@@ -11,12 +11,12 @@ from bisect import bisect_left
 from dataclasses import dataclass, replace
 from functools import partial
 from itertools import accumulate
-from typing import AbstractSet, Callable, Container, Dict, Iterable, List, Mapping, Sequence, Set, Tuple
+from typing import AbstractSet, Callable, Container, Dict, FrozenSet, Iterable, List, Mapping, Sequence, Set, Tuple
 
 from zirofen_host import output, progress
 from zirofen_host.ask.in_time import HolderOf, ask_in_time
 from zirofen_host.ask.model import Abilities, Advice, Pair, Question
-from zirofen_host.ask.program import UNSETTLED, Answered, Program, TreeRefused
+from zirofen_host.ask.program import UNSETTLED, Answered, Program, Refused, TreeRefused
 from zirofen_host.ask.reasons import TextRefused, TooLargeForText, TooLong, TooManyCgroups
 from zirofen_host.collect import snapshot as snapshots
 from zirofen_host.collect.attempts import Attempts
@@ -251,6 +251,21 @@ class Programs:
         """The same, where the program is asked in the ways that it has."""
         able = {program: replace(program, takes_pairs=abilities.has_pairs) for program in set(self.of.values())}
         return replace(self, of={path: able[program] for path, program in self.of.items()})
+
+    def held(self) -> FrozenSet[CgroupPath]:
+        """The subtrees that are contained against everybody but root. Of a text that the program doesn't answer of, for a fault or for want
+        of time, there are none, and it is asked of people."""
+        found: Set[CgroupPath] = set()
+        until = time.monotonic() + LARGE_SECONDS
+        for text in self.texts:
+            if text.subtrees:
+                progress.tell(f"asking everybody of {len(text.subtrees)} subtrees")
+                try:
+                    found |= self.of[text.subtrees[0]].until(until).in_half().held(text.subtrees)
+                except Refused as refused:
+                    if refused.is_too_large:
+                        raise refused.fault() from None
+        return frozenset(found)
 
     def ask(self, questions: Sequence[Question], holder_of: HolderOf) -> Tuple[Answered, Dict[CgroupPath, Reason]]:
         """The answers that aren't contained, and the subtrees whose text was refused, each with the program's line, or for which there

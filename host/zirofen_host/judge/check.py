@@ -57,7 +57,7 @@ def ask(snapshot: Snapshot, options: Options, folder: str, settings: Settings) -
 def subtree_of(checked: Checked, path: CgroupPath) -> Subtree:
     holders = checked.questions.holders[path]
     return Subtree(text_of(path), checked.questions.meant.get(path), unit_of(path), HeldBy(holders.by, holders.ids),
-                   answers_of(checked, path), checked.within(path))
+                   answers_of(checked, path), checked.within(path), against=checked.against.of(path))
 
 
 def answers_of(checked: Checked, subtree: CgroupPath) -> Tuple[HolderAnswer, ...]:
@@ -76,7 +76,10 @@ def answers_of(checked: Checked, subtree: CgroupPath) -> Tuple[HolderAnswer, ...
 
 
 def contained(checked: Checked, uid: int, subtree: CgroupPath) -> Optional[Own]:
-    """The answer of a uid that was asked of a subtree and isn't reported, by the longest list of groups."""
+    """The answer of a uid that was asked of a subtree and isn't reported, by the longest list of groups; against everybody it is theirs
+    whatever their groups are."""
+    if subtree in checked.against_everybody:
+        return Own(User(uid, ()), Answer(CONTAINED, ("contained",)), False)
     asked = [user for user in checked.asked.get(uid, ()) if checked.questions.is_holder(user, subtree)
              and any(user in users for users in checked.asked_of[subtree])]
     return Own(max(asked, key=lambda user: len(user.gids)), Answer(CONTAINED, ("contained",)), False) if asked else None

@@ -2,9 +2,9 @@
 from collections import defaultdict
 from dataclasses import dataclass, field
 from functools import cached_property
-from typing import DefaultDict, FrozenSet, Iterable, List, Mapping, Optional, Sequence, Tuple, Union
+from typing import AbstractSet, DefaultDict, Dict, FrozenSet, Iterable, List, Mapping, Optional, Sequence, Set, Tuple, Union
 
-from zirofen_host.ask.model import Answers
+from zirofen_host.ask.model import Answers, Pair
 from zirofen_host.ask.questions import Questions
 from zirofen_host.ask.texts import Programs
 from zirofen_host.collect.attempts import Attempts
@@ -15,7 +15,7 @@ from zirofen_host.collect.model import Entry, Scope, Snapshot, User
 from zirofen_host.files import Kind, kind_of
 from zirofen_host.judge.host_model import ABSENT, Absent, Wanted
 from zirofen_host.judge.judged import Judged, LetIn, Place
-from zirofen_host.judge.model import Within
+from zirofen_host.judge.model import EVERYBODY, Within
 from zirofen_host.judge.names import Names
 from zirofen_host.judge.opened import find_openings
 from zirofen_host.judge.settings import CGROUP, ATTEMPT, Agreed, Settings, agreed_at, systemctl_of
@@ -23,6 +23,41 @@ from zirofen_host.judge.shell import Change, change_commands
 from zirofen_host.judge.wanted import unit_at, wanted_by
 from zirofen_host.options import Options
 from zirofen_host.profile import ANYBODY, CgroupPath, ancestors, parent_of, path_of, text_of
+
+
+# of those who were found so many are named
+MOST_NAMED = 8
+
+
+class Against:
+    """Against whom the answers of each subtree are."""
+
+    def __init__(self, checked: "Checked") -> None:
+        self.checked = checked
+        # of whom a subtree isn't contained
+        self.let_in: DefaultDict[CgroupPath, Set[int]] = defaultdict(set)
+        for pair in (*checked.answers.found, *(Pair(each.user, each.subtree) for each in checked.answers.plan.cut)):
+            self.let_in[pair.subtree].add(pair.user.uid)
+        # subtrees that are alike in who was asked of them have one list
+        self.asked: Dict[Tuple[int, ...], FrozenSet[int]] = {}
+
+    def of(self, path: CgroupPath) -> Union[Tuple[str, ...], Absent]:
+        """Everybody, or those who were found and for whom it is contained, of whom the first are named; nothing is said where a program
+        can't ask everybody."""
+        if self.checked.answers.against_everybody is None:
+            return ABSENT
+        if path in self.checked.against_everybody:
+            return (EVERYBODY,)
+        uids = self.asked_of(path) - self.let_in[path]
+        names = ["anybody" if uid == ANYBODY else self.checked.names.user(uid) for uid in sorted(uids)[:MOST_NAMED]]
+        return (*names, *([f"{len(uids) - MOST_NAMED} more"] if len(uids) > MOST_NAMED else [])) or ABSENT
+
+    def asked_of(self, path: CgroupPath) -> FrozenSet[int]:
+        asked = self.checked.asked_of.get(path, ())
+        key = tuple(map(id, asked))
+        if key not in self.asked:
+            self.asked[key] = frozenset(user.uid for users in asked for user in users)
+        return self.asked[key]
 
 
 @dataclass(frozen=True)
@@ -123,7 +158,16 @@ class Checked:
     @property
     def is_asked(self) -> bool:
         """Whether anything was found to ask."""
-        return bool(self.answers.plan.questions or self.answers.plan.cut)
+        return bool(self.answers.plan.questions or self.answers.plan.cut) or self.questions.names_anybody(self.against_everybody)
+
+    @property
+    def against_everybody(self) -> AbstractSet[CgroupPath]:
+        """The subtrees that are contained against everybody but root, as far as the program can tell."""
+        return self.answers.against_everybody or frozenset()
+
+    @cached_property
+    def against(self) -> "Against":
+        return Against(self)
 
     def entry(self, path: str, name: str) -> Entry:
         """An entry by the words that name it."""

@@ -149,11 +149,11 @@ def fault_findings(checked: Checked, advised: Advised) -> Iterable[FaultFinding]
 
 
 def faults_of_budgets(checked: Checked) -> Iterable[FaultFinding]:
-    """Whoever has more processes than are looked at may have groups that aren't known: a fault of what they hold. So is it where more
-    lets somebody in to what they made than is reported."""
+    """Whoever has more processes than are looked at may have groups that aren't known: a fault of what they hold, but for what is contained
+    against everybody. So is it where more lets somebody in to what they made than is reported."""
     holders, spent = checked.questions.holders, checked.judged.spent
     for person, why in sorted(checked.snapshot.over.items()):
-        held = held_by(checked, person, checked.questions.subtrees)
+        held = held_by(checked, person, (path for path in checked.questions.subtrees if path not in checked.against_everybody))
         if held:
             yield fault_of_budget(checked, person, f"{why}: not all were looked at", held)
     for person in spent.over():

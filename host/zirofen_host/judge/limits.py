@@ -1,13 +1,13 @@
 """From the options of a run, and what was left out, to one list of what narrows its answers."""
 from collections import Counter
-from typing import Iterable, Iterator, List, Mapping, Tuple
+from typing import Iterable, Iterator, List, Mapping, Optional, Tuple
 
 from zirofen_host.ask.in_time import NotInTime
 from zirofen_host.collect.notes import BUDGETS, LACKING, WALK, Note
 from zirofen_host.judge.checked import Checked
 from zirofen_host.judge.finding_lines import version_1_line
 from zirofen_host.judge.host_model import Absent
-from zirofen_host.judge.model import AnswerLimit, Report
+from zirofen_host.judge.model import AnswerLimit, Report, Subtree
 from zirofen_host.options import Options
 from zirofen_host.profile import NEWEST, is_root, shown, text_of
 
@@ -17,6 +17,8 @@ HEAD = "limits of this answer"
 ONLY, NO_PROCESSES, TREE_FORMAT, PLAIN_FOLDER = "only", "no-processes", "tree-format", "plain-folder"
 TIME, ACCOUNTS, PREMISES, LATER, VERSION_1 = "time", "accounts", "premises", "later", "v1"
 KINDS = (ONLY, NO_PROCESSES, TREE_FORMAT, TIME, PLAIN_FOLDER, ACCOUNTS, PREMISES, LATER, WALK, BUDGETS, LACKING, VERSION_1)
+# what isn't known of people, which answers against everybody don't rest on
+OF_PEOPLE = (ACCOUNTS,)
 # of a plan: what it can't tell and what may give entries away
 PLAN = "plan"
 # what notes say that narrow an answer, before how many there are of each kind
@@ -60,7 +62,8 @@ def of_text(checked: Checked) -> Iterator[AnswerLimit]:
         return
     asked = {each.kind for each in of_options(checked.options)}
     yield from (each for each in of_options(source.options) if each.kind not in asked)
-    if source.carried is None and checked.options.accounts is None:
+    is_of_people = any(path not in checked.against_everybody for path in checked.questions.subtrees)
+    if source.carried is None and checked.options.accounts is None and is_of_people:
         yield AnswerLimit(ACCOUNTS, "it was asked by number, without groups and subordinate ids")
     if source.carried is None or not source.carried.has_descriptors:
         yield AnswerLimit(PREMISES, "threads' places and held entries aren't known")
@@ -79,9 +82,14 @@ def narrowing(report: Report) -> Tuple[AnswerLimit, ...]:
     return (of_version_1(report.version_1),) if report.version_1 else ()
 
 
-def mark_of(report: Report) -> str:
-    """What stands behind an answer of a report."""
-    kinds = {each.kind for each in narrowing(report)}
+def narrowing_of(report: Report, subtree: Subtree) -> Tuple[AnswerLimit, ...]:
+    """What narrows the answers of a subtree: those against everybody not what isn't known of people."""
+    return tuple(each for each in narrowing(report) if not subtree.is_against_everybody or each.kind not in OF_PEOPLE)
+
+
+def mark_of(report: Report, subtree: Optional[Subtree] = None) -> str:
+    """What stands behind an answer of a report, or behind those of one subtree."""
+    kinds = {each.kind for each in (narrowing(report) if subtree is None else narrowing_of(report, subtree))}
     return (VERSION_1_MARK if VERSION_1 in kinds else "") + (MARK if kinds - {VERSION_1} else "")
 
 

@@ -14,6 +14,8 @@ from zirofen_host.judge.host_model import (ABSENT, NO_KEY, Absent, AllWanted, Fi
 VERSION = 1
 # the status of a report of a host on which nothing was found to ask
 NOTHING_ASKED = 4
+# against whom a subtree's answers are, where these are all users but root; else their names
+EVERYBODY = "everybody"
 # whose own making something is: the uid of somebody who can have made it; what root made or handed over has none
 Within = Union[int, Absent]
 # the lines of an answer, of which the first has its word
@@ -61,6 +63,12 @@ class Subtree:
     within: Within = ABSENT
     # what every answer of it takes for granted that isn't so
     marks: Union[Tuple[str, ...], Absent] = ABSENT
+    # against whom it is contained: everybody but root, or some of those who were found; a program without that question doesn't tell
+    against: Union[Tuple[str, ...], Absent] = ABSENT
+
+    @property
+    def is_against_everybody(self) -> bool:
+        return self.against == (EVERYBODY,)
 
 
 @dataclass(frozen=True)

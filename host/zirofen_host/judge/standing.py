@@ -156,7 +156,9 @@ def standings(report: Report) -> Dict[str, Severity]:
         found[each.path].update({Severity.ACCEPTED} if each.path in accepted else of_answers(each), premises.of(each))
     # where nobody was asked of anything root alone holds what there is
     least = Severity.NOT_ASKED if not report.asked else Severity.LIMITED if limits.narrowing(report) else Severity.CONTAINED
-    return {path: least if worst(found[path]) is Severity.CONTAINED else worst(found[path]) for path in sorted(asked)}
+    spared = {each.path for each in report.subtrees
+              if least is Severity.LIMITED and each.is_against_everybody and not limits.narrowing_of(report, each)}
+    return {path: worst(found[path]) if path in spared or worst(found[path]) is not Severity.CONTAINED else least for path in sorted(asked)}
 
 
 def findings_in(report: Report) -> Iterator[Tuple[str, Severity]]:

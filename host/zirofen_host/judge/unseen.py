@@ -198,8 +198,10 @@ def mounted_by_users(checked: Checked) -> Iterator[ReportNote]:
 
 
 def processes(checked: Checked) -> Iterator[ReportNote]:
-    """Users of whom not all processes were looked at, where no answer of theirs hangs on it: they hold nothing."""
-    holders = {checked.makers.charged_user(uid) for uid in checked.held}
+    """Users of whom not all processes were looked at, where no answer of theirs hangs on it: they hold nothing, or what is contained
+    against everybody."""
+    holders = {checked.makers.charged_user(uid) for uid, paths in checked.held.items()
+               if any(path not in checked.against_everybody for path in paths)}
     for person, why in sorted(checked.snapshot.over.items()):
         if person not in holders:
             yield of_user(checked, person, UnlookedProcesses(checked.names.user(person), why))

@@ -14,7 +14,8 @@ from zirofen_host.profile import CgroupPath, shown, text_of
 
 
 def users_of(checked: Checked) -> Iterable[ReportUser]:
-    for uid in sorted({*checked.asked, *(uid for _, uid, _ in checked.snapshot.tree.processes)}):
+    """All who were asked, who hold something or have a process, those who were asked with their groups."""
+    for uid in sorted({*checked.asked, *checked.held, *(uid for _, uid, _ in checked.snapshot.tree.processes)}):
         yield ReportUser(uid, checked.names.user_name(uid), tuple(user.gids for user in checked.asked.get(uid, ())))
 
 

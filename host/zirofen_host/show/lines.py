@@ -19,7 +19,7 @@ from zirofen_host.judge.notes import JOINED
 from zirofen_host.judge.severity import Severity
 from zirofen_host.judge.standing import cause_of, is_empty, standings, status_text
 from zirofen_host.profile import ancestors
-from zirofen_host.show import container_lines
+from zirofen_host.show import container_lines, everybody
 from zirofen_host.show.folded import Part, folded
 from zirofen_host.show.joined import fact_of, joined, rest_of
 from zirofen_host.show.words import NOT_ASKED, STANDINGS, listed, made_by, standing_text
@@ -87,8 +87,9 @@ def table(report: Report, is_each: bool = False) -> Iterator[str]:
     somebody made below their own delegation stands last."""
     mark = limits.mark_of(report)
     scopes = report.scopes_by_path
+    marks = {each.path: limits.mark_of(report, each) if each.answers else mark for each in report.subtrees}
     rows = [(subtree.within, word, (who, gids, answer, path + beside(scopes, path), below)) for subtree in report.subtrees
-            for word, (who, gids, answer, path, below) in zip(words_of(subtree), rows_of(subtree, mark, True, report.lists))]
+            for word, (who, gids, answer, path, below) in zip(words_of(subtree), rows_of(subtree, marks[subtree.path], True, report.lists))]
     roots = [row for within, word, row in rows if within is ABSENT and row[0] == NOBODY and row[2] == ROOT_ALONE + mark]
     if not is_each and len(roots) > 1:
         paths = [each.path for each in report.subtrees if each.within is ABSENT and not each.answers and each.marks is ABSENT]
@@ -280,6 +281,7 @@ def lines_of(report: Report, is_each: bool = False) -> Iterator[str]:
     """The report as it is printed."""
     if report.subtrees:
         yield from table(report, is_each)
+        yield from everybody.lines_of(report)
     if is_empty(report):
         yield NOTHING_ASKED
     found = list(finding_lines(report, is_each))

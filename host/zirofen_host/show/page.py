@@ -10,7 +10,7 @@ from zirofen_host.judge import limits
 from zirofen_host.judge.host_model import Absent
 from zirofen_host.judge.model import Difference, Report, ReportNote, RootInside
 from zirofen_host.judge.notes import MEANINGS as WHAT_NO_ANSWER_SEES
-from zirofen_host.show import against, chart, groups, insides, words
+from zirofen_host.show import against, chart, everybody, groups, insides, words
 from zirofen_host.show.branches import Branches
 from zirofen_host.show.finding import Place
 from zirofen_host.show.joined import fact_of, joined, rest_of
@@ -69,7 +69,8 @@ class HostPage:
     def sentence(self) -> str:
         """How the host stands, at once, and what that leaves out."""
         narrowed = limits.line_of(self.host.report)
-        return f"Of what was asked: {self.said()} {capital(narrowed)}." if narrowed else self.said()
+        said = " ".join(filter(None, (self.said(), everybody.sentence_of(self.host.report))))
+        return f"Of what was asked: {said} {capital(narrowed)}." if narrowed else said
 
     def said(self) -> str:
         """The sentence of how it stands."""

@@ -13,7 +13,7 @@ from zirofen_host.show.finding import Place, id_of
 from zirofen_host.show.lines import beside
 from zirofen_host.show.markup import code, css, fold, text
 from zirofen_host.show.view import Host
-from zirofen_host.show.words import QUIET, SIGNS, STANDINGS
+from zirofen_host.show.words import CONTAINED, QUIET, SIGNS, STANDINGS
 
 # rows that are never folded, those that a long table shows at least, and at most
 FEW, LEAST, MOST = 30, 10, 40
@@ -86,8 +86,10 @@ class Table:
 
     def answers(self, path: str) -> Iterator[str]:
         """Each kind of answer with its sign, and a link to the finding that says so."""
+        known = self.host.subtrees.get(path)
         for kind, number in self.host.standing[path]:
-            sign = f'<span aria-hidden="true">{SIGNS[kind][0]}</span> {words.standing_text(kind, self.host.report)}'
+            whom = " against everybody" if kind == CONTAINED and known and known.is_against_everybody else ""
+            sign = f'<span aria-hidden="true">{SIGNS[kind][0]}</span> {words.standing_text(kind, self.host.report)}{whom}'
             yield (f'<span class="{css(kind)} standing">{sign}</span>' if number is None else
                    f'<a class="{css(kind)} standing" href="#{id_of(self.at, number)}">{sign}</a>')
 

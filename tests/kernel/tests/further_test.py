@@ -179,11 +179,14 @@ class FurtherTest(unittest.TestCase):
         any_value, turns, unknown, effects = "any value", "file that turns another", "unknown file", "effects of limits"
         for step, number, values, kind in [
                 (("set", path, "cpu.max", "junk"), errno.EINVAL, {}, any_value), (("set", path, "cpu.max", "max"), errno.EINVAL, {}, None),
-                (("set", path, "cpu.max", "40000"), errno.EINVAL, burst, any_value), (("set", path, "cpu.max", "junk"), errno.EACCES, {}, None),
-                (("set", path, "rdma.max", "max"), errno.ENODEV, {}, any_value), (("set", path, "cpu.weight", 5), errno.EINVAL, idle, turns),
+                (("set", path, "cpu.max", "40000"), errno.EINVAL, burst, any_value),
+                (("set", path, "cpu.max", "junk"), errno.EACCES, {}, None),
+                (("set", path, "rdma.max", "max"), errno.ENODEV, {}, any_value),
+                (("set", path, "cpu.weight", 5), errno.EINVAL, idle, turns),
                 (("set", path, "cpu.weight", 5), errno.EINVAL, {}, None), (("set", path, "cpu.idle", "5"), errno.EINVAL, idle, any_value),
                 (("chmod", path, "cpu.uclamp.max", 0o600), errno.ENOENT, {}, unknown),
-                (("set", path, "cpu.uclamp.max", "max"), errno.ENOENT, {}, unknown), (("set", path, "cgroup.freeze", "0"), errno.ENOENT, {}, None),
+                (("set", path, "cpu.uclamp.max", "max"), errno.ENOENT, {}, unknown),
+                (("set", path, "cgroup.freeze", "0"), errno.ENOENT, {}, None),
                 (("set", (), "cpu.uclamp.max", "max"), errno.EACCES, {}, None),
                 (("set", (), "cgroup.freeze", "0"), errno.ENOENT, {}, unknown), (("fork", 7, 9), 255, {"cgroup.freeze": "0"}, None),
                 (("fork", 7, 9), 255, {"cgroup.freeze": "1"}, effects), (("move", 7, ()), errno.ENOSPC, {shown.PARTITION: "root"}, effects),
@@ -206,7 +209,8 @@ class FurtherTest(unittest.TestCase):
             self.assertEqual(classes.kind_of_value("cpu.weight", 100, kept, now) == "file that turns another", kind, (kept, now))
 
     def test_partitions_turn_elsewhere_and_nothing_else_does(self):
-        for file, one, other, is_turned in [(shown.PARTITION, "root", "root invalid (x)", True), (shown.PARTITION, "root invalid (x)", "root", True),
+        for file, one, other, is_turned in [(shown.PARTITION, "root", "root invalid (x)", True),
+                                            (shown.PARTITION, "root invalid (x)", "root", True),
                                             (shown.PARTITION, "root invalid", "root invalid", False), ("cpu.max", "max 1", "max 2", False),
                                             (shown.PARTITION, "root", "member", False)]:
             self.assertEqual(shown.is_turned_elsewhere(file, one, other), is_turned, (one, other))

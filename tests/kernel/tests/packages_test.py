@@ -13,7 +13,8 @@ LISTED = ("linux-image-6.1.0-9-cloud-amd64", "linux-image-6.1.0-10-cloud-amd64",
           "linux-image-7.3.4+deb13-cloud-amd64", "linux-image-7.2.12+deb13-cloud-amd64", "linux-image-7.4.1+deb13-cloud-amd64-dbg",
           "linux-image-7.4.1+deb13-amd64", "linux-image-cloud-amd64")
 # what each package has
-IMAGES = {"linux-image-6.1.0-10-cloud-amd64": "boot/vmlinuz-6.1.0-10-cloud-amd64", "linux-image-7.3.4+deb13-cloud-amd64": "usr/share/doc/empty",
+IMAGES = {"linux-image-6.1.0-10-cloud-amd64": "boot/vmlinuz-6.1.0-10-cloud-amd64",
+          "linux-image-7.3.4+deb13-cloud-amd64": "usr/share/doc/empty",
           "linux-binary-7.3.4+deb13-cloud-amd64": "usr/lib/modules/7.3.4+deb13-cloud-amd64/vmlinuz",
           "linux-image-6.12.117+deb12-cloud-amd64": "usr/share/doc/empty"}
 

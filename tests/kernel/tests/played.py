@@ -149,6 +149,7 @@ def line_of(path, entries, values, enabled, brought):
     return " ".join(["c", text_of(path), ",".join(sorted(enabled)) or "-", *words])
 
 
-TAKERS = {"case": Kernel.start, "watch": Kernel.watch, "mkdir": Kernel.build, "control": Kernel.build, "set": Kernel.build, "process": Kernel.process,
-          "own": Kernel.own, "user": Kernel.name, "mend": Kernel.mend, "do": Kernel.operate, "try": Kernel.operate,
-          "state": Kernel.tell, "refusals": Kernel.refuse, "way": Kernel.way, "files": lambda *_: None, "others": lambda *_: None}
+TAKERS = {"case": Kernel.start, "watch": Kernel.watch, "mkdir": Kernel.build, "control": Kernel.build, "set": Kernel.build,
+          "process": Kernel.process, "own": Kernel.own, "user": Kernel.name, "mend": Kernel.mend, "do": Kernel.operate,
+          "try": Kernel.operate, "state": Kernel.tell, "refusals": Kernel.refuse, "way": Kernel.way, "files": lambda *_: None,
+          "others": lambda *_: None, "selftests": lambda *_: None}

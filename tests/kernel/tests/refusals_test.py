@@ -22,7 +22,8 @@ class RefusalsTest(unittest.TestCase):
     def test_what_is_wrong(self):
         self.assertEqual(tap.faults_of(tap.read(PLAIN + OPENED)), [])
         self.assertEqual(tap.faults_of(tap.read(PLAIN.replace("ok 2", "not ok 2") + OPENED)), ["not refused: refusal 4: rmdir"])
-        self.assertEqual(tap.faults_of(tap.read(PLAIN + OPENED.replace("not ok 1", "ok 1"))), ["refused though it is opened: refusal 1: move"])
+        self.assertEqual(tap.faults_of(tap.read(PLAIN + OPENED.replace("not ok 1", "ok 1"))),
+                         ["refused though it is opened: refusal 1: move"])
         for cut in (PLAIN, PLAIN.replace("1..3", "1..4") + OPENED, PLAIN + OPENED.replace("not ok 2 refusal 4: rmdir\n", ""), ""):
             self.assertEqual(tap.faults_of(tap.read(cut)), ["the two runs didn't come to their ends"])
 

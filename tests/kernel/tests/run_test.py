@@ -6,6 +6,7 @@ import io
 import os
 import sys
 import tempfile
+import types
 import unittest
 import unittest.mock
 
@@ -22,7 +23,9 @@ def loaded():
     return module
 
 
-class RunTest(unittest.TestCase):
+class Called(unittest.TestCase):
+    """Tests that call the whole program."""
+
     def run_with(self, room, *words, kernel=lambda _kernel, script, _seconds, _wide: (played.Kernel().run(script), ""),
                  program=played.report_of):
         """The status of a call and what it writes."""
@@ -38,6 +41,8 @@ class RunTest(unittest.TestCase):
                 stack.enter_context(patch)
             return run.main(), said.getvalue()
 
+
+class RunTest(Called):
     def test_a_turn_runs_every_kind_on_both_kernels(self):
         with tempfile.TemporaryDirectory() as room:
             results = os.path.join(room, "results")
@@ -49,7 +54,8 @@ class RunTest(unittest.TestCase):
             for part in ("## 6.1\n", "## 6.12\n", "- Refusals: 2 of 2 cases are refused, and 2 are let through where ",
                          "- Ways of threads and descriptors, as the list says in so many of 3 turns: dead first thread 3, exec 3, ",
                          "- Operations: 7 cases", "- Contained: 32 cases", "- Settled, escapes: 2 lists",
-                         "- Settled, contained: 2 pairs", "- Controllers: cpuset, cpu, io, memory, hugetlb, pids, rdma, misc.",
+                         "- Settled, contained: 2 pairs", "- Wrong programs: 15 of 15 noticed by 51 cases",
+                         "- Controllers: cpuset, cpu, io, memory, hugetlb, pids, rdma, misc.",
                          "- Of format 4: operations ", "one controller 16", "- Further limit files: the kernel has 23 of the 43",
                          "- Further limit files, operations: 2 cases", "- Unexplained: 0."):
                 self.assertIn(part, report)
@@ -73,12 +79,40 @@ class RunTest(unittest.TestCase):
             self.assertEqual((status, said.splitlines()[-1]), (1, "24 passed, 6 failed"))
             self.assertIn("kernel: FAILED: 6.1: ways: exec: (0, 0) in place of (0, 1)", said)
 
+    def test_no_two_wrong_programs_have_one_name(self):
+        self.assertEqual(len(set(tally.WRONG)), len(tally.WRONG))
+
+    def test_kinds_of_few_cases_are_in_one_boot(self):
+        for cases, kinds, boots in [(12, ["escapes", "advice", "further"], [["escapes", "advice"], ["further"]]),
+                                    (12, ["further"], [["further"]]), (12, ["escapes"], [["escapes"]]),
+                                    (None, ["escapes", "advice"], [["escapes"], ["advice"]]),
+                                    (21, ["escapes", "further"], [["escapes"], ["further"]]), (12, [], [])]:
+            asked = types.SimpleNamespace(arguments=types.SimpleNamespace(cases=cases))
+            self.assertEqual(loaded().Run.together(asked, kinds), boots)
+
     def test_a_wrong_program_that_is_not_found_fails(self):
         with tempfile.TemporaryDirectory() as room, unittest.mock.patch.object(tally, "WRONG", [*tally.WRONG, "is right"]):
             status, said = self.run_with(room, "--seed", "1", "--cases", "1", "--kernel", "6")
             self.assertEqual(status, 1)
             self.assertRegex(said.splitlines()[-1], r"^\d+ passed, 1 failed$")
             self.assertIn("not found: is right", said.replace("\n  ", " "))
+
+    def test_wrong_programs_alone_and_one_that_is_not_noticed_fails(self):
+        is_right = unittest.mock.patch.dict(wrong.CHECKS, {"asks of the first user alone": lambda *_: False})
+        with tempfile.TemporaryDirectory() as room, is_right:
+            status, said = self.run_with(room, "--kernel", "6", "--only", wrong.KIND)
+            self.assertEqual(status, 1)
+            self.assertIn("; not noticed: asks of the first user alone. So many", said.replace("\n  ", " "))
+            self.assertRegex(said.splitlines()[-1], r"^\d+ passed, 1 failed$")
+
+    def test_what_is_not_built_notices_nothing(self):
+        def kernel(_kernel, script, _seconds, _wide):
+            return played.Kernel().run(script).replace("\n+c /p ", "\n! 1 mkdir /p\n+c /p "), ""
+        with tempfile.TemporaryDirectory() as room:
+            status, said = self.run_with(room, "--kernel", "6", "--only", wrong.KIND, kernel=kernel)
+            self.assertEqual(status, 1)
+            self.assertIn("kernel: FAILED: wrong programs, kept as ", said)
+            self.assertIn("- Wrong programs: 3 of 15 noticed", said)
 
     def test_each_wrong_program_is_noticed_by_made_cases(self):
         """But for the one that has trees of its own: further_test."""

@@ -1,4 +1,5 @@
 """What the program says of trees, users and subtrees."""
+import contextlib
 import functools
 import os
 import subprocess
@@ -18,6 +19,16 @@ CHANGES = ("chown", "chmod", "set")
 WRONG = []
 # what the program didn't answer while cases were made
 UNANSWERED = []
+
+
+@contextlib.contextmanager
+def in_place(names):
+    """Wrong programs, or none, are asked in place of the one that is asked otherwise."""
+    before, WRONG[:] = WRONG[:], names
+    try:
+        yield
+    finally:
+        WRONG[:] = before
 
 
 def program_of_sources():

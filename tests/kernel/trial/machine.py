@@ -70,10 +70,10 @@ def archive(files):
     return bytes(data)
 
 
-def run(kernel, script, seconds, wide=False):
-    """What the init writes of a script in one boot, of the wide machine or the other one, and the console's text."""
+def run(kernel, script, seconds, wide=False, *more):
+    """What the init writes of a script in one boot, of the wide machine or the other one, beside more files, and the console's text."""
     with tempfile.TemporaryDirectory() as room:
-        files = [(name, 0o040755, b"") for name in FOLDERS] + programs_in(room) + [("cases", 0o100644, script.encode())]
+        files = [(name, 0o040755, b"") for name in FOLDERS] + [*programs_in(room), *more, ("cases", 0o100644, script.encode())]
         with open(os.path.join(room, "archive"), "wb") as out:
             out.write(archive(files))
         words = [QEMU, "-accel", "tcg", *(WIDE if wide else CPUS), "-m", "512", "-nodefaults", "-display", "none", "-no-reboot",

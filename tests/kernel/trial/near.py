@@ -2,9 +2,11 @@
 wrong one others, too, which what is aimed at them breaks.
 """
 import os
+import random
+from dataclasses import replace
 
 from second import commands, rules, texts
-from trial import aimed, asking, making
+from trial import aimed, asking, making, settled, wrong
 
 EXAMPLES = os.path.join(os.path.dirname(os.path.abspath(__file__)), "../../../examples")
 # the user whose second group is let in, and one who is asked about beside them
@@ -93,3 +95,21 @@ def planned_cases(program, kind):
             tries = [((USER[0], (4242,)), step) for step in steps]
             cases.append(making.Case(kind, text, [], [top], texts.tree_of(text.encode()), tries=tries))
     return cases
+
+
+def cases_by(program, *names):
+    """All made cases by what is tried of which subtree: those of the program, or of a wrong one in its place."""
+    with asking.in_place(names):
+        found = made_cases(random.Random("contained"), program) + planned_cases(program, settled.CONTAINED)
+    return {(case.text, *case.subtrees, *case.tries): case for case in found}
+
+
+def wrong_cases(program):
+    """The made cases that wrong programs alone call contained, each with the names of all that do."""
+    right, found, named = cases_by(program), {}, {}
+    for name in wrong.OF_MADE:
+        for key, case in cases_by(program, name).items():
+            if key not in right:
+                found[key] = case
+                named.setdefault(key, []).append(name)
+    return [replace(case, kind=wrong.KIND, turned=", ".join(named[key])) for key, case in found.items()]

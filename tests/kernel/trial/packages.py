@@ -9,6 +9,8 @@ SOURCES = os.path.join(os.path.dirname(os.path.abspath(__file__)), "..", "source
 NEWEST = "newest"
 # what is listed is asked for anew after a day
 LISTED = 24 * 3600
+# what of a kernel's sources is kept
+OF_SOURCES = ("Documentation/admin-guide/cgroup-v2.rst", "tools/testing/selftests/cgroup/*", "tools/testing/selftests/*.h")
 # where a package has the kernel; since 7.2 the image is empty, and a package beside it has it
 PLACES = ("boot/vmlinuz-*", "usr/lib/modules/*/vmlinuz")
 
@@ -81,3 +83,23 @@ def kernel_of(version, kept):
     if found is None:
         raise Missing(f"no kernel {version}: {package} isn't fetched: {said.strip()[-200:]}")
     return found, package
+
+
+def sources_of(version, kept):
+    """A folder with what is kept of a version's sources, fetched where it hasn't all."""
+    package = f"linux-source-{version}"
+    folder = os.path.join(kept, package)
+    if all(glob.glob(os.path.join(folder, name)) for name in OF_SOURCES):
+        return folder
+    os.makedirs(folder, exist_ok=True)
+    packages = Packages(kept)
+    packages.update()
+    said = packages.fetch(package, folder)
+    archives = glob.glob(f"{folder}/usr/src/linux-source-*.tar.xz")
+    if not archives:
+        raise Missing(f"{package} isn't fetched: {said.strip()[-200:]}")
+    unpacked = ran("tar", "-xJf", archives[0], "-C", folder, "--strip-components=1", "--wildcards", *(f"*/{name}" for name in OF_SOURCES))
+    os.remove(archives[0])
+    if unpacked.returncode:
+        raise Missing(f"{package} isn't unpacked: {unpacked.stderr.strip()[-200:]}")
+    return folder

@@ -16,5 +16,5 @@ def line_of(runs):
         return "- Refusals: not asked."
     plain, opened = runs
     unknown = f"; of {', '.join(plain.skipped)} the kernel says nothing" if plain.skipped else ""
-    return (f"- Refusals: {len(plain.passed)} of {plain.planned} cases are refused, and {len(opened.failed)} are let through where the set-up "
-            f"lets the act through{unknown}.")
+    return (f"- Refusals: {len(plain.passed)} of {plain.planned} cases are refused, and {len(opened.failed)} are let through where the "
+            f"set-up lets the act through{unknown}.")

@@ -7,12 +7,12 @@ import os
 from second.controllers import ALL_CONTROLLERS
 from second.further import FURTHER_FILES
 import tap
-from trial import asking, classes, comparing, further, made, refusals, script, settled, shown, mutants
+from trial import asking, classes, comparing, further, made, refusals, script, selftests, settled, shown, mutants, wrong
 from trials.format_4 import FURTHER
 
 OF_OPERATIONS = {**mutants.MUTANTS, **mutants.OF_FORMAT_4}
 OF_FURTHER = [*mutants.OF_FURTHER, mutants.FORGETS]
-WRONG = [*OF_OPERATIONS, *mutants.ADVICE, *OF_FURTHER]
+WRONG = [*OF_OPERATIONS, *mutants.ADVICE, *OF_FURTHER, *wrong.OF_MADE]
 
 
 class Tally:
@@ -22,6 +22,10 @@ class Tally:
         # of each way of threads and descriptors the turns in which it was as the list says
         self.ways = collections.Counter()
         self.failures, self.told, self.seconds, self.controllers, self.files, self.runs = 0, {}, 0, (), (), []
+        # of each wrong program how many of the cases that it calls contained break
+        self.noticed = collections.Counter()
+        # what the kernel's own test says of each of its cases
+        self.selftests = {}
         # by what came of a set of a further limit file in which an escape ends the texts of each file; "as it is" marks those of a file
         # of whose value the tree's text tells nothing, and so no device
         self.sets = collections.defaultdict(lambda: collections.defaultdict(set))
@@ -30,7 +34,8 @@ class Tally:
         self.takers = {"operations": self.operations, made.ALONE: self.alone, "escapes": self.escapes, "contained": self.contained,
                        "advice": self.advice, "wrong advice": self.wrong_advice, settled.ESCAPES: self.escapes,
                        settled.CONTAINED: self.contained, further.OPERATIONS: self.operations, further.ESCAPES: self.escapes,
-                       further.CONTAINED: self.contained, further.ADVICE: self.advice, further.NEIGHBOURS: self.neighbours}
+                       further.CONTAINED: self.contained, further.ADVICE: self.advice, further.NEIGHBOURS: self.neighbours,
+                       wrong.KIND: self.wrong_program}
 
     def take(self, case, name, record):
         self.counts[f"{case.kind} cases"] += 1
@@ -62,6 +67,15 @@ class Tally:
                 if differs:
                     print(f"kernel: FAILED: {self.kernel}: ways: {differs}")
 
+    def take_selftests(self, told):
+        """What the kernel's own test says of each of its cases; one that it doesn't say has passed is a failure."""
+        self.selftests = told
+        for name, became in told.items():
+            self.counts["selftest cases"] += 1
+            self.failures += became != selftests.PASSED
+            if became != selftests.PASSED:
+                print(f"kernel: FAILED: {self.kernel}: selftests: {name}: {became}")
+
     def fail(self, case, name, what):
         os.makedirs(self.folder, exist_ok=True)
         path = os.path.join(self.folder, f"{case.kind.replace(' ', '-')}-{self.kernel}-{name}.json")
@@ -75,8 +89,8 @@ class Tally:
         self.failures += 1
         print(f"kernel: FAILED: {name}: the boot didn't come to its end; {whole} of {count} cases are taken")
 
-    def missed(self):
-        return [name for name in WRONG if name not in self.told]
+    def missed(self, names):
+        return [name for name in names if name not in self.told and not self.noticed[name]]
 
     def compared(self, case, name, answers, record):
         found = comparing.compare(case, answers, record)
@@ -165,6 +179,15 @@ class Tally:
             if there != "kept" or turned:
                 self.fail(case, name, f"{top}: {there}, owners and modes of {turned}")
 
+    def wrong_program(self, case, name, record):
+        """It has to be built and carried out, and each wrong program's to break once."""
+        if not script.is_whole(case, record):
+            self.fail(case, name, f"not built or carried out: {record.faults[:3]}, {len(record.states)} states")
+            return
+        top, = case.subtrees
+        if comparing.break_of(case, record, top) != "kept" or comparing.turned_entries(case, record, top):
+            self.noticed.update(case.turned.split(", "))
+
     def advice(self, case, name, record):
         found = comparing.compare_advice(self.program, case, record)
         if found.faults:
@@ -212,8 +235,8 @@ def lines_of_files(tally):
         return []
     return [
         f"{named}: the kernel has {len(tally.files)} of the {len(FURTHER_FILES)}.",
-        f"{named}, operations: {of[f'{further.OPERATIONS} cases']} cases, {of[f'{further.OPERATIONS} steps']} operations compared with their "
-        "states.",
+        f"{named}, operations: {of[f'{further.OPERATIONS} cases']} cases, {of[f'{further.OPERATIONS} steps']} operations compared "
+        "with their states.",
         f"{named}, escapes: {of[f'{further.ESCAPES} cases']} lists of {of[f'{further.ESCAPES} steps']} operations, "
         f"{of[f'{further.ESCAPES} as said']} of which break at the step and by the clause that the program says. There: "
         f"{listed(tally.breaks[further.ESCAPES])}.",
@@ -221,8 +244,8 @@ def lines_of_files(tally):
         f"{of[f'{further.CONTAINED} steps']} steps, of which the kernel let {of[f'{further.CONTAINED} steps let through']} through.",
         f"{named}, advice: {of[f'{further.ADVICE} cases']} pairs advised, {of[f'{further.ADVICE} changes']} changes carried out. Of "
         f"{of[f'{further.ADVICE} escapes']} escapes {of[f'{further.ADVICE} escapes refused']} were refused afterwards.",
-        f"{named}, neighbours: {of['partitions turned']} of {of[f'{further.NEIGHBOURS} cases']} contained partitions were turned invalid by "
-        "`cpuset.cpus` of a cgroup beside them.",
+        f"{named}, neighbours: {of['partitions turned']} of {of[f'{further.NEIGHBOURS} cases']} contained partitions were turned invalid "
+        "by `cpuset.cpus` of a cgroup beside them.",
         f"{named}, mutants of the program: {len(tally.told.keys() & OF_FURTHER)} of {len(OF_FURTHER)} found.", *table_of_sets(tally)]
 
 
@@ -258,9 +281,21 @@ def in_order(controllers):
     return ", ".join(name for name in ALL_CONTROLLERS if name in controllers) or "none"
 
 
+def wrong_lines(tally):
+    """What came of wrong programs, where what they alone call contained was carried out."""
+    count = tally.counts[f"{wrong.KIND} cases"]
+    if not count:
+        return []
+    missed = tally.missed(wrong.OF_MADE)
+    return [f"- Wrong programs: {len(wrong.OF_MADE) - len(missed)} of {len(wrong.OF_MADE)} noticed by {count} cases that they alone call "
+            "contained" + (f"; not noticed: {', '.join(missed)}" if missed else "") + ". So many of these break: "
+            + ", ".join(f"{name} {tally.noticed[name]}" for name in wrong.OF_MADE) + "."]
+
+
 def lines_of(tally):
     """A kernel's part of the report: of each kind that was asked for its own line, and then what is of all."""
-    of, missed = tally.counts, tally.missed()
+    of, mutated = tally.counts, [name for name in WRONG if name not in wrong.OF_MADE]
+    missed = tally.missed(mutated)
     kinds = {
         "operations": f"- Operations: {of['operations cases']} cases, {of['operations steps']} operations compared with their states.",
         "escapes": f"- Escapes: {of['escapes cases']} lists of {of['escapes steps']} operations, {of['escapes as said']} of which break at "
@@ -272,10 +307,12 @@ def lines_of(tally):
         f"{of['advice escape steps refused']}. {of['advice steps']} further steps, of which the kernel let "
         f"{of['advice steps let through']} through."}
     found = [
-        f"- Mutants of the program: {len(tally.told)} of {len(WRONG)} found" + (f"; not found: {', '.join(missed)}" if missed else "")
+        f"- Mutants of the program: {len(mutated) - len(missed)} of {len(mutated)} found"
+        + (f"; not found: {', '.join(missed)}" if missed else "")
         + ". By the case of its kind: " + ", ".join(f"{name} {number}" for name, number in tally.told.items()) + "."]
     return [f"## {tally.kernel}", "", f"- Controllers: {in_order(tally.controllers)}.", refusals.line_of(tally.runs),
-            *way_lines(tally),
-            *(line for kind, line in kinds.items() if of[f"{kind} cases"]), *settled_lines(tally), *further_lines(tally),
+            *way_lines(tally), *selftests.lines_of(tally.selftests),
+            *(line for kind, line in kinds.items() if of[f"{kind} cases"]), *settled_lines(tally), *wrong_lines(tally),
+            *further_lines(tally),
             f"- Differences by kind: {listed(tally.kinds)}.", f"- Unexplained: {tally.failures}.",
             *(found if of["operations cases"] else []), *lines_of_files(tally), f"- Time: {tally.seconds:.0f} s.", ""]

@@ -1,4 +1,5 @@
-"""Wrong programs: each says of some pairs that they are contained which aren't. A run with one of them (--wrong) has to fail."""
+"""Wrong programs: each says of some pairs that they are contained which aren't. Each turn carries out what they alone call contained,
+and has to break some of it for each of them; a run with one of them in place of the program (--wrong) has to fail."""
 from second import rules, texts
 from trial import mutants
 from trials import row_mutants
@@ -31,10 +32,12 @@ def first_group(state, user, top):
     return not rules.failures(state, (user[0], user[1][:1]), top)
 
 
+# the kind of the cases that wrong programs alone call contained
+KIND = "wrong programs"
 # of check and audit whether such a program says contained of a pair
 CHECKS = {
     "forgets groups": lambda state, user, top: not rules.failures(state, (user[0], ()), top),
-    "knows the first group alone": first_group,
+    "asks of the first group alone": first_group,
     "forgets the class of all others": of_class("others"),
     "forgets what a user owns": of_class("owner"),
     "forgets what a user opens by a chmod": without(reached_alone),
@@ -54,8 +57,9 @@ SETTLES = {
     **{f"settle: {name}": lambda state, user, top, name=name: row_mutants.holds(name, state, [user], top)
        for name in ("every cgroup stays", "no process is moved")},
 }
+OF_MADE = [*CHECKS, *SETTLES]
 # those of further limit files have trees of their own
-NAMES = [*CHECKS, *SETTLES, mutants.FORGETS]
+NAMES = [*OF_MADE, mutants.FORGETS]
 
 
 def says_contained(name, text, users, top):

@@ -5,7 +5,7 @@ import functools
 import itertools
 import re
 
-from . import explained, rules, settled, written
+from . import everybody, explained, rules, settled, written
 from .controllers import controllers_in
 from .documents import Fault
 from .further import FURTHER_FILES, is_value, value_written
@@ -23,7 +23,8 @@ OPTIONS = {
     "may": {"--tree": "", "--uid": "must", "--gid": "again", "--pid": "must", "--to": "must"},
     "check": {"--tree": "", "--uid": "must", "--gid": "again", "--subtree": "must"},
     "settle": {"--tree": "", "--uid": "must", "--gid": "again", "--subtree": "must"},
-    "audit": {"--tree": "", "--uid": "again", "--subtree": "again", "--pairs": "", "--all": "flag", "--settle": "flag"},
+    "audit": {"--tree": "", "--uid": "again", "--subtree": "again", "--pairs": "", "--all": "flag", "--settle": "flag",
+              "--everybody": "flag"},
     "explain": {"--tree": "", "--uid": "again", "--subtree": "again", "--pairs": ""},
     "replay": {"--tree": "", "--uid": "must", "--gid": "again", "--ops": "must", "--subtree": ""},
     "upgrade": {"--tree": ""},
@@ -191,9 +192,13 @@ class Call:
         return self.several_users() if self.command in ("audit", "explain", "advise") else self.one_user()
 
     def several_users(self):
-        """None where pairs name them; of `advise` one user and their groups, too."""
+        """None where pairs name them, or where everybody is meant; of `advise` one user and their groups, too."""
         if "--pairs" in self.given:
-            if self.given.keys() & {"--uid", "--gid", "--subtree", "--settle"}:
+            if self.given.keys() & {"--uid", "--gid", "--subtree", "--settle", "--everybody"}:
+                raise Fault("usage")
+            return []
+        if "--everybody" in self.given:
+            if self.given.keys() & {"--uid", "--all", "--settle"} or "--subtree" not in self.given:
                 raise Fault("usage")
             return []
         if not {"--uid", "--subtree"} <= self.given.keys():
@@ -394,7 +399,19 @@ def asked(call, tops):
     return list(itertools.product(dict.fromkeys(call.users), dict.fromkeys(tops)))
 
 
+def audit_of_everybody(state, tops, lines):
+    for top in dict.fromkeys(tops):
+        found = everybody.lines_of(state, top)
+        lines += [f"subtree {text_of(top)}", *found] if found else []
+    if lines:
+        return 1
+    lines.append("contained")
+    return 0
+
+
 def audit(call, state, tops, _files, lines):
+    if "--everybody" in call.given:
+        return audit_of_everybody(state, tops, lines)
     if "--settle" in call.given:
         return settled_audit(call, state, tops, lines)
     listed = bool(call.given.keys() & {"--all", "--pairs"})

@@ -541,10 +541,14 @@ def advice(state, pairs):
     return lines
 
 
-def entry_lines(guard, where, entry, users):
-    classes = {class_of(user, entry) for user in users}
+def class_lines(guard, where, entry, classes):
+    """A line for each of some classes by which an entry is reached, in their order."""
     told = f"fails {guard} {where} {entry.uid}:{entry.gid} {entry.mode:03o}"
-    return [f"{told} {name}" for name in ("owner", "group", "others") if name in classes] + entry_changes(users, entry, where)
+    return [f"{told} {name}" for name in ("owner", "group", "others") if name in classes]
+
+
+def entry_lines(guard, where, entry, users):
+    return class_lines(guard, where, entry, {class_of(user, entry) for user in users}) + entry_changes(users, entry, where)
 
 
 def entry_changes(users, entry, where):

@@ -1,6 +1,6 @@
 """Random cases: a command line, a tree text and operations, weighted so that each answer and fault comes up."""
 import random
-from dataclasses import dataclass, field
+from dataclasses import dataclass, field, replace
 
 from second import commands, documents, rules, texts
 from second.controllers import controllers_in
@@ -99,6 +99,8 @@ def drawn_case(seed, number, known):
             and rng.random() < 0.7 and state_of(data)):
         further.open_device(rng, tree)
         data = spelling.document(rng, tree.document(rng))
+    if command == "audit --everybody" and not large and rng.random() < 0.5:
+        data = closed_text(rng, tree.subtree, data)
     case = Case(MAKERS[command](rng, tree, state_of(data)))
     if command.startswith("replay"):
         case.files[OPS] = operations(rng, tree, data, case.words, wide)
@@ -129,6 +131,19 @@ def text_of_tree(rng, tree, wide):
     if rng.random() < 0.006:
         data += b"#" * (documents.MOST_BYTES + rng.choice([0, 0, 1]) - len(data))
     return data
+
+
+def closed_text(rng, top, data):
+    """A tree's text, if it is read, in which few of a subtree's guarded entries let anybody in, or none."""
+    state = state_of(data)
+    if not state or not top or top not in state.cgroups:
+        return data
+    often = rng.choice([0.8, 0.95, 1])
+    for _, path, name in rules.guarded(state, top):
+        entries = state.cgroups[path].entries
+        if rng.random() < often:
+            entries[name] = replace(entries[name], uid=0, mode=entries[name].mode & 0o755)
+    return spelling.document(rng, commands.document_of(state))
 
 
 def give_tree(rng, case, data):
@@ -280,6 +295,15 @@ def all_words(rng, tree, state):
     return [*audit_words(rng, tree, state), "--all"]
 
 
+def everybody_words(rng, tree, state):
+    """Often of many subtrees, of which some are held; at times with words that it excludes."""
+    below, words = [path for path in tree.rows if path], ["audit", "--everybody"]
+    words += ["--subtree", subtree_word(rng, tree, state)]
+    for _ in range(rng.choice([0, 0, 0, 1, 2, 3, 9])):
+        words += ["--subtree", text_of(rng.choice(below)) if below and rng.random() < 0.9 else subtree_word(rng, tree, state)]
+    return words + rng.choice([["--all"], ["--settle"], ["--uid", "1000"]]) if rng.random() < 0.03 else words
+
+
 def settled_audit_words(rng, tree, state):
     return ["audit", *settled_pairs(rng, tree, state), "--settle", *["--all"] * (rng.random() < 0.75)]
 
@@ -331,16 +355,16 @@ MAKERS = {"may": may_words, "check": check_words, "audit": audit_words, "audit -
           "advise --pairs": pairs_words, "settle": of_one("settle"), "audit --settle": settled_audit_words,
           "advise --settle": settled_advice_words, "explain": explain_words, "replay": replay_words,
           "replay alone": replay_alone_words, "upgrade": upgrade_words, "audit --pairs": audit_pairs_words,
-          "explain --pairs": explain_pairs_words}
+          "explain --pairs": explain_pairs_words, "audit --everybody": everybody_words}
 WEIGHTS = {"may": 14, "check": 30, "audit": 12, "audit --all": 12, "advise": 14, "advise --pairs": 12, "settle": 24,
            "audit --settle": 14, "advise --settle": 8, "explain": 18, "replay": 28, "replay alone": 6, "upgrade": 7,
-           "audit --pairs": 10, "explain --pairs": 5}
+           "audit --pairs": 10, "explain --pairs": 5, "audit --everybody": 12}
 # of one user and one subtree, with no weight of its own
 FURTHER = [name for name in commands.OF_ONE if name not in MAKERS]
 MAKERS.update((name, of_one(name)) for name in FURTHER)
 WEIGHTS.update((name, 5) for name in FURTHER)
 # commands that came when a seed was fixed by which mutants are told apart: fresh cases have them
-LATER = frozenset({"audit --pairs", "explain --pairs", *FURTHER})
+LATER = frozenset({"audit --pairs", "explain --pairs", "audit --everybody", *FURTHER})
 
 
 # Operations
@@ -501,6 +525,7 @@ def bad_line(rng, lines):
 
 # Command lines that are turned
 
+FLAGS = ("--all", "--settle", "--everybody")
 # whose users are named with their groups in one word
 OF_SEVERAL = (["audit"], ["explain"])
 
@@ -574,7 +599,7 @@ def unknown_word(rng, case):
 
 
 def join_option(rng, case):
-    options = [at for at, word in enumerate(case.words[:-1]) if at and word.startswith("--") and word not in ("--all", "--settle")]
+    options = [at for at, word in enumerate(case.words[:-1]) if at and word.startswith("--") and word not in FLAGS]
     if options:
         at = rng.choice(options)
         case.words[at:at + 2] = [f"{case.words[at]}={case.words[at + 1]}"]

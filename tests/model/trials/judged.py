@@ -7,6 +7,9 @@ from trials import walks
 # a walk over more takes long
 MOST_CGROUPS = 60
 MOST_TOPS = 4
+MOST_OWNERS = 4
+# a uid that no tree of the cases has
+NOBODY_S = 4294967294
 WALKS_BLIND = 6
 # what few subtrees show
 RARE = {"of a rmdir of what has a child": 40}
@@ -24,10 +27,18 @@ def asked(case):
         call = commands.Call(case.words)
         named = call.one("--tree") or "-"
         state = texts.tree_of(case.stdin if named == "-" else case.files[named])
-        users, tops = list(dict.fromkeys(call.users)), [rules.path_of(word) for word in dict.fromkeys(call.subtrees())]
+        users = some_of(state) if "--everybody" in call.given else list(dict.fromkeys(call.users))
+        tops = [rules.path_of(word) for word in dict.fromkeys(call.subtrees())]
     except (commands.Fault, documents.Fault, documents.Unsure, KeyError, TypeError):
         return None
     return (machine.view(state), users, tops) if len(state.cgroups) <= MOST_CGROUPS and users else None
+
+
+def some_of(state):
+    """Of everybody some: the owners of entries, and somebody else, in every group that an entry has, or in none."""
+    entries = [entry for cgroup in state.cgroups.values() for entry in cgroup.entries.values()]
+    owners, gids = sorted({entry.uid for entry in entries} - {0}), tuple(sorted({entry.gid for entry in entries}))
+    return [(uid, those) for uid in [*owners[:MOST_OWNERS], NOBODY_S] for those in ((), gids)]
 
 
 def is_contained(written):

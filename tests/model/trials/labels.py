@@ -28,7 +28,7 @@ FAULTS = ["usage", "uid", "gid", "pid", "path", "subtree root", "subtree missing
           "too-many-steps", "read", "write", *("tree " + name for name in re.split(r",\s+", TREE_FAULTS))]
 STATUSES = {"may": 2, "audit": 3, "audit --all": 3, "replay": 2, "upgrade": 1, "advise": 2, "advise --pairs": 2, "audit --settle": 3,
             **{name: 3 for name in commands.OF_ONE}, "audit --all --settle": 3, "advise --settle": 2, "explain": 3, "audit --pairs": 3,
-            "explain --pairs": 3}
+            "explain --pairs": 3, "audit --everybody": 2}
 # of trees of format 4, and of controllers that other formats don't have
 FAULTS_4 = """bad-controller cgroup, bad-controller top, bad-entry cgroup, bad-value cgroup, internal-process process, no-such-file cgroup,
 shape cgroup, too-many, top-down cgroup"""
@@ -62,6 +62,8 @@ WIDE = ["upgrade", "a bad word", "read past 4096 rows", "read past 16777216 byte
 BY = ["owner", "group", "others"]
 TOLD = ["holds stays spared", "holds stays upheld", "fails stays removed", "holds control on", "holds control off", "fails control turned",
         "holds files spared", "fails files reached"]
+OF_EVERYBODY = ["everybody: already-over", "everybody: already-over alone", "everybody: contained", "everybody: one of several is held",
+                "everybody: several classes of one entry", "everybody: the group of root's entry", "everybody: the root's cgroup.procs alone"]
 TAKES, GROWS = ["spared", "enabling", "takes"], ["spared", "full", "grows"]
 
 
@@ -81,6 +83,8 @@ def wanted(known):
         labels += ["advise: already-over", "advise: two classes of one entry"] + [f"advise: change {change}" for change in ("chown", "chmod", "chown chmod", "set")]
     if "settle" in known:
         labels += [f"settle: {guard} fails first, then {kind}" for guard in SETTLED for kind in commands.STATUS]
+    if "audit --everybody" in known:
+        labels += [f"everybody: {guard} lets in {name}" for guard in GUARDS[:4] for name in BY] + OF_EVERYBODY
     if "explain" in known:
         labels += [f"explain: {told}" for told in wanted_of_explain()]
     if FORMAT_4 in known:
@@ -98,7 +102,7 @@ def wanted_of_explain():
 def labels_of(case, expected):
     """The labels of a case with the lines, the status and the fault that it should give."""
     lines, status, fault = expected
-    name = " ".join(case.words[:1] + [word for word in ("--all", "--pairs", "--settle") if word in case.words])
+    name = " ".join(case.words[:1] + [word for word in ("--all", "--pairs", "--settle", "--everybody") if word in case.words])
     found = [f"{name}: status {status}"] if name in STATUSES else []
     if fault:
         found.append(re.sub(r"(cgroup|process|line) \d+", r"\1", fault))
@@ -328,6 +332,21 @@ def advise_labels(_case, lines):
     return sorted(found)
 
 
+def everybody_labels(case, lines):
+    found, tops = [], [part.splitlines() for part in "\n".join(lines).split("subtree ")[1:]]
+    for _, *told in tops:
+        classes = [line.split(" ") for line in told if "already-over" not in line]
+        entries = [tuple(words[:-1]) for words in classes]
+        found += [f"{words[1]} lets in {words[-1]}" for words in classes]
+        found += ["already-over"] * (len(classes) < len(told)) + ["already-over alone"] * (not classes)
+        found += ["several classes of one entry"] * (len({*entries}) < len(entries))
+        found += ["the group of root's entry" for words in classes if words[-1] == "group" and words[4].startswith("0:")]
+        found += ["the root's cgroup.procs alone"] * ({each[1:4] for each in entries} == {("common-ancestor", "/", rules.PROCS)})
+    asked = commands.Call(case.words).subtrees()
+    found += ["contained"] * (lines == ["contained"]) + ["one of several is held"] * (0 < len(tops) < len({*asked}))
+    return sorted({f"everybody: {what}" for what in found})
+
+
 def explain_labels(_case, lines):
     found, further = set(), False
     for line in lines:
@@ -348,4 +367,4 @@ def told_words(kind, _path, *words):
 
 
 LABELS = {"may": may_labels, "check": check_labels, "advise": advise_labels, "advise --pairs": advise_labels, "settle": settle_labels,
-          "explain": explain_labels, "explain --pairs": explain_labels}
+          "explain": explain_labels, "explain --pairs": explain_labels, "audit --everybody": everybody_labels}

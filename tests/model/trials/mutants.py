@@ -3,13 +3,13 @@ import functools
 import sys
 import types
 
-from second import commands, controllers, documents, explained, further, lasting, rules, settled, texts, written
+from second import commands, controllers, documents, everybody, explained, further, lasting, rules, settled, texts, written
 from trials import row_tables
 from trials.format_4 import FORMAT_4
 
 # in the order in which one takes from another: those before the one that is changed are the right model's own
 MODULES = {"controllers": controllers, "further": further, "documents": documents, "rules": rules, "lasting": lasting, "settled": settled,
-           "explained": explained, "texts": texts, "written": written, "commands": commands}
+           "explained": explained, "everybody": everybody, "texts": texts, "written": written, "commands": commands}
 USERS = "return list(itertools.product(dict.fromkeys(call.users), dict.fromkeys(tops)))"
 MEMBER = 'return "group" if entry.gid in user[1] else "others"'
 LIVE_ITEMS = "for other, process in state.live.items() if other != pid}"

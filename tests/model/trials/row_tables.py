@@ -6,6 +6,9 @@ FURTHER_ORDER = """    "io.latency": ("io", "target=max"),
 EIGHT_ORDER = """    "memory.low": ("memory", 0, 0, MOST, True),
     "memory.high": ("memory", MAX, 0, MOST, True),
 """
+LETS_IN = '{"owner": entry.uid != 0, "group": entry.mode & 0o020, "others": entry.mode & 0o002}'
+GUARDED = "for guard, path, name in rules.guarded(state, top)]"
+OVER_LAST = """return lines + ([f"fails already-over {text_of(top)}"] if rules.over(state, top) else [])"""
 LIVE_PID = "found = [(\"bad-pid\", not 1 <= pid <= rules.LAST_PID)"
 
 
@@ -67,6 +70,43 @@ OF_ROWS = {
     "upgrade writes processes before cgroups": (
         "written", "written", '    for row in document["process"]:\n        lines += ["", "[[process]]", *values_of(row)]\n    return lines',
         '    return lines + [line for row in document["process"] for line in ["", "[[process]]", *values_of(row)][1:]]'),
+    "a class forgotten: an entry's owner": ("everybody", "everybody", LETS_IN, LETS_IN.replace("entry.uid != 0", "False")),
+    "a class forgotten: an entry's group": ("everybody", "everybody", LETS_IN, LETS_IN.replace("entry.mode & 0o020", "False")),
+    "a class forgotten: all others": ("everybody", "everybody", LETS_IN, LETS_IN.replace("entry.mode & 0o002", "False")),
+    "an owner who doesn't write is let in by nothing": (
+        "everybody", "everybody", LETS_IN, LETS_IN.replace("entry.uid != 0", "entry.uid != 0 and entry.mode & 0o200")),
+    "an owner is let in by no mode alone": (
+        "everybody", "everybody", LETS_IN, LETS_IN.replace("entry.uid != 0", "entry.uid != 0 and entry.mode & 0o777")),
+    "root is let in as an owner": ("everybody", "everybody", LETS_IN, LETS_IN.replace("entry.uid != 0", "True")),
+    "a group's write is its owner's": (
+        "everybody", "everybody", LETS_IN, LETS_IN.replace("entry.mode & 0o020", "entry.mode & 0o020 and entry.uid != 0")),
+    "group 0 has no members but root": ("everybody", "everybody", LETS_IN, LETS_IN.replace("entry.mode & 0o020", "entry.mode & 0o020 and entry.gid")),
+    "a group's write is all others', too": ("everybody", "everybody", LETS_IN, LETS_IN.replace("entry.mode & 0o002", "entry.mode & 0o022")),
+    "all others are let in where the group is": (
+        "everybody", "everybody", LETS_IN, LETS_IN.replace("entry.mode & 0o002", "entry.mode & 0o022 == 0o022")),
+    "others before the group of an entry against everybody": (
+        "everybody", "everybody", ".entries[name], classes)\n", ".entries[name], classes)[::-1]\n"),
+    "an ancestor left out": (
+        "everybody", "everybody", GUARDED, GUARDED.replace("]", ' if guard != "common-ancestor" or path == top[:-1]]')),
+    "the root cgroup's left out": ("everybody", "everybody", GUARDED, GUARDED.replace("]", ' if guard != "common-ancestor" or path]')),
+    "a further limit file lets nobody in": ("everybody", "everybody", GUARDED, GUARDED.replace("]", " if name not in rules.FURTHER_FILES]")),
+    "the subtree's own directory is asked against everybody": (
+        "everybody", "everybody", GUARDED, GUARDED.replace("rules.guarded(state, top)", "[*rules.guarded(state, top), (\"parent-dir\", top, \"dir\")]")),
+    "over its limits forgotten": ("everybody", "everybody", OVER_LAST, "return lines"),
+    "over its limits is told first": (
+        "everybody", "everybody", OVER_LAST, OVER_LAST.replace("return lines + (", "return (").replace("else [])", "else []) + lines")),
+    "over its limits by descendants alone": (
+        "everybody", "everybody", OVER_LAST, OVER_LAST.replace("if rules.over(state, top)", "if rules.DESCENDANTS in rules.over(state, top)")),
+    "entries against everybody in the order of paths": (
+        "everybody", "everybody", "return [each for each in found if each[-1]]", "return sorted(each for each in found if each[-1])"),
+    "subtrees against everybody in the order of paths": (
+        "everybody", "commands", "    for top in dict.fromkeys(tops):\n", "    for top in sorted({*tops}):\n"),
+    "a subtree that is named again is listed again": (
+        "everybody", "commands", "    for top in dict.fromkeys(tops):\n", "    for top in tops:\n"),
+    "the first subtree alone is listed against everybody": (
+        "everybody", "commands", "    for top in dict.fromkeys(tops):\n", "    for top in tops[:1]:\n"),
+    "a subtree that is held has a line": (
+        "everybody", "commands", 'lines += [f"subtree {text_of(top)}", *found] if found else []', 'lines += [f"subtree {text_of(top)}", *found]'),
     "upgrade puts a backslash before each quote": ("written", "written", "if \"'\" not in text:", 'if text == "":'),
 }
 # which of the other mutants are told apart by which table

@@ -249,6 +249,32 @@ def classes():
                     yield Case(["advise", *(word for user in users for word in ("--uid", user)), "--subtree", subtree], tree)
 
 
+# Whom what is guarded lets in
+
+
+def everybody():
+    """Each entry of a small tree, guarded or not, in the hands of several; limits; and several subtrees."""
+    deep = ["--subtree", "/a/b", "--subtree", "/a"]
+    rows = {"/": {}, "/a": {"enabled": list(ALL_CONTROLLERS)}, "/a/b": {}, "/a/b/c": {}, "/d": {}}
+    entries = [(path, file) for path in ("/", "/a", "/a/b") for file in (None, rules.PROCS, rules.CONTROL)]
+    entries += [(path, file) for path in ("/a", "/a/b", "/a/b/c") for file in (rules.DEPTH, "memory.max", "io.max")]
+    modes = 0, 0o020, 0o002, 0o022, 0o200, 0o755, 0o664, 0o646
+    for (path, file), uid, gid, mode in itertools.product(entries, (0, 1000, LAST_ID), (0, 5), modes):
+        entry = {"uid": uid, "gid": gid, "mode": mode}
+        table = {"dir": entry} if file is None else {"files": {file: entry}}
+        yield Case(["audit", "--everybody", *deep], text_of(4, {**rows, path: {**rows[path], **table}}))
+    for file, value, mode in itertools.product((rules.DESCENDANTS, rules.DEPTH), (0, 1, 2, 3, "max"), (0o644, 0o666)):
+        table = {"files": {file: {"value": value, "mode": mode}}}
+        yield Case(["audit", "--everybody", *deep], text_of(4, {**rows, "/a": {**rows["/a"], **table}}))
+        yield Case(["audit", "--everybody", *deep], text_of(4, {**rows, "/": table}))
+    theirs = {"uid": 1000, "gid": 5, "mode": 0o666}
+    files = {file: theirs for file in (rules.PROCS, rules.CONTROL, rules.DESCENDANTS, rules.DEPTH)}
+    for above in {}, {"dir": theirs}, {"files": files}, {"dir": theirs, "files": files}:
+        tree = text_of(2, {"/b": above, "/b/x": {"files": files}, "/b/a": {"files": {rules.DEPTH: {"value": 0}}}, "/b/a/y": {}, "/c": {}})
+        for tops in itertools.permutations(("/b/x", "/b/a", "/c", "/b"), 3):
+            yield Case(["audit", "--everybody", *(word for top in (*tops, tops[0]) for word in ("--subtree", top))], tree)
+
+
 # What is written of a tree
 
 
@@ -271,4 +297,5 @@ def bounds():
 
 
 TABLES = {**{file: functools.partial(limit_file, file) for file in rules.ALL_FILES}, "bounds": bounds, "names": names, "two tries": two_tries,
-          "at the root": at_the_root, "theirs": theirs, "classes": classes, "written": written}
+          "at the root": at_the_root, "theirs": theirs, "classes": classes, "everybody": everybody,
+          "written": written}

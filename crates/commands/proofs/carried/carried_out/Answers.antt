@@ -15,6 +15,9 @@ returns-in-Settle-clause-answer g c = rw c.in-Settle.is c.on_tree-in-Settle.ensu
 pub returns-in-Audit-clause-answer : goal.returns-in-Audit-clause-answer
 returns-in-Audit-clause-answer g c = rw c.in-Audit.is c.on_tree-in-Audit.ensures.answer
 
+pub returns-in-AuditEverybody-clause-answer : goal.returns-in-AuditEverybody-clause-answer
+returns-in-AuditEverybody-clause-answer g c = rw c.in-AuditEverybody.is c.on_tree-in-AuditEverybody.ensures.answer
+
 pub returns-in-Explain-clause-answer : goal.returns-in-Explain-clause-answer
 returns-in-Explain-clause-answer g c = rw c.in-Explain.is c.on_tree-in-Explain.ensures.answer
 
@@ -47,6 +50,9 @@ returns-in-Settle-clause-noted g c = rw c.in-Settle.is c.on_tree-in-Settle.ensur
 
 pub returns-in-Audit-clause-noted : goal.returns-in-Audit-clause-noted
 returns-in-Audit-clause-noted g c = rw c.in-Audit.is c.on_tree-in-Audit.ensures.noted
+
+pub returns-in-AuditEverybody-clause-noted : goal.returns-in-AuditEverybody-clause-noted
+returns-in-AuditEverybody-clause-noted g c = rw c.in-AuditEverybody.is c.on_tree-in-AuditEverybody.ensures.noted
 
 pub returns-in-Explain-clause-noted : goal.returns-in-Explain-clause-noted
 returns-in-Explain-clause-noted g c = rw c.in-Explain.is c.on_tree-in-Explain.ensures.noted

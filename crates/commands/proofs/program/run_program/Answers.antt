@@ -1,7 +1,7 @@
 use Rattle.std.specs.Prelude.{ℕ, List, map, string_bytes, None, Err}
 use Rattle.commands.proofs.RequestLaws.{Keeps-refl}
 use Rattle.commands.proofs.ProgramLaws.{on_writer}
-use Rattle.commands.proofs.YesLaws.{program_checks, program_audits}
+use Rattle.commands.proofs.YesLaws.{program_checks, program_audits, program_audits_everybody}
 use Rattle.commands.proofs.program.run_program.Goals as goal
 
 pub returns-in-Err : goal.returns-in-Err
@@ -15,6 +15,7 @@ returns-in-Err g c = record {
   );
   check = rw c.in-Err.is tt;
   audit = rw c.in-Err.is tt;
+  everybody = rw c.in-Err.is tt;
 }
 
 pub returns-in-Ok : goal.returns-in-Ok
@@ -27,4 +28,7 @@ returns-in-Ok g c =
           (g.W.Write.contents c.args.out) answer c.run_line.result.status status (λ below run. (run.0, run.1)) c.run_line.result.out ran);
       audit = rw c.in-Ok.is (program_audits g.W.Write.contents _ words (g.F.Files.given c.args.files.now) (g.I.Read.remaining c.args.input)
           (g.W.Write.contents c.args.out) answer c.run_line.result.status status (λ below run. (run.0, run.1)) c.run_line.result.out ran);
+      everybody = rw c.in-Ok.is (program_audits_everybody g.W.Write.contents _ words (g.F.Files.given c.args.files.now)
+          (g.I.Read.remaining c.args.input) (g.W.Write.contents c.args.out) answer c.run_line.result.status status
+          (λ below run. (run.0, run.1)) c.run_line.result.out ran);
     }

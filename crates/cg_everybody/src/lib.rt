@@ -1,0 +1,5 @@
+//! A subtree against everybody but root, whoever there is: whom the entries let in on which its guards stand.
+#![tactic(auto)]
+
+pub mod laws;
+pub mod lines;

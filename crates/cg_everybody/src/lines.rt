@@ -1,0 +1,140 @@
+//! The lines of a report on everybody.
+ghost use Rattle.std.specs.Prelude.{◌≡◌, ◌++◌, ◌∷◌, [], cond, false, IfOk, OnOk, string_bytes};
+ghost use Rattle.std.specs.List.{All, flat_map};
+ghost use Rattle.cg_cgroup.specs.Paths.{is_root};
+ghost use Rattle.cg_model.specs.Guards.{guarded_entries, IsSubtree};
+ghost use Rattle.cg_advice.specs.AdviceLines.{IsShown, fails_line, over_line};
+ghost use Rattle.cg_everybody.specs.Everybody.{opens_to, classes_in, entrance_lines, found_lines, subtree_line, headed, everybody_lines};
+
+use cg_advice::text::{fails_line, over_line};
+use cg_cgroup::memory::NoMemory;
+use cg_cgroup::path::Path;
+use cg_cgroup::user::Entry;
+use cg_guards::failed::is_over;
+use cg_guards::table::{Top, guarded_count, guarded_entry};
+use cg_model::guard::GuardedEntry;
+use cg_model::hierarchy::Hierarchy;
+use cg_model::mend::Class;
+use std::alloc::{AllocError, Global};
+
+/// Of each subtree that somebody but root may break, its line, and below it a line for each class of users that an entry lets in on
+/// which a guard stands, and one where the subtree is over its limits. There are none exactly where each subtree is contained against
+/// everybody but root.
+///
+/// # Errors
+/// `NoMemory` where an allocation was refused.
+pub fn everybody_lines<H: Hierarchy>(
+    alloc: Global,
+    tree: &H,
+    subtrees: &[Path],
+) -> Result<Vec<u8>, NoMemory>
+    requires { All (IsSubtree (H.state tree.now)) subtrees.now }
+    ensures { IfOk result (λ text. text.items ≡ everybody_lines (H.state tree.now) subtrees.now) }
+{
+    let mut text = Vec::new(alloc);
+    for subtree in subtrees {
+        let found = found_lines(alloc, tree, subtree)?;
+        push_headed(alloc, &mut text, subtree, found.as_slice())?;
+    }
+    Ok(text)
+}
+
+/// Lines of a subtree behind a text, below the line of the subtree, where there are any.
+fn push_headed(
+    alloc: Global,
+    text: &mut Vec<u8>,
+    subtree: &Path,
+    found: &[u8],
+) -> Result<(), NoMemory>
+    ensures { OnOk result (text.new.items ≡ text.old.items ++ headed subtree.now found.now) }
+{
+    if found.is_empty() {
+        return Ok(());
+    }
+    let line = subtree_line(alloc, subtree)?.into_bytes();
+    text.extend_from_slice(line.as_slice())?;
+    text.extend_from_slice(found)?;
+    Ok(())
+}
+
+/// The line of a subtree.
+fn subtree_line(alloc: Global, subtree: &Path) -> Result<String, AllocError>
+    ensures { IfOk result (λ line. string_bytes line ≡ subtree_line subtree.now) }
+{
+    let place = subtree.prefix(subtree.depth());
+    format!(in alloc; "subtree {place}\n")
+}
+
+/// What lets somebody break a subtree, in the order of the guards.
+fn found_lines<H: Hierarchy>(alloc: Global, tree: &H, subtree: &Path) -> Result<Vec<u8>, NoMemory>
+    requires { IsSubtree (H.state tree.now) subtree.now }
+    ensures { IfOk result (λ text. text.items ≡ found_lines (H.state tree.now) subtree.now) }
+{
+    let mut text = entries_lines(alloc, tree, subtree)?;
+    if is_over(tree, subtree) {
+        let line = over_line(alloc, subtree)?.into_bytes();
+        text.extend_from_slice(line.as_slice())?;
+    }
+    Ok(text)
+}
+
+/// The lines of the guarded entries that let somebody in.
+fn entries_lines<H: Hierarchy>(alloc: Global, tree: &H, subtree: &Path) -> Result<Vec<u8>, NoMemory>
+    requires { is_root subtree.now ≡ false }
+    ensures { IfOk result (λ text. text.items ≡ flat_map (entrance_lines (H.state tree.now) subtree.now) (guarded_entries subtree.now)) }
+{
+    let top = Top::of(tree, subtree);
+    let mut text = Vec::new(alloc);
+    for place in 0..guarded_count(subtree) {
+        let Some(at) = guarded_entry(tree, subtree, top, place) else {
+            continue;
+        };
+        push_entry(alloc, &mut text, subtree, &at)?;
+    }
+    Ok(text)
+}
+
+/// A line for each class that an entry lets in, behind a text.
+fn push_entry(
+    alloc: Global,
+    text: &mut Vec<u8>,
+    subtree: &Path,
+    at: &GuardedEntry,
+) -> Result<(), NoMemory>
+    requires { IsShown subtree.now at.now }
+    ensures { OnOk result (text.new.items ≡ text.old.items ++ flat_map (fails_line subtree.now at.now) (classes_in at.now.entry)) }
+{
+    push_class(alloc, text, subtree, at, Class::Owner)?;
+    push_class(alloc, text, subtree, at, Class::Group)?;
+    push_class(alloc, text, subtree, at, Class::Others)?;
+    Ok(())
+}
+
+/// The line of a class, where an entry lets it in.
+fn push_class(
+    alloc: Global,
+    text: &mut Vec<u8>,
+    subtree: &Path,
+    at: &GuardedEntry,
+    class: Class,
+) -> Result<(), NoMemory>
+    requires { IsShown subtree.now at.now }
+    ensures { OnOk result (text.new.items ≡ text.old.items ++ cond (opens_to at.now.entry class) (fails_line subtree.now at.now class) []) }
+{
+    if opens_to(&at.entry, class) {
+        let line = fails_line(alloc, subtree, at, class)?.into_bytes();
+        text.extend_from_slice(line.as_slice())?;
+    }
+    Ok(())
+}
+
+/// Whether an entry lets a class of users in, of whom none is root. Its owner sets its mode first.
+fn opens_to(entry: &Entry, class: Class) -> bool
+    ensures { result ≡ opens_to entry.now class }
+{
+    match class {
+        Class::Owner => entry.uid != 0,
+        Class::Group => entry.mode & 0o020 == 0o020,
+        Class::Others => entry.mode & 0o002 == 0o002,
+    }
+}

@@ -1,0 +1,2 @@
+mod CallLaws
+mod WordLaws

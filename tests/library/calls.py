@@ -1,0 +1,142 @@
+#!/usr/bin/env python3
+"""Asks the library for C what tables ask the program, and compares the answers byte for byte.
+
+Usage: tests/library/calls.py PROGRAM ARCHIVE [--cases N]
+
+ARCHIVE is that of the library's proved crates, for x86-64, as gate/objects builds it. It is linked as tools/library links it. What the
+tables of tests/program and N random cases (2000) of tests/model/run ask is asked of both (beside says how). Some calls are made with each
+room from 0 on, with ASan and under valgrind, from eight threads at once with a small stack each, and with each call of malloc refused. The
+example for C and the tests of the module for Python are run over it. The last line is 'N passed, M failed'.
+"""
+import argparse
+import collections
+import os
+import re
+import subprocess
+import sys
+import tempfile
+
+sys.dont_write_bytecode = True
+HERE = os.path.dirname(os.path.abspath(__file__))
+TOP = os.path.dirname(os.path.dirname(HERE))
+sys.path[:0] = [f"{TOP}/tools"]
+import linked_library
+
+TABLES = ("answers", "words", "help", "migrations", "upgrades")
+EXAMPLES = f"{TOP}/examples"
+ONE = ["--uid", "1000", "--subtree", "/c0"]
+# the tree, the other text and the words of calls that are made in many ways
+MADE = [("delegation", "", ["check", *ONE]), ("delegation-limit-writable", "", ["check", *ONE]), ("delegation-ancestor-group", "", ["check", *ONE]),
+        ("delegation-parent-directory", "", ["settle", *ONE]), ("delegation-second-user", "", ["audit", *ONE, "--uid", "1001:1001"]),
+        ("delegation-ancestor-group", "", ["advise", "--uid", "1000:50", "--subtree", "/c0"]), ("delegation", "", ["explain", *ONE]),
+        ("delegation", "", ["may", "--uid", "1000", "--pid", "11", "--to", "/c0/c01"]), ("delegation", "", ["upgrade"]),
+        ("delegation", "exit 11\nmkdir /c0/a\n", ["replay", "--uid", "1000", "--ops", "OPS"]), ("fault-no-parent", "", ["upgrade"]),
+        ("delegation", "exit 11\nmkdri /c0/a\n", ["replay", "--uid", "1000", "--ops", "OPS"]), ("delegation", "", ["chek"]),
+        ("delegation", "", ["check", "--uid", "0", "--subtree", "/c0"]), ("delegation", "", ["check", "--help"]),
+        ("delegation", "pair 1000 /c0\n", ["audit", "--pairs", "PAIRS"])]
+
+
+def tree_of(name):
+    with open(f"{EXAMPLES}/{name}.toml", "rb") as file:
+        return file.read()
+
+
+def compile_caller(room, name, *more):
+    words = ["gcc", "-std=c11", "-O1", "-g", "-Wall", "-Wextra", "-Werror", f"-I{room}/include", f"{HERE}/by_library.c", "-o", f"{room}/{name}"]
+    subprocess.run([*words, *more, "-lpthread"], check=True)
+    return f"{room}/{name}"
+
+
+class Tests:
+    def __init__(self, program, room):
+        self.program, self.room = os.path.abspath(program), room
+        self.counts, self.passed, self.failed = collections.Counter(), 0, 0
+
+    def count(self, name, is_right, why=""):
+        self.passed, self.failed = self.passed + bool(is_right), self.failed + (not is_right)
+        if not is_right:
+            print(f"library: FAILED: {name}: {why}"[:2000], flush=True)
+
+    def ask_tables(self, caller, cases):
+        said = f"{self.room}/said"
+        environment = {**os.environ, "BESIDE": f"{self.program}:{caller}:{said}"}
+        runs = [[f"{TOP}/tests/program/{it}.py", f"{HERE}/beside"] for it in TABLES]
+        runs.append([f"{TOP}/tests/model/run", f"{HERE}/beside", "--cases", str(cases)])
+        for words in runs:
+            ended = subprocess.run(words, env=environment, capture_output=True, text=True)
+            name = os.path.basename(words[0])
+            lines = open(said, encoding="utf-8").read().splitlines() if os.path.exists(said) else []
+            for line in lines:
+                kind, _, why = line.partition(": ")
+                if kind == "left out":
+                    self.counts[why] += 1
+                else:
+                    self.count(f"a call of {name}", kind == "same", why)
+            self.count(name, ended.returncode == 0 and lines, f"{ended.stdout[-1500:]}{ended.stderr[-500:]}")
+            print(f"library: {name}: {sum(it == 'same' for it in lines)} of {len(lines)} calls are answered the same", flush=True)
+            if lines:
+                os.remove(said)
+        for why, count in sorted(self.counts.items()):
+            print(f"library: {count} calls are left out: {why}")
+
+    def ask(self, how, caller, before=()):
+        """Makes each of some calls in a way, and compares the answer with the program's."""
+        for name, other, words in MADE:
+            tree = tree_of(name)
+            with tempfile.NamedTemporaryFile(dir=self.room) as file:
+                file.write(other.encode())
+                file.flush()
+                named = [file.name if it in ("OPS", "PAIRS") else it for it in words]
+                by_program = subprocess.run([self.program, *named], input=tree, capture_output=True)
+                ended = subprocess.run([*before, caller, *how, file.name, *named], input=tree, capture_output=True)
+            expected = by_program.stderr if by_program.returncode == 3 else by_program.stdout
+            report = ended.stderr if by_program.returncode == 3 else ended.stdout
+            report = re.sub(rb"^  \d+ calls refused\n", b"", report, flags=re.M) if "--refused" in how else report
+            label = f"{' '.join([*before, *how])} {' '.join(words)} of {name}"
+            self.count(label, (ended.returncode, report) == (by_program.returncode, expected), f"{ended.returncode} {ended.stderr.decode()[-1000:]}")
+
+
+    def run_module(self):
+        """The tests of the module for Python, which asks the library."""
+        environment = {**os.environ, "ZIROFEN_LIBRARY": f"{self.room}/{linked_library.SHARED}"}
+        words = [f"{TOP}/tests/unit_tests", f"{TOP}/tests/python", "module_test.py", "AnswersTest"]
+        ended = subprocess.run(words, env=environment, capture_output=True, text=True)
+        self.count("tests/python", ended.returncode == 0, ended.stdout[-1500:] + ended.stderr[-500:])
+
+    def run_example(self):
+        """The program of docs/PROGRAMS.md, as pkg-config has it compiled."""
+        found = subprocess.run(["pkg-config", "--cflags", "--libs", "zirofen"], env={**os.environ, "PKG_CONFIG_PATH": self.room},
+                               capture_output=True, text=True, check=True)
+        words = ["gcc", "-std=c11", "-Wall", "-Wextra", "-Werror", f"{EXAMPLES}/before.c", "-o", f"{self.room}/before"]
+        subprocess.run([*words, *found.stdout.split(), f"-Wl,-rpath,{self.room}"], check=True)
+        for name, status, said in (("delegation", 0, "hand it out\n"), ("fault-no-parent", 2, ""),
+                                   ("delegation-limit-writable", 1, "keep it:\nescapes\nset /c0 memory.max max\n")):
+            ended = subprocess.run([f"{self.room}/before", "1000", "/c0"], input=tree_of(name), capture_output=True)
+            self.count(f"the example of {name}", (ended.returncode, ended.stdout.decode()) == (status, said), f"{ended}")
+
+
+def main():
+    parser = argparse.ArgumentParser()
+    parser.add_argument("program")
+    parser.add_argument("archive")
+    parser.add_argument("--cases", type=int, default=2000)
+    given = parser.parse_args()
+    with tempfile.TemporaryDirectory() as room:
+        linked_library.link("x86_64", os.path.abspath(given.archive), room)
+        linked_library.put_beside(room)
+        tests = Tests(given.program, room)
+        shared = compile_caller(room, "shared", f"-L{room}", "-lzirofen", f"-Wl,-rpath,{room}")
+        archive = f"{room}/{linked_library.ARCHIVE}"
+        tests.run_example()
+        tests.run_module()
+        tests.ask(["--all"], compile_caller(room, "with_asan", archive, "-fsanitize=address,undefined"))
+        tests.ask(["--threads", "8"], shared)
+        tests.ask(["--refused"], compile_caller(room, "refusing", archive, "-DREFUSING", "-Wl,--wrap=malloc,--wrap=realloc"))
+        tests.ask([], compile_caller(room, "static", archive), ("valgrind", "--quiet", "--error-exitcode=99", "--leak-check=full"))
+        tests.ask_tables(shared, given.cases)
+        print(f"{tests.passed} passed, {tests.failed} failed")
+        return 1 if tests.failed or not tests.passed else 0
+
+
+if __name__ == "__main__":
+    sys.exit(main())
