@@ -96,7 +96,9 @@ def report_of(host, program, name, kernel):
         text = "".join(as_json.parts_of(check.report(host.snapshot(), options, True)))
     found = json.loads(text.replace(host.mount, "/sys/fs/cgroup"))
     del found["helper"]
-    return {**found, "host": name, "kernel": kernel, "time": "2026-11-25T08:00:00Z", "options": []}
+    # of the program its version alone, so that what is kept doesn't change with each build
+    return {**found, "program": found["program"].partition(" (")[0], "host": name, "kernel": kernel, "time": "2026-11-25T08:00:00Z",
+            "options": []}
 
 
 def kept():

@@ -196,8 +196,9 @@ class MetricsTest(unittest.TestCase):
             self.assertEqual(debian_readers.promtool("".join(metrics.parts_of(run))), "", name)
 
     def test_labels_name_nothing_of_a_host(self):
-        """All series are there, whatever a host has."""
-        kinds = {tuple(line.rpartition(" ")[0] for line in "".join(metrics.parts_of(run)).splitlines()) for _, run in runs()}
+        """All series are there, whatever a host has. The kept reports were made by programs of several versions."""
+        of_one = [replace(run, report=replace(run.report, program="zirofen")) for _, run in runs()]
+        kinds = {tuple(line.rpartition(" ")[0] for line in "".join(metrics.parts_of(run)).splitlines()) for run in of_one}
         self.assertEqual(len(kinds), 1)
 
     def test_the_numbers(self):
