@@ -17,11 +17,14 @@ LINKED = ("-shared", "--strip-all", "--build-id=none", "-z", "text", "-z", "now"
           "--version-script", f"{TOP}/runtime/library.map")
 # what a program that calls it has of its C library
 OF_C = ("malloc", "realloc", "free", "memcpy", "memmove", "memset", "memcmp", "bcmp")
-ABOUT = """Name: zirofen
+ABOUT = """libdir={libraries}
+includedir={headers}
+
+Name: zirofen
 Description: Checks cgroup v2 delegation on Linux
 Version: {version}
-Libs: -L{libraries} -lzirofen
-Cflags: -I{headers}
+Libs: -L${{libdir}} -lzirofen
+Cflags: -I${{includedir}}
 """
 
 
@@ -68,11 +71,16 @@ def version():
         return re.search(r'"(\d+\.\d+\.\d+) \(library\)"', it.read())[1]
 
 
+def pkg_config(libraries, headers):
+    """Returns the text of the file by which pkg-config has the library found in a folder."""
+    return ABOUT.format(version=version(), libraries=libraries, headers=headers)
+
+
 def put_beside(to):
     """Puts the header and the file of pkg-config beside the libraries of a folder, and the name by which a linker finds the shared one."""
     os.makedirs(f"{to}/include", exist_ok=True)
     shutil.copyfile(f"{TOP}/include/zirofen.h", f"{to}/include/zirofen.h")
     with open(f"{to}/{PKG_CONFIG}", "w", encoding="utf-8") as out:
-        out.write(ABOUT.format(version=version(), libraries="${pcfiledir}", headers="${pcfiledir}/include"))
+        out.write(pkg_config("${pcfiledir}", "${pcfiledir}/include"))
     if not os.path.lexists(f"{to}/libzirofen.so"):
         os.symlink(SHARED, f"{to}/libzirofen.so")

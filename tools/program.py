@@ -56,19 +56,24 @@ def write_digits(sources):
             out.write(after)
 
 
-def sum_of_sources():
-    """Returns the sum of what decides the program's bytes, the version, src/ of the crates that it stands on and their lines of
-    crates.txt, runtime/ and how it is linked, but for the file that says this sum, or nothing where that can't be read."""
+def sum_of_crates(crate, version_of, beside, unread=()):
+    """Returns the sum of what decides what is built of a crate: the version, src/ of the crates that it stands on and their lines of
+    crates.txt, and the files beside them by which it is linked, but for files that say this sum, or nothing where that can't be read."""
     with contextlib.suppress(OSError, ValueError, AttributeError):
         lines = {name: line.partition("#")[0].rstrip("\n") for line, name, _ in crates.rows(TOP) if name}
-        names = crates.in_order(crates.read(TOP), "zirofen")
+        names = crates.in_order(crates.read(TOP), crate)
         files = {os.path.relpath(f"{at}/{it}", f"{TOP}/crates")
                  for name in names for at, _, found in os.walk(f"{TOP}/crates/{name}/src") for it in found}
-        files.remove(os.path.relpath(VERSIONED, f"{TOP}/crates"))
+        files -= {os.path.relpath(it, f"{TOP}/crates") for it in unread}
         sums = [f"{sum_of(f'{TOP}/crates/{it}')}  {it}" for it in sorted(files, key=os.fsencode)]
-        sums += [f"{sum_of(f'{TOP}/{it}')}  {it}" for it in LINKING]
-        return hashlib.sha256("".join(f"{it}\n" for it in [version()[0], *(lines[it] for it in names), *sums]).encode()).hexdigest()
+        sums += [f"{sum_of(f'{TOP}/{it}')}  {it}" for it in beside]
+        return hashlib.sha256("".join(f"{it}\n" for it in [version_of(), *(lines[it] for it in names), *sums]).encode()).hexdigest()
     return ""
+
+
+def sum_of_sources():
+    """Returns the sum of what decides the program's bytes, or nothing where that can't be read."""
+    return sum_of_crates("zirofen", lambda: version()[0], LINKING, [VERSIONED])
 
 
 def name_of(machine):

@@ -18,6 +18,7 @@ struct text {
 struct question {
     struct text words, tree, other;
 };
+static const struct text nothing;
 struct answer {
     int status;
     struct text report;
@@ -101,6 +102,10 @@ static void ask_with_each_room(const struct question *asked, const struct answer
     }
     if (run(asked, whole->report.bytes, whole->report.length, NULL) != whole->status) {
         fail("without a place for the length it answers otherwise");
+    }
+    struct question without = {asked->words, asked->tree.length ? asked->tree : nothing, asked->other.length ? asked->other : nothing};
+    if (run(&without, NULL, 0, NULL) != whole->status) {
+        fail("of null pointers in place of texts of no bytes it answers otherwise");
     }
 }
 

@@ -77,7 +77,7 @@ class PackageTest(unittest.TestCase):
         return run(sys.executable, f"{TOP}/tools/package", *cls.options, folder, **more)
 
     def archive(self, suffix):
-        [name] = [it for it in os.listdir(self.made) if it.endswith(suffix)]
+        [name] = [it for it in os.listdir(self.made) if it.startswith("zirofen") and it.endswith(suffix)]
         with open(f"{self.made}/{name}", "rb") as it:
             return it.read()
 
@@ -109,7 +109,7 @@ class PackageTest(unittest.TestCase):
         for name, told in (("zirofen", ["Architecture: amd64", "Recommends: zirofen-host"]),
                            ("zirofen-host", ["Architecture: all", f"Depends: zirofen (= {version}), python3 (>= 3.11)",
                                              "Breaks: zirofen (<< 0.2.0-1~)", "Replaces: zirofen (<< 0.2.0-1~)"]),
-                           ("python3-zirofen", ["Architecture: all", f"Depends: zirofen (= {version}), python3 (>= 3.9)"])):
+                           ("python3-zirofen", ["Architecture: all", f"Depends: zirofen (= {version}), python3 (>= 3.9)", "Recommends: libzirofen0"])):
             file = self.debian_file(name)
             said = run("dpkg-deb", "--field", file, "Package", "Version", "Architecture", "Depends", "Recommends", "Breaks", "Replaces")
             self.assertEqual(said.stdout.splitlines(), [f"Package: {name}", f"Version: {version}", *told])
@@ -122,9 +122,33 @@ class PackageTest(unittest.TestCase):
         said = run(sys.executable, "-B", "-c", asking, env=environment)
         self.assertEqual(said.stdout, f"{self.program.line()} {out}/usr/bin/zirofen\n", said.stderr)
 
-    def debian_file(self, name):
-        [found] = [it for it in os.listdir(self.made) if it.startswith(f"{name}_") and it.endswith(("_amd64.deb", "_all.deb"))]
+    def debian_file(self, name, kind="amd64"):
+        [found] = [it for it in os.listdir(self.made) if it.startswith(f"{name}_") and it.endswith((f"_{kind}.deb", "_all.deb"))]
         return f"{self.made}/{found}"
+
+    def test_packages_of_the_library(self):
+        """Of each kind of processor, as dpkg reads them."""
+        if self.source != package.RELEASED or not package.LIBRARY.text():
+            self.skipTest("there is no library for C beside the program")
+        version = f"{self.program.version}-{package.REVISION}"
+        for machine, it in linked.MACHINES.items():
+            triplet, out = f"{machine}-linux-gnu", f"{self.folder.name}/library-{machine}"
+            for name, told in (("libzirofen0", []), ("libzirofen-dev", [f"Depends: libzirofen0 (= {version})"])):
+                file = self.debian_file(name, it.debian)
+                said = run("dpkg-deb", "--field", file, "Package", "Version", "Architecture", "Multi-Arch", "Depends")
+                self.assertEqual(said.stdout.splitlines(), [f"Package: {name}", f"Version: {version}", f"Architecture: {it.debian}", "Multi-Arch: same", *told])
+                self.assertEqual(run("dpkg-deb", "--extract", file, out).returncode, 0)
+            for name, kind in (("libzirofen.so", "shared"), ("libzirofen.so.0", "shared"), ("libzirofen.a", "static")):
+                with open(f"{out}/usr/lib/{triplet}/{name}", "rb") as file:
+                    self.assertEqual(hashlib.sha256(file.read()).hexdigest(), package.LIBRARY.says(program.key_of(kind, machine)))
+            said = run("dpkg-deb", "--info", self.debian_file("libzirofen0", it.debian), "symbols", "shlibs", "triggers").stdout
+            self.assertEqual(re.findall(r"^ (\w+)@ZIROFEN_0 ", said, re.M), ["ZIROFEN_0", "zirofen_run"])
+            found = run("pkg-config", "--cflags", "--libs", "zirofen", env={**os.environ, "PKG_CONFIG_LIBDIR": f"{out}/usr/lib/{triplet}/pkgconfig",
+                                                                            "PKG_CONFIG_SYSROOT_DIR": out}).stdout
+            self.assertEqual(found.split(), [f"-I{out}/usr/include", f"-L{out}/usr/lib/{triplet}", "-lzirofen"])
+        # the names that the shared one has are those that its file of symbols names
+        with open(f"{TOP}/runtime/library.map", encoding="ascii") as text:
+            self.assertEqual(re.findall(r"^\s+(\w+);$", text.read(), re.M), ["zirofen_run"])
 
     def test_each_kind_of_processor_has_its_program(self):
         """And nothing else is of a kind."""
@@ -350,9 +374,9 @@ class PackageTest(unittest.TestCase):
             self.assertEqual(run("zsh", "-n", f"{self.folder.name}/_zirofen").stderr, "")
 
     def test_the_copyright_names_the_toolchain_of_the_program(self):
-        for name in ("zirofen", "zirofen-host"):
+        for name in ("zirofen", "zirofen-host", "libzirofen0"):
             legal = next(file for file in package.legal_files(self.program, name) if file.path.endswith("/copyright"))
-            self.assertIn(f"\nwith, {self.program.manifest['kit'].split(' ')[0]}, and with no C library", legal.data.decode())
+            self.assertIn(f" built with, {self.program.manifest['kit'].split(' ')[0]}, and with no C library", legal.data.decode())
 
     def test_the_version_is_the_first_of_the_changes(self):
         with open(f"{TOP}/CHANGELOG.md", encoding="ascii") as text:

@@ -16,8 +16,12 @@ GZIP_HEADER = b"\x1f\x8b\x08\0\0\0\0\0\x02\x03"
 XZ_FILTER = {"id": lzma.FILTER_LZMA2, "dict_size": 1 << 26, "lc": 3, "lp": 0, "pb": 2, "mode": lzma.MODE_NORMAL, "nice_len": 64,
              "mf": lzma.MF_BT4, "depth": 0}
 
-# one file of a package: where it is installed, without the first slash
-File = namedtuple("File", "path mode data")
+# one file of a package: where it is installed, without the first slash; of a symbolic link the data is where it leads
+File = namedtuple("File", "path mode data kind", defaults=[tarfile.REGTYPE])
+
+
+def link(path, to):
+    return File(path, 0o777, to.encode(), tarfile.SYMTYPE)
 
 
 def header(name, mode, kind=tarfile.REGTYPE, size=0):
@@ -44,7 +48,12 @@ def tar(files, prefix="./"):
         for folder in folders_of(files):
             archive.addfile(header(f"{prefix}{folder}/", 0o755, tarfile.DIRTYPE))
         for file in sorted(files):
-            archive.addfile(header(prefix + file.path, file.mode, size=len(file.data)), io.BytesIO(file.data))
+            if file.kind == tarfile.SYMTYPE:
+                made = header(prefix + file.path, file.mode, file.kind)
+                made.linkname = file.data.decode()
+                archive.addfile(made)
+            else:
+                archive.addfile(header(prefix + file.path, file.mode, size=len(file.data)), io.BytesIO(file.data))
     return out.getvalue()
 
 
@@ -74,7 +83,8 @@ def md5(data):
 
 def debian_package(control, scripts, files):
     """The package with this text of its control file, these scripts of its maintainer, and these files. What is below etc/ is the
-    administrator's to change, and has no sum."""
-    sums = "".join(f"{md5(file.data)}  {file.path}\n" for file in sorted(files) if not file.path.startswith("etc/"))
+    administrator's to change, and has no sum, and neither has a link."""
+    summed = (it for it in sorted(files) if it.kind == tarfile.REGTYPE and not it.path.startswith("etc/"))
+    sums = "".join(f"{md5(file.data)}  {file.path}\n" for file in summed)
     about = [File("control", 0o644, control.encode()), File("md5sums", 0o644, sums.encode()), *scripts]
     return ar([("debian-binary", b"2.0\n"), ("control.tar.xz", xz(tar(about))), ("data.tar.xz", xz(tar(files)))])
