@@ -9,10 +9,11 @@ hand, as root, on a machine that may be thrown away:
 Each takes --program PROGRAM for zirofen itself.
 
 With --service it is zirofen-watch.service that watches, as installed, and what it writes to the journal is read. With --hostile a user
-makes and removes cgroups and toggles modes in a loop meanwhile. A pause between any two has root's part of a processor fill again, which
-an emulated machine needs. With --churn services are started and ended in a loop, and the memory after the first thousand changes is held
-against that after the last, and what stands then against a check. With --idle nothing happens in 300 cgroups, 20 of them handed over: the
-watch may take 0.2 % of a processor, and start the reading of each minute alone. The last line is 'N passed, M failed'.
+makes and removes cgroups and toggles modes in a loop meanwhile. A pause between any two has root's part of a processor fill again, which an
+emulated machine needs; on a busy host it needs a clock that goes by instructions, too (`machine.py boot --by-instructions`). With --churn
+services are started and ended in a loop, and the memory after the first thousand changes is held against that after the last, and what
+stands then against a check. With --idle nothing happens in 300 cgroups, 20 of them handed over: the watch may take 0.2 % of a processor,
+and start the reading of each minute alone. The last line is 'N passed, M failed'.
 """
 import argparse
 import contextlib
