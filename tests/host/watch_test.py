@@ -17,7 +17,7 @@ from zirofen_host.judge.severity import Severity
 from zirofen_host.options import WatchOptions
 from zirofen_host.collect.snapshot import take
 from zirofen_host.ask.questions import subtrees_by
-from zirofen_host.watch import backs, checks, findings, hooks, journal, kernel, known, lanes, loop, messages, numbers
+from zirofen_host.watch import backs, checks, events, findings, hooks, journal, kernel, known, lanes, loop, messages, numbers
 from zirofen_host.watch.doers import Doer, doer_of
 from zirofen_host.watch.kernel import ATTRIB, CREATE, DELETE, IS_FOLDER, LOST, MODIFY, Event
 
@@ -233,6 +233,24 @@ class LanesTest(unittest.TestCase):
                 loop.Loop.events_were_lost(made)
             loop.Loop.by_the_clock(made, now)
             self.assertEqual((len(asked), now), (number, now))
+
+    def test_a_folder_that_was_made_is_known_in_a_flood(self):
+        """Who did something in a folder of root's that was just made is told, however much happens in folders that nobody knows."""
+        with tempfile.TemporaryDirectory() as mount:
+            os.mkdir(f"{mount}/a")
+            source = kernel.Fanotify.__new__(kernel.Fanotify)
+            source.mount, source.folders, source.handles, source.left, source.until = mount.encode(), {}, {}, 0, 0.0
+            source.know({b"/": 1})
+            root, made = (kernel.HANDLE_HEAD + number.to_bytes(8, "little") for number in (1, os.stat(f"{mount}/a").st_ino))
+            flood = {(kernel.HANDLE_HEAD + number.to_bytes(8, "little"), b"x", ATTRIB, 9): 1 for number in range(2**40, 2**40 + 5000)}
+            batches = [kernel.Batch({source.event_of((root, b"a", CREATE | IS_FOLDER, 7)): 1}, False,
+                                    {**flood, (made, b"memory.max", ATTRIB, 8): 1}), kernel.Batch({}, False, {})]
+            to = lanes.Lanes(0.0)
+            read = events.Events(source, "/nowhere", to, argparse.Namespace(of=lambda _: 0))
+            with mock.patch.object(source, "take", side_effect=batches), mock.patch.object(source, "begin_turn"):
+                self.assertTrue(read.take(1.0))
+            self.assertEqual(len(read.unknown), events.MOST_UNKNOWN)
+            self.assertEqual([doer.pid for doer in to.host.touched[b"/a", "memory.max"].doers], [8])
 
     def test_what_is_kept_of_a_flood(self):
         lane = lanes.Lane(1000, 0.0)

@@ -4,13 +4,16 @@ hand, as root, on a machine that may be thrown away:
 
   watch_trial.py HOST_FOLDER [--rounds N] [--within SECONDS] [--pause SECONDS] [--service] [--hostile] [--only WORD]
   watch_trial.py HOST_FOLDER --churn MINUTES [--service] [--settle SECONDS]
+  watch_trial.py HOST_FOLDER --idle MINUTES [--service]
 
 Each takes --program PROGRAM for zirofen itself.
 
 With --service it is zirofen-watch.service that watches, as installed, and what it writes to the journal is read. With --hostile a user
-makes and removes cgroups and toggles modes in a loop meanwhile. A pause between any two has root's part of a processor fill again, which
-an emulated machine needs. With --churn services are started and ended in a loop, and the memory after the first thousand changes is held
-against that after the last, and what stands then against a check. The last line is 'N passed, M failed'.
+makes and removes cgroups and toggles modes in a loop meanwhile. A pause between any two has root's part of a processor fill again, which an
+emulated machine needs; on a busy host it needs a clock that goes by instructions, too (`machine.py boot --by-instructions`). With --churn
+services are started and ended in a loop, and the memory after the first thousand changes is held against that after the last, and what
+stands then against a check. With --idle nothing happens in 300 cgroups, 20 of them handed over: the watch may take 0.2 % of a processor,
+and start the reading of each minute alone. The last line is 'N passed, M failed'.
 """
 import argparse
 import contextlib
@@ -33,6 +36,8 @@ HOLDER, OTHER, HOSTILE = 61001, 61002, 61003
 OTHERS = re.compile(f"/({TOP}-hostile|zirofen-test-)")
 TOLD = re.compile(r" (new|worse|mended|gone): (.*?)(, by pid .*)?$")
 HANDED = ("", "/cgroup.procs", "/cgroup.subtree_control")
+# cgroups of an idle host, of which one in so many is handed over, and the share of a processor that a watch of it may take
+IDLE, ONE_IN, IDLE_SHARE = 300, 15, 0.002
 
 
 def mount_here():
@@ -159,8 +164,15 @@ class Ways:
         os.chown(f"{self.top}/part/other/cgroup.max.depth", 0, 61050)
         os.chmod(f"{self.top}/part/other/cgroup.max.depth", 0o664)
 
+    def fill(self):
+        for number in range(IDLE):
+            place = f"{self.top}-idle/{number}"
+            os.makedirs(place)
+            for each in HANDED if number % ONE_IN == 0 else ():
+                os.chown(place + each, HOLDER + number, HOLDER + number)
+
     def remove(self):
-        for top in (self.top, f"{self.top}-hostile"):
+        for top in (self.top, f"{self.top}-hostile", f"{self.top}-idle"):
             for place, _, _ in os.walk(top, topdown=False):
                 os.rmdir(place)
 
@@ -391,6 +403,29 @@ def churned(watch, services, seconds):
     return seen
 
 
+def processor_of(pid):
+    """Seconds of a processor that a process and those that it waited for have taken."""
+    with open(f"/proc/{pid}/stat", encoding="ascii") as text:
+        return sum(map(int, text.read().rpartition(")")[2].split()[11:15])) / os.sysconf("SC_CLK_TCK")
+
+
+def idle(watch, given):
+    """Whether a watch of what stays as it is takes next to nothing, and starts but a reading of processes in each minute."""
+    time.sleep(min(given.settle, 60))
+    watch.drain()
+    pid, began, started = watch.pid, time.monotonic(), set()
+    used = processor_of(pid)
+    while time.monotonic() - began < 60 * given.idle:
+        with open(f"/proc/{pid}/task/{pid}/children", encoding="ascii") as text:
+            started.update(text.read().split())
+        time.sleep(0.05)
+    used, lines = processor_of(pid) - used, watch.lines.qsize()
+    share = used / (time.monotonic() - began)
+    print(f"{used:.2f} seconds of a processor in {given.idle:g} minutes, {100 * share:.3f} %; "
+          f"{len(started)} processes started, {lines} lines", flush=True)
+    return share <= IDLE_SHARE and len(started) <= given.idle + 1 and not lines
+
+
 def openings(watch, ways, given):
     """Opens and mends in each way, so many times; how many were told in time and how many weren't."""
     counts = [0, 0]
@@ -415,6 +450,7 @@ def arguments():
     parser.add_argument("--within", type=float, default=2.0)
     parser.add_argument("--pause", type=float, default=0.5)
     parser.add_argument("--churn", type=float, metavar="MINUTES", default=0.0)
+    parser.add_argument("--idle", type=float, metavar="MINUTES", default=0.0)
     parser.add_argument("--service", action="store_true")
     parser.add_argument("--hostile", action="store_true")
     parser.add_argument("--only", default="")
@@ -429,13 +465,16 @@ def main():
     with tempfile.TemporaryDirectory() as room:
         ways = Ways(mount, room)
         ways.make()
+        if given.idle:
+            ways.fill()
         enemy = hostile(mount) if given.hostile else None
         kind = Service if given.service else Watch
         watch = kind(words_of(given, mount), "is watched" if given.hostile else "were asked of")
         counts = [0, 1]
         try:
-            if given.churn:
-                counts = [1, 0] if churn(watch, given, room) else [0, 1]
+            if given.churn or given.idle:
+                is_right = churn(watch, given, room) if given.churn else idle(watch, given)
+                counts = [1, 0] if is_right else [0, 1]
             else:
                 counts = openings(watch, ways, given)
         finally:

@@ -38,15 +38,21 @@ class Events:
         self.source.begin_turn()
         for _ in range(PARTS):
             read = self.source.take()
-            is_lost |= read.is_lost or len(self.unknown) + len(read.unknown) > MOST_UNKNOWN
+            is_lost |= read.is_lost
             if not read.counts and not read.unknown:
                 break
             self.next_read, self.last = now + BETWEEN_READS, time.time()
             for event, count in read.counts.items():
                 self.happened(event, count, self.doer(event.pid, doers), now)
             for record, count in read.unknown.items():
-                if len(self.unknown) < MOST_UNKNOWN:
-                    self.unknown.append(Unknown(record, count, self.doer(record[3], doers), now))
+                doer, made = self.doer(record[3], doers), self.source.event_of(record)
+                if made is not None:
+                    # a folder that was made within the same read
+                    self.happened(made, count, doer, now)
+                elif len(self.unknown) < MOST_UNKNOWN:
+                    self.unknown.append(Unknown(record, count, doer, now))
+                else:
+                    is_lost = True
         return is_lost
 
     def happened(self, event: Event, count: int, doer: Optional[Doer], now: float, is_asked: bool = False) -> None:

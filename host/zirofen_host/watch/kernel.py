@@ -1,4 +1,5 @@
 """From a hierarchy that changes to its events: by fanotify, with the process, or by inotify, without it."""
+import contextlib
 import ctypes
 import os
 import time
@@ -159,7 +160,9 @@ class Fanotify:
         return path
 
     def watch(self, path: CgroupPath) -> bool:
-        """Nothing: all of it is watched."""
+        """Knows a folder that was made, so that what happens in it takes no look; all of it is watched."""
+        with contextlib.suppress(OSError):
+            self.know({path: os.stat(self.mount + path).st_ino})
         return False
 
     def forget(self, path: CgroupPath) -> None:
