@@ -5,6 +5,8 @@ from zirofen_host.judge import limits
 from zirofen_host.judge.finding_lines import some
 from zirofen_host.judge.host_model import Absent
 from zirofen_host.judge.model import EVERYBODY, Report
+from zirofen_host.judge.severity import Severity
+from zirofen_host.judge.standing import standings
 
 # so many lines of those who were found
 MOST_LINES = 4
@@ -34,12 +36,14 @@ def lines_of(report: Report) -> Iterator[str]:
 
 
 def sentence_of(report: Report) -> str:
-    """The same in a sentence, or nothing."""
-    counts = {names: len(paths) for names, paths in against(report).items()}
-    every, everybody = sum(counts.values()), counts.get((EVERYBODY,), 0)
-    if not every:
+    """Of the delegations that are shown to be contained, in a sentence, how many are so against everybody; or nothing."""
+    standing = standings(report)
+    shown = [each for each in report.subtrees if standing[each.path] in (Severity.CONTAINED, Severity.LIMITED)
+             and not isinstance(each.against, Absent)]
+    everybody = sum(each.is_against_everybody for each in shown)
+    if not shown or not report.asked:
         return ""
-    if everybody == every:
+    if everybody == len(shown):
         return "What is contained is so against everybody but root, whoever there is."
-    return (f"Against everybody but root, whoever there is, {everybody} of {every} are contained, and the others against those who were "
-            "found.")
+    return (f"Of what is contained {everybody} of {len(shown)} {'is' if everybody == 1 else 'are'} so against everybody but root, whoever "
+            "there is, and the others against those who were found.")
