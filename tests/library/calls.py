@@ -6,8 +6,8 @@ Usage: tests/library/calls.py PROGRAM FOLDER [--part NAME ..] [--cases N]
 FOLDER has the library for x86-64, libzirofen.so.0 and libzirofen.a, as tools/library writes it. These are its parts, of which all are made
 where none is named:
 
-  made    Some calls are made with each room from 0 on, with ASan and under valgrind, from eight threads at once with a small stack each, and
-          with each call of malloc refused. The example for C and the tests of the module for Python are run over the library.
+  made    Some calls are made with each room from 0 on, with ASan and under valgrind, from eight threads at once with a small stack each,
+          and with each call of malloc refused. The example for C and the tests of the module for Python are run over the library.
   wrong   The same calls tell wrong libraries from it (wrong.py).
   answers, words, help, migrations, upgrades    What that table of tests/program asks of the program is asked of both (beside says how).
   random  The same of N cases (2000) of tests/model/run.
@@ -33,8 +33,11 @@ import wrong
 TABLES = ("answers", "words", "help", "migrations", "upgrades")
 PARTS = ("made", "wrong", *TABLES, "random")
 VALGRIND = ("valgrind", "--quiet", "--error-exitcode=99", "--leak-check=full")
+# valgrind looks for blocks that aren't freed: ASan's own search fails where a process may not be traced
+LEAKS_ELSEWHERE = {**os.environ, "ASAN_OPTIONS": "detect_leaks=0"}
 # by its name a way of calling: how the caller is linked with the archive, its option, and what it runs under
-WAYS = {"ASan": (["-fsanitize=address,undefined"], ["--all"], ()), "refused": (["-DREFUSING", "-Wl,--wrap=malloc,--wrap=realloc"], ["--refused"], ()),
+WAYS = {"ASan": (["-fsanitize=address,undefined"], ["--all"], ()),
+        "refused": (["-DREFUSING", "-Wl,--wrap=malloc,--wrap=realloc"], ["--refused"], ()),
         "valgrind": ([], [], VALGRIND)}
 EXAMPLES = f"{TOP}/examples"
 ONE = ["--uid", "1000", "--subtree", "/c0"]
@@ -97,12 +100,13 @@ class Tests:
                 file.flush()
                 named = [file.name if it in ("OPS", "PAIRS") else it for it in words]
                 by_program = subprocess.run([self.program, *named], input=tree, capture_output=True)
-                ended = subprocess.run([*before, caller, *how, file.name, *named], input=tree, capture_output=True)
+                ended = subprocess.run([*before, caller, *how, file.name, *named], input=tree, capture_output=True, env=LEAKS_ELSEWHERE)
             expected = by_program.stderr if by_program.returncode == 3 else by_program.stdout
             report = ended.stderr if by_program.returncode == 3 else ended.stdout
             report = re.sub(rb"^  \d+ calls refused\n", b"", report, flags=re.M) if "--refused" in how else report
             is_same = (ended.returncode, report) == (by_program.returncode, expected)
-            yield f"{' '.join([*before, *how])} {' '.join(words)} of {name}", "" if is_same else f"{ended.returncode} {ended.stderr.decode()[-1000:]}"
+            why = "" if is_same else f"{ended.returncode} {ended.stderr.decode(errors='replace')[-1000:]}"
+            yield f"{' '.join([*before, *how])} {' '.join(words)} of {name}", why
 
     def ask(self, how, caller, before=()):
         for name, why in self.asked(how, caller, before):
@@ -124,21 +128,25 @@ class Tests:
         ended = subprocess.run(words, env=environment, capture_output=True, text=True)
         self.count("tests/python", ended.returncode == 0, ended.stdout[-1500:] + ended.stderr[-500:])
 
-    def run_example(self):
-        """The program of docs/PROGRAMS.md, as pkg-config has it compiled."""
-        found = subprocess.run(["pkg-config", "--cflags", "--libs", "zirofen"], env={**os.environ, "PKG_CONFIG_PATH": self.room},
-                               capture_output=True, text=True, check=True)
-        words = ["gcc", "-std=c11", "-Wall", "-Wextra", "-Werror", f"{EXAMPLES}/before.c", "-o", f"{self.room}/before"]
-        subprocess.run([*words, *found.stdout.split(), f"-Wl,-rpath,{self.room}"], check=True)
-        for name, status, said in (("delegation", 0, "hand it out\n"), ("fault-no-parent", 2, ""),
-                                   ("delegation-limit-writable", 1, "keep it:\nescapes\nset /c0 memory.max max\n")):
-            ended = subprocess.run([f"{self.room}/before", "1000", "/c0"], input=tree_of(name), capture_output=True)
-            self.count(f"the example of {name}", (ended.returncode, ended.stdout.decode()) == (status, said), f"{ended}")
+    def run_examples(self):
+        """The programs of docs/PROGRAMS.md, as pkg-config has them compiled; that in Go where Debian's Go is there."""
+        environment = {**os.environ, "PKG_CONFIG_PATH": self.room, "LD_LIBRARY_PATH": self.room, "GOCACHE": f"{self.room}/go", "GOPROXY": "off"}
+        found = subprocess.run(["pkg-config", "--cflags", "--libs", "zirofen"], env=environment, capture_output=True, text=True, check=True).stdout
+        compilers = {"c": ["gcc", "-std=c11", "-Wall", "-Wextra", "-Werror", f"{EXAMPLES}/before.c", *found.split()]}
+        if os.path.exists("/usr/bin/go"):
+            compilers["go"] = ["/usr/bin/go", "build", f"{EXAMPLES}/before.go"]
+        for kind, words in compilers.items():
+            at = words.index(f"{EXAMPLES}/before.{kind}")
+            subprocess.run([*words[:at], "-o", f"{self.room}/before_{kind}", *words[at:]], env=environment, check=True)
+            for name, status, said in (("delegation", 0, "hand it out\n"), ("fault-no-parent", 2, ""),
+                                       ("delegation-limit-writable", 1, "keep it:\nescapes\nset /c0 memory.max max\n")):
+                ended = subprocess.run([f"{self.room}/before_{kind}", "1000", "/c0"], input=tree_of(name), env=environment, capture_output=True)
+                self.count(f"before.{kind} of {name}", (ended.returncode, ended.stdout.decode()) == (status, said), f"{ended}")
 
 
 def make(tests, part, shared, cases):
     if part == "made":
-        tests.run_example()
+        tests.run_examples()
         tests.run_module()
         tests.ask(["--threads", "8"], shared)
         for flags, how, before in WAYS.values():

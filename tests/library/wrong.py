@@ -1,4 +1,4 @@
-"""Wrong libraries: runtime/library.c with a mistake in it, which the calls of calls.py have to see. What is proved below it no caller can turn."""
+"""Wrong libraries: runtime/library.c with a mistake in it, which the calls of calls.py have to see. What is proved stands below it."""
 import os
 import subprocess
 
@@ -8,8 +8,10 @@ CALL, END = "    return zirofen_call(", "wanted ? wanted : &length);\n}"
 # by the way of calling that sees them mistakes: what stands there, and what stands there instead
 MISTAKES = {
     "ASan": {
-        "the lengths of two texts are swapped": {"(tree, tree_length), TEXT(other, other_length)": "(tree, other_length), TEXT(other, tree_length)"},
-        "two texts are swapped": {"TEXT(tree, tree_length), TEXT(other, other_length)": "TEXT(other, other_length), TEXT(tree, tree_length)"},
+        "the lengths of two texts are swapped": {"(tree, tree_length), TEXT(other, other_length)":
+                                                 "(tree, other_length), TEXT(other, tree_length)"},
+        "two texts are swapped": {"TEXT(tree, tree_length), TEXT(other, other_length)":
+                                  "TEXT(other, other_length), TEXT(tree, tree_length)"},
         "another command answers": {"TEXT(words, words_length)": '"upgrade", 7'},
         "more is written than there is room for": {"report ? room : 0": "report ? room + 1 : 0"},
         "less is written than there is room for": {"report ? room : 0": "report && room ? room - 1 : 0"},
