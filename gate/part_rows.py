@@ -13,8 +13,8 @@ from dataclasses import dataclass
 PROGRAM = "PROGRAM"
 # OBJECT and OTHER_OBJECT for the paths of its objects, for x86-64 and arm64, and OTHER_PROGRAM for the program for arm64
 OBJECT, OTHER_OBJECT, OTHER_PROGRAM = "OBJECT", "OTHER_OBJECT", "OTHER_PROGRAM"
-# for the path of the archive of the library for C, for x86-64
-ARCHIVE = "ARCHIVE"
+# for the folder of the library for C, for x86-64
+LIBRARY = "LIBRARY"
 # SOURCES stands for src/ of the crates below the program
 SOURCES = "SOURCES"
 # what ./zirofen needs to see that a program is of these sources, and what tools/released and tools/package take beside it
@@ -101,11 +101,12 @@ OF_THE_MACHINE = ("real_mount_test.py", "refusals_test.py")
 USERS = ("/etc/passwd", "/etc/group", "/etc/subuid", "/etc/subgid", "/etc/localtime")
 # what reads what the helpers write, by the module that calls it
 READERS = {"debian_readers.py": ("prometheus", "prometheus-node-exporter", "python3-jsonschema", "python3-junitparser"), "browser.py": ("chromium", "chromium-common")}
-PACKAGING = ("tests/packaging/*.py", "tools", "host", "python", "examples", "docs", "*.md", *WRAPPER)
+PACKAGING = ("tests/packaging/*.py", "tools", "host", "python", "include", "crates/library/src/version.rt", "release/library", "examples", "docs", "*.md",
+             *WRAPPER)
 MODEL = ("tests/model/[!d]*",)
 EMULATOR = ("qemu-user-static",)
 DEVICES = ("tests/program/case.py", "tests/program/device_rows.py", "tests/program/of_one.py", "tests/program/failing.c", "examples")
-MAKERS = ("lintian", "groff", "mandoc", "man-db", "fish", "zsh", "ansible-core", "python3-pip", "python3-setuptools", "python3-wheel")
+MAKERS = ("lintian", "groff", "mandoc", "man-db", "fish", "zsh", "ansible-core", "python3-pip", "python3-setuptools", "python3-wheel", "pkgconf", "pkgconf-bin")
 PARTS = [
     Part("released", "tools/released", ("tools/released", *WRAPPER)),
     Part("promises", "tools/promises", ("tools", "gate", "crates.txt", "crates", "docs/*.md", "host/zirofen_host")),

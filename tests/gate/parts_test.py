@@ -7,7 +7,7 @@ import unittest
 
 from checkout import TOP, read, write
 
-ROWS = '''from part_rows_of_gate import ARCHIVE, BASE, CRATE, OBJECT, OTHER_OBJECT, OTHER_PROGRAM, PROGRAM, SOURCES, Part
+ROWS = '''from part_rows_of_gate import BASE, CRATE, LIBRARY, OBJECT, OTHER_OBJECT, OTHER_PROGRAM, PROGRAM, SOURCES, Part
 
 PARTS = [
     Part("group", "tests/one PROGRAM", ("tests/one", "data", "list/*.txt", PROGRAM), ("some-package",)),
@@ -17,7 +17,7 @@ PARTS = [
     Part("crates", "tests/list", ("tests/list", f"{CRATE}middle")),
     Part("helpers", "tests/helpers", ("tests/helpers", "host")),
     Part("objects", "tests/given OBJECT", ("tests/given", OBJECT, OTHER_OBJECT, OTHER_PROGRAM)),
-    Part("archives", "tests/given ARCHIVE", ("tests/given", ARCHIVE)),
+    Part("library", "tests/given LIBRARY", ("tests/given", LIBRARY)),
 ]
 '''
 # writes what it sees and its environment, and passes unless data/row says otherwise
@@ -30,7 +30,7 @@ if grep -q wrong data/row; then echo '1 passed, 1 failed'; exit 1; fi
 echo '2 passed, 0 failed'
 """
 TWO = "#!/bin/sh\necho '3 passed, 0 failed'\n"
-GIVEN = "#!/bin/sh\necho \"$*\"\ngrep '' release/*\necho '1 passed, 0 failed'\n"
+GIVEN = "#!/bin/sh\necho \"$*\"\ngrep -r '' release | sort\necho '1 passed, 0 failed'\n"
 LIST = "#!/bin/sh\nfind crates -type f | sort\ncat crates.txt\necho '1 passed, 0 failed'\n"
 HELPERS = "#!/bin/sh\nls -d host/*.py host/*/*.py host/__pycache__ host/deep/__pycache__\necho '1 passed, 0 failed'\n"
 DPKG = "#!/bin/sh\ncat \"$0.versions\"\n"
@@ -185,17 +185,23 @@ class FailureTest(PartsTest):
         for path, text in (("release/zirofen-aarch64", "other"), ("built/zirofen-x86_64.o", "one"), ("built/zirofen-aarch64.o", "two")):
             write(f"{self.top}/{path}", f"{text}\n")
         self.assertEqual(self.run_parts("--objects", "built", "objects"), ["objects: tests/given OBJECT"])
-        self.assertEqual(self.said[1:5], ["release/zirofen-x86_64.o", "release/zirofen-aarch64:other", "release/zirofen-aarch64.o:two",
+        self.assertEqual(self.said[1:5], ["release/zirofen-x86_64.o", "release/zirofen-aarch64.o:two", "release/zirofen-aarch64:other",
                                           "release/zirofen-x86_64.o:one"])
         self.assertEqual(self.run_parts("--objects", "built", "objects"), [])
         write(f"{self.top}/built/zirofen-aarch64.o", "changed\n")
         self.assertEqual(self.run_parts("--objects", "built", "objects"), ["objects: tests/given OBJECT"])
 
-    def test_the_archive_of_the_library_stands_in_the_folder_of_its_crate(self):
-        write(f"{self.top}/copy/c_library/out/c_library-x86_64.a", "made\n")
-        os.makedirs(f"{self.top}/copy/zirofen/out")
-        self.assertEqual(self.run_parts("--objects", "copy/zirofen/out", "archives"), ["archives: tests/given ARCHIVE"])
-        self.assertEqual(self.said[1:3], ["release/c_library-x86_64.a", "made"])
+    def test_the_library_stands_beside_the_program(self):
+        """Or where it was built."""
+        for folder in ("release/library", "built"):
+            for file in ("libzirofen.a", "libzirofen.so.0"):
+                write(f"{self.top}/{folder}/x86_64/{file}", f"{folder} {file}\n")
+        self.assertEqual(self.run_parts("library"), ["library: tests/given LIBRARY"])
+        told = ["release/library/x86_64", *(f"release/library/x86_64/{it}:{{}} {it}" for it in ("libzirofen.a", "libzirofen.so.0"))]
+        self.assertEqual(self.said[1:4], [it.format("release/library") for it in told])
+        self.assertEqual(self.run_parts("library"), [])
+        self.assertEqual(self.run_parts("--library", "built", "library"), ["library: tests/given LIBRARY"])
+        self.assertEqual(self.said[1:4], [it.format("built") for it in told])
 
     def test_a_group_that_is_none(self):
         ended = subprocess.run([f"{self.top}/gate/parts", "none"], cwd=self.top, text=True, capture_output=True, env=self.environment)
