@@ -3,12 +3,13 @@
 
 Usage: tests/program/answers.py [PROGRAM]. Without PROGRAM it is ./zirofen. The last line is 'N passed, M failed'.
 """
+import os
 import re
 import sys
 
 sys.dont_write_bytecode = True
 import of_one
-from case import EXAMPLES, TOP, Case, call, run
+from case import EXAMPLES, PIPE, TOP, Case, call, run
 from format_4_rows import rows as format_4_rows
 
 MOVED_IN = b"move 10 /c0\n"
@@ -201,8 +202,19 @@ def everybody(_):
             yield Case(["audit", "--everybody", *tree(name), *words], 1, lines)
     for name in "delegation", "delegation-at-limit", "delegation-process-at-top":
         yield Case(["audit", *tree(name), *other, "--everybody"], 0, ["contained"])
-    for beside in ["--uid", "1000"], ["--all"], ["--settle"], ["--pairs", "-"], ["--everybody"], ["--gid", "5"]:
+    owned, group = "fails common-ancestor / cgroup.procs 1000:0 446", "fails common-ancestor / cgroup.procs 0:50 664 group"
+    for name, words, status, lines in (
+            ("delegation", ["--but", "1000"], 0, ["contained", "but 1000"]),
+            ("delegation-ancestor-owned", ["--but", "1000"], 1, ["subtree /c0", f"{owned} others", "but 1000"]),
+            ("delegation-ancestor-group", ["--group", "50="], 0, ["contained", "group 50="]),
+            ("delegation-ancestor-group", ["--group", "50=0,7", "--but", "7"], 0, ["contained", "but 7", "group 50=0,7"]),
+            ("delegation-ancestor-group", ["--group", "50=0,007"], 1, ["subtree /c0", group, "group 50=0,7"]),
+            ("delegation-ancestor-group", ["--group", "50=", "--group", "50=7"], 1, ["subtree /c0", group, "group 50=", "group 50=7"]),
+            ("delegation-ancestor-group", ["--group", "51=7"], 1, ["subtree /c0", group, "group 51=7"])):
+        yield Case(["audit", "--everybody", *tree(name), *both[:2], *words], status, lines)
+    for beside in ["--uid", "1000"], ["--all"], ["--settle"], ["--pairs", "-"], ["--everybody"], ["--gid", "5"], ["--group", "5"], ["--but", "x"]:
         yield fault("usage", "audit", "--everybody", *both, *beside)
+    yield from (fault("usage", "audit", *asked("1000", "/c0"), *words) for words in (["--but", "5"], ["--group", "5="]))
     yield fault("usage", "audit", "--everybody")
     yield fault("usage", "audit", "--everybody=true", *both)
     for command in "check", "settle", "explain", "advise":
@@ -213,6 +225,29 @@ def everybody(_):
     yield fault("tree no-parent cgroup 2", "audit", "--everybody", *tree("fault-no-parent"), "--subtree", "/zz")
     yield fault("read", "audit", "--everybody", *tree("none"), "--subtree", "c0")
     yield Case(["audit", "--everybody", *both], 3, fault="fault: write", output="/dev/full")
+
+
+def named_by_lines(_):
+    """Of subtrees that a text names, what is said of them against everybody, in their order."""
+    asks = ["audit", "--everybody", "--subtrees", "-"]
+    listed = ["subtree /c0", "fails limit-file /c0 memory.max 1001:0 644 owner"]
+    for text, status, lines in ((b"/c0\n", 1, listed), (b"/c1\n/c0\n/c1\n/c0\n", 1, listed), (b"/c1\n", 0, ["contained"])):
+        yield Case([*asks, *tree("delegation-second-user")], status, lines, given=text)
+    both = [line for top in ("/c1", "/c0") for line in (f"subtree {top}", "fails parent-dir / dir 1000:0 755 owner")]
+    yield Case([*asks, *tree("delegation-parent-directory")], 1, both, given=b"/c1\n/c0\n/c1\n")
+    yield Case(["audit", "--subtrees", PIPE, "--everybody"], 0, ["contained"], piped=b"/c0\n/c1\n")
+    file = os.devnull
+    for text, said in ((b"", "line 1 cut"), (b"/c0", "line 1 cut"), (b"/c0\n/c1", "line 2 cut"), (b"\n", "line 1 bad-word"),
+                       (b"/c0\n\n", "line 2 bad-word"), (b"/c0\nc1\n", "line 2 bad-word"), (b"/c0\r\n", "line 1 bad-word"),
+                       (b"pair 1000 /c0\n", "line 1 bad-word"), (b"/c0\n/zz\n/\n", "subtree missing"), (b"/c0\n/\n/zz\n", "subtree root")):
+        yield Case([*asks, *tree("delegation")], 3, fault=f"fault: {said}", given=text)
+    yield Case([*asks, *tree("fault-no-parent")], 3, fault="fault: line 1 bad-word", given=b"c0\n")
+    yield Case([*asks, *tree("fault-no-parent")], 3, fault="fault: tree no-parent cgroup 2", given=b"/zz\n")
+    for beside in ["--subtree", "/c0"], ["--uid", "1000"], ["--all"], ["--settle"], ["--pairs", file], ["--subtrees", file], ["--gid", "5"]:
+        yield fault("usage", "audit", "--everybody", "--subtrees", file, *beside)
+    yield from (fault("usage", *words) for words in (asks, ["audit", "--subtrees", file], ["audit", "--subtrees", file, *asked("1000", "/c0")],
+                                                     ["explain", "--subtrees", file, *asked("1000", "/c0")]))
+    yield fault("read", "audit", "--everybody", "--subtrees", f"{EXAMPLES}/none.subtrees")
 
 
 def advices(_):
@@ -287,7 +322,7 @@ def upgrades(program):
 
 
 def cases(program):
-    for table in command_lines, migrations, of_one_subtree, explained, audits, paired, everybody, advices, replays, upgrades:
+    for table in command_lines, migrations, of_one_subtree, explained, audits, paired, everybody, named_by_lines, advices, replays, upgrades:
         yield from table(program)
     yield from format_4_rows()
 

@@ -95,6 +95,12 @@ FAULTS = (
     ("audit --everybody --subtree c0", "path", ""),
     ("audit --everybody --subtree /c0 --subtree /", "subtree root", ""),
     ("audit --everybody --subtree /zz", "subtree missing", ""),
+    ("audit --everybody --subtrees {subtrees} --subtree /c0", "usage", ""),
+    ("audit --everybody --subtrees {none}", "line 1 cut", ""),
+    ("audit --everybody --subtrees {cut_subtree}", "line 2 cut", ""),
+    ("audit --everybody --subtrees {no_subtree}", "line 2 bad-word", ""),
+    ("audit --everybody --subtrees {subtree_missing}", "subtree missing", ""),
+    ("audit --everybody --subtrees {folder}/missing", "read", ""),
     ("explain --pairs {pairs} --subtree /c0", "usage", ""),
     ("explain --pairs {mistyped_pair}", "line 2 bad-word", ""),
     ("replay --uid 1000 --ops {many}", "too-many-steps", "|".join(65536 * ["refused no-such-process 99"])),
@@ -149,6 +155,10 @@ OPERATIONS = {
     "pair_of_root": "pair 1000 /c0\npair 0 /c0\n",
     "pair_of_many": f"pair 1000:{','.join(33 * ['7'])} /c0\n",
     "pair_missing": "pair 1000 /c0\npair 1000 /zz\n",
+    "subtrees": "/c0\n/c1\n/c0\n",
+    "cut_subtree": "/c0\n/c1",
+    "no_subtree": "/c0\n/c1/\n",
+    "subtree_missing": "/c0\n/zz\n",
 }
 
 # commands of which what they write where nothing fails is the row, each on the tree of examples/NAME.toml
@@ -176,6 +186,8 @@ ASKED = (
     ("delegation-ancestor-owned", "audit --everybody --subtree /c0 --subtree /c1 --subtree /c0", 1),
     ("delegation-over-limit", "audit --everybody --subtree /c0", 1),
     ("service-limits-handed-over", "audit --everybody --subtree /system.slice/transcode.service", 1),
+    ("delegation", "audit --everybody --subtrees {subtrees}", 0),
+    ("delegation-parent-directory", "audit --everybody --tree {tree} --subtrees {subtrees}", 1),
     ("delegation", "audit --all --uid 1000 --uid 1001 --subtree /c0 --subtree /c1", 0),
     ("delegation-second-user", "audit --all --tree {tree} --uid 1000 --uid 1001 --subtree /c0 --subtree /c1", 1),
     ("delegation-parent-directory", "audit --all --uid 1000 --uid 1001 --subtree /c0 --subtree /c1", 2),
@@ -204,7 +216,7 @@ def ended(program, words, tree):
 
 def knows(program, words):
     """Whether the program has a command, and the option behind it where there is one."""
-    words = [words[0], *(word for word in words if word in ("--all", "--pairs", "--everybody"))]
+    words = [words[0], *(word for word in words if word in ("--all", "--pairs", "--everybody", "--subtrees"))]
     told = ended(program, [words[0], "--help"], None)
     return told.returncode == 0 and all(word.encode() in told.stdout for word in words[1:])
 

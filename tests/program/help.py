@@ -41,6 +41,7 @@ CHECK = ["check", "--uid", "1000", "--subtree", "/c0"]
 MAY = ["may", "--uid", "1000", "--pid", "10", "--to", "/c0"]
 REPLAY = ["replay", "--uid", "1000", "--ops", "OPS"]
 EVERYBODY = ["audit", "--everybody", *CHECK[3:]]
+SUBTREES = ["audit", "--everybody", "--subtrees", "-", "--tree", "TREE"]
 # what else is asked of a user and a subtree
 OF_TREE = [[*words.split(), *CHECK[1:]] for words in (*FURTHER, "audit", "audit --all", "audit --settle", "explain", "advise", "advise --settle")]
 BOTH = ["both the tree and the operations", "./-"]
@@ -368,6 +369,7 @@ def modes():
     yield Row([*REPLAY[:4], "-", "--tree", "TREE"], None, [said], tree, input=OPS)
     for command in ("advise", "audit", "explain"):
         yield Row([command, "--pairs", "-", "--tree", "TREE"], None, [said], tree, input="pair 1000 /c0\n")
+    yield Row(SUBTREES, None, [said], tree, input="/c0\n")
     yield Row(CHECK, None, [said], tree.replace("value = 4096", "value = 4096, mode = 500"))
     for spelled in ("0o400", "420", "493", "0x190", "4_00", "0o620", "64", "50"):
         yield Row(CHECK, None, (), edited("mode = 0o644", f"mode = {spelled}"))
@@ -412,6 +414,7 @@ def terminals():
     pairs = said.format("the pairs are", "them", "--pairs")
     for command in ("advise", "audit", "explain"):
         yield Row([command, "--pairs", "-", "--tree", "TREE"], None, input="pair 1000 /c0\n", terminal=pairs)
+    yield Row(SUBTREES, None, input="/c0\n", terminal=said.format("the subtrees are", "them", "--subtrees"))
     for words in ([*CHECK, "--tree", "TREE"], [*REPLAY, "--tree", "TREE"], ["--help"]):
         yield Row(words, None, terminal="")
     yield Row(["chek"], "usage", ["check"], terminal="")
@@ -465,6 +468,17 @@ def pairs():
         yield Row([command, *words[1:]], "no-pair", ["no line names a pair", form], input="")
 
 
+def subtrees():
+    form = "subtrees are named one a line, each by its path with a newline behind, and there is one at least"
+    for line, why in (("c0", "a path begins with /"), ("/c0/", "never ends with /"), ("/c 0", "the name 'c 0' has a space"), ("", "a path is empty"),
+                      ("/memory.max", "is reserved"), ("pair 1000 /c0", "a path begins with /"), ("/c0\r", "no printable ASCII")):
+        yield Row(SUBTREES, "line 2 bad-word", ["the line is", form, why], input=f"/c0\n{line}\n")
+    yield Row(SUBTREES, "line 1 cut", ["the line is ''", form], input="")
+    yield Row(SUBTREES, "line 2 cut", ["the line is '/c1'", form], input="/c0\n/c1")
+    yield Row(SUBTREES[:-2], "usage", ["audit takes --everybody in place of users"])
+    yield Row(["audit", "--everybody", "--subtrees", "NONE"], "read", ["NONE: "])
+
+
 def operations():
     def row(ops, line, *helps):
         return Row(REPLAY, line, helps, TREE, ops)
@@ -510,7 +524,7 @@ def operations_of_format_4():
 
 
 def rows(_):
-    yield from (*command_lines(), *arguments(), *trees(), *strangers(), *modes(), *missing_paths(), *terminals(), *slips(), *pairs(), *operations())
+    yield from (*command_lines(), *arguments(), *trees(), *strangers(), *modes(), *missing_paths(), *terminals(), *slips(), *pairs(), *subtrees(), *operations())
 
 
 if __name__ == "__main__":

@@ -241,6 +241,7 @@ def asked_of_users(tree):
     yield Asked(["audit", "--settle", *listed, *subtrees], "")
     yield Asked(["audit", "--settle", "--all", *listed, *subtrees], "")
     yield Asked(["audit", "--everybody", *subtrees], "")
+    yield Asked(["audit", "--everybody", "--subtrees", OPS], "".join(f"{path}\n" for path in subtrees[1::2]))
     yield Asked(["explain", *listed, *subtrees], "")
 
 

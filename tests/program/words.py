@@ -43,7 +43,7 @@ class Spelled:
     def failure(self, program):
         ended = call(program, self.words, read(DELEGATION))
         usage = ended.status == 3 and ended.fault == "fault: usage"
-        other = ended.status < 3 or ended.fault in ("fault: pid", "fault: no-pair", "fault: line 1 bad-word")
+        other = ended.status < 3 or ended.fault in ("fault: pid", "fault: no-pair", "fault: line 1 bad-word", "fault: line 1 cut")
         return "" if (usage if self.is_usage else other) else f"status {ended.status}; it wrote: {ended.fault}"
 
 
@@ -126,6 +126,20 @@ def spelled():
     everybody = ["audit", "--everybody"]
     yield [*everybody, "--subtree", "/c0", "--subtree", "/c1"], False
     yield ["audit", "--subtree", "/c0", "--everybody"], False
+    yield from (([*everybody, "--subtree", "/c0", *words], wrong) for wrong, all_words in (
+        (False, (["--but", "5"], ["--but=5", "--but", "0"], ["--group", "5="], ["--group=5=6,7", "--group", "5=8"])),
+        (True, (["--but"], ["--but", "x"], ["--but", "-1"], ["--group"], ["--group", "5"], ["--group", "=5"], ["--group", "5=6,"])))
+        for words in all_words)
+    yield from ((["audit", "--uid", "1000", "--subtree", "/c0", *words], True) for words in (["--but", "5"], ["--group", "5="]))
+    lines = [*everybody, "--subtrees"]
+    yield [*lines, "-", "--tree", DELEGATION], False
+    yield [*lines, os.devnull], False
+    yield from ((words, True) for words in (
+        lines, [*lines, "-"], [*lines, "-", "--tree", "-"], ["audit", "--subtrees", os.devnull], [*lines, "--all"],
+        *([*lines, os.devnull, *more] for more in (
+            ["--subtree", "/c0"], ["--uid", "1000"], ["--all"], ["--settle"], ["--pairs", os.devnull], ["--subtrees", os.devnull])),
+        ["audit", "--uid", "1000", "--subtree", "/c0", "--subtrees", os.devnull], ["audit", "--pairs", os.devnull, "--subtrees", os.devnull],
+        ["explain", "--subtrees", os.devnull], ["advise", "--subtrees", os.devnull]))
     yield from ((words, True) for words in (
         everybody, ["audit", "--everybody=true", "--subtree", "/c0"], ["audit", "--everybody=", "--subtree", "/c0"], [*everybody, "/c0"],
         *([*everybody, "--subtree", "/c0", *more] for more in (
@@ -163,8 +177,8 @@ def names():
 def dashes():
     """`-` is standard input, and `./-` a file of that name."""
     tree, ops, pairs = read(DELEGATION), b"move 11 /c0/c01\n", b"pair 1000 /c0\nescapes\npair 1000:7,8 /c1\n"
-    files = {"tree": tree, "-": tree, "ops": ops, "pairs": pairs}
-    advise = ["advise", "--pairs"]
+    files = {"tree": tree, "-": tree, "ops": ops, "pairs": pairs, "subtrees": b"/c0\n/c1\n"}
+    advise, named = ["advise", "--pairs"], ["audit", "--everybody", "--subtrees"]
     for words, given, output in ((CHECK, tree, b"contained\n"), ([*CHECK, "--tree", "-"], tree, b"contained\n"),
                                  ([*CHECK, "--tree=-"], tree, b"contained\n"), ([*CHECK, "--tree", "./-"], b"", b"contained\n"),
                                  (["audit", *CHECK[1:], "--tree", "-"], tree, b"contained\n"),
@@ -173,7 +187,10 @@ def dashes():
                                  ([*REPLAY, "ops", "--tree", "-"], tree, b"ok\n"), ([*REPLAY, "-", "--tree", "tree"], b"", b""),
                                  ([*advise, "-", "--tree", "tree"], pairs, b"contained\n"),
                                  ([*advise, "pairs"], tree, b"contained\n"), ([*advise, "pairs", "--tree", "-"], tree, b"contained\n"),
-                                 ([*advise, "-", "--tree=./-"], b"contained\n", b"contained\n")):
+                                 ([*advise, "-", "--tree=./-"], b"contained\n", b"contained\n"),
+                                 ([*named, "-", "--tree", "tree"], b"/c1\n", b"contained\n"),
+                                 ([*named, "subtrees"], tree, b"contained\n"), ([*named, "subtrees", "--tree", "-"], tree, b"contained\n"),
+                                 ([*named, "-", "--tree=./-"], b"/c0\n", b"contained\n")):
         yield Answered(words, given, output, files=files)
 
 

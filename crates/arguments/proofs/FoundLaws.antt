@@ -6,8 +6,8 @@ use Rattle.clap.specs.Matches.{matched_of, first_value, one_text, raw_values}
 use Rattle.clap.specs.Walk.{rows_of, first_of, one_of, all_of}
 use Rattle.clap.specs.declared.parser.matches.Found.{Found}
 use Rattle.clap.proofs.WalkLemmas.{first_value-rows, one_text-rows, raw_values-rows}
-use Rattle.arguments.specs.UserWords.{id_at, ids_at, all_read, user_at}
-use Rattle.arguments.specs.Given.{words_at, file_named, file_at, number_at, numbers_at, user_given, users_given, users_beside, advised_given, IsOfPairs, Holds}
+use Rattle.arguments.specs.UserWords.{id_at, ids_at, all_read, user_at, group_at}
+use Rattle.arguments.specs.Given.{words_at, file_named, file_at, number_at, numbers_at, user_given, users_given, users_beside, advised_given, everyone_given, NoneIsLeftOut, IsOfPairs, Holds}
 use Rattle.arguments.specs.declared.request.Pairs.{Pairs}
 use Rattle.arguments.specs.declared.request.Request.{Request}
 use Rattle.arguments.specs.declared.request.Request.TheVariants as request
@@ -51,6 +51,17 @@ module _ (f g : Found) (same : rows_of f ≡ rows_of g) where
   advised_same = ap₂ (λ (gids : Option (List ℕ)) (words : List (List ℕ)). option_and_then (users_beside words) gids)
       (numbers_same (codes "gid")) (words_same (codes "uid"))
 
+  everyone_same : everyone_given f ≡ everyone_given g
+  everyone_same = ap₂ (λ (but : Option (List ℕ)) (words : List (List ℕ)).
+      option_and_then (λ uids. option_map (λ groups. (uids, groups)) (all_read group_at words)) but)
+      (numbers_same (codes "but")) (words_same (codes "group"))
+
+  none_left_out : NoneIsLeftOut f → NoneIsLeftOut g
+  none_left_out h = record {
+    no_but = sym (words_same (codes "but")) ∙ h.no_but;
+    no_members = sym (words_same (codes "group")) ∙ h.no_members;
+  }
+
   pairs_same : (pairs : Pairs) → IsOfPairs f pairs → IsOfPairs g pairs
   pairs_same pairs h = record {
     tree = h.tree ∙ file_same (codes "tree");
@@ -59,8 +70,10 @@ module _ (f g : Found) (same : rows_of f ≡ rows_of g) where
     no_user = sym (words_same (codes "uid")) ∙ h.no_user;
     no_group = sym (words_same (codes "gid")) ∙ h.no_group;
     no_subtree = sym (words_same (codes "subtree")) ∙ h.no_subtree;
+    no_subtrees = sym (first_same (codes "subtrees")) ∙ h.no_subtrees;
     no_settle = λ said. h.no_settle (first_same (codes "settle") ∙ said);
     not_everybody = λ said. h.not_everybody (first_same (codes "everybody") ∙ said);
+    all_meant = none_left_out h.all_meant;
   }
 
   pub holds_same : (asked : Request) → Holds f asked → Holds g asked
@@ -90,13 +103,29 @@ module _ (f g : Found) (same : rows_of f ≡ rows_of g) where
     some_user = λ none. h.some_user (words_same (codes "uid") ∙ none);
     some_subtree = λ none. h.some_subtree (words_same (codes "subtree") ∙ none);
     no_pairs = sym (first_same (codes "pairs")) ∙ h.no_pairs;
+    no_subtrees = sym (first_same (codes "subtrees")) ∙ h.no_subtrees;
     not_everybody = λ said. h.not_everybody (first_same (codes "everybody") ∙ said);
+    all_meant = none_left_out h.all_meant;
   }
   holds_same (request.AuditEverybody asked) h = record {
     tree = h.tree ∙ file_same (codes "tree");
     subtrees = sym (words_same (codes "subtree")) ∙ h.subtrees;
     everybody = sym (first_same (codes "everybody")) ∙ h.everybody;
+    everyone = sym everyone_same ∙ h.everyone;
     some_subtree = λ none. h.some_subtree (words_same (codes "subtree") ∙ none);
+    no_subtrees = sym (first_same (codes "subtrees")) ∙ h.no_subtrees;
+    no_user = sym (words_same (codes "uid")) ∙ h.no_user;
+    no_pairs = sym (first_same (codes "pairs")) ∙ h.no_pairs;
+    no_all = λ said. h.no_all (first_same (codes "all") ∙ said);
+    no_settle = λ said. h.no_settle (first_same (codes "settle") ∙ said);
+  }
+  holds_same (request.AuditSubtrees asked) h = record {
+    tree = h.tree ∙ file_same (codes "tree");
+    subtrees = h.subtrees ∙ file_same (codes "subtrees");
+    everybody = sym (first_same (codes "everybody")) ∙ h.everybody;
+    everyone = sym everyone_same ∙ h.everyone;
+    some_subtrees = λ none. h.some_subtrees (first_same (codes "subtrees") ∙ none);
+    no_subtree = sym (words_same (codes "subtree")) ∙ h.no_subtree;
     no_user = sym (words_same (codes "uid")) ∙ h.no_user;
     no_pairs = sym (first_same (codes "pairs")) ∙ h.no_pairs;
     no_all = λ said. h.no_all (first_same (codes "all") ∙ said);

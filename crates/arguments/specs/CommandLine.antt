@@ -48,7 +48,9 @@ pairs_command name = command_with name
 
 abbrev pub audit_command : Shape
 audit_command = record (pairs_command (codes "audit")) {
-  rules = (pairs_command (codes "audit")).rules ++ flag (codes "all") ∷ flag (codes "settle") ∷ flag (codes "everybody") ∷ [];
+  rules = (pairs_command (codes "audit")).rules
+      ++ flag (codes "all") ∷ flag (codes "settle") ∷ flag (codes "everybody") ∷ word_option (codes "subtrees")
+      ∷ repeated (number_option (codes "but")) ∷ repeated (word_option (codes "group")) ∷ [];
 }
 
 -- by users and subtrees, or by pairs of them

@@ -6,9 +6,11 @@ use Rattle.clap.specs.Matches.{matched_of, first_value, one_text, raw_values, su
 use Rattle.clap.specs.Words.{rows_of, subcommand_rows_of}
 use Rattle.clap.specs.declared.parser.matches.ArgMatches.{ArgMatches}
 use Rattle.clap.specs.declared.parser.matches.Found.{Found}
-use Rattle.arguments.specs.UserWords.{id_at, ids_at, all_read, user_at}
+use Rattle.arguments.specs.UserWords.{id_at, ids_at, all_read, user_at, group_at}
 use Rattle.arguments.specs.declared.named_pair.NamedPair.{NamedPair}
 use Rattle.arguments.specs.declared.named_user.NamedUser.{NamedUser}
+use Rattle.arguments.specs.declared.everyone.Everyone.{Everyone}
+use Rattle.arguments.specs.declared.everyone.ListedGroup.{ListedGroup}
 use Rattle.arguments.specs.declared.request.May.{May}
 use Rattle.arguments.specs.declared.request.Check.{Check}
 use Rattle.arguments.specs.declared.request.Audit.{Audit}
@@ -16,6 +18,7 @@ use Rattle.arguments.specs.declared.request.Everybody.{Everybody}
 use Rattle.arguments.specs.declared.request.Explain.{Explain}
 use Rattle.arguments.specs.declared.request.Advise.{Advise}
 use Rattle.arguments.specs.declared.request.Pairs.{Pairs}
+use Rattle.arguments.specs.declared.request.Subtrees.{Subtrees}
 use Rattle.arguments.specs.declared.request.Sources.{Sources}
 use Rattle.arguments.specs.declared.request.Sources.TheVariants.{Files, TreeGiven, OtherGiven}
 use Rattle.arguments.specs.declared.request.Replay.{Replay}
@@ -89,6 +92,23 @@ ids_of user = (user.uid, user.gids.items)
 abbrev pub ids_of_pair : NamedPair → (ℕ × List ℕ) × List ℕ
 ids_of_pair pair = (ids_of pair.user, pair.subtree.now)
 
+-- who is left out of everybody, and the groups of which it is told who is a member
+abbrev pub everyone_given : Found → Option (List ℕ × List (ℕ × List ℕ))
+everyone_given found =
+    option_and_then (λ but. option_map (λ groups. (but, groups)) (all_read group_at (words_at found (codes "group"))))
+    (numbers_at found (codes "but"))
+
+abbrev pub listed_group : ListedGroup → ℕ × List ℕ
+listed_group group = (group.gid, group.uids.items)
+
+abbrev pub everyone_of : Everyone → List ℕ × List (ℕ × List ℕ)
+everyone_of everyone = (everyone.but.items, map listed_group everyone.groups.items)
+
+-- nobody is left out, and no group is listed
+pub record NoneIsLeftOut (found : Found) : Type 0 where
+  pub no_but : words_at found (codes "but") ≡ []
+  pub no_members : words_at found (codes "group") ≡ []
+
 -- whether a flag is there, of which `clap` says `true` or `false`
 abbrev pub IsFlag : Option (List ℕ) → Bool → Type 0
 IsFlag said flag = (said ≡ Some (codes "true") → flag ≡ true) × (said ≡ Some (codes "false") → flag ≡ false)
@@ -106,7 +126,7 @@ pub record IsCheck (found : Found) (check : Check) : Type 0 where
   pub user : user_given found ≡ Some (ids_of check.user)
   pub subtree : first_value found (codes "subtree") ≡ Some check.subtree.now
 
--- of one user and one subtree at least, of no text of pairs, and not of everybody
+-- of one user and one subtree at least, of no text of pairs or subtrees, and not of everybody
 pub record IsAudit (found : Found) (audit : Audit) : Type 0 where
   pub tree : option_map (λ file. file.now) audit.tree ≡ file_at found (codes "tree")
   pub users : users_given found ≡ Some (map ids_of audit.users.items)
@@ -116,14 +136,31 @@ pub record IsAudit (found : Found) (audit : Audit) : Type 0 where
   pub some_user : words_at found (codes "uid") ≢ []
   pub some_subtree : words_at found (codes "subtree") ≢ []
   pub no_pairs : first_value found (codes "pairs") ≡ None
+  pub no_subtrees : first_value found (codes "subtrees") ≡ None
   pub not_everybody : first_value found (codes "everybody") ≢ Some (codes "true")
+  pub all_meant : NoneIsLeftOut found
 
--- of everybody, and of no user, of one subtree at least, and neither of every pair nor looked at further
+-- of everybody, and of no user, of one subtree at least and no text of subtrees, and neither of every pair nor looked at further
 pub record IsEverybody (found : Found) (asked : Everybody) : Type 0 where
   pub tree : option_map (λ file. file.now) asked.tree ≡ file_at found (codes "tree")
   pub subtrees : words_at found (codes "subtree") ≡ map (λ subtree. subtree.now) asked.subtrees.items
   pub everybody : first_value found (codes "everybody") ≡ Some (codes "true")
+  pub everyone : everyone_given found ≡ Some (everyone_of asked.everyone)
   pub some_subtree : words_at found (codes "subtree") ≢ []
+  pub no_subtrees : first_value found (codes "subtrees") ≡ None
+  pub no_user : words_at found (codes "uid") ≡ []
+  pub no_pairs : first_value found (codes "pairs") ≡ None
+  pub no_all : first_value found (codes "all") ≢ Some (codes "true")
+  pub no_settle : first_value found (codes "settle") ≢ Some (codes "true")
+
+-- of everybody, likewise, and of the subtrees that a text names
+pub record IsOfSubtrees (found : Found) (asked : Subtrees) : Type 0 where
+  pub tree : tree_file asked.sources ≡ file_at found (codes "tree")
+  pub subtrees : other_file asked.sources ≡ file_at found (codes "subtrees")
+  pub everybody : first_value found (codes "everybody") ≡ Some (codes "true")
+  pub everyone : everyone_given found ≡ Some (everyone_of asked.everyone)
+  pub some_subtrees : first_value found (codes "subtrees") ≢ None
+  pub no_subtree : words_at found (codes "subtree") ≡ []
   pub no_user : words_at found (codes "uid") ≡ []
   pub no_pairs : first_value found (codes "pairs") ≡ None
   pub no_all : first_value found (codes "all") ≢ Some (codes "true")
@@ -155,8 +192,10 @@ pub record IsOfPairs (found : Found) (asked : Pairs) : Type 0 where
   pub no_user : words_at found (codes "uid") ≡ []
   pub no_group : words_at found (codes "gid") ≡ []
   pub no_subtree : words_at found (codes "subtree") ≡ []
+  pub no_subtrees : first_value found (codes "subtrees") ≡ None
   pub no_settle : first_value found (codes "settle") ≢ Some (codes "true")
   pub not_everybody : first_value found (codes "everybody") ≢ Some (codes "true")
+  pub all_meant : NoneIsLeftOut found
 
 pub record IsReplay (found : Found) (replay : Replay) : Type 0 where
   pub tree : tree_file replay.sources ≡ file_at found (codes "tree")
@@ -174,6 +213,7 @@ command_of (request.Check check) = Some (codes "check")
 command_of (request.Settle check) = Some (codes "settle")
 command_of (request.Audit audit) = Some (codes "audit")
 command_of (request.AuditEverybody asked) = Some (codes "audit")
+command_of (request.AuditSubtrees asked) = Some (codes "audit")
 command_of (request.AuditPairs pairs) = Some (codes "audit")
 command_of (request.Explain explain) = Some (codes "explain")
 command_of (request.ExplainPairs pairs) = Some (codes "explain")
@@ -189,6 +229,7 @@ Holds found (request.Check check) = IsCheck found check
 Holds found (request.Settle check) = IsCheck found check
 Holds found (request.Audit audit) = IsAudit found audit
 Holds found (request.AuditEverybody asked) = IsEverybody found asked
+Holds found (request.AuditSubtrees asked) = IsOfSubtrees found asked
 Holds found (request.AuditPairs pairs) = IsOfPairs found pairs
 Holds found (request.Explain explain) = IsExplain found explain
 Holds found (request.ExplainPairs pairs) = IsOfPairs found pairs

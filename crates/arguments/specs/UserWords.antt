@@ -11,6 +11,9 @@ is_comma b = b == 44
 abbrev pub is_colon : ℕ → Bool
 is_colon b = b == 58
 
+abbrev pub is_equals : ℕ → Bool
+is_equals b = b == 61
+
 abbrev pub is_space : ℕ → Bool
 is_space b = b == 32
 
@@ -49,3 +52,15 @@ user_at word = elim (cut_at is_colon word) [ None ↦ user_alone word | Some par
 -- A user, a space, and what names a subtree, which isn't looked into.
 abbrev pub pair_at : List ℕ → Option ((ℕ × List ℕ) × List ℕ)
 pair_at words = option_and_then (λ parts. option_map (λ user. (user, parts.1)) (user_at parts.0)) (cut_at is_space words)
+
+-- members between whom commas stand, or nobody
+abbrev pub members_at : List ℕ → Option (List ℕ)
+members_at [] = Some []
+members_at (byte ∷ bytes) = ids_at (slice_split is_comma (byte ∷ bytes))
+
+abbrev pub group_with : List ℕ × List ℕ → Option (ℕ × List ℕ)
+group_with parts = option_and_then (λ gid. option_map (λ uids. (gid, uids)) (members_at parts.1)) (id_at parts.0)
+
+-- A group and who may be a member is GID=UID,UID.., or GID= where nobody is.
+abbrev pub group_at : List ℕ → Option (ℕ × List ℕ)
+group_at word = option_and_then group_with (cut_at is_equals word)

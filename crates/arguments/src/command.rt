@@ -2,7 +2,7 @@
 ghost use Rattle.std.specs.Prelude.{◌≡◌, [], ◌∷◌, IfOk, codes};
 ghost use Rattle.clap.specs.Words.{app_of};
 ghost use Rattle.arguments.specs.Building.{IsOption, IsCommand};
-ghost use Rattle.arguments.specs.CommandLine.{word_option, number_option, flag, needed, program_command, command_with, of_user, may_command, subtree_command, pairs_command, audit_command, advise_named, advise_command, replay_command, upgrade_command, with_judgements, command_line};
+ghost use Rattle.arguments.specs.CommandLine.{word_option, number_option, flag, needed, repeated, program_command, command_with, of_user, may_command, subtree_command, pairs_command, audit_command, advise_named, advise_command, replay_command, upgrade_command, with_judgements, command_line};
 
 use clap::{Arg, ArgAction, Command, value_parser};
 use std::alloc::{AllocError, Global};
@@ -79,10 +79,12 @@ neither --uid, --subtree nor --settle beside it. A subtree is contained against 
 With --settle it is looked further where check says `unsettled`, as settle does. Users against whom a list of operations is
 planned escape; where the second row of guards holds of a subtree against all others together none of these is listed with it,
 and else each whom check doesn't call contained. So a subtree is contained against all with whom it isn't listed, together.
-With --everybody, beside --subtree alone, `contained` means that every subtree is held whatever anybody but root does, whoever there
-is. Else, with status 1, a line `subtree PATH` of each for which that isn't shown has below it, for each entry on which a guard stands
-and each class of users that it lets in, the line `fails` of advise: `owner`, `group`, who are in its group and don't own it, or
-`others`. Against all who are in no class that is listed below it a subtree is contained, unless it is over its limits.
+With --everybody, in place of --uid, `contained` means that every subtree is held whatever anybody but root does,
+whoever there is. Else, with status 1, a line `subtree PATH` of each for which that isn't shown has below it, for each entry on which
+a guard stands and each class of users that it lets in, the line `fails` of advise: `owner`, `group`, who are in its group and don't
+own it, or `others`. Against all who are in no class that is listed below it a subtree is contained, unless it is over its limits.
+Of everybody --but leaves whoever has a uid out, and --group says who may be in a group, nobody where no uid stands behind the sign;
+both are told again below the answer, which stands on them.
 A user is UID or UID:GID,GID.. in decimal digits, with up to 32 gids, of which the first is the primary one.
 `fault: usage` means that the command line isn't as it says above.
 zirofen-tree(5) and zirofen(1), or docs/FORMATS.md, have the tree's format, and every line of an answer and of a fault.
@@ -290,7 +292,10 @@ fn audit_command<'a>(alloc: Global) -> Result<Command<'a>, AllocError>
     pairs_command(alloc, "audit", AUDIT, AUDIT_HELP)?
         .arg(all_argument(alloc))?
         .arg(settle_argument(alloc))?
-        .arg(everybody_argument(alloc))
+        .arg(everybody_argument(alloc))?
+        .arg(subtrees_argument(alloc))?
+        .arg(but_argument(alloc))?
+        .arg(group_argument(alloc))
 }
 
 fn advise_command<'a>(alloc: Global) -> Result<Command<'a>, AllocError>
@@ -396,6 +401,32 @@ fn everybody_argument<'a>(alloc: Global) -> Arg<'a>
         .action(ArgAction::SetTrue)
         .help(
             "Everybody but root in place of --uid, whoever there is: whom each guarded entry lets in",
+        )
+}
+
+fn subtrees_argument<'a>(alloc: Global) -> Arg<'a>
+    ensures { IsOption (word_option (codes "subtrees")) result }
+{
+    word_argument(alloc, "subtrees", "FILE").help(
+        "Subtrees in place of --subtree with --everybody, a path a line; - is standard input, and then the tree's text is a file",
+    )
+}
+
+fn but_argument<'a>(alloc: Global) -> Arg<'a>
+    ensures { IsOption (repeated (number_option (codes "but"))) result }
+{
+    number_argument(alloc, "but", "UID")
+        .action(ArgAction::Append)
+        .help("Of --everybody whoever has this uid is left out, once or more")
+}
+
+fn group_argument<'a>(alloc: Global) -> Arg<'a>
+    ensures { IsOption (repeated (word_option (codes "group"))) result }
+{
+    word_argument(alloc, "group", "GID=[UID,UID..]")
+        .action(ArgAction::Append)
+        .help(
+            "Who may be a member of a group, for --everybody: these uids and nobody else, once or more",
         )
 }
 

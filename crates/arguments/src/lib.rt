@@ -2,6 +2,7 @@
 #![tactic(auto)]
 
 mod command;
+pub mod everyone;
 pub mod fault;
 pub mod named_pair;
 pub mod named_user;

@@ -38,7 +38,7 @@ impl NamedUser {
 }
 
 /// The ids of words with commas between them.
-fn ids_of(alloc: Global, words: &str) -> Result<Vec<u32>, ArgumentsFault>
+pub(crate) fn ids_of(alloc: Global, words: &str) -> Result<Vec<u32>, ArgumentsFault>
     ensures { MatchResult result
         (λ ids. ids_at (slice_split is_comma words.now) ≡ Some ids.items)
         (λ fault. fault ≢ ArgumentsFault.NoMemory → ids_at (slice_split is_comma words.now) ≡ None) }

@@ -3,13 +3,15 @@ ghost use Rattle.std.specs.Prelude.{◌≡◌, ◌≢◌, ◌⊎◌, [], Some, N
 ghost use Rattle.std.specs.Option.{option_map};
 ghost use Rattle.clap.specs.Matches.{found_of, first_value};
 ghost use Rattle.arguments.specs.UserWords.{id_at, ids_at, all_read, user_at};
-ghost use Rattle.arguments.specs.Given.{words_at, file_named, file_at, NamesNoFile, number_at, numbers_at, user_given, users_given, plain_number, users_beside, advised_given, ids_of, IsMay, IsCheck, IsAudit, IsEverybody, IsExplain, IsAdvise, IsOfPairs, tree_file, other_file, IsReplay, IsUpgrade, command_of, Holds, IsOf};
+ghost use Rattle.arguments.specs.Given.{words_at, file_named, file_at, NamesNoFile, number_at, numbers_at, user_given, users_given, plain_number, users_beside, advised_given, ids_of, NoneIsLeftOut, IsMay, IsCheck, IsAudit, IsEverybody, IsExplain, IsAdvise, IsOfPairs, IsOfSubtrees, tree_file, other_file, IsReplay, IsUpgrade, command_of, Holds, IsOf};
 ghost use Rattle.arguments.specs.Words.{Makes, IsNone};
 ghost use Rattle.arguments.specs.declared.request.Everybody.{Everybody};
 ghost use Rattle.arguments.specs.declared.request.Pairs.{Pairs};
+ghost use Rattle.arguments.specs.declared.request.Subtrees.{Subtrees};
 ghost use Rattle.arguments.specs.declared.request.Request.{Request};
 
 use crate::command::command;
+use crate::everyone::Everyone;
 use crate::fault::ArgumentsFault;
 use crate::named_user::{NamedUser, id_of};
 use clap::ArgMatches;
@@ -27,6 +29,7 @@ pub enum Request<'a> {
     Settle(Check<'a>),
     Audit(Audit<'a>),
     AuditEverybody(Everybody<'a>),
+    AuditSubtrees(Subtrees<'a>),
     AuditPairs(Pairs<'a>),
     Explain(Explain<'a>),
     ExplainPairs(Pairs<'a>),
@@ -99,10 +102,23 @@ impl<'a> Request<'a> {
     {
         match given.get_str("pairs") {
             Some(_) => Ok(Request::AuditPairs(Pairs::from_matches(given)?)),
-            None if is_said(given, "everybody", "true") => {
-                Ok(Request::AuditEverybody(Everybody::from_matches(alloc, given)?))
-            }
+            None if is_said(given, "everybody", "true") => Request::of_everybody(alloc, given),
             None => Ok(Request::Audit(Audit::from_matches(alloc, given)?)),
+        }
+    }
+
+    /// The request of `audit` of everybody, which is of the subtrees of a text where one is named.
+    fn of_everybody(alloc: Global, given: &ArgMatches<'a>) -> Result<Request<'a>, ArgumentsFault>
+        requires pairs { first_value (found_of given.now) (codes "pairs") ≡ None }
+        requires everybody { first_value (found_of given.now) (codes "everybody") ≡ Some (codes "true") }
+        ensures name { IfOk result (λ asked. command_of asked ≡ Some (codes "audit")) }
+        ensures given { IfOk result (Holds (found_of given.now)) }
+        ensures fault { IfErr result (λ fault. fault ≢ ArgumentsFault.NoMemory
+            → (asked : Request) → command_of asked ≡ Some (codes "audit") → Holds (found_of given.now) asked → ⊥) }
+    {
+        match given.get_str("subtrees") {
+            None => Ok(Request::AuditEverybody(Everybody::from_matches(alloc, given)?)),
+            Some(_) => Ok(Request::AuditSubtrees(Subtrees::from_matches(alloc, given)?)),
         }
     }
 
@@ -202,8 +218,13 @@ impl<'a> Audit<'a> {
         ensures given { IfOk result (IsAudit (found_of matches.now)) }
         ensures fault { IfErr result (λ fault. fault ≢ ArgumentsFault.NoMemory → (users_given (found_of matches.now) ≡ None)
             ⊎ (words_at (found_of matches.now) (codes "uid") ≡ [])
-            ⊎ (words_at (found_of matches.now) (codes "subtree") ≡ [])) }
+            ⊎ (words_at (found_of matches.now) (codes "subtree") ≡ [])
+            ⊎ (first_value (found_of matches.now) (codes "subtrees") ≢ None)
+            ⊎ (NoneIsLeftOut (found_of matches.now) → ⊥)) }
     {
+        if matches.get_str("subtrees").is_some() || leaves_out(matches) {
+            return Err(ArgumentsFault::Usage);
+        }
         Ok(Audit {
             tree: file_of(matches, "tree"),
             users: users_of(alloc, given(matches, "uid")?)?,
@@ -218,18 +239,20 @@ impl<'a> Audit<'a> {
 #[derive(Drop)]
 pub struct Everybody<'a> {
     pub tree: Option<&'a str>,
+    pub everyone: Everyone,
     pub subtrees: Vec<&'a str>,
 }
 
 impl<'a> Everybody<'a> {
-    /// What was given to the command, where no text of pairs is named, and it is of everybody: beside that no user, and neither
-    /// every pair nor a further look.
+    /// What was given to the command, where no text of pairs or subtrees is named, and it is of everybody: beside that no user, and
+    /// neither every pair nor a further look.
     fn from_matches(
         alloc: Global,
         matches: &ArgMatches<'a>,
     ) -> Result<Everybody<'a>, ArgumentsFault>
         requires pairs { first_value (found_of matches.now) (codes "pairs") ≡ None }
         requires everybody { first_value (found_of matches.now) (codes "everybody") ≡ Some (codes "true") }
+        requires subtrees { first_value (found_of matches.now) (codes "subtrees") ≡ None }
         ensures given { IfOk result (IsEverybody (found_of matches.now)) }
         ensures fault { IfErr result (λ fault. fault ≢ ArgumentsFault.NoMemory
             → (asked : Everybody) → IsEverybody (found_of matches.now) asked → ⊥) }
@@ -242,7 +265,39 @@ impl<'a> Everybody<'a> {
         }
         Ok(Everybody {
             tree: file_of(matches, "tree"),
+            everyone: Everyone::from_matches(alloc, matches)?,
             subtrees: given(matches, "subtree")?.to_vec(alloc)?,
+        })
+    }
+}
+
+/// Subtrees that a text names, in place of words: whether they are contained against everybody but root.
+#[derive(Debug, Drop)]
+pub struct Subtrees<'a> {
+    pub sources: Sources<'a>,
+    pub everyone: Everyone,
+}
+
+impl<'a> Subtrees<'a> {
+    /// What was given to the command, where a text of subtrees is named and none of pairs, and it is of everybody: beside that no
+    /// subtree and no user, and neither every pair nor a further look.
+    fn from_matches(alloc: Global, matches: &ArgMatches<'a>) -> Result<Subtrees<'a>, ArgumentsFault>
+        requires pairs { first_value (found_of matches.now) (codes "pairs") ≡ None }
+        requires everybody { first_value (found_of matches.now) (codes "everybody") ≡ Some (codes "true") }
+        requires subtrees { first_value (found_of matches.now) (codes "subtrees") ≢ None }
+        ensures { MatchResult result
+            (IsOfSubtrees (found_of matches.now))
+            (λ fault. fault ≢ ArgumentsFault.NoMemory → (asked : Subtrees) → IsOfSubtrees (found_of matches.now) asked → ⊥) }
+    {
+        if is_given(matches, "subtree") || is_given(matches, "uid") {
+            return Err(ArgumentsFault::Usage);
+        }
+        if is_said(matches, "all", "true") || is_said(matches, "settle", "true") {
+            return Err(ArgumentsFault::Usage);
+        }
+        Ok(Subtrees {
+            sources: Sources::from_matches(matches, "subtrees")?,
+            everyone: Everyone::from_matches(alloc, matches)?,
         })
     }
 }
@@ -308,8 +363,8 @@ pub struct Pairs<'a> {
 }
 
 impl<'a> Pairs<'a> {
-    /// What was given to the command, where a text of pairs is named: beside it no user and no subtree, nor everybody, and no
-    /// further look.
+    /// What was given to the command, where a text of pairs is named: beside it no user and no subtree, nor a text of subtrees,
+    /// nor everybody, and no further look.
     fn from_matches(matches: &ArgMatches<'a>) -> Result<Pairs<'a>, ArgumentsFault>
         requires { first_value (found_of matches.now) (codes "pairs") ≢ None }
         ensures { MatchResult result
@@ -320,6 +375,9 @@ impl<'a> Pairs<'a> {
             return Err(ArgumentsFault::Usage);
         }
         if is_said(matches, "settle", "true") || is_said(matches, "everybody", "true") {
+            return Err(ArgumentsFault::Usage);
+        }
+        if matches.get_str("subtrees").is_some() || leaves_out(matches) {
             return Err(ArgumentsFault::Usage);
         }
         Ok(Pairs {
@@ -345,7 +403,7 @@ impl<'a> Upgrade<'a> {
     }
 }
 
-/// Where a tree and a text beside it, of operations or of pairs, are read from: standard input is one of the two at most.
+/// Where a tree and a text beside it, of operations, pairs or subtrees, are read from: standard input is one of the two at most.
 #[derive(Clone, Copy, Debug, PartialEq, Eq)]
 pub enum Sources<'a> {
     /// A file of the tree, and one of the other text.
@@ -516,6 +574,13 @@ fn is_given(matches: &ArgMatches<'_>, name: &str) -> bool
     given(matches, name).is_ok()
 }
 
+/// Whether somebody is left out of everybody, or a group is listed.
+fn leaves_out(matches: &ArgMatches<'_>) -> bool
+    ensures { MatchBool result (NoneIsLeftOut (found_of matches.now) → ⊥) (NoneIsLeftOut (found_of matches.now)) }
+{
+    is_given(matches, "but") || is_given(matches, "group")
+}
+
 fn number(matches: &ArgMatches<'_>, name: &str) -> Result<u32, ArgumentsFault>
     ensures { result ≡ ok_or (number_at (found_of matches.now) name.now) ArgumentsFault.Usage }
 {
@@ -523,7 +588,11 @@ fn number(matches: &ArgMatches<'_>, name: &str) -> Result<u32, ArgumentsFault>
 }
 
 /// All numbers that an option was given, in their order.
-fn numbers(alloc: Global, matches: &ArgMatches<'_>, name: &str) -> Result<Vec<u32>, ArgumentsFault>
+pub(crate) fn numbers(
+    alloc: Global,
+    matches: &ArgMatches<'_>,
+    name: &str,
+) -> Result<Vec<u32>, ArgumentsFault>
     ensures { MatchResult result
         (λ numbers. numbers_at (found_of matches.now) name.now ≡ Some numbers.items)
         (λ fault. fault ≢ ArgumentsFault.NoMemory → numbers_at (found_of matches.now) name.now ≡ None) }

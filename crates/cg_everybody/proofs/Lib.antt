@@ -1,2 +1,3 @@
 pub mod Held
 mod Walked
+mod Listing

@@ -12,14 +12,15 @@ use Rattle.cg_model.specs.declared.mend.Class.TheVariants.{Owner, Group, Others}
 use Rattle.cg_advice.specs.AdviceLines.{fails_line}
 use Rattle.cg_advice.proofs.Gathering.{flat_more}
 use Rattle.cg_guards.proofs.TableWalk.{walk_turn, drop_all}
+use Rattle.machine_everybody.specs.Everybody.{Everybody}
 use Rattle.cg_everybody.specs.Everybody.{opens_to, classes_in, entrance_lines, found_lines, headed, subtree_lines, everybody_lines}
 
-module _ (st : State) (subtree : Names) where
+module _ (st : State) (asked : Everybody) (subtree : Names) where
   abbrev each : GuardedEntry → List ℕ
-  each at = flat_map (fails_line subtree at) (classes_in at.entry)
+  each at = flat_map (fails_line subtree at) (classes_in asked at.entry)
 
   abbrev left : ℕ → List ℕ
-  left place = flat_map (entrance_lines st subtree) (drop place (guarded_entries subtree))
+  left place = flat_map (entrance_lines st asked subtree) (drop place (guarded_entries subtree))
 
   -- what is written at a place, and what is left behind it
   pub walked : (place : ℕ) (here : Option GuardedEntry) (text new : List ℕ)
@@ -32,7 +33,7 @@ module _ (st : State) (subtree : Names) where
 
   pub none_left : (place : ℕ) (text : List ℕ) → length (guarded_entries subtree) ≤ place → text ++ left place ≡ text
   none_left place text all =
-      ap (λ gs. text ++ flat_map (entrance_lines st subtree) gs) (drop_all (guarded_entries subtree) place all) ∙ append-nil text
+      ap (λ gs. text ++ flat_map (entrance_lines st asked subtree) gs) (drop_all (guarded_entries subtree) place all) ∙ append-nil text
 
 -- ---- the classes of an entry
 
@@ -41,19 +42,19 @@ out_first : {A B : Type 0} (f : A → List B) (b : Bool) (x : A) (xs : List A)
 out_first f true x xs = refl
 out_first f false x xs = refl
 
-module _ (subtree : Names) (at : GuardedEntry) where
+module _ (asked : Everybody) (subtree : Names) (at : GuardedEntry) where
   abbrev those : Class → List ℕ
-  those class = cond (opens_to at.entry class) (fails_line subtree at class) []
+  those class = cond (opens_to asked at.entry class) (fails_line subtree at class) []
 
-  in_turn : flat_map (fails_line subtree at) (classes_in at.entry) ≡ those Owner ++ (those Group ++ (those Others ++ []))
+  in_turn : flat_map (fails_line subtree at) (classes_in asked at.entry) ≡ those Owner ++ (those Group ++ (those Others ++ []))
   in_turn =
-      out_first (fails_line subtree at) (opens_to at.entry Owner) Owner (filter (opens_to at.entry) (Group ∷ Others ∷ []))
+      out_first (fails_line subtree at) (opens_to asked at.entry Owner) Owner (filter (opens_to asked at.entry) (Group ∷ Others ∷ []))
       ∙ ap (λ rest. those Owner ++ rest)
-      (out_first (fails_line subtree at) (opens_to at.entry Group) Group (filter (opens_to at.entry) (Others ∷ []))
-      ∙ ap (λ rest. those Group ++ rest) (out_first (fails_line subtree at) (opens_to at.entry Others) Others []))
+      (out_first (fails_line subtree at) (opens_to asked at.entry Group) Group (filter (opens_to asked at.entry) (Others ∷ []))
+      ∙ ap (λ rest. those Group ++ rest) (out_first (fails_line subtree at) (opens_to asked at.entry Others) Others []))
 
   pub three_written : (text one two three : List ℕ) → one ≡ text ++ those Owner → two ≡ one ++ those Group → three ≡ two ++ those Others
-      → three ≡ text ++ flat_map (fails_line subtree at) (classes_in at.entry)
+      → three ≡ text ++ flat_map (fails_line subtree at) (classes_in asked at.entry)
   three_written text one two three first second third =
       third ∙ ap (λ t. t ++ those Others) (second ∙ ap (λ t. t ++ those Group) first)
       ∙ ap (λ t. t ++ those Others) (append_assoc text (those Owner) (those Group))
@@ -64,10 +65,11 @@ module _ (subtree : Names) (at : GuardedEntry) where
 
 -- ---- one subtree more
 
-pub one_more : (st : State) (subtrees : List Names) (i : ℕ) (subtree : Names) (text new found : List ℕ) → i < length subtrees
-    → subtree ≡ get_or subtrees i subtree → text ≡ everybody_lines st (take i subtrees) → found ≡ found_lines st subtree
-    → new ≡ text ++ headed subtree found → new ≡ everybody_lines st (take (i + 1) subtrees)
-one_more st subtrees i subtree text new found within is so_far of_found written =
-    written ∙ (λ k. so_far k ++ headed subtree (of_found k)) ∙ sym (flat_more (subtree_lines st) (take i subtrees) subtree)
-    ∙ ap (everybody_lines st)
+pub one_more : (st : State) (asked : Everybody) (subtrees : List Names) (i : ℕ) (subtree : Names) (text new found : List ℕ) → i < length
+    subtrees
+    → subtree ≡ get_or subtrees i subtree → text ≡ everybody_lines st asked (take i subtrees) → found ≡ found_lines st asked subtree
+    → new ≡ text ++ headed subtree found → new ≡ everybody_lines st asked (take (i + 1) subtrees)
+one_more st asked subtrees i subtree text new found within is so_far of_found written =
+    written ∙ (λ k. so_far k ++ headed subtree (of_found k)) ∙ sym (flat_more (subtree_lines st asked) (take i subtrees) subtree)
+    ∙ ap (everybody_lines st asked)
     (ap (λ (last : Names). take i subtrees ++ (last ∷ [])) is ∙ sym (rw add-one (take-suc subtrees i subtree within)))

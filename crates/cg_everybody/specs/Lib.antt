@@ -1,1 +1,2 @@
 pub mod Everybody
+pub mod Premises

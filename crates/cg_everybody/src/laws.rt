@@ -6,16 +6,17 @@ ghost use Rattle.cg_cgroup.specs.Paths.{Names};
 ghost use Rattle.cg_model.specs.Guards.{GuardsHold};
 ghost use Rattle.cg_model.specs.Limits.{fits_descendants, fits_depth};
 ghost use Rattle.cg_model.specs.States.{State};
-ghost use Rattle.machine_everybody.specs.Everybody.{IsNotRoot};
+ghost use Rattle.machine_everybody.specs.Everybody.{Everybody, IsAsked};
 ghost use Rattle.cg_everybody.specs.Everybody.{everybody_lines, GuardsHoldForEverybody, IsInNoClassIn};
 
-/// There is no line exactly where the guards of each subtree hold for everybody but root.
+/// There is no line exactly where the guards of each subtree hold for everybody who is asked about.
 pub fn no_line_where_all_guards_hold()
-    ensures { (st : State) (subtrees : List Names) → (everybody_lines st subtrees ≡ []) ↔ All (GuardsHoldForEverybody st) subtrees }
+    ensures { (st : State) (asked : Everybody) (subtrees : List Names)
+        → (everybody_lines st asked subtrees ≡ []) ↔ All (GuardsHoldForEverybody st asked) subtrees }
 {}
 
 /// Of a subtree within its limits the guards hold for a user exactly where no class that the user is in is listed.
 pub fn guards_hold_for_who_is_in_no_class()
-    ensures { (st : State) (user : Identity) (subtree : Names) → IsNotRoot user
-        → GuardsHold st user subtree ↔ (IsInNoClassIn st subtree user × ((fits_descendants st subtree && fits_depth st subtree) ≡ true)) }
+    ensures { (st : State) (asked : Everybody) (user : Identity) (subtree : Names) → IsAsked asked user
+        → GuardsHold st user subtree ↔ (IsInNoClassIn st asked subtree user × ((fits_descendants st subtree && fits_depth st subtree) ≡ true)) }
 {}

@@ -4,8 +4,9 @@ ghost use Rattle.std.specs.List.{All, flat_map};
 ghost use Rattle.cg_cgroup.specs.Paths.{is_root};
 ghost use Rattle.cg_model.specs.Guards.{guarded_entries, IsSubtree};
 ghost use Rattle.cg_advice.specs.AdviceLines.{IsShown, fails_line, over_line};
-ghost use Rattle.cg_everybody.specs.Everybody.{opens_to, classes_in, entrance_lines, found_lines, subtree_line, headed, everybody_lines};
+ghost use Rattle.cg_everybody.specs.Everybody.{opens_to, classes_in, entrance_lines, found_lines, subtree_line, headed, everybody_lines, everybody_of};
 
+use crate::asked::Asked;
 use cg_advice::text::{fails_line, over_line};
 use cg_cgroup::memory::NoMemory;
 use cg_cgroup::path::Path;
@@ -17,23 +18,24 @@ use cg_model::hierarchy::Hierarchy;
 use cg_model::mend::Class;
 use std::alloc::{AllocError, Global};
 
-/// Of each subtree that somebody but root may break, its line, and below it a line for each class of users that an entry lets in on
-/// which a guard stands, and one where the subtree is over its limits. There are none exactly where each subtree is contained against
-/// everybody but root.
+/// Of each subtree that somebody who is asked about may break, its line, and below it a line for each class of users that an entry lets
+/// in on which a guard stands, and one where the subtree is over its limits. There are none exactly where each subtree is contained
+/// against everybody who is asked about.
 ///
 /// # Errors
 /// `NoMemory` where an allocation was refused.
 pub fn everybody_lines<H: Hierarchy>(
     alloc: Global,
     tree: &H,
+    asked: &Asked<'_>,
     subtrees: &[Path],
 ) -> Result<Vec<u8>, NoMemory>
     requires { All (IsSubtree (H.state tree.now)) subtrees.now }
-    ensures { IfOk result (λ text. text.items ≡ everybody_lines (H.state tree.now) subtrees.now) }
+    ensures { IfOk result (λ text. text.items ≡ everybody_lines (H.state tree.now) (everybody_of asked.now) subtrees.now) }
 {
     let mut text = Vec::new(alloc);
     for subtree in subtrees {
-        let found = found_lines(alloc, tree, subtree)?;
+        let found = found_lines(alloc, tree, asked, subtree)?;
         push_headed(alloc, &mut text, subtree, found.as_slice())?;
     }
     Ok(text)
@@ -66,11 +68,16 @@ fn subtree_line(alloc: Global, subtree: &Path) -> Result<String, AllocError>
 }
 
 /// What lets somebody break a subtree, in the order of the guards.
-fn found_lines<H: Hierarchy>(alloc: Global, tree: &H, subtree: &Path) -> Result<Vec<u8>, NoMemory>
+fn found_lines<H: Hierarchy>(
+    alloc: Global,
+    tree: &H,
+    asked: &Asked<'_>,
+    subtree: &Path,
+) -> Result<Vec<u8>, NoMemory>
     requires { IsSubtree (H.state tree.now) subtree.now }
-    ensures { IfOk result (λ text. text.items ≡ found_lines (H.state tree.now) subtree.now) }
+    ensures { IfOk result (λ text. text.items ≡ found_lines (H.state tree.now) (everybody_of asked.now) subtree.now) }
 {
-    let mut text = entries_lines(alloc, tree, subtree)?;
+    let mut text = entries_lines(alloc, tree, asked, subtree)?;
     if is_over(tree, subtree) {
         let line = over_line(alloc, subtree)?.into_bytes();
         text.extend_from_slice(line.as_slice())?;
@@ -79,9 +86,15 @@ fn found_lines<H: Hierarchy>(alloc: Global, tree: &H, subtree: &Path) -> Result<
 }
 
 /// The lines of the guarded entries that let somebody in.
-fn entries_lines<H: Hierarchy>(alloc: Global, tree: &H, subtree: &Path) -> Result<Vec<u8>, NoMemory>
+fn entries_lines<H: Hierarchy>(
+    alloc: Global,
+    tree: &H,
+    asked: &Asked<'_>,
+    subtree: &Path,
+) -> Result<Vec<u8>, NoMemory>
     requires { is_root subtree.now ≡ false }
-    ensures { IfOk result (λ text. text.items ≡ flat_map (entrance_lines (H.state tree.now) subtree.now) (guarded_entries subtree.now)) }
+    ensures { IfOk result (λ text.
+        text.items ≡ flat_map (entrance_lines (H.state tree.now) (everybody_of asked.now) subtree.now) (guarded_entries subtree.now)) }
 {
     let top = Top::of(tree, subtree);
     let mut text = Vec::new(alloc);
@@ -89,7 +102,7 @@ fn entries_lines<H: Hierarchy>(alloc: Global, tree: &H, subtree: &Path) -> Resul
         let Some(at) = guarded_entry(tree, subtree, top, place) else {
             continue;
         };
-        push_entry(alloc, &mut text, subtree, &at)?;
+        push_entry(alloc, &mut text, asked, subtree, &at)?;
     }
     Ok(text)
 }
@@ -98,15 +111,16 @@ fn entries_lines<H: Hierarchy>(alloc: Global, tree: &H, subtree: &Path) -> Resul
 fn push_entry(
     alloc: Global,
     text: &mut Vec<u8>,
+    asked: &Asked<'_>,
     subtree: &Path,
     at: &GuardedEntry,
 ) -> Result<(), NoMemory>
     requires { IsShown subtree.now at.now }
-    ensures { OnOk result (text.new.items ≡ text.old.items ++ flat_map (fails_line subtree.now at.now) (classes_in at.now.entry)) }
+    ensures { OnOk result (text.new.items ≡ text.old.items ++ flat_map (fails_line subtree.now at.now) (classes_in (everybody_of asked.now) at.now.entry)) }
 {
-    push_class(alloc, text, subtree, at, Class::Owner)?;
-    push_class(alloc, text, subtree, at, Class::Group)?;
-    push_class(alloc, text, subtree, at, Class::Others)?;
+    push_class(alloc, text, asked, subtree, at, Class::Owner)?;
+    push_class(alloc, text, asked, subtree, at, Class::Group)?;
+    push_class(alloc, text, asked, subtree, at, Class::Others)?;
     Ok(())
 }
 
@@ -114,27 +128,28 @@ fn push_entry(
 fn push_class(
     alloc: Global,
     text: &mut Vec<u8>,
+    asked: &Asked<'_>,
     subtree: &Path,
     at: &GuardedEntry,
     class: Class,
 ) -> Result<(), NoMemory>
     requires { IsShown subtree.now at.now }
-    ensures { OnOk result (text.new.items ≡ text.old.items ++ cond (opens_to at.now.entry class) (fails_line subtree.now at.now class) []) }
+    ensures { OnOk result (text.new.items ≡ text.old.items ++ cond (opens_to (everybody_of asked.now) at.now.entry class) (fails_line subtree.now at.now class) []) }
 {
-    if opens_to(&at.entry, class) {
+    if opens_to(asked, &at.entry, class) {
         let line = fails_line(alloc, subtree, at, class)?.into_bytes();
         text.extend_from_slice(line.as_slice())?;
     }
     Ok(())
 }
 
-/// Whether an entry lets a class of users in, of whom none is root. Its owner sets its mode first.
-fn opens_to(entry: &Entry, class: Class) -> bool
-    ensures { result ≡ opens_to entry.now class }
+/// Whether an entry lets a class of users in, of those who are asked about. Its owner sets its mode first.
+fn opens_to(asked: &Asked<'_>, entry: &Entry, class: Class) -> bool
+    ensures { result ≡ opens_to (everybody_of asked.now) entry.now class }
 {
     match class {
-        Class::Owner => entry.uid != 0,
-        Class::Group => entry.mode & 0o020 == 0o020,
+        Class::Owner => !asked.is_left_out(entry.uid),
+        Class::Group => entry.mode & 0o020 == 0o020 && asked.has_members(entry),
         Class::Others => entry.mode & 0o002 == 0o002,
     }
 }

@@ -15,6 +15,9 @@ tree_words = codes "the tree is read from this terminal: end it with Ctrl-D, or 
 abbrev pub pairs_words : List ℕ
 pairs_words = codes "the pairs are read from this terminal: end them with Ctrl-D, or name a file with --pairs"
 
+abbrev pub subtrees_words : List ℕ
+subtrees_words = codes "the subtrees are read from this terminal: end them with Ctrl-D, or name a file with --subtrees"
+
 abbrev pub operations_words : List ℕ
 operations_words = codes "the operations are read from this terminal: end them with Ctrl-D, or name a file with --ops"
 
@@ -42,6 +45,7 @@ awaited (request.Advise advise) = tree_awaited advise.tree
 awaited (request.AdvisePairs asked) = awaited_of asked.sources pairs_words
 awaited (request.AuditPairs asked) = awaited_of asked.sources pairs_words
 awaited (request.ExplainPairs asked) = awaited_of asked.sources pairs_words
+awaited (request.AuditSubtrees asked) = awaited_of asked.sources subtrees_words
 awaited (request.Replay replay) = awaited_of replay.sources operations_words
 awaited (request.Upgrade upgrade) = tree_awaited upgrade.tree
 

@@ -9,6 +9,7 @@ pub(crate) fn tree_of<'a>(request: &Request<'a>) -> Option<&'a str> {
         Request::Check(request) | Request::Settle(request) => request.tree,
         Request::Audit(request) => request.tree,
         Request::AuditEverybody(request) => request.tree,
+        Request::AuditSubtrees(request) => request.sources.tree(),
         Request::Explain(request) => request.tree,
         Request::Advise(request) => request.tree,
         Request::AdvisePairs(request)
@@ -20,12 +21,13 @@ pub(crate) fn tree_of<'a>(request: &Request<'a>) -> Option<&'a str> {
     }
 }
 
-/// The file of the operations or the pairs, where one is named.
+/// The file of the operations, the pairs or the subtrees, where one is named.
 pub(crate) fn other_of<'a>(request: &Request<'a>) -> Option<&'a str> {
     match request {
         Request::AdvisePairs(request)
         | Request::AuditPairs(request)
         | Request::ExplainPairs(request) => request.sources.other(),
+        Request::AuditSubtrees(request) => request.sources.other(),
         Request::Replay(request) => request.sources.other(),
         _ => None,
     }

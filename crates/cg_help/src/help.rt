@@ -47,7 +47,7 @@ pub struct Seen<'w, 'i, 'l> {
     pub words: Option<&'w [String]>,
     /// What standard input gave, where all of it was kept.
     pub input: Option<&'i [u8]>,
-    /// The line of operations or pairs at which the command ended, as far as it was read.
+    /// The line of operations, pairs or subtrees at which the command ended, as far as it was read.
     pub line: Option<&'l [u8]>,
 }
 
@@ -224,7 +224,7 @@ fn vocabulary_seen<F: Files>(
     }
 }
 
-/// Which file can't be read: the tree's is opened before that of the operations or pairs.
+/// Which file can't be read: the tree's is opened before that of the operations, pairs or subtrees.
 fn unread<F: Files>(
     alloc: Global,
     files: &F,

@@ -1,6 +1,7 @@
-//! The line of operations or pairs at which it ended.
+//! The line of operations, pairs or subtrees at which it ended.
 use crate::input::kind_said;
 use crate::names::{controller_names, none_said};
+use crate::paths::why_no_path;
 use arguments::request::Request;
 use cg_cgroup::files::{Controller, EntryName, LimitFile, Vocabulary};
 use cg_cgroup::other_file::OtherFile;
@@ -15,6 +16,10 @@ const OPERATIONS: [&str; 8] = [
 const PAIR: &str =
     "a line of audit --all is contained, escapes, unsettled GUARD PATH, an operation's, or of a pair:
 pair UID PATH, or pair UID:GID,GID.. PATH";
+
+/// What a text of subtrees looks like.
+const SUBTREES: &str =
+    "subtrees are named one a line, each by its path with a newline behind, and there is one at least";
 
 /// What is wrong with a line: its form, and of an operation's each word that is no name. The tree has this vocabulary.
 pub(crate) fn line_said(
@@ -31,6 +36,7 @@ pub(crate) fn line_said(
             Request::AdvisePairs(_) | Request::AuditPairs(_) | Request::ExplainPairs(_) => {
                 shown_with(alloc, line, PAIR)
             }
+            Request::AuditSubtrees(_) => subtree_said(alloc, line),
             _ => operation_said(alloc, vocabulary, line),
         },
         Err(_) => String::from_str(alloc, "the line isn't UTF-8"),
@@ -42,6 +48,17 @@ fn shown_with(alloc: Global, line: &str, form: &str) -> Result<String, AllocErro
     format!(in alloc;
         "the line is '{shown}'\n{form}, with one space between words and a newline behind"
     )
+}
+
+/// What a line looks like that names a subtree, and why this one names none.
+fn subtree_said(alloc: Global, line: &str) -> Result<String, AllocError> {
+    let shown = quoted(alloc, line)?;
+    let mut said = format!(in alloc; "the line is '{shown}'\n{SUBTREES}")?;
+    if let Some(why) = why_no_path(alloc, line)? {
+        said.push_str("\n")?;
+        said.push_str(why.as_str())?;
+    }
+    Ok(said)
 }
 
 fn operation_said(alloc: Global, vocabulary: Vocabulary, line: &str) -> Result<String, AllocError> {

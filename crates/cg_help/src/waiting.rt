@@ -14,6 +14,9 @@ const TREE: &str =
 const PAIRS: &str =
     "the pairs are read from this terminal: end them with Ctrl-D, or name a file with --pairs";
 
+const SUBTREES: &str =
+    "the subtrees are read from this terminal: end them with Ctrl-D, or name a file with --subtrees";
+
 const OPERATIONS: &str =
     "the operations are read from this terminal: end them with Ctrl-D, or name a file with --ops";
 
@@ -41,6 +44,7 @@ fn awaited(request: &Request<'_>) -> Option<&'static str>
         Request::Advise(asked) => tree_awaited(asked.tree),
         Request::AdvisePairs(asked) | Request::AuditPairs(asked) | Request::ExplainPairs(asked) =>
             awaited_of(asked.sources, PAIRS),
+        Request::AuditSubtrees(asked) => awaited_of(asked.sources, SUBTREES),
         Request::Replay(asked) => awaited_of(asked.sources, OPERATIONS),
         Request::Upgrade(asked) => tree_awaited(asked.tree),
     }

@@ -60,7 +60,7 @@ fn push_gids(alloc: Global, text: &mut String, gids: &[u32]) -> Result<(), Alloc
 }
 
 /// Gids behind others, each after a comma.
-fn push_others(alloc: Global, text: &mut String, gids: &[u32]) -> Result<(), AllocError>
+pub fn push_others(alloc: Global, text: &mut String, gids: &[u32]) -> Result<(), AllocError>
     ensures { OnOk result (string_bytes text.new ≡ string_bytes text.old ++ flat_map next_gid gids.now) }
 {
     for gid in gids {

@@ -16,6 +16,7 @@ use Rattle.cg_cli.specs.Advising.{advise_pairs_report}
 use Rattle.cg_cli.specs.Asking.{CallEnding}
 use Rattle.cg_cli.specs.Audits.{audit_report}
 use Rattle.cg_cli.specs.EachPair.{audit_pairs_report, explain_pairs_asked}
+use Rattle.cg_cli.specs.Everybody.{everybody_report}
 use Rattle.cg_cli.specs.Explaining.{TellsPairs, ReportsTold}
 use Rattle.cg_model.specs.States.{State}
 use Rattle.cg_model.specs.Mends.{Pair}
@@ -27,9 +28,10 @@ use Rattle.cg_cli.specs.Replaying.{Reporting, Replays, ReplaysFrom}
 use Rattle.cg_cli.specs.Reports.{Report, Reports, report_on}
 use Rattle.cg_faults.specs.declared.fault.CliFault.{CliFault}
 use Rattle.cg_faults.specs.declared.fault.CliFault.TheVariants.{Read, Write, NoMemory}
-use Rattle.commands.specs.Requests.{Files, source, name_of, may_said, check_said, everybody_asked, SettlesAs, AdviseSays, GuardsSay, FurtherSay}
-use Rattle.commands.specs.Requests.{AuditSays, ExplainSays, AdvisesOn, AuditsOn, ExplainsOn, OnLines, OnPairsText, replay_said, IsUnread, OnTreeText, OnTree, ReportsOnTree, ReplaysOver, CarriesOut}
-use Rattle.commands.specs.PairLines.{GivenPair, pairs_read}
+use Rattle.commands.specs.Requests.{Files, source, name_of, may_said, check_said, whom, everybody_asked, SettlesAs, AdviseSays, GuardsSay, FurtherSay}
+use Rattle.commands.specs.Requests.{AuditSays, ExplainSays, AdvisesOn, AuditsOn, ExplainsOn, EverybodyOn, OnLines, OnBothTexts, replay_said, IsUnread, OnTreeText, OnTree, ReportsOnTree, ReplaysOver, CarriesOut}
+use Rattle.commands.specs.PairLines.{pairs_read}
+use Rattle.commands.specs.SubtreeLines.{subtrees_read}
 use Rattle.cg_cgroup.specs.declared.files.Vocabulary.{Vocabulary}
 
 pub Appends-Keeps : (old mid new : Option (List ℕ)) (bs : List ℕ) → Appends old mid bs → Keeps mid new → Appends old new bs
@@ -72,17 +74,18 @@ OnTree-Keeps : (known : Option (List ℕ)) (before after : Reading → Type 0) (
 OnTree-Keeps known before after old mid new result passed h k =
     OnTreeText-Keeps known (λ vocabulary. before) (λ vocabulary. after) old mid new result (λ vocabulary. passed) h k
 
-OnLines-Keeps : (Says : List GivenPair → Reading → CallEnding) (pairs : Result (List GivenPair) CliFault) (tree : Reading)
+OnLines-Keeps : {A : Type 0} (Says : List A → Reading → CallEnding) (lines : Result (List A) CliFault) (tree : Reading)
     (old mid new : Option (List ℕ)) (result : Result ℕ CliFault)
-    → ((given : List GivenPair) → Says given tree old mid result → Keeps mid new → Says given tree old new result)
-    → OnLines Says pairs tree old mid result → Keeps mid new → OnLines Says pairs tree old new result
-OnLines-Keeps Says (Ok pairs) tree old mid new result keeps said k = keeps pairs said k
+    → ((named : List A) → Says named tree old mid result → Keeps mid new → Says named tree old new result)
+    → OnLines Says lines tree old mid result → Keeps mid new → OnLines Says lines tree old new result
+OnLines-Keeps Says (Ok named) tree old mid new result keeps said k = keeps named said k
 OnLines-Keeps Says (Err fault) tree old mid new result keeps said k = (said.0, Keeps-Keeps old mid new said.1 k)
 
-OnPairsText-Keeps : (Says : List GivenPair → Reading → CallEnding) (known pairs old mid new : Option (List ℕ)) (result : Result ℕ CliFault)
-    → ((given : List GivenPair) (tree : Reading) → Says given tree old mid result → Keeps mid new → Says given tree old new result)
-    → OnPairsText Says known pairs old mid result → Keeps mid new → OnPairsText Says known pairs old new result
-OnPairsText-Keeps Says known pairs old mid new result keeps (inl h) k =
+OnBothTexts-Keeps : {A : Type 0} (lines : List ℕ → Result (List A) CliFault) (Says : List A → Reading → CallEnding)
+    (known other old mid new : Option (List ℕ)) (result : Result ℕ CliFault)
+    → ((named : List A) (tree : Reading) → Says named tree old mid result → Keeps mid new → Says named tree old new result)
+    → OnBothTexts lines Says known other old mid result → Keeps mid new → OnBothTexts lines Says known other old new result
+OnBothTexts-Keeps lines Says known other old mid new result keeps (inl h) k =
     inl (
       h.0,
       h.1,
@@ -93,12 +96,12 @@ OnPairsText-Keeps Says known pairs old mid new result keeps (inl h) k =
             inl (
               said.0,
               said.1,
-              OnLines-Keeps Says (pairs_read h.1) said.0 old mid new result (λ given. keeps given said.0) said.2 k,
+              OnLines-Keeps Says (lines h.1) said.0 old mid new result (λ named. keeps named said.0) said.2 k,
             )
         | inr none ↦ inr (IsUnread-Keeps old mid new result none k)
       ],
     )
-OnPairsText-Keeps Says known pairs old mid new result keeps (inr h) k = inr (IsUnread-Keeps old mid new result h k)
+OnBothTexts-Keeps lines Says known other old mid new result keeps (inr h) k = inr (IsUnread-Keeps old mid new result h k)
 
 ReportsPairs-Keeps : (pairs : Result (List Listed) CliFault) (old mid new : Option (List ℕ)) (result : Result ℕ CliFault)
     → ReportsPairs pairs old mid result → Keeps mid new → ReportsPairs pairs old new result
@@ -202,6 +205,9 @@ CarriesOut-Keeps (request.Audit audit) files given old mid new result h k =
     result (λ tree said. AuditSays-Keeps audit old mid new result tree said k) h k
 CarriesOut-Keeps (request.AuditEverybody asked) files given old mid new result h k =
     ReportsOnTree-Keeps (source files (name_of asked.tree) given) (everybody_asked asked) old mid new result h k
+CarriesOut-Keeps (request.AuditSubtrees asked) files given old mid new result h k =
+    OnBothTexts-Keeps subtrees_read (EverybodyOn (whom asked.everyone)) _ _ old mid new result
+    (λ subtrees tree said kept. Reports-Keeps (everybody_report (whom asked.everyone) tree subtrees) old mid new result said kept) h k
 CarriesOut-Keeps (request.Explain explain) files given old mid new result h k =
     OnTree-Keeps (source files (name_of explain.tree) given) (ExplainSays explain old mid result) (ExplainSays explain old new result) old
     mid new result (λ tree said. ExplainSays-Keeps explain old mid new result tree said k) h k
@@ -209,13 +215,13 @@ CarriesOut-Keeps (request.Advise advise) files given old mid new result h k =
     OnTree-Keeps (source files (name_of advise.tree) given) (AdviseSays advise old mid result) (AdviseSays advise old new result) old mid
     new result (λ tree said. AdviseSays-Keeps advise old mid new result tree said k) h k
 CarriesOut-Keeps (request.AdvisePairs asked) files given old mid new result h k =
-    OnPairsText-Keeps AdvisesOn _ _ old mid new result
+    OnBothTexts-Keeps pairs_read AdvisesOn _ _ old mid new result
     (λ pairs tree said kept. Reports-Keeps (advise_pairs_report tree pairs) old mid new result said kept) h k
 CarriesOut-Keeps (request.AuditPairs asked) files given old mid new result h k =
-    OnPairsText-Keeps AuditsOn _ _ old mid new result
+    OnBothTexts-Keeps pairs_read AuditsOn _ _ old mid new result
     (λ pairs tree said kept. ReportsPairs-Keeps (audit_pairs_report tree pairs) old mid new result said kept) h k
 CarriesOut-Keeps (request.ExplainPairs asked) files given old mid new result h k =
-    OnPairsText-Keeps ExplainsOn _ _ old mid new result
+    OnBothTexts-Keeps pairs_read ExplainsOn _ _ old mid new result
     (λ pairs tree said kept. ReportsTold-Keeps (explain_pairs_asked tree pairs) old mid new result said kept) h k
 CarriesOut-Keeps (request.Replay replay) files given old mid new result h k =
     let ops = source files (other_file replay.sources) given in

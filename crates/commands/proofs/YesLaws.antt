@@ -22,24 +22,29 @@ use Rattle.cg_cli.specs.Reports.{Report, Reports, report_on}
 use Rattle.cg_faults.specs.declared.fault.CliFault.{CliFault}
 use Rattle.cg_faults.specs.declared.fault.CliFault.TheVariants.{NoMemory}
 use Rattle.clap.specs.declared.parser.matches.Found.{Found}
-use Rattle.arguments.specs.Given.{ids_of, words_at, users_given, IsAudit, IsEverybody, Holds, command_of}
+use Rattle.arguments.specs.declared.everyone.Everyone.{Everyone}
+use Rattle.arguments.specs.Given.{ids_of, words_at, users_given, everyone_given, everyone_of, IsAudit, IsEverybody, IsOfSubtrees, tree_file, other_file, Holds, command_of}
 use Rattle.arguments.specs.UserWords.{all_read, user_at}
 use Rattle.arguments.specs.declared.request.Check.{Check}
 use Rattle.arguments.specs.declared.request.Audit.{Audit}
 use Rattle.arguments.specs.declared.request.Everybody.{Everybody}
 use Rattle.arguments.specs.declared.request.Pairs.{Pairs}
+use Rattle.arguments.specs.declared.request.Subtrees.{Subtrees}
 use Rattle.arguments.specs.declared.request.Request.{Request}
 use Rattle.arguments.specs.declared.request.Request.TheVariants as request
 use Rattle.arguments.proofs.MadeLaws.{named_as}
+use Rattle.machine_everybody.specs.Everybody.{Everybody as Whom}
 use Rattle.machine_answers.specs.Contained.{of_ids, IsContainedIn, AreContainedIn, AreHeldAgainstEverybody}
 use Rattle.machine_answers.proofs.MachineLaws.{contained_in}
 use Rattle.machine_answers.proofs.AuditedLaws.{audited_in, all_audited_in}
 use Rattle.machine_answers.proofs.EverybodyLaws.{held_against_everybody}
-use Rattle.commands.specs.Requests.{Files, source, name_of, IsTree, IsUnread, check_said, everybody_asked, GuardsSay, FurtherSay, CarriesOut}
+use Rattle.commands.specs.Requests.{Files, source, name_of, IsTree, IsOtherText, IsUnread, check_said, whom, everybody_asked, EverybodyOn, OnLines, GuardsSay, FurtherSay, CarriesOut}
 use Rattle.commands.specs.Runs.{IsFlushed, LeadsTo, RunsTo, exit_status}
-use Rattle.commands.specs.Yes.{AsksCheck, AsksAudit, AsksEverybody, WasRead, CheckMeans, AuditMeans, EverybodyMeans}
+use Rattle.commands.specs.SubtreeLines.{subtrees_read, AreLinesOf}
+use Rattle.commands.specs.Yes.{AsksCheck, AsksAudit, AsksEverybody, AsksEverybodyOfLines, WasRead, CheckMeans, AuditMeans, EverybodyMeans}
 use Rattle.commands.specs.declared.fault.Fault.{Fault}
 use Rattle.commands.specs.declared.fault.Fault.TheVariants.{Cli}
+use Rattle.commands.proofs.SubtreeLaws.{are_lines}
 use Rattle.streams.specs.declared.write.WriteFailed.{WriteFailed}
 
 -- ---- a text that isn't too long was read whole
@@ -66,6 +71,14 @@ read_whole : (known : Option (List ℕ)) (text : List ℕ) → IsTree known text
     → IfSome known (λ bytes. text ≡ bytes)
 read_whole None text is short = tt
 read_whole (Some bytes) text is short = whole bytes text is short
+
+-- the text beside it, of which one byte more is read than it may have
+lines_whole : (known : Option (List ℕ)) (text : List ℕ) → IsOtherText known text → length text ≤ 16777216
+    → IfSome known (λ bytes. text ≡ bytes)
+lines_whole None text is short = tt
+lines_whole (Some bytes) text is short =
+    let least : length (take 16777217 bytes) ≤ 16777216 = subst (λ (t : List ℕ). length t ≤ 16777216) is short in
+    is ∙ take_all 16777217 bytes (omega (arith, least, length-take 16777217 bytes))
 
 -- ---- of status 0 the text was read
 
@@ -99,10 +112,11 @@ all_refused fault users subtrees pairs is =
     unread_pairs (users_read users) (paths_read subtrees) (lifted fault)
     (λ (users : List Identity) (paths : List Names) (st : State). pairs_found st (once same_user users) (once same_path paths)) pairs is
 
-everybody_refused : (fault : TreeFault) (subtrees : List (List ℕ)) → (everybody_report (Err fault) subtrees).ending ≡ Ok 0 → ⊥
-everybody_refused fault subtrees is =
+everybody_refused : (asked : Whom) (fault : TreeFault) (subtrees : List (List ℕ))
+    → (everybody_report asked (Err fault) subtrees).ending ≡ Ok 0 → ⊥
+everybody_refused asked fault subtrees is =
     refused {A = Unit {0}} (Ok tt) (paths_read subtrees) (lifted fault)
-    (λ (none : Unit {0}) (paths : List Names) (st : State). everybody_said st (once same_path paths)) is
+    (λ (none : Unit {0}) (paths : List Names) (st : State). everybody_said asked st (once same_path paths)) is
 
 pub not_unread : {P : Type 0} (old new : Option (List ℕ)) (status : ℕ) → IsUnread old new (Ok status) → P
 not_unread old new status (inl never, keeps) = let none : ⊥ = cc in absurd none
@@ -166,21 +180,53 @@ module _ (files : Files) (given old new : Option (List ℕ)) where
 
   everybody_carried : (asked : Everybody) → CarriesOut (request.AuditEverybody asked) files given old new (Ok 0)
       → (text : List ℕ) × WasRead files (name_of asked.tree) given text
-      × AreHeldAgainstEverybody text (map (λ subtree. subtree.now) asked.subtrees.items)
+      × AreHeldAgainstEverybody text (whom asked.everyone) (map (λ subtree. subtree.now) asked.subtrees.items)
   everybody_carried asked (inl (text, is_tree, (read, reading, reports))) = by_reading read reading reports
     where
       subtrees : List (List ℕ)
       subtrees = map (λ subtree. subtree.now) asked.subtrees.items
 
       by_reading : (read : Reading) → IsReading text read → Reports (everybody_asked asked read) old new (Ok 0)
-          → (text : List ℕ) × WasRead files (name_of asked.tree) given text × AreHeldAgainstEverybody text subtrees
+          → (text : List ℕ) × WasRead files (name_of asked.tree) given text × AreHeldAgainstEverybody text (whom asked.everyone) subtrees
       by_reading (Ok st) reading reports = (
         text,
         read_whole (source files (name_of asked.tree) given) text is_tree reading.short,
-        held_against_everybody text (Ok st) subtrees reading reports.0,
+        held_against_everybody text (Ok st) (whom asked.everyone) subtrees reading reports.0,
       )
-      by_reading (Err fault) reading reports = absurd (everybody_refused fault subtrees reports.0)
+      by_reading (Err fault) reading reports = absurd (everybody_refused (whom asked.everyone) fault subtrees reports.0)
   everybody_carried asked (inr it) = not_unread old new 0 it
+
+  -- what both texts say of a request of subtrees that lines name
+  abbrev AreHeldByLines : Subtrees → Type 0
+  AreHeldByLines asked =
+      (text named : List ℕ) × (subtrees : List (List ℕ)) × WasRead files (tree_file asked.sources) given text
+      × WasRead files (other_file asked.sources) given named × AreLinesOf named subtrees
+      × AreHeldAgainstEverybody text (whom asked.everyone) subtrees
+
+  lines_carried : (asked : Subtrees) → CarriesOut (request.AuditSubtrees asked) files given old new (Ok 0) → AreHeldByLines asked
+  lines_carried asked (inl (text, named, is_tree, are_named, (inl (read, reading, said)))) =
+      by_lines (subtrees_read named) refl read reading said
+    where
+      by_reading : (subtrees : List (List ℕ)) → subtrees_read named ≡ Ok subtrees → (read : Reading) → IsReading text read
+          → EverybodyOn (whom asked.everyone) subtrees read old new (Ok 0) → AreHeldByLines asked
+      by_reading subtrees of (Ok st) reading reports =
+          let lines = are_lines named subtrees of in (
+            text,
+            named,
+            subtrees,
+            read_whole (source files (tree_file asked.sources) given) text is_tree reading.short,
+            lines_whole (source files (other_file asked.sources) given) named are_named lines.1,
+            lines.0,
+            held_against_everybody text (Ok st) (whom asked.everyone) subtrees reading reports.0,
+          )
+      by_reading subtrees of (Err fault) reading reports = absurd (everybody_refused (whom asked.everyone) fault subtrees reports.0)
+
+      by_lines : (lines : Result (List (List ℕ)) CliFault) → subtrees_read named ≡ lines → (read : Reading) → IsReading text read
+          → OnLines (EverybodyOn (whom asked.everyone)) lines read old new (Ok 0) → AreHeldByLines asked
+      by_lines (Ok subtrees) of read reading said = by_reading subtrees of read reading said
+      by_lines (Err fault) of read reading said = let never : ⊥ = let same = said.0 in cc in absurd never
+  lines_carried asked (inl (text, named, is_tree, are_named, (inr it))) = not_unread old new 0 it
+  lines_carried asked (inr it) = not_unread old new 0 it
 
 -- ---- names of commands are apart
 
@@ -234,28 +280,31 @@ none-audit is = cc
 
 -- what is said of all requests of `audit` is said of them
 of_audit : (P : Request → Type 0) → ((audit : Audit) → P (request.Audit audit)) → ((asked : Everybody) → P (request.AuditEverybody asked))
-    → ((pairs : Pairs) → P (request.AuditPairs pairs)) → (asked : Request) → command_of asked ≡ Some (codes "audit") → P asked
-of_audit P one everybody each (request.Audit audit) is = one audit
-of_audit P one everybody each (request.AuditEverybody asked) is = everybody asked
-of_audit P one everybody each (request.AuditPairs pairs) is = each pairs
-of_audit P one everybody each (request.Help help) is = absurd (none-audit is)
-of_audit P one everybody each (request.May may) is = absurd (may-audit is)
-of_audit P one everybody each (request.Check check) is = absurd (check-audit is)
-of_audit P one everybody each (request.Settle check) is = absurd (settle-audit is)
-of_audit P one everybody each (request.Explain explain) is = absurd (explain-audit is)
-of_audit P one everybody each (request.ExplainPairs pairs) is = absurd (explain-audit is)
-of_audit P one everybody each (request.Advise advise) is = absurd (advise-audit is)
-of_audit P one everybody each (request.AdvisePairs pairs) is = absurd (advise-audit is)
-of_audit P one everybody each (request.Replay replay) is = absurd (replay-audit is)
-of_audit P one everybody each (request.Upgrade upgrade) is = absurd (upgrade-audit is)
+    → ((asked : Subtrees) → P (request.AuditSubtrees asked)) → ((pairs : Pairs) → P (request.AuditPairs pairs)) → (asked : Request)
+    → command_of asked ≡ Some (codes "audit") → P asked
+of_audit P one everybody lines each (request.Audit audit) is = one audit
+of_audit P one everybody lines each (request.AuditEverybody asked) is = everybody asked
+of_audit P one everybody lines each (request.AuditSubtrees asked) is = lines asked
+of_audit P one everybody lines each (request.AuditPairs pairs) is = each pairs
+of_audit P one everybody lines each (request.Help help) is = absurd (none-audit is)
+of_audit P one everybody lines each (request.May may) is = absurd (may-audit is)
+of_audit P one everybody lines each (request.Check check) is = absurd (check-audit is)
+of_audit P one everybody lines each (request.Settle check) is = absurd (settle-audit is)
+of_audit P one everybody lines each (request.Explain explain) is = absurd (explain-audit is)
+of_audit P one everybody lines each (request.ExplainPairs pairs) is = absurd (explain-audit is)
+of_audit P one everybody lines each (request.Advise advise) is = absurd (advise-audit is)
+of_audit P one everybody lines each (request.AdvisePairs pairs) is = absurd (advise-audit is)
+of_audit P one everybody lines each (request.Replay replay) is = absurd (replay-audit is)
+of_audit P one everybody lines each (request.Upgrade upgrade) is = absurd (upgrade-audit is)
 
 -- where nobody is named, whoever there is holds for them
 none_given : (found : Found) (users : List (ℕ × List ℕ)) → words_at found (codes "uid") ≡ [] → users_given found ≡ Some users → users ≡ []
 none_given found users none given =
     same_some users [] (sym given ∙ ap (λ (words : List (List ℕ)). all_read user_at words) none)
 
-for_nobody : (text : List ℕ) (words : List (List ℕ)) → AreHeldAgainstEverybody text words → AreContainedIn text [] words
-for_nobody text words held = record {
+for_nobody : (text : List ℕ) (asked : Whom) (words : List (List ℕ)) → AreHeldAgainstEverybody text asked words
+    → AreContainedIn text [] words
+for_nobody text asked words held = record {
   machine = held.machine;
   told = held.told;
   each = λ word among.
@@ -267,6 +316,19 @@ for_nobody text words held = record {
         contained = it.contained [] tt;
       };
 }
+
+-- the words say whom it is asked about
+same_whom : (found : Found) (everyone : Everyone) (asked : Whom) → everyone_given found ≡ Some (everyone_of everyone)
+    → everyone_given found ≡ Some (asked.but, asked.groups) → whom everyone ≡ asked
+same_whom found everyone asked of given =
+    ap (λ (parts : List ℕ × List (ℕ × List ℕ)). let it : Whom = record { but = parts.0; groups = parts.1 } in it)
+    (same_some (everyone_of everyone) (asked.but, asked.groups) (sym of ∙ given))
+
+-- where no subtree is named, whatever is held of the text
+held_of_none : (text : List ℕ) (asked : Whom) (words : List (List ℕ)) → AreHeldAgainstEverybody text asked words
+    → AreHeldAgainstEverybody text asked []
+held_of_none text asked words held = record { machine = held.machine; told = held.told; each = λ word among. absurd (omega (arith,
+    among.1)) }
 
 -- ---- what the words ask
 
@@ -304,6 +366,7 @@ module _ (words : List (List ℕ)) (files : Files) (given old said : Option (Lis
       by_request (request.Settle check) is holds done = absurd (settle-check is)
       by_request (request.Audit audit) is holds done = absurd (audit-check is)
       by_request (request.AuditEverybody asked) is holds done = absurd (audit-check is)
+      by_request (request.AuditSubtrees asked) is holds done = absurd (audit-check is)
       by_request (request.AuditPairs pairs) is holds done = absurd (audit-check is)
       by_request (request.Explain explain) is holds done = absurd (explain-check is)
       by_request (request.ExplainPairs pairs) is holds done = absurd (explain-check is)
@@ -318,8 +381,21 @@ module _ (words : List (List ℕ)) (files : Files) (given old said : Option (Lis
       let of = named_as words (codes "audit") asks.0 asks.1 asks.2 leads.0 leads.1 in
       of_audit (λ (asked : Request). Holds asks.0 asked → CarriesOut asked files given old said (Ok 0)
       → (text : List ℕ) × WasRead files tree given text × AreContainedIn text (map of_ids users) subtrees)
-      by_audit by_everybody (λ pairs holds done. absurd (holds.some_pairs asks.3.3)) leads.0 of.0 of.1 carried
+      by_audit by_everybody by_lines (λ pairs holds done. absurd (holds.some_pairs asks.3.3)) leads.0 of.0 of.1 carried
     where
+      by_lines : (asked : Subtrees) → IsOfSubtrees asks.0 asked → CarriesOut (request.AuditSubtrees asked) files given old said (Ok 0)
+          → (text : List ℕ) × WasRead files tree given text × AreContainedIn text (map of_ids users) subtrees
+      by_lines asked holds done =
+          let means = lines_carried files given old said asked done in
+          let of_users : [] ≡ users = sym (none_given asks.0 users holds.no_user asks.3.1) in
+          let of_subtrees : [] ≡ subtrees = sym holds.no_subtree ∙ asks.3.2 in (
+            means.0,
+            subst (λ (tree : Option (List ℕ)). WasRead files tree given means.0) (holds.tree ∙ asks.3.0) means.3,
+            subst (λ (words : List (List ℕ)). AreContainedIn means.0 (map of_ids users) words) of_subtrees
+                (subst (λ (users : List (ℕ × List ℕ)). AreContainedIn means.0 (map of_ids users) []) of_users
+                (for_nobody means.0 (whom asked.everyone) [] (held_of_none means.0 (whom asked.everyone) means.2 means.6))),
+          )
+
       by_audit : (audit : Audit) → IsAudit asks.0 audit → CarriesOut (request.Audit audit) files given old said (Ok 0)
           → (text : List ℕ) × WasRead files tree given text × AreContainedIn text (map of_ids users) subtrees
       by_audit audit holds done =
@@ -347,25 +423,66 @@ module _ (words : List (List ℕ)) (files : Files) (given old said : Option (Lis
             subst (λ (words : List (List ℕ)). AreContainedIn means.0 (map of_ids users) words) of_subtrees
                 (subst (λ (users : List (ℕ × List ℕ)). AreContainedIn means.0 (map of_ids users)
                 (map (λ subtree. subtree.now) asked.subtrees.items)) of_users
-                (for_nobody means.0 (map (λ subtree. subtree.now) asked.subtrees.items) means.2)),
+                (for_nobody means.0 (whom asked.everyone) (map (λ subtree. subtree.now) asked.subtrees.items) means.2)),
           )
 
-  everybody_means : (tree : Option (List ℕ)) (subtrees : List (List ℕ)) → AsksEverybody words tree subtrees
-      → (text : List ℕ) × WasRead files tree given text × AreHeldAgainstEverybody text subtrees
-  everybody_means tree subtrees asks =
+  everybody_means : (tree : Option (List ℕ)) (who : Whom) (subtrees : List (List ℕ)) → AsksEverybody words tree who subtrees
+      → (text : List ℕ) × WasRead files tree given text × AreHeldAgainstEverybody text who subtrees
+  everybody_means tree who subtrees asks =
       let of = named_as words (codes "audit") asks.0 asks.1 asks.2 leads.0 leads.1 in
       of_audit (λ (asked : Request). Holds asks.0 asked → CarriesOut asked files given old said (Ok 0)
-      → (text : List ℕ) × WasRead files tree given text × AreHeldAgainstEverybody text subtrees)
-      (λ audit holds done. absurd (holds.not_everybody asks.3.2)) by_everybody
+      → (text : List ℕ) × WasRead files tree given text × AreHeldAgainstEverybody text who subtrees)
+      (λ audit holds done. absurd (holds.not_everybody asks.3.2)) by_everybody by_lines
       (λ pairs holds done. absurd (holds.not_everybody asks.3.2)) leads.0 of.0 of.1 carried
     where
+      by_lines : (asked : Subtrees) → IsOfSubtrees asks.0 asked → CarriesOut (request.AuditSubtrees asked) files given old said (Ok 0)
+          → (text : List ℕ) × WasRead files tree given text × AreHeldAgainstEverybody text who subtrees
+      by_lines asked holds done =
+          let means = lines_carried files given old said asked done in
+          let of_whom : whom asked.everyone ≡ who = same_whom asks.0 asked.everyone who holds.everyone asks.3.3 in (
+            means.0,
+            subst (λ (tree : Option (List ℕ)). WasRead files tree given means.0) (holds.tree ∙ asks.3.0) means.3,
+            subst (λ (it : Whom). AreHeldAgainstEverybody means.0 it subtrees) of_whom
+                (subst (λ (words : List (List ℕ)). AreHeldAgainstEverybody means.0 (whom asked.everyone) words)
+                (sym holds.no_subtree ∙ asks.3.1) (held_of_none means.0 (whom asked.everyone) means.2 means.6)),
+          )
+
       by_everybody : (asked : Everybody) → IsEverybody asks.0 asked → CarriesOut (request.AuditEverybody asked) files given old said (Ok 0)
-          → (text : List ℕ) × WasRead files tree given text × AreHeldAgainstEverybody text subtrees
+          → (text : List ℕ) × WasRead files tree given text × AreHeldAgainstEverybody text who subtrees
       by_everybody asked holds done =
-          let means = everybody_carried files given old said asked done in (
+          let means = everybody_carried files given old said asked done in
+          let of_whom : whom asked.everyone ≡ who = same_whom asks.0 asked.everyone who holds.everyone asks.3.3 in (
             means.0,
             subst (λ (tree : Option (List ℕ)). WasRead files tree given means.0) (holds.tree ∙ asks.3.0) means.1,
-            subst (λ (words : List (List ℕ)). AreHeldAgainstEverybody means.0 words) (sym holds.subtrees ∙ asks.3.1) means.2,
+            subst (λ (it : Whom). AreHeldAgainstEverybody means.0 it subtrees) of_whom
+                (subst (λ (words : List (List ℕ)). AreHeldAgainstEverybody means.0 (whom asked.everyone) words)
+                (sym holds.subtrees ∙ asks.3.1) means.2),
+          )
+
+  abbrev LinesMean : Option (List ℕ) → Option (List ℕ) → Whom → Type 0
+  LinesMean tree lines who =
+      (text named : List ℕ) × (subtrees : List (List ℕ)) × WasRead files tree given text × WasRead files lines given named
+      × AreLinesOf named subtrees × AreHeldAgainstEverybody text who subtrees
+
+  lines_means : (tree lines : Option (List ℕ)) (who : Whom) → AsksEverybodyOfLines words tree who lines → LinesMean tree lines who
+  lines_means tree lines who asks =
+      let of = named_as words (codes "audit") asks.0 asks.1 asks.2 leads.0 leads.1 in
+      of_audit (λ (asked : Request). Holds asks.0 asked → CarriesOut asked files given old said (Ok 0) → LinesMean tree lines who)
+      (λ audit holds done. absurd (holds.not_everybody asks.3.3)) (λ asked holds done. absurd (asks.3.2 holds.no_subtrees)) by_lines
+      (λ pairs holds done. absurd (holds.not_everybody asks.3.3)) leads.0 of.0 of.1 carried
+    where
+      by_lines : (asked : Subtrees) → IsOfSubtrees asks.0 asked → CarriesOut (request.AuditSubtrees asked) files given old said (Ok 0)
+          → LinesMean tree lines who
+      by_lines asked holds done =
+          let means = lines_carried files given old said asked done in (
+            means.0,
+            means.1,
+            means.2,
+            subst (λ (tree : Option (List ℕ)). WasRead files tree given means.0) (holds.tree ∙ asks.3.0) means.3,
+            subst (λ (lines : Option (List ℕ)). WasRead files lines given means.1) (holds.subtrees ∙ asks.3.1) means.4,
+            means.5,
+            subst (λ (it : Whom). AreHeldAgainstEverybody means.0 it means.2)
+                (same_whom asks.0 asked.everyone who holds.everyone asks.3.4) means.6,
           )
 
 -- ---- of a run
@@ -387,8 +504,11 @@ module _ (words : List (List ℕ)) (files : Files) (given old new : Option (List
       audit_means words files given old runs.0 (leads_to (answer_is answer is)) tree users subtrees asks
 
   pub run_audits_everybody : EverybodyMeans words files given (exit_status answer)
-  run_audits_everybody tree subtrees asks is =
-      everybody_means words files given old runs.0 (leads_to (answer_is answer is)) tree subtrees asks
+  run_audits_everybody = (
+    (λ tree who subtrees asks is.
+        everybody_means words files given old runs.0 (leads_to (answer_is answer is)) tree who subtrees asks),
+    (λ tree lines who asks is. lines_means words files given old runs.0 (leads_to (answer_is answer is)) tree lines who asks),
+  )
 
 -- ---- of the program
 
@@ -417,5 +537,9 @@ module _ {W : Type 0} (contents : W → Option (List ℕ)) (P : W → Type 0) (w
 
   pub program_audits_everybody : (out : Option W) → MatchOption out (answer ≡ Err (Cli NoMemory)) P
       → EverybodyMeans words files given status
-  program_audits_everybody out ran tree subtrees asks zero =
-      let found = zero_runs out ran zero in everybody_means words files given old found.0 found.1 tree subtrees asks
+  program_audits_everybody out ran = (
+    (λ tree who subtrees asks zero.
+        let found = zero_runs out ran zero in everybody_means words files given old found.0 found.1 tree who subtrees asks),
+    (λ tree lines who asks zero.
+        let found = zero_runs out ran zero in lines_means words files given old found.0 found.1 tree lines who asks),
+  )

@@ -53,6 +53,7 @@ IsNotedFor (request.Check check) files given beside = IsOfUsers (source files (n
 IsNotedFor (request.Settle check) files given beside = IsOfUsers (source files (name_of check.tree) given) (ids_of check.user ∷ []) beside
 IsNotedFor (request.Audit audit) files given beside = IsOfUsers (source files (name_of audit.tree) given) (map ids_of audit.users.items) beside
 IsNotedFor (request.AuditEverybody asked) files given beside = IsPlain (source files (name_of asked.tree) given) beside
+IsNotedFor (request.AuditSubtrees asked) files given beside = IsPlain (source files (tree_file asked.sources) given) beside
 IsNotedFor (request.Explain explain) files given beside = IsOfUsers (source files (name_of explain.tree) given) (map ids_of explain.users.items) beside
 IsNotedFor (request.Advise advise) files given beside = IsOfUsers (source files (name_of advise.tree) given) (map ids_of advise.users.items) beside
 IsNotedFor (request.AdvisePairs asked) files given beside = IsPlain (source files (tree_file asked.sources) given) beside

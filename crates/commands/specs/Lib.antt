@@ -1,7 +1,9 @@
 pub mod Beside
 pub mod Faults
+pub mod Lines
 pub mod PairLines
 pub mod Requests
 pub mod Runs
+pub mod SubtreeLines
 pub mod Waiting
 pub mod Yes

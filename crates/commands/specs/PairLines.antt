@@ -1,17 +1,16 @@
 -- The pairs of a user and a subtree that the lines of a text name, where the lines are those that `audit` with `--all` writes. Own.
-use Rattle.std.specs.Prelude.{◌≡◌, ◌⊎◌, ℕ, ◌+◌, Bool, true, false, ◌&&◌, ◌||◌, nat_lt, nat_le, cond, List, [], ◌∷◌, ◌++◌, length, take, drop, codes, is_some, Option, Some, None, option_and_then, Result, Ok, Err}
-use Rattle.std.specs.List.{slice_split}
+use Rattle.std.specs.Prelude.{◌≡◌, ◌⊎◌, ℕ, ◌+◌, Bool, true, false, ◌&&◌, ◌||◌, nat_le, cond, List, [], ◌∷◌, length, take, drop, codes, is_some, Option, None, option_and_then, Result, Ok, Err}
 use Rattle.std.specs.Option.{option_map}
 use Rattle.std.specs.Str.{is_utf8}
 use Rattle.cg_cgroup.specs.Paths.{path_at, same_name}
 use Rattle.cg_cgroup.specs.declared.files.Vocabulary.TheVariants.{Format4}
 use Rattle.cg_lines.specs.LineReading.{operation_at}
-use Rattle.cg_lines.specs.declared.lines.fault.LineFault.TheVariants.{TooLong, BadWord, Cut}
+use Rattle.cg_lines.specs.declared.lines.fault.LineFault.TheVariants.{BadWord}
 use Rattle.arguments.specs.UserWords.{pair_at}
 use Rattle.cg_cli.specs.AllPairs.{read_then}
-use Rattle.cg_cli.specs.Replays.{is_newline}
 use Rattle.cg_faults.specs.declared.fault.CliFault.{CliFault}
 use Rattle.cg_faults.specs.declared.fault.CliFault.TheVariants.{Line, NoPair}
+use Rattle.commands.specs.Lines.{LineReading, one_read, lines_read}
 
 -- a uid and gids, and the path of a subtree
 abbrev pub GivenPair : Type 0
@@ -37,49 +36,15 @@ is_answer_line line =
 abbrev pub is_operation_line : List ℕ → Bool
 is_operation_line line = nat_le (length line) 8192 && is_some (operation_at Format4 line)
 
--- Lines have numbers from 1. `done` is how many stand before.
-
--- what the words of a line say behind its first
-abbrev pub one_read : ℕ → Option GivenPair → Result (List GivenPair) CliFault
-one_read done None = Err (Line (done + 1) BadWord)
-one_read done (Some pair) = Ok (pair ∷ [])
-
 -- a line that names no pair
 abbrev pub other_read : ℕ → Bool → Result (List GivenPair) CliFault
 other_read done true = Ok []
 other_read done false = Err (Line (done + 1) BadWord)
 
 -- the pair of a line; none where it is another that `audit` writes
-abbrev pub line_read : ℕ → List ℕ → Result (List GivenPair) CliFault
+abbrev pub line_read : LineReading GivenPair
 line_read done line =
     cond (is_pair_line line) (one_read done (words_read (drop 5 line))) (other_read done (is_answer_line line || is_operation_line line))
-
--- The end: nothing stands behind the last newline, or a line that was cut, or is more than is looked at.
-abbrev pub text_end_read : Bool → ℕ → List ℕ → Result (List GivenPair) CliFault
-text_end_read true done rest = Err (Line (done + 1) TooLong)
-text_end_read false done [] = Ok []
-text_end_read false done (b ∷ bs) = Err (Line (done + 1) Cut)
-
--- pairs before those of others
-abbrev pub followed_by : Result (List GivenPair) CliFault → Result (List GivenPair) CliFault → Result (List GivenPair) CliFault
-followed_by front back = read_then front (λ pairs. read_then back (λ others. Ok (pairs ++ others)))
-
--- All pieces but the last are lines. The first fault ends them.
-abbrev pub pieces_read : Bool → ℕ → List (List ℕ) → Result (List GivenPair) CliFault
-pieces_read long done [] = Ok []
-pieces_read long done (piece ∷ pieces) =
-    elim pieces [
-      | [] ↦ text_end_read long done piece
-      | next ∷ others ↦ followed_by (line_read done piece) (pieces_read long (done + 1) pieces)
-    ]
-
--- the largest number of bytes of a text of pairs
-abbrev pub longest_pairs : ℕ
-longest_pairs = 16777216
-
--- the lines of a text, of which nothing is looked at behind that number of bytes
-abbrev pub lines_read : List ℕ → Result (List GivenPair) CliFault
-lines_read text = pieces_read (nat_lt longest_pairs (length text)) 0 (slice_split is_newline (take longest_pairs text))
 
 -- what `audit` writes where it has no pair to list
 abbrev pub nothing_listed : List ℕ
@@ -92,7 +57,7 @@ asked_of text (pair ∷ pairs) = Ok (pair ∷ pairs)
 
 -- The pairs of a text, in the order of its lines.
 abbrev pub pairs_read : List ℕ → Result (List GivenPair) CliFault
-pairs_read text = read_then (lines_read text) (asked_of text)
+pairs_read text = read_then (lines_read line_read text) (asked_of text)
 
 -- A text that was answered names a pair, or is what `audit` writes where it has none to list.
 abbrev pub AsksSomething : List ℕ → Type 0

@@ -3,7 +3,7 @@ use Rattle.std.specs.Prelude.{◌≡◌, ◌⊎◌, ℕ, Bool, List, map, take, 
 use Rattle.std.specs.Option.{option_map}
 use Rattle.std.specs.Borrow.{Bor}
 use Rattle.std.specs.Io.KnownBytes.{Keeps}
-use Rattle.arguments.specs.Given.{ids_of, tree_file, other_file}
+use Rattle.arguments.specs.Given.{ids_of, tree_file, other_file, listed_group}
 use Rattle.arguments.specs.declared.request.May.{May}
 use Rattle.arguments.specs.declared.request.Check.{Check}
 use Rattle.arguments.specs.declared.request.Audit.{Audit}
@@ -23,6 +23,8 @@ use Rattle.cg_cli.specs.AllPairs.{all_report, ReportsPairs}
 use Rattle.cg_cli.specs.Asking.{CallEnding}
 use Rattle.cg_cli.specs.EachPair.{audit_pairs_report, explain_pairs_asked}
 use Rattle.cg_cli.specs.Everybody.{everybody_report}
+use Rattle.machine_everybody.specs.Everybody.{Everybody as Whom}
+use Rattle.arguments.specs.declared.everyone.Everyone.{Everyone}
 use Rattle.cg_cli.specs.Explaining.{explain_asked, ReportsTold}
 use Rattle.cg_cli.specs.Advising.{advise_report, advise_pairs_report}
 use Rattle.cg_cli.specs.SettledAdvice.{advise_settled_report}
@@ -35,14 +37,15 @@ use Rattle.cg_cli.specs.Reports.{Report, Reports}
 use Rattle.cg_faults.specs.declared.fault.CliFault.{CliFault}
 use Rattle.cg_faults.specs.declared.fault.CliFault.TheVariants.{Read, NoMemory}
 use Rattle.commands.specs.PairLines.{GivenPair, pairs_read}
+use Rattle.commands.specs.SubtreeLines.{subtrees_read}
 use Rattle.cg_cgroup.specs.declared.files.Vocabulary.{Vocabulary}
 use Rattle.cg_format.specs.TreeTexts.{most_read}
 
 -- ---- what there is to read
 
--- one byte more than a text of pairs may have
-abbrev pub most_pairs : ℕ
-most_pairs = 16777217
+-- one byte more than a text of lines may have
+abbrev pub most_lines : ℕ
+most_lines = 16777217
 
 -- what the reader of a file has to give, by the file's name, where that is known
 abbrev pub Files : Type 0
@@ -60,9 +63,9 @@ name_of file = option_map (λ name. name.now) file
 abbrev pub IsTree : Option (List ℕ) → List ℕ → Type 0
 IsTree known tree = IfSome known (λ bytes. tree ≡ take (most_read bytes) bytes)
 
--- The text of pairs, likewise.
-abbrev pub ArePairs : Option (List ℕ) → List ℕ → Type 0
-ArePairs known text = IfSome known (λ bytes. text ≡ take most_pairs bytes)
+-- The text of lines beside it, likewise.
+abbrev pub IsOtherText : Option (List ℕ) → List ℕ → Type 0
+IsOtherText known text = IfSome known (λ bytes. text ≡ take most_lines bytes)
 
 -- ---- the report of a request's own words on what the text of a tree is read as
 
@@ -72,8 +75,12 @@ may_said may tree = may_report tree may.user.uid may.user.gids.items may.pid may
 abbrev pub check_said : Check → Reading → Report
 check_said check tree = check_report tree check.user.uid check.user.gids.items check.subtree.now
 
+-- whom `--everybody` is about
+abbrev pub whom : Everyone → Whom
+whom everyone = record { but = everyone.but.items; groups = map listed_group everyone.groups.items }
+
 abbrev pub everybody_asked : Everybody → Reading → Report
-everybody_asked asked tree = everybody_report tree (map (λ subtree. subtree.now) asked.subtrees.items)
+everybody_asked asked tree = everybody_report (whom asked.everyone) tree (map (λ subtree. subtree.now) asked.subtrees.items)
 
 -- what check says, or where that is unsettled what the second row of guards and the planner know
 abbrev pub SettlesAs : Check → Option (List ℕ) → Option (List ℕ) → Result ℕ CliFault → Reading → Type 0
@@ -88,7 +95,7 @@ AdviseSays advise old new result tree =
     MatchBool advise.settle (Reports (advise_settled_report tree users subtrees) old new result)
     (Reports (advise_report tree users subtrees) old new result)
 
--- ---- what is answered of pairs, on what the text of a tree is read as
+-- ---- what is answered of what the lines of a text name, on what the text of a tree is read as
 
 abbrev pub AdvisesOn : List GivenPair → Reading → CallEnding
 AdvisesOn pairs tree = Reports (advise_pairs_report tree pairs)
@@ -99,9 +106,12 @@ AuditsOn pairs tree = ReportsPairs (audit_pairs_report tree pairs)
 abbrev pub ExplainsOn : List GivenPair → Reading → CallEnding
 ExplainsOn pairs tree = ReportsTold (explain_pairs_asked tree pairs)
 
--- the first fault of the lines of a text, by when nothing is written, or what is answered of the pairs that they name
-abbrev pub OnLines : (List GivenPair → Reading → CallEnding) → Result (List GivenPair) CliFault → Reading → CallEnding
-OnLines Says (Ok pairs) tree old new result = Says pairs tree old new result
+abbrev pub EverybodyOn : Whom → List (List ℕ) → Reading → CallEnding
+EverybodyOn asked subtrees tree = Reports (everybody_report asked tree subtrees)
+
+-- the first fault of the lines of a text, by when nothing is written, or what is answered of what they name
+abbrev pub OnLines : {A : Type 0} → (List A → Reading → CallEnding) → Result (List A) CliFault → Reading → CallEnding
+OnLines Says (Ok named) tree old new result = Says named tree old new result
 OnLines Says (Err fault) tree old new result = (result ≡ Err fault) × Keeps old new
 
 -- each pair that isn't contained, or the first alone
@@ -152,15 +162,19 @@ ReportsOnTree known said old new result = OnTree known (λ tree. Reports (said t
 abbrev pub SettlesOnTree : Option (List ℕ) → Check → Option (List ℕ) → Option (List ℕ) → Result ℕ CliFault → Type 0
 SettlesOnTree known check old new result = OnTree known (SettlesAs check old new result) old new result
 
--- What is answered of the pairs of a text on the text of a tree.
-abbrev pub AnswersPairs : (List GivenPair → Reading → CallEnding) → List ℕ → List ℕ → CallEnding
-AnswersPairs Says tree text old new result = OnText tree (λ read. OnLines Says (pairs_read text) read old new result) ⊎ IsUnread old new result
+-- What is answered of what the lines of a text name, by how they are read, on the text of a tree.
+abbrev pub AnswersLines : {A : Type 0} → (List ℕ → Result (List A) CliFault) → (List A → Reading → CallEnding) → List ℕ → List ℕ → CallEnding
+AnswersLines lines Says tree text old new result = OnText tree (λ read. OnLines Says (lines text) read old new result) ⊎ IsUnread old new result
 
 -- The same, of what both are read as.
-abbrev pub OnPairsText : (List GivenPair → Reading → CallEnding) → Option (List ℕ) → Option (List ℕ) → CallEnding
-OnPairsText Says known pairs old new result =
-    ((tree : List ℕ) × (text : List ℕ) × IsTree known tree × ArePairs pairs text × AnswersPairs Says tree text old new result)
+abbrev pub OnBothTexts : {A : Type 0} → (List ℕ → Result (List A) CliFault) → (List A → Reading → CallEnding) → Option (List ℕ) → Option (List ℕ) → CallEnding
+OnBothTexts lines Says known other old new result =
+    ((tree : List ℕ) × (text : List ℕ) × IsTree known tree × IsOtherText other text × AnswersLines lines Says tree text old new result)
     ⊎ IsUnread old new result
+
+-- of pairs
+abbrev pub OnPairsText : (List GivenPair → Reading → CallEnding) → Option (List ℕ) → Option (List ℕ) → CallEnding
+OnPairsText Says known pairs = OnBothTexts pairs_read Says known pairs
 
 -- The report of operations over what a reader had to give, of which some may be left.
 abbrev pub ReplaysOver : Option (List ℕ) → Reporting → Option (List ℕ) → Option (List ℕ) → Result ℕ CliFault → Type 0
@@ -183,6 +197,9 @@ CarriesOut (request.Audit audit) files given old new result =
     OnTree (source files (name_of audit.tree) given) (AuditSays audit old new result) old new result
 CarriesOut (request.AuditEverybody asked) files given old new result =
     ReportsOnTree (source files (name_of asked.tree) given) (everybody_asked asked) old new result
+CarriesOut (request.AuditSubtrees asked) files given old new result =
+    OnBothTexts subtrees_read (EverybodyOn (whom asked.everyone)) (source files (tree_file asked.sources) given)
+    (source files (other_file asked.sources) given) old new result
 CarriesOut (request.Explain explain) files given old new result =
     OnTree (source files (name_of explain.tree) given) (ExplainSays explain old new result) old new result
 CarriesOut (request.Advise advise) files given old new result =

@@ -6,6 +6,7 @@ ghost use Rattle.commands.specs.Requests.{CarriesOut};
 
 use crate::both::replay;
 use crate::on_pairs::{Advising, Auditing, Explaining, on_pairs};
+use crate::on_subtrees::on_subtrees;
 use crate::on_tree::{Settling, on_tree};
 use arguments::request::Request;
 use cg_faults::fault::CliFault;
@@ -19,7 +20,7 @@ use streams::write::write_whole;
 /// What help is made of.
 #[derive(Drop)]
 pub struct Noted {
-    /// The line of operations or pairs that ended a command, as far as it was read and kept.
+    /// The line of operations, pairs or subtrees that ended a command, as far as it was read and kept.
     pub line: Option<Vec<u8>>,
     pub beside: Beside,
 }
@@ -50,6 +51,7 @@ pub(crate) fn carried_out<F: Files, I: Read + Drop, W: Write>(
         Request::Settle(asked) => { on_tree(alloc, &Settling { asked }, files, input, beside, out) }
         Request::Audit(asked) => on_tree(alloc, asked, files, input, beside, out),
         Request::AuditEverybody(asked) => on_tree(alloc, asked, files, input, beside, out),
+        Request::AuditSubtrees(asked) => on_subtrees(alloc, asked, files, input, noted, out),
         Request::Explain(asked) => on_tree(alloc, asked, files, input, beside, out),
         Request::Advise(asked) => on_tree(alloc, asked, files, input, beside, out),
         Request::Upgrade(asked) => on_tree(alloc, asked, files, input, beside, out),

@@ -4,11 +4,14 @@
 mod both;
 mod carried;
 pub mod fault;
+mod lines;
 mod on_pairs;
+mod on_subtrees;
 mod on_tree;
-pub mod pairs;
+mod pairs;
 pub mod program;
 pub mod run;
+mod subtrees;
 mod texts;
 mod users;
 pub mod waiting;

@@ -5,12 +5,13 @@ ghost use Rattle.cg_cli.specs.Pairs.{pair_given};
 ghost use Rattle.cg_faults.specs.declared.fault.CliFault.{CliFault};
 ghost use Rattle.arguments.specs.Given.{tree_file, other_file};
 ghost use Rattle.commands.specs.Beside.{IsPlain};
-ghost use Rattle.commands.specs.PairLines.{GivenPair};
-ghost use Rattle.commands.specs.Requests.{source, AdvisesOn, AuditsOn, ExplainsOn, AnswersPairs, OnPairsText};
+ghost use Rattle.commands.specs.PairLines.{GivenPair, pairs_read};
+ghost use Rattle.commands.specs.Requests.{source, AdvisesOn, AuditsOn, ExplainsOn, AnswersLines, OnPairsText};
 
 use crate::both::plain;
 use crate::carried::Noted;
-use crate::pairs::{line_at, read_pairs};
+use crate::lines::line_at;
+use crate::pairs::read_pairs;
 use crate::texts::both_texts;
 use crate::users::pair_ids;
 use arguments::request::Sources;
@@ -75,7 +76,7 @@ fn answered<C: OnPairs, W: Write>(
     line: &mut Option<Vec<u8>>,
     out: &mut W,
 ) -> Result<u8, CliFault>
-    ensures { AnswersPairs (C.answers asked.now) tree.now text.now (W.contents out.old) (W.contents out.new) result }
+    ensures { AnswersLines pairs_read (C.answers asked.now) tree.now text.now (W.contents out.old) (W.contents out.new) result }
 {
     match read_pairs(alloc, text) {
         Err(fault) => {

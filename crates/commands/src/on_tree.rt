@@ -12,6 +12,7 @@ ghost use Rattle.commands.specs.Beside.{IsNoted};
 ghost use Rattle.commands.specs.Requests.{source, name_of, may_said, check_said, everybody_asked, SettlesAs, AdviseSays, AuditSays, ExplainSays, IsUnread, OnTreeText};
 
 use crate::both::plain;
+use crate::on_subtrees::against_everybody;
 use crate::texts::tree_text;
 use crate::users::{all_ids, ids};
 use arguments::request::{Advise, Audit, Check, Everybody, Explain, May, Upgrade};
@@ -21,7 +22,6 @@ use cg_cli::audit::audit_bytes;
 use cg_cli::audit_all::audit_all_bytes;
 use cg_cli::audit_settle::{audit_all_settled_bytes, audit_settled_bytes};
 use cg_cli::check::check_bytes;
-use cg_cli::everybody::everybody_bytes;
 use cg_cli::explain::explain_bytes;
 use cg_cli::may::may_bytes;
 use cg_cli::settle::settle_bytes;
@@ -220,7 +220,7 @@ impl OnTree for Everybody<'_> {
         _: &mut Beside,
         out: &mut W,
     ) -> Result<u8, CliFault> {
-        everybody_bytes(alloc, tree, self.subtrees.as_slice(), out)
+        against_everybody(alloc, tree, &self.everyone, self.subtrees.as_slice(), out)
     }
 }
 

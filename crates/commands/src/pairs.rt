@@ -1,25 +1,23 @@
 //! The pairs of a user and a subtree that the lines of a text name.
-ghost use Rattle.std.specs.Prelude.{◌≡◌, ◌≢◌, ◌+◌, ◌<◌, ◌++◌, ◌∷◌, ◌||◌, List, [], map, length, Some, None, Ok, Err, IfOk, IfErr, IfSome, OnOk, MatchOption, MatchResult};
+ghost use Rattle.std.specs.Prelude.{◌≡◌, ◌≢◌, ◌+◌, ◌<◌, ◌++◌, ◌||◌, List, [], map, length, Some, None, Ok, Err, IfOk, IfErr, OnOk, MatchResult};
 ghost use Rattle.std.specs.List.{slice_split};
 ghost use Rattle.arguments.specs.Given.{ids_of_pair};
 ghost use Rattle.cg_cli.specs.Replays.{is_newline};
 ghost use Rattle.cg_faults.specs.declared.fault.CliFault.TheVariants.{Line};
 ghost use Rattle.cg_lines.specs.declared.lines.fault.LineFault.TheVariants.{BadWord};
-ghost use Rattle.commands.specs.PairLines.{GivenPair, words_read, is_answer_line, is_operation_line, other_read, line_read, text_end_read, pieces_read, lines_read, nothing_listed, pairs_read};
+ghost use Rattle.commands.specs.Lines.{pieces_read, lines_read};
+ghost use Rattle.commands.specs.PairLines.{GivenPair, words_read, is_answer_line, is_operation_line, other_read, line_read, nothing_listed, pairs_read};
 
+use crate::lines::{LONGEST_LINES, cut_at_newline, test_end};
 use arguments::fault::ArgumentsFault;
 use arguments::named_pair::NamedPair;
 use cg_cgroup::files::Vocabulary;
 use cg_cgroup::memory::NoMemory;
 use cg_cgroup::path::{Path, PathFault};
-use cg_cli::replay::line_end;
 use cg_faults::fault::CliFault;
 use cg_lines::lines::{LineFault, read_op_in};
 use std::alloc::Global;
 use std::str;
-
-/// How many bytes of a text are looked at, as many as a tree's text may have.
-const LONGEST_PAIRS: usize = 16_777_216;
 
 /// What `audit` writes where it has no pair to list.
 const NOTHING_LISTED: &[u8] = b"contained\n";
@@ -63,12 +61,12 @@ fn test_asked(text: &[u8], pairs: &[NamedPair<'_>]) -> Result<(), CliFault>
 /// The pairs of the lines of a text, which may be none.
 fn lines_of<'a>(alloc: Global, text: &'a [u8]) -> Result<Vec<NamedPair<'a>>, CliFault>
     ensures pairs { MatchResult result
-        (λ pairs. lines_read text.now ≡ Ok (map ids_of_pair pairs.items))
-        (λ fault. fault ≢ CliFault.NoMemory → lines_read text.now ≡ Err fault) }
+        (λ pairs. lines_read line_read text.now ≡ Ok (map ids_of_pair pairs.items))
+        (λ fault. fault ≢ CliFault.NoMemory → lines_read line_read text.now ≡ Err fault) }
     ensures read { IfErr result (λ fault. fault ≢ CliFault.Write) }
 {
-    if text.len() > LONGEST_PAIRS {
-        pairs_of(alloc, &text[..LONGEST_PAIRS], true)
+    if text.len() > LONGEST_LINES {
+        pairs_of(alloc, &text[..LONGEST_LINES], true)
     } else {
         pairs_of(alloc, text, false)
     }
@@ -80,10 +78,10 @@ fn pairs_of<'a>(
     front: &'a [u8],
     is_long: bool,
 ) -> Result<Vec<NamedPair<'a>>, CliFault>
-    requires { length front.now < LONGEST_PAIRS + 1 }
+    requires { length front.now < LONGEST_LINES + 1 }
     ensures pairs { MatchResult result
-        (λ pairs. pieces_read is_long 0 (slice_split is_newline front.now) ≡ Ok (map ids_of_pair pairs.items))
-        (λ fault. fault ≢ CliFault.NoMemory → pieces_read is_long 0 (slice_split is_newline front.now) ≡ Err fault) }
+        (λ pairs. pieces_read line_read is_long 0 (slice_split is_newline front.now) ≡ Ok (map ids_of_pair pairs.items))
+        (λ fault. fault ≢ CliFault.NoMemory → pieces_read line_read is_long 0 (slice_split is_newline front.now) ≡ Err fault) }
     ensures read { IfErr result (λ fault. fault ≢ CliFault.Write) }
 {
     let mut pairs = Vec::new(alloc);
@@ -105,7 +103,7 @@ fn push_line<'a>(
     done: u32,
     line: &'a [u8],
 ) -> Result<(), CliFault>
-    requires { done < LONGEST_PAIRS + 1 }
+    requires { done < LONGEST_LINES + 1 }
     ensures pairs { OnOk result ((more : List GivenPair) × (line_read done line.now ≡ Ok more)
         × (map ids_of_pair pairs.new.items ≡ map ids_of_pair pairs.old.items ++ more)) }
     ensures fault { IfErr result (λ fault. fault ≢ CliFault.NoMemory → line_read done line.now ≡ Err fault) }
@@ -120,7 +118,7 @@ fn push_line<'a>(
 
 /// Whether a line that names no pair is one of `audit`.
 fn test_other(alloc: Global, done: u32, line: &[u8]) -> Result<(), CliFault>
-    requires { done < LONGEST_PAIRS + 1 }
+    requires { done < LONGEST_LINES + 1 }
     ensures other { MatchResult result
         (λ _. other_read done (is_answer_line line.now || is_operation_line line.now) ≡ Ok [])
         (λ fault. fault ≢ CliFault.NoMemory → other_read done (is_answer_line line.now || is_operation_line line.now) ≡ Err fault) }
@@ -193,48 +191,4 @@ fn pair_of<'a>(alloc: Global, words: &'a [u8]) -> Result<NamedPair<'a>, Argument
         Err(PathFault::BadPath) => Err(ArgumentsFault::Usage),
         Err(PathFault::NoMemory) => Err(ArgumentsFault::NoMemory),
     }
-}
-
-/// Whether a text ends behind its last newline.
-fn test_end(is_long: bool, done: u32, rest: &[u8]) -> Result<(), CliFault>
-    requires { done < LONGEST_PAIRS + 1 }
-    ensures end { MatchResult result
-        (λ _. text_end_read is_long done rest.now ≡ Ok [])
-        (λ fault. text_end_read is_long done rest.now ≡ Err fault) }
-    ensures read { IfErr result (λ fault. fault ≢ CliFault.Write) }
-{
-    let fault = if is_long {
-        LineFault::TooLong
-    } else if rest.is_empty() {
-        return Ok(());
-    } else {
-        LineFault::Cut
-    };
-    Err(CliFault::Line {
-        number: done + 1,
-        fault,
-    })
-}
-
-/// What is before the first newline, and what is behind it.
-pub fn cut_at_newline(bytes: &[u8]) -> Option<(&[u8], &[u8])>
-    ensures pieces { MatchOption result (slice_split is_newline bytes.now ≡ bytes.now ∷ [])
-        (λ parts. slice_split is_newline bytes.now ≡ parts.0.now ∷ slice_split is_newline parts.1.now) }
-    ensures less { IfSome result (λ parts. length parts.1.now < length bytes.now) }
-{
-    let end = line_end(bytes);
-    if end == bytes.len() {
-        return None;
-    }
-    Some((&bytes[..end], &bytes[end + 1..]))
-}
-
-/// The line of a text that a fault names.
-pub(crate) fn line_at(alloc: Global, text: &[u8], fault: &CliFault) -> Option<Vec<u8>> {
-    let CliFault::Line { number, .. } = fault else {
-        return None;
-    };
-    let place = usize::try_from(*number).ok()?.checked_sub(1)?;
-    let line = text.split(|byte| *byte == b'\n').nth(place)?;
-    Vec::from_slice(alloc, line).ok()
 }

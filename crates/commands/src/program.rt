@@ -56,7 +56,8 @@ pub struct Ended<W, E> {
 /// at the words, the files and the input.
 ///
 /// Where the words ask `check` or `audit`, status 0 says that the text that was read tells of a machine in which what they name is
-/// contained against whom they name, or where they ask `audit --everybody` against everybody but root, whoever there is.
+/// contained against whom they name, or where they ask `audit --everybody` against everybody but root, whoever there
+/// is, and with `--subtrees` each path that is a line of the text that it names.
 pub fn run_program<F: Files, I: Read + Drop, W: Write + Drop, E: Write + Drop>(
     alloc: Global,
     version: &str,

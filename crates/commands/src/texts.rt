@@ -1,7 +1,7 @@
 //! The text of a tree, and one beside it, from a file where one is named, and else from standard input.
 ghost use Rattle.std.specs.Prelude.{◌≡◌, ◌⊎◌, IfOk, IfErr};
 ghost use Rattle.arguments.specs.Given.{tree_file, other_file};
-ghost use Rattle.commands.specs.Requests.{source, name_of, IsTree, ArePairs};
+ghost use Rattle.commands.specs.Requests.{source, name_of, IsTree, IsOtherText};
 
 use arguments::request::Sources;
 use cg_faults::fault::CliFault;
@@ -26,7 +26,7 @@ pub(crate) fn both_texts<F: Files, I: Read + Drop>(
     input: I,
 ) -> Result<Texts, CliFault>
     ensures tree { IfOk result (λ texts. IsTree (source (F.given files.now) (tree_file sources.entry) (I.remaining input)) texts.tree.items) }
-    ensures other { IfOk result (λ texts. ArePairs (source (F.given files.now) (other_file sources.entry) (I.remaining input)) texts.other.items) }
+    ensures other { IfOk result (λ texts. IsOtherText (source (F.given files.now) (other_file sources.entry) (I.remaining input)) texts.other.items) }
     ensures fault { IfErr result (λ fault. (fault ≡ CliFault.Read) ⊎ (fault ≡ CliFault.NoMemory)) }
 {
     match sources {

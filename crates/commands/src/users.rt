@@ -1,12 +1,15 @@
 //! Users and pairs as the command line names them, handed to a call.
 ghost use Rattle.std.specs.Prelude.{◌≡◌, map, IfOk, IfErr};
 ghost use Rattle.cg_cli.specs.Pairs.{pair_given};
-ghost use Rattle.arguments.specs.Given.{ids_of, ids_of_pair};
+ghost use Rattle.cg_everybody.specs.Everybody.{members_of};
+ghost use Rattle.arguments.specs.Given.{ids_of, ids_of_pair, listed_group};
 
+use arguments::everyone::ListedGroup;
 use arguments::named_pair::NamedPair;
 use arguments::named_user::NamedUser;
 use cg_cli::arguments::UserIds;
 use cg_cli::pairs::PairIds;
+use cg_everybody::asked::Members;
 use cg_faults::fault::CliFault;
 use std::alloc::Global;
 
@@ -32,6 +35,24 @@ pub(crate) fn all_ids<'a>(
     let mut all = Vec::new(alloc);
     for user in users {
         all.push(ids(user))?;
+    }
+    Ok(all)
+}
+
+/// The groups of which it is told who is a member, as a call takes them.
+pub(crate) fn all_members<'a>(
+    alloc: Global,
+    groups: &'a [ListedGroup],
+) -> Result<Vec<Members<'a>>, CliFault>
+    ensures members { IfOk result (λ all. map members_of all.items ≡ map listed_group groups.now) }
+    ensures fault { IfErr result (λ fault. fault ≡ CliFault.NoMemory) }
+{
+    let mut all = Vec::new(alloc);
+    for group in groups {
+        all.push(Members {
+            gid: group.gid,
+            uids: group.uids.as_slice(),
+        })?;
     }
     Ok(all)
 }

@@ -23,7 +23,7 @@ use Rattle.cg_cli.specs.Reports.{report_on}
 use Rattle.cg_cli.proofs.AuditOnce.{all_once}
 use Rattle.cg_escapes.proofs.EscapeReplays.{report_ok, found_is, unfaulted}
 use Rattle.machine.specs.Machines.{IsPresent}
-use Rattle.machine_everybody.specs.Everybody.{IsGuardedAgainstEverybody}
+use Rattle.machine_everybody.specs.Everybody.{Everybody, IsGuardedAgainstEverybody}
 use Rattle.machine_everybody.proofs.Guarding.{held, again, guarded_by_all}
 use Rattle.machine_view.specs.Views.{view}
 use Rattle.machine_view.proofs.Seen.{guarded, has-row, present}
@@ -34,53 +34,55 @@ use Rattle.machine_answers.proofs.AuditedLaws.{one_by_one, paths_held}
 use Rattle.machine_answers.proofs.GuardedLaws.{state_read}
 
 -- a subtree that is there, and the guards of which hold
-abbrev IsClear : State → Names → Type 0
-IsClear st subtree = IsSubtree st subtree × GuardsHoldForEverybody st subtree
+abbrev IsClear : State → Everybody → Names → Type 0
+IsClear st asked subtree = IsSubtree st subtree × GuardsHoldForEverybody st asked subtree
 
-nothing_found : (lines : List ℕ) → (found_report lines).ending ≡ Ok 0 → lines ≡ []
-nothing_found [] is = λ i. []
-nothing_found (byte ∷ bytes) is = let never : ⊥ = cc in absurd never
+nothing_found : (asked : Everybody) (lines : List ℕ) → (found_report asked lines).ending ≡ Ok 0 → lines ≡ []
+nothing_found asked [] is = λ i. []
+nothing_found asked (byte ∷ bytes) is = let never : ⊥ = cc in absurd never
 
-all_clear : (st : State) (subtrees : List Names) → first (flat_map (subtree_faults st) subtrees) ≡ None
-    → AllByRecursion (GuardsHoldForEverybody st) subtrees → AllByRecursion (IsClear st) subtrees
-all_clear st [] none each = tt
-all_clear st (subtree ∷ subtrees) none each =
+all_clear : (st : State) (asked : Everybody) (subtrees : List Names) → first (flat_map (subtree_faults st) subtrees) ≡ None
+    → AllByRecursion (GuardsHoldForEverybody st asked) subtrees → AllByRecursion (IsClear st asked) subtrees
+all_clear st asked [] none each = tt
+all_clear st asked (subtree ∷ subtrees) none each =
     let parts = no_parts (subtree_faults st subtree) (flat_map (subtree_faults st) subtrees) (none_of_first _ none) in
-    ((no_fault st subtree (sym (ap first parts.0)), each.0), all_clear st subtrees (ap first parts.1) each.1)
+    ((no_fault st subtree (sym (ap first parts.0)), each.0), all_clear st asked subtrees (ap first parts.1) each.1)
 
-held_in : (text : List ℕ) (st : State) (of : IsTextOf st text) (word : List ℕ) (subtree : Names) → path_at word ≡ Some subtree
-    → IsClear st subtree → IsHeldAgainstEverybody (view st) word
-held_in text st of word subtree path clear =
+held_in : (text : List ℕ) (st : State) (of : IsTextOf st text) (asked : Everybody) (word : List ℕ) (subtree : Names) → path_at word ≡
+    Some subtree
+    → IsClear st asked subtree → IsHeldAgainstEverybody (view st) asked word
+held_in text st of asked word subtree path clear =
     let there : IsPresent (view st) subtree = present st of.says.formed subtree clear.0.0 in
-    let shut : IsGuardedAgainstEverybody (view st) subtree =
-    guarded_by_all (view st) subtree (λ user real. guarded st user subtree (clear.1 user real)) in record {
+    let shut : IsGuardedAgainstEverybody (view st) asked subtree =
+    guarded_by_all (view st) asked subtree (λ user real. guarded st user subtree (clear.1 user real)) in record {
       subtree = subtree;
       named = names_as word subtree path;
       below = clear.0.1;
       there = has-row st subtree ∙ clear.0.0;
-      contained = λ users real. held (view st) users subtree there shut real;
-      again = λ users turns real all. again (view st) users subtree there shut real turns all;
+      contained = λ users real. held (view st) asked users subtree there shut real;
+      again = λ users turns real all. again (view st) asked users subtree there shut real turns all;
     }
 
-pub held_against_everybody : (text : List ℕ) (tree : Reading) (words : List (List ℕ)) → IsReading text tree
-    → (everybody_report tree words).ending ≡ Ok 0 → AreHeldAgainstEverybody text words
-held_against_everybody text tree words reading is =
+pub held_against_everybody : (text : List ℕ) (tree : Reading) (asked : Everybody) (words : List (List ℕ)) → IsReading text tree
+    → (everybody_report asked tree words).ending ≡ Ok 0 → AreHeldAgainstEverybody text asked words
+held_against_everybody text tree asked words reading is =
     let paths =
-    report_ok (paths_read words) (λ subtrees. report_on (tree_read tree) (λ st. everybody_said st (once same_path subtrees))) 0 is in
+    report_ok (paths_read words) (λ subtrees. report_on (tree_read tree) (λ st. everybody_said asked st (once same_path subtrees))) 0 is in
     let subtrees = once same_path paths.0 in
-    let state = report_ok (tree_read tree) (λ st. everybody_said st subtrees) 0 paths.2 in
+    let state = report_ok (tree_read tree) (λ st. everybody_said asked st subtrees) 0 paths.2 in
     let st = state.0 in
-    let one = report_ok (in_call (everybody_found st subtrees)) found_report 0 state.2 in
+    let one = report_ok (in_call (everybody_found st asked subtrees)) (found_report asked) 0 state.2 in
     let stated =
-    unfaulted (first (flat_map (subtree_faults st) subtrees)) (everybody_lines st subtrees) []
-    (found_is (everybody_found st subtrees) one.0 one.1 ∙ ap Ok (nothing_found one.0 one.2)) in
-    let clear = all_clear st subtrees stated.0 (each_holds st subtrees stated.1) in
+    unfaulted (first (flat_map (subtree_faults st) subtrees)) (everybody_lines st asked subtrees) []
+    (found_is (everybody_found st asked subtrees) one.0 one.1 ∙ ap Ok (nothing_found asked one.0 one.2)) in
+    let clear = all_clear st asked subtrees stated.0 (each_holds st asked subtrees stated.1) in
     let of : IsTextOf st text = subst (IsReading text) (state_read tree st state.1) reading in record {
       machine = view st;
       told = tells text st of;
       each = λ word among.
-          All-contains (IsHeldAgainstEverybody (view st)) words word
-          (All-from_recursion _ words (paths_held (IsClear st) (IsHeldAgainstEverybody (view st)) (held_in text st of) words paths.0
-          paths.1 (one_by_one (IsClear st) paths.0 (all_once same_path same_path-is (IsClear st) paths.0
-          (All-from_recursion (IsClear st) subtrees clear))))) among;
+          All-contains (IsHeldAgainstEverybody (view st) asked) words word
+          (All-from_recursion _ words (paths_held (IsClear st asked) (IsHeldAgainstEverybody (view st) asked) (held_in text st of asked)
+          words paths.0
+          paths.1 (one_by_one (IsClear st asked) paths.0 (all_once same_path same_path-is (IsClear st asked) paths.0
+          (All-from_recursion (IsClear st asked) subtrees clear))))) among;
     }

@@ -5,7 +5,7 @@ use Rattle.cg_cgroup.specs.Paths.{Names, is_root}
 use Rattle.cg_cgroup.specs.Identity.{Identity}
 use Rattle.machine.specs.Machines.{Machine, has, IsPresent, IsContainedAgainst}
 use Rattle.machine.specs.Several.{Turn, run_of_all, AreTurnsOf, IsContainedAgainstAll}
-use Rattle.machine_everybody.specs.Everybody.{IsNotRoot, IsGuardedAgainstEverybody}
+use Rattle.machine_everybody.specs.Everybody.{Everybody, IsAsked, IsGuardedAgainstEverybody}
 use Rattle.machine_text.specs.Telling.{path_names, TextTells}
 
 abbrev pub of_ids : ℕ × List ℕ → Identity
@@ -34,18 +34,18 @@ pub record AreContainedIn (text : List ℕ) (users : List Identity) (words : Lis
   pub told : TextTells text machine
   pub each : (word : List ℕ) → Contains words word → IsHeldIn machine users word
 
--- So is what each of some words names, against everybody but root, whoever there is: against all users of every list of whatever uids but 0
--- and whatever groups, together; and wherever their turns lead, what is guarded lets nobody in.
-pub record IsHeldAgainstEverybody (machine : Machine) (word : List ℕ) : Type 0 where
+-- So is what each of some words names, against everybody who is asked about: against all users of every list of these, together; and
+-- wherever their turns lead, what is guarded lets nobody of them in.
+pub record IsHeldAgainstEverybody (machine : Machine) (asked : Everybody) (word : List ℕ) : Type 0 where
   pub subtree : Names
   pub named : path_names word ≡ Some subtree
   pub below : is_root subtree ≡ false
   pub there : has machine subtree ≡ true
-  pub contained : (users : List Identity) → AllByRecursion IsNotRoot users → IsContainedAgainstAll machine users subtree
-  pub again : (users : List Identity) (turns : List Turn) → AllByRecursion IsNotRoot users → AreTurnsOf users turns
-      → IsPresent (run_of_all machine turns) subtree × IsGuardedAgainstEverybody (run_of_all machine turns) subtree
+  pub contained : (users : List Identity) → AllByRecursion (IsAsked asked) users → IsContainedAgainstAll machine users subtree
+  pub again : (users : List Identity) (turns : List Turn) → AllByRecursion (IsAsked asked) users → AreTurnsOf users turns
+      → IsPresent (run_of_all machine turns) subtree × IsGuardedAgainstEverybody (run_of_all machine turns) asked subtree
 
-pub record AreHeldAgainstEverybody (text : List ℕ) (words : List (List ℕ)) : Type 0 where
+pub record AreHeldAgainstEverybody (text : List ℕ) (asked : Everybody) (words : List (List ℕ)) : Type 0 where
   pub machine : Machine
   pub told : TextTells text machine
-  pub each : (word : List ℕ) → Contains words word → IsHeldAgainstEverybody machine word
+  pub each : (word : List ℕ) → Contains words word → IsHeldAgainstEverybody machine asked word

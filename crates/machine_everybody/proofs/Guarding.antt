@@ -10,8 +10,8 @@ use Rattle.cg_cgroup.specs.declared.user.Entry.{Entry}
 use Rattle.machine.specs.Machines.{File, Procs, Control, Dir, Limit, Inode, Machine, entry_is, Fits, IsPresent, IsClosed, IsGuarded}
 use Rattle.machine.specs.Several.{Turn, run_of_all, AreTurnsOf, IsContainedAgainstAll}
 use Rattle.machine.proofs.Runs.{contained-all, again-all}
-use Rattle.machine_everybody.specs.Everybody.{IsNotRoot, entry_class, lets_class_in, lets_anybody_in, NoneGuarded, IsGuardedAgainstEverybody, IsInNoClass, AreInNoClass}
-use Rattle.machine_everybody.proofs.LetIn.{reached, nobody, shown}
+use Rattle.machine_everybody.specs.Everybody.{Everybody, IsAsked, entry_class, lets_class_in, lets_anybody_in, NoneGuarded, IsGuardedAgainstEverybody, IsInNoClass, AreInNoClass}
+use Rattle.machine_everybody.proofs.LetIn.{reached, nobody, shown, someone}
 
 -- ---- an entry
 
@@ -40,7 +40,7 @@ entry_fails_all {I = I} machine path file tests other further = by_inode (machin
 
 -- ---- what is guarded
 
-module _ (machine : Machine) (subtree : Names) where
+module _ (machine : Machine) (asked : Everybody) (subtree : Names) where
   pub closed_by : (one : Entry → Bool) (user : Identity) → ((entry : Entry) → one entry ≡ false → reaches user entry ≡ false)
       → NoneGuarded machine subtree one → IsClosed machine user subtree
   closed_by one user further none = record {
@@ -59,20 +59,22 @@ module _ (machine : Machine) (subtree : Names) where
     dir = entry_fails machine (parent subtree) Dir (reaches user) other further closed.dir;
   }
 
-  pub guarded_against : IsGuardedAgainstEverybody machine subtree → (user : Identity) → IsNotRoot user → IsGuarded machine user subtree
+  pub guarded_against : IsGuardedAgainstEverybody machine asked subtree → (user : Identity) → IsAsked asked user
+      → IsGuarded machine user subtree
   guarded_against guarded user real = record {
-    closed = closed_by lets_anybody_in user (λ entry none. nobody user entry real none) guarded.closed;
+    closed = closed_by (lets_anybody_in asked) user (λ entry none. nobody asked user entry real none) guarded.closed;
     fits = guarded.fits;
   }
 
-  -- the entries let nobody in where each user but root is kept out
-  kept_out : (path : Names) (file : File) → ((user : Identity) → IsNotRoot user → entry_is machine path file (reaches user) ≡ false)
-      → entry_is machine path file lets_anybody_in ≡ false
+  -- the entries let nobody in where each user who is asked about is kept out
+  kept_out : (path : Names) (file : File) → ((user : Identity) → IsAsked asked user → entry_is machine path file (reaches user) ≡ false)
+      → entry_is machine path file (lets_anybody_in asked) ≡ false
   kept_out path file all =
-      entry_fails_all machine path file (λ (it : (user : Identity) × IsNotRoot user) entry. reaches it.0 entry) lets_anybody_in
-      (λ entry none. shown entry (λ user real. none (user, real))) (λ it. all it.0 it.1)
+      entry_fails_all machine path file (λ (it : (user : Identity) × IsAsked asked user) entry. reaches it.0 entry)
+      (lets_anybody_in asked) (λ entry none. shown asked entry (λ user real. none (user, real))) (λ it. all it.0 it.1)
 
-  pub guarded_by_all : ((user : Identity) → IsNotRoot user → IsGuarded machine user subtree) → IsGuardedAgainstEverybody machine subtree
+  pub guarded_by_all : ((user : Identity) → IsAsked asked user → IsGuarded machine user subtree)
+      → IsGuardedAgainstEverybody machine asked subtree
   guarded_by_all all = record {
     closed = record {
       above = λ len less. kept_out (take len subtree) Procs (λ user real. (all user real).closed.above len less);
@@ -80,20 +82,23 @@ module _ (machine : Machine) (subtree : Names) where
       control = kept_out (parent subtree) Control (λ user real. (all user real).closed.control);
       dir = kept_out (parent subtree) Dir (λ user real. (all user real).closed.dir);
     };
-    fits = (all (record { uid = 1; gids = [] }) (λ is. cc)).fits;
+    fits = (all (someone asked).0 (someone asked).1).fits;
   }
 
-  pub exactly : IsGuardedAgainstEverybody machine subtree ↔ ((user : Identity) → IsNotRoot user → IsGuarded machine user subtree)
+  pub exactly : IsGuardedAgainstEverybody machine asked subtree
+      ↔ ((user : Identity) → IsAsked asked user → IsGuarded machine user subtree)
   exactly = (guarded_against, guarded_by_all)
 
-  pub listed : (user : Identity) → IsNotRoot user → Fits machine subtree → IsInNoClass machine subtree user ↔ IsGuarded machine user subtree
+  pub listed : (user : Identity) → IsAsked asked user → Fits machine subtree
+      → IsInNoClass machine asked subtree user ↔ IsGuarded machine user subtree
   listed user real fits = (
     λ none. record {
-      closed = closed_by (λ entry. lets_class_in entry (entry_class user entry)) user (λ entry is. reached user entry real ∙ is) none;
+      closed = closed_by (λ entry. lets_class_in asked entry (entry_class user entry)) user
+          (λ entry is. reached asked user entry real ∙ is) none;
       fits = fits;
     },
-    λ guarded. none_by user (λ entry. lets_class_in entry (entry_class user entry)) (λ entry is. sym (reached user entry real) ∙ is)
-        guarded.closed,
+    λ guarded. none_by user (λ entry. lets_class_in asked entry (entry_class user entry))
+        (λ entry is. sym (reached asked user entry real) ∙ is) guarded.closed,
   )
 
 -- ---- of a list of users
@@ -101,18 +106,19 @@ module _ (machine : Machine) (subtree : Names) where
 all_at : {A : Type 0} (P : A → Type 0) (xs : List A) (x : A) → AllByRecursion P xs → Contains xs x → P x
 all_at P xs x all named = All-contains P xs x (All-from_recursion P xs all) named
 
-module _ (machine : Machine) (users : List Identity) (subtree : Names) (present : IsPresent machine subtree) where
-  pub held : IsGuardedAgainstEverybody machine subtree → AllByRecursion IsNotRoot users → IsContainedAgainstAll machine users subtree
+module _ (machine : Machine) (asked : Everybody) (users : List Identity) (subtree : Names) (present : IsPresent machine subtree) where
+  pub held : IsGuardedAgainstEverybody machine asked subtree → AllByRecursion (IsAsked asked) users
+      → IsContainedAgainstAll machine users subtree
   held guarded real =
       contained-all machine users subtree present
-      (λ user named. guarded_against machine subtree guarded user (all_at IsNotRoot users user real named))
+      (λ user named. guarded_against machine asked subtree guarded user (all_at (IsAsked asked) users user real named))
 
-  pub unlisted : Fits machine subtree → AreInNoClass machine subtree users → IsContainedAgainstAll machine users subtree
+  pub unlisted : Fits machine subtree → AreInNoClass machine asked subtree users → IsContainedAgainstAll machine users subtree
   unlisted fits none =
       contained-all machine users subtree present
       (λ user named.
-      let it = all_at (λ user. IsNotRoot user × IsInNoClass machine subtree user) users user none named in
-      (listed machine subtree user it.0 fits).0 it.1)
+      let it = all_at (λ user. IsAsked asked user × IsInNoClass machine asked subtree user) users user none named in
+      (listed machine asked subtree user it.0 fits).0 it.1)
 
 -- whoever joins may act, too
 turns_of_more : (user : Identity) (users : List Identity) (turns : List Turn) → AreTurnsOf users turns → AreTurnsOf (user ∷ users) turns
@@ -120,15 +126,16 @@ turns_of_more user users [] all = tt
 turns_of_more user users (turn ∷ turns) (named, all) =
     (Contains-append_right (user ∷ []) users turn.0 named, turns_of_more user users turns all)
 
-module _ (machine : Machine) (users : List Identity) (subtree : Names) (present : IsPresent machine subtree)
-    (guarded : IsGuardedAgainstEverybody machine subtree) (real : AllByRecursion IsNotRoot users) where
+module _ (machine : Machine) (asked : Everybody) (users : List Identity) (subtree : Names) (present : IsPresent machine subtree)
+    (guarded : IsGuardedAgainstEverybody machine asked subtree) (real : AllByRecursion (IsAsked asked) users) where
   pub again : (turns : List Turn) → AreTurnsOf users turns
-      → IsPresent (run_of_all machine turns) subtree × IsGuardedAgainstEverybody (run_of_all machine turns) subtree
+      → IsPresent (run_of_all machine turns) subtree × IsGuardedAgainstEverybody (run_of_all machine turns) asked subtree
   again turns all = (
     (again-all machine users subtree present
-        (λ user named. guarded_against machine subtree guarded user (all_at IsNotRoot users user real named)) turns all).0,
-    guarded_by_all (run_of_all machine turns) subtree (λ user one.
+        (λ user named. guarded_against machine asked subtree guarded user (all_at (IsAsked asked) users user real named)) turns all).0,
+    guarded_by_all (run_of_all machine turns) asked subtree (λ user one.
         (again-all machine (user ∷ users) subtree present
-        (λ other named. guarded_against machine subtree guarded other (all_at IsNotRoot (user ∷ users) other (one, real) named)) turns
+        (λ other named. guarded_against machine asked subtree guarded other
+        (all_at (IsAsked asked) (user ∷ users) other (one, real) named)) turns
         (turns_of_more user users turns all)).1 user (0, omega arith, refl)),
   )

@@ -1,2 +1,3 @@
 pub mod Guarding
 pub mod LetIn
+pub mod Members

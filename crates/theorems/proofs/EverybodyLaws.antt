@@ -17,7 +17,7 @@ use Rattle.cg_model.proofs.OnceLaws.{all-once}
 use Rattle.cg_check.proofs.AllContained.{guarded-are-contained}
 use Rattle.cg_everybody.specs.Everybody.{everybody_lines, GuardsHoldForEverybody}
 use Rattle.cg_everybody.proofs.Held.{each_holds, none_of_each}
-use Rattle.machine_everybody.specs.Everybody.{IsNotRoot}
+use Rattle.machine_everybody.specs.Everybody.{Everybody, IsAsked}
 use Rattle.cg_cli.specs.Audits.{paths_read}
 use Rattle.cg_cli.specs.Containment.{in_call}
 use Rattle.cg_cli.specs.Everybody.{found_report, everybody_found, everybody_said, everybody_report}
@@ -27,51 +27,55 @@ use Rattle.cg_escapes.proofs.EscapeReplays.{report_ok, found_is, unfaulted}
 use Rattle.cg_faults.specs.declared.fault.CliFault.{CliFault}
 use Rattle.theorems.proofs.StatusLaws.{all_there}
 
-status_of : (lines : List ℕ) (status : ℕ) → (found_report lines).ending ≡ Ok status → (status ≡ 0) ↔ (lines ≡ [])
-status_of [] status is = ((λ zero. refl), (λ none. let same : status ≡ 0 = cc in same))
-status_of (byte ∷ bytes) status is = ((λ zero. let never : ⊥ = cc in absurd never), (λ none. let never : ⊥ = cc in absurd never))
+status_of : (whom : Everybody) (lines : List ℕ) (status : ℕ) → (found_report whom lines).ending ≡ Ok status
+    → (status ≡ 0) ↔ (lines ≡ [])
+status_of whom [] status is = ((λ zero. refl), (λ none. let same : status ≡ 0 = cc in same))
+status_of whom (byte ∷ bytes) status is = ((λ zero. let never : ⊥ = cc in absurd never), (λ none. let never : ⊥ = cc in absurd never))
 
 -- where all guards hold for everybody all is contained against whomever it is asked about
-against_all : (st : State) (subtrees : List Names) → (subtrees ≢ [] → IsWellFormed st) → All (IsSubtree st) subtrees
-    → All (GuardsHoldForEverybody st) subtrees → (users : List Identity) → AllByRecursion IsNotRoot users → users ≢ []
+against_all : (st : State) (whom : Everybody) (subtrees : List Names) → (subtrees ≢ [] → IsWellFormed st) → All (IsSubtree st) subtrees
+    → All (GuardsHoldForEverybody st whom) subtrees → (users : List Identity) → AllByRecursion (IsAsked whom) users → users ≢ []
     → AreContained st users subtrees
-against_all st subtrees formed subs hold users real some =
+against_all st whom subtrees formed subs hold users real some =
     guarded-are-contained st users subtrees formed subs
-    (λ user among k d within. hold k d within user (All-contains IsNotRoot users user (All-from_recursion IsNotRoot users real) among)) some
+    (λ user among k d within. hold k d within user (All-contains (IsAsked whom) users user (All-from_recursion (IsAsked whom) users
+    real) among)) some
 
-module _ (st : State) (words : List (List ℕ)) (subtrees : List Names) (status : ℕ) (of_paths : paths_read words ≡ Ok subtrees)
-    (is : (everybody_report (Ok st) words).ending ≡ Ok status) where
+module _ (st : State) (whom : Everybody) (words : List (List ℕ)) (subtrees : List Names) (status : ℕ) (of_paths : paths_read words ≡ Ok
+    subtrees)
+    (is : (everybody_report whom (Ok st) words).ending ≡ Ok status) where
   abbrev asked : List Names
   asked = once same_path subtrees
 
-  said : (everybody_said st asked).ending ≡ Ok status
+  said : (everybody_said whom st asked).ending ≡ Ok status
   said =
-      ap (λ (found : Result (List Names) CliFault). (report_on found (λ subtrees. everybody_said st (once same_path subtrees))).ending)
+      ap (λ (found : Result (List Names) CliFault). (report_on found (λ subtrees. everybody_said whom st (once same_path subtrees))).ending)
       (sym of_paths) ∙ is
 
-  found : (lines : List ℕ) × (first (flat_map (subtree_faults st) asked) ≡ None) × (everybody_lines st asked ≡ lines)
-      × ((found_report lines).ending ≡ Ok status)
+  found : (lines : List ℕ) × (first (flat_map (subtree_faults st) asked) ≡ None) × (everybody_lines st whom asked ≡ lines)
+      × ((found_report whom lines).ending ≡ Ok status)
   found =
-      let one = report_ok (in_call (everybody_found st asked)) found_report status said in
+      let one = report_ok (in_call (everybody_found st whom asked)) (found_report whom) status said in
       let stated =
-      unfaulted (first (flat_map (subtree_faults st) asked)) (everybody_lines st asked) one.0
-      (found_is (everybody_found st asked) one.0 one.1) in
+      unfaulted (first (flat_map (subtree_faults st) asked)) (everybody_lines st whom asked) one.0
+      (found_is (everybody_found st whom asked) one.0 one.1) in
       (one.0, stated.0, stated.1, one.2)
 
   pub are_there : All (IsSubtree st) subtrees
   are_there = all_once same_path same_path-is (IsSubtree st) subtrees (all_there st asked found.1)
 
-  pub all_hold : (status ≡ 0) ↔ All (GuardsHoldForEverybody st) subtrees
+  pub all_hold : (status ≡ 0) ↔ All (GuardsHoldForEverybody st whom) subtrees
   all_hold =
-      let of_status = status_of found.0 status found.3 in (
+      let of_status = status_of whom found.0 status found.3 in (
         λ zero.
-            all_once same_path same_path-is (GuardsHoldForEverybody st) subtrees
-            (All-from_recursion (GuardsHoldForEverybody st) asked (each_holds st asked (found.2 ∙ of_status.0 zero))),
+            all_once same_path same_path-is (GuardsHoldForEverybody st whom) subtrees
+            (All-from_recursion (GuardsHoldForEverybody st whom) asked (each_holds st whom asked (found.2 ∙ of_status.0 zero))),
         λ all.
-            of_status.1 (sym found.2 ∙ none_of_each st asked
-            (all-once (GuardsHoldForEverybody st) same_path subtrees (recursion_from_All (GuardsHoldForEverybody st) subtrees all))),
+            of_status.1 (sym found.2 ∙ none_of_each st whom asked
+            (all-once (GuardsHoldForEverybody st whom) same_path subtrees (recursion_from_All (GuardsHoldForEverybody st whom) subtrees
+            all))),
       )
 
-  pub all_contained : IsWellFormed st → status ≡ 0 → (users : List Identity) → AllByRecursion IsNotRoot users → users ≢ []
+  pub all_contained : IsWellFormed st → status ≡ 0 → (users : List Identity) → AllByRecursion (IsAsked whom) users → users ≢ []
       → AreContained st users subtrees
-  all_contained formed zero = against_all st subtrees (λ some. formed) are_there (all_hold.0 zero)
+  all_contained formed zero = against_all st whom subtrees (λ some. formed) are_there (all_hold.0 zero)

@@ -36,8 +36,9 @@ use Rattle.cg_cli.specs.Asking.{CallEnding}
 use Rattle.cg_cli.specs.EachPair.{audit_pairs_report, explain_pairs_asked, UnlistedAsNamed}
 use Rattle.cg_cli.specs.Containment.{answer_report}
 use Rattle.cg_cli.specs.Explaining.{explain_asked, ReportsTold}
+use Rattle.cg_cli.specs.Everybody.{everybody_report}
 use Rattle.cg_everybody.specs.Everybody.{GuardsHoldForEverybody}
-use Rattle.machine_everybody.specs.Everybody.{IsNotRoot}
+use Rattle.machine_everybody.specs.Everybody.{Everybody as Whom, IsAsked}
 use Rattle.cg_cli.specs.Settled.{IsSettledFrom}
 use Rattle.cg_cli.specs.SettledAdvice.{advise_settled_report}
 use Rattle.cg_cli.specs.Settling.{IsFurther}
@@ -59,18 +60,21 @@ use Rattle.arguments.specs.declared.request.Everybody.{Everybody}
 use Rattle.arguments.specs.declared.request.Explain.{Explain}
 use Rattle.arguments.specs.declared.request.Advise.{Advise}
 use Rattle.arguments.specs.declared.request.Pairs.{Pairs}
+use Rattle.arguments.specs.declared.request.Subtrees.{Subtrees}
 use Rattle.arguments.specs.declared.request.Upgrade.{Upgrade}
 use Rattle.arguments.specs.declared.request.Replay.{Replay}
 use Rattle.arguments.specs.declared.request.Request.{Request}
 use Rattle.arguments.specs.declared.request.Request.TheVariants as request
 use Rattle.streams.specs.declared.write.WriteFailed.{WriteFailed}
 use Rattle.commands.specs.PairLines.{GivenPair, pairs_read, AsksSomething}
-use Rattle.commands.specs.Requests.{Files, source, name_of, may_said, check_said, everybody_asked, SettlesAs, AdviseSays, AdvisesOn, AuditsOn, ExplainsOn, OnLines, OnPairsText, GuardsSay, FurtherSay, AuditSays, ExplainSays, replay_said, OnTreeText, OnTree, ReplaysOver, CarriesOut}
+use Rattle.commands.specs.SubtreeLines.{subtrees_read, AreLinesOf}
+use Rattle.commands.specs.Requests.{Files, source, name_of, may_said, check_said, whom, everybody_asked, SettlesAs, AdviseSays, AdvisesOn, AuditsOn, ExplainsOn, EverybodyOn, OnLines, OnBothTexts, GuardsSay, FurtherSay, AuditSays, ExplainSays, replay_said, OnTreeText, OnTree, ReplaysOver, CarriesOut}
 use Rattle.commands.specs.Runs.{CarriesOutBuffered, LeadsTo, LiesBelow, RunsTo}
 use Rattle.commands.specs.declared.fault.Fault.{Fault}
 use Rattle.commands.specs.declared.fault.Fault.TheVariants.{Usage, Cli}
 use Rattle.commands.proofs.BufferedLaws.{CarriesOut-Keeps}
 use Rattle.commands.proofs.PairLaws.{asked_about}
+use Rattle.commands.proofs.SubtreeLaws.{are_lines}
 use Rattle.commands.proofs.YesLaws.{not_unread, flushed_is}
 use Rattle.machine_answers.proofs.GuardedLaws.{named_read, contained_by_status}
 use Rattle.theorems.proofs.SettledLaws.{settled_as}
@@ -165,19 +169,20 @@ on_operations said known old new status ops of_known (inl over) =
     subst (λ bytes. Replays closed said bytes old new (Ok status)) same replays.2
 on_operations said known old new status ops of_known (inr unread) = not_unread old new status unread
 
--- what is answered of the pairs that there are
-on_pairs : (Says : List GivenPair → Reading → CallEnding) (known known_pairs old new : Option (List ℕ)) (status : ℕ)
-    (text pairs : List ℕ) (st : State) → known ≡ Some text → known_pairs ≡ Some pairs → IsTextOf st text → length pairs ≤ 16777216
-    → OnPairsText Says known known_pairs old new (Ok status) → OnLines Says (pairs_read pairs) (Ok st) old new (Ok status)
-on_pairs Says known known_pairs old new status text pairs st of_known of_pairs of_text short (inl both) =
-    let same : both.1 ≡ pairs =
-    subst (λ k. IfSome k (λ bytes. both.1 ≡ take 16777217 bytes)) of_pairs both.3 ∙ take_all 16777217 pairs (omega (arith, short)) in
-    subst (λ bytes. OnLines Says (pairs_read bytes) (Ok st) old new (Ok status)) same
+-- what is answered of what the lines name that there are
+on_lines : {A : Type 0} (lines : List ℕ → Result (List A) CliFault) (Says : List A → Reading → CallEnding)
+    (known known_lines old new : Option (List ℕ)) (status : ℕ) (text named : List ℕ) (st : State) → known ≡ Some text
+    → known_lines ≡ Some named → IsTextOf st text → length named ≤ 16777216
+    → OnBothTexts lines Says known known_lines old new (Ok status) → OnLines Says (lines named) (Ok st) old new (Ok status)
+on_lines lines Says known known_lines old new status text named st of_known of_named of_text short (inl both) =
+    let same : both.1 ≡ named =
+    subst (λ k. IfSome k (λ bytes. both.1 ≡ take 16777217 bytes)) of_named both.3 ∙ take_all 16777217 named (omega (arith, short)) in
+    subst (λ bytes. OnLines Says (lines bytes) (Ok st) old new (Ok status)) same
     (⊎_elim (λ said.
-    on_state (λ read. OnLines Says (pairs_read both.1) read old new (Ok status)) known old new status text st of_known of_text
+    on_state (λ read. OnLines Says (lines both.1) read old new (Ok status)) known old new status text st of_known of_text
     (inl (both.0, both.2, said)))
     (λ unread. not_unread old new status unread) both.4)
-on_pairs Says known known_pairs old new status text pairs st of_known of_pairs of_text short (inr unread) =
+on_lines lines Says known known_lines old new status text named st of_known of_named of_text short (inr unread) =
     not_unread old new status unread
 
 -- they are named
@@ -187,6 +192,12 @@ pairs_named : (Says : List GivenPair → Reading → CallEnding) (pairs : List �
 pairs_named Says pairs (Ok named) is st old new status said =
     (named, sym is, asked_about Says pairs (Ok named) is (Ok st) old new status said, said)
 pairs_named Says pairs (Err fault) is st old new status said = let never : ⊥ = let same = said.0 in cc in absurd never
+
+subtrees_named : (asked : Whom) (lines : List ℕ) (read : Result (List (List ℕ)) CliFault) → read ≡ subtrees_read lines → (st : State)
+    (old new : Option (List ℕ)) (status : ℕ) → OnLines (EverybodyOn asked) read (Ok st) old new (Ok status)
+    → (named : List (List ℕ)) × (subtrees_read lines ≡ Ok named) × Reports (everybody_report asked (Ok st) named) old new (Ok status)
+subtrees_named asked lines (Ok named) is st old new status said = (named, sym is, said)
+subtrees_named asked lines (Err fault) is st old new status said = let never : ⊥ = let same = said.0 in cc in absurd never
 
 -- ---- command by command
 
@@ -235,16 +246,41 @@ module _ (files : Files) (given old new : Option (List ℕ)) (status : ℕ) wher
         → source files (name_of asked.tree) given ≡ Some text → IsTextOf st text
         → paths_read (map (λ subtree. subtree.now) asked.subtrees.items) ≡ Ok subtrees
         → Reports (everybody_asked asked (Ok st)) old new (Ok status)
-        × ((status ≡ 0) ↔ All (GuardsHoldForEverybody st) subtrees)
-        × (status ≡ 0 → (users : List Identity) → AllByRecursion IsNotRoot users → users ≢ [] → AreContained st users subtrees)
+        × ((status ≡ 0) ↔ All (GuardsHoldForEverybody st (whom asked.everyone)) subtrees)
+        × (status ≡ 0 → (users : List Identity) → AllByRecursion (IsAsked (whom asked.everyone)) users → users ≢ []
+        → AreContained st users subtrees)
     everybody_ended asked subtrees carried of_known of_text of_paths =
         let words : List (List ℕ) = map (λ subtree. subtree.now) asked.subtrees.items in
         let report =
         on_state (λ read. Reports (everybody_asked asked read) old new (Ok status)) (source files (name_of asked.tree) given) old new status
         text st of_known of_text carried in (
           report,
-          all_hold st words subtrees status of_paths report.0,
-          all_contained st words subtrees status of_paths report.0 of_text.says.formed,
+          all_hold st (whom asked.everyone) words subtrees status of_paths report.0,
+          all_contained st (whom asked.everyone) words subtrees status of_paths report.0 of_text.says.formed,
+        )
+
+    pub subtrees_ended : (asked : Subtrees) (lines : List ℕ) → CarriesOut (request.AuditSubtrees asked) files given old new (Ok status)
+        → source files (tree_file asked.sources) given ≡ Some text → source files (other_file asked.sources) given ≡ Some lines
+        → IsTextOf st text → length lines ≤ 16777216
+        → (named : List (List ℕ)) × (subtrees_read lines ≡ Ok named) × AreLinesOf lines named
+        × Reports (everybody_report (whom asked.everyone) (Ok st) named) old new (Ok status)
+        × ((subtrees : List Names) → paths_read named ≡ Ok subtrees
+        → ((status ≡ 0) ↔ All (GuardsHoldForEverybody st (whom asked.everyone)) subtrees)
+        × (status ≡ 0 → (users : List Identity) → AllByRecursion (IsAsked (whom asked.everyone)) users → users ≢ []
+        → AreContained st users subtrees))
+    subtrees_ended asked lines carried of_known of_lines of_text short =
+        let said =
+        subtrees_named (whom asked.everyone) lines (subtrees_read lines) refl st old new status
+        (on_lines subtrees_read (EverybodyOn (whom asked.everyone)) (source files (tree_file asked.sources) given)
+        (source files (other_file asked.sources) given) old new status text lines st of_known of_lines of_text short carried) in (
+          said.0,
+          said.1,
+          (are_lines lines said.0 said.1).0,
+          said.2,
+          λ subtrees of_paths. (
+            all_hold st (whom asked.everyone) said.0 subtrees status of_paths said.2.0,
+            all_contained st (whom asked.everyone) said.0 subtrees status of_paths said.2.0 of_text.says.formed,
+          ),
         )
 
     pub settle_ended : (check : Check) (user : Identity) (subtree : Names)
@@ -272,8 +308,8 @@ module _ (files : Files) (given old new : Option (List ℕ)) (status : ℕ) wher
     advise_pairs_ended asked pairs carried of_known of_pairs of_text short =
         let said =
         pairs_named AdvisesOn pairs (pairs_read pairs) refl st old new status
-        (on_pairs AdvisesOn (source files (tree_file asked.sources) given) (source files (other_file asked.sources) given) old new status
-        text pairs st of_known of_pairs of_text short carried) in (
+        (on_lines pairs_read AdvisesOn (source files (tree_file asked.sources) given) (source files (other_file asked.sources) given)
+        old new status text pairs st of_known of_pairs of_text short carried) in (
           said.0,
           said.1,
           said.2,
@@ -293,8 +329,8 @@ module _ (files : Files) (given old new : Option (List ℕ)) (status : ℕ) wher
     audit_pairs_ended asked pairs carried of_known of_pairs of_text short =
         let said =
         pairs_named AuditsOn pairs (pairs_read pairs) refl st old new status
-        (on_pairs AuditsOn (source files (tree_file asked.sources) given) (source files (other_file asked.sources) given) old new status
-        text pairs st of_known of_pairs of_text short carried) in (
+        (on_lines pairs_read AuditsOn (source files (tree_file asked.sources) given) (source files (other_file asked.sources) given)
+        old new status text pairs st of_known of_pairs of_text short carried) in (
           said.0,
           said.1,
           said.2,
@@ -314,8 +350,8 @@ module _ (files : Files) (given old new : Option (List ℕ)) (status : ℕ) wher
     explain_pairs_ended asked pairs carried of_known of_pairs of_text short =
         let said =
         pairs_named ExplainsOn pairs (pairs_read pairs) refl st old new status
-        (on_pairs ExplainsOn (source files (tree_file asked.sources) given) (source files (other_file asked.sources) given) old new status
-        text pairs st of_known of_pairs of_text short carried) in (
+        (on_lines pairs_read ExplainsOn (source files (tree_file asked.sources) given) (source files (other_file asked.sources) given)
+        old new status text pairs st of_known of_pairs of_text short carried) in (
           said.0,
           said.1,
           said.2,

@@ -58,8 +58,9 @@ ghost use Rattle.cg_cli.specs.Audits.{users_read, paths_read, audit_report};
 ghost use Rattle.cg_cli.specs.Once.{same_user};
 ghost use Rattle.cg_cli.specs.AllPairs.{all_report, ReportsPairs, UnlistedAreContained};
 ghost use Rattle.cg_cli.specs.Explaining.{explain_asked, ReportsTold};
+ghost use Rattle.cg_cli.specs.Everybody.{everybody_report};
 ghost use Rattle.cg_everybody.specs.Everybody.{GuardsHoldForEverybody};
-ghost use Rattle.machine_everybody.specs.Everybody.{IsNotRoot};
+ghost use Rattle.machine_everybody.specs.Everybody.{IsAsked};
 ghost use Rattle.cg_cli.specs.EachPair.{audit_pairs_report, explain_pairs_asked, UnlistedAsNamed};
 ghost use Rattle.cg_cli.specs.Upgrades.{upgrade_report, IsNewText};
 ghost use Rattle.cg_cli.specs.FurtherAdvice.{AreHeld};
@@ -81,12 +82,14 @@ ghost use Rattle.arguments.specs.declared.request.Everybody.{Everybody};
 ghost use Rattle.arguments.specs.declared.request.Explain.{Explain};
 ghost use Rattle.arguments.specs.declared.request.Advise.{Advise};
 ghost use Rattle.arguments.specs.declared.request.Pairs.{Pairs};
+ghost use Rattle.arguments.specs.declared.request.Subtrees.{Subtrees};
 ghost use Rattle.arguments.specs.declared.request.Upgrade.{Upgrade};
 ghost use Rattle.arguments.specs.declared.request.Replay.{Replay};
 ghost use Rattle.arguments.specs.declared.request.Request.{Request};
 ghost use Rattle.arguments.specs.declared.request.Request.TheVariants as request;
 ghost use Rattle.commands.specs.PairLines.{pairs_read, AsksSomething};
-ghost use Rattle.commands.specs.Requests.{Files, source, name_of, may_said, check_said, everybody_asked, CarriesOut};
+ghost use Rattle.commands.specs.SubtreeLines.{subtrees_read, AreLinesOf};
+ghost use Rattle.commands.specs.Requests.{Files, source, name_of, may_said, check_said, whom, everybody_asked, CarriesOut};
 ghost use Rattle.commands.specs.Runs.{LeadsTo, RunsTo};
 ghost use Rattle.commands.specs.declared.fault.Fault.{Fault};
 ghost use Rattle.streams.specs.declared.write.WriteFailed.{WriteFailed};
@@ -299,8 +302,17 @@ pub fn the_program()
         → source files (name_of asked.tree) given ≡ Some text → IsTextOf st text
         → paths_read (map (λ subtree. subtree.now) asked.subtrees.items) ≡ Ok subtrees
         → Reports (everybody_asked asked (Ok st)) old new (Ok status)
-        × ((status ≡ 0) ↔ All (GuardsHoldForEverybody st) subtrees)
-        × (status ≡ 0 → (users : List Identity) → AllByRecursion IsNotRoot users → users ≢ [] → AreContained st users subtrees) }
+        × ((status ≡ 0) ↔ All (GuardsHoldForEverybody st (whom asked.everyone)) subtrees)
+        × (status ≡ 0 → (users : List Identity) → AllByRecursion (IsAsked (whom asked.everyone)) users → users ≢ [] → AreContained st users subtrees) }
+    ensures audit_subtrees { (asked : Subtrees) (files : Files) (given old new : Option (List ℕ)) (status : ℕ) (text lines : List ℕ) (st : State)
+        → CarriesOut (request.AuditSubtrees asked) files given old new (Ok status)
+        → source files (tree_file asked.sources) given ≡ Some text → source files (other_file asked.sources) given ≡ Some lines
+        → IsTextOf st text → length lines ≤ 16777216
+        → (named : List (List ℕ)) × (subtrees_read lines ≡ Ok named) × AreLinesOf lines named
+        × Reports (everybody_report (whom asked.everyone) (Ok st) named) old new (Ok status)
+        × ((subtrees : List Names) → paths_read named ≡ Ok subtrees
+        → ((status ≡ 0) ↔ All (GuardsHoldForEverybody st (whom asked.everyone)) subtrees)
+        × (status ≡ 0 → (users : List Identity) → AllByRecursion (IsAsked (whom asked.everyone)) users → users ≢ [] → AreContained st users subtrees)) }
     ensures audit_settled { (audit : Audit) (files : Files) (given old new : Option (List ℕ)) (status : ℕ) (text : List ℕ) (st : State) (users : List Identity) (subtrees : List Names)
         → CarriesOut (request.Audit audit) files given old new (Ok status) → audit.settle ≡ true → audit.all ≡ false
         → source files (name_of audit.tree) given ≡ Some text → IsTextOf st text → users_read (map ids_of audit.users.items) ≡ Ok users

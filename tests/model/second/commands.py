@@ -12,7 +12,7 @@ from .further import FURTHER_FILES, is_value, value_written
 from .rules import text_of
 from .texts import LAST_ID, tree_of
 
-MOST_GIDS, MOST_STEPS, LONGEST_LINE, LONGEST_PAIRS = 32, 65536, 8192, 16777216
+MOST_GIDS, MOST_STEPS, LONGEST_LINE, LONGEST_LIST = 32, 65536, 8192, 16777216
 # what an audit writes where it has no pair to list
 NOTHING_LISTED = b"contained\n"
 NUMBER = r"0|[1-9][0-9]*"
@@ -24,13 +24,15 @@ OPTIONS = {
     "check": {"--tree": "", "--uid": "must", "--gid": "again", "--subtree": "must"},
     "settle": {"--tree": "", "--uid": "must", "--gid": "again", "--subtree": "must"},
     "audit": {"--tree": "", "--uid": "again", "--subtree": "again", "--pairs": "", "--all": "flag", "--settle": "flag",
-              "--everybody": "flag"},
+              "--everybody": "flag", "--subtrees": "", "--but": "again", "--group": "again"},
     "explain": {"--tree": "", "--uid": "again", "--subtree": "again", "--pairs": ""},
     "replay": {"--tree": "", "--uid": "must", "--gid": "again", "--ops": "must", "--subtree": ""},
     "upgrade": {"--tree": ""},
     "advise": {"--tree": "", "--uid": "again", "--gid": "again", "--subtree": "again", "--pairs": "",
                "--settle": "flag"},
 }
+# what says whom `--everybody` means
+OF_EVERYBODY = "--but", "--group"
 # those of one user and one subtree
 OF_ONE = tuple(name for name, options in OPTIONS.items() if options == OPTIONS["check"])
 
@@ -122,7 +124,7 @@ def lines_of(data, form):
 
 def pairs_of(data):
     """Each pair of a user and a subtree that a text names; raises the fault that ends them."""
-    *lines, end = data[:LONGEST_PAIRS].split(b"\n")
+    *lines, end = data[:LONGEST_LIST].split(b"\n")
     pairs = []
     for number, line in enumerate(lines, 1):
         if line.startswith(b"pair "):
@@ -131,13 +133,31 @@ def pairs_of(data):
                 raise Fault(f"line {number} bad-word")
         elif not is_audited(line):
             raise Fault(f"line {number} bad-word")
-    if len(data) > LONGEST_PAIRS:
-        raise Fault(f"line {len(lines) + 1} too-long")
-    if end:
-        raise Fault(f"line {len(lines) + 1} cut")
+    test_end(data, lines, end)
     if not pairs and data != NOTHING_LISTED:
         raise Fault("no-pair")
     return pairs
+
+
+def test_end(data, lines, end):
+    """Raises the fault of a list that doesn't end behind its last line."""
+    if len(data) > LONGEST_LIST:
+        raise Fault(f"line {len(lines) + 1} too-long")
+    if end:
+        raise Fault(f"line {len(lines) + 1} cut")
+
+
+def subtrees_of(data):
+    """Each subtree that a text names, by a path a line; raises the fault that ends them."""
+    *lines, end = data[:LONGEST_LIST].split(b"\n")
+    words = [line.decode("latin-1") for line in lines]
+    for number, word in enumerate(words, 1):
+        if rules.path_of(word) is None:
+            raise Fault(f"line {number} bad-word")
+    test_end(data, lines, end)
+    if not words:
+        raise Fault("line 1 cut")
+    return words
 
 
 def is_audited(line):
@@ -173,6 +193,8 @@ class Call:
             if "must" in kind and not given or "again" not in kind and len(given) > 1:
                 raise Fault("usage")
         self.users = self.read_users()
+        self.asked = everybody.Asked(tuple(map(plain_number, self.given.get("--but", []))),
+                                     tuple(map(listed_group, self.given.get("--group", []))))
         self.pid = plain_number(self.given["--pid"][0]) if self.command == "may" else None
 
     def take(self, word, rest):
@@ -194,14 +216,14 @@ class Call:
     def several_users(self):
         """None where pairs name them, or where everybody is meant; of `advise` one user and their groups, too."""
         if "--pairs" in self.given:
-            if self.given.keys() & {"--uid", "--gid", "--subtree", "--settle", "--everybody"}:
+            if self.given.keys() & {"--uid", "--gid", "--subtree", "--subtrees", "--settle", "--everybody", *OF_EVERYBODY}:
                 raise Fault("usage")
             return []
         if "--everybody" in self.given:
-            if self.given.keys() & {"--uid", "--all", "--settle"} or "--subtree" not in self.given:
+            if self.given.keys() & {"--uid", "--all", "--settle"} or len(self.given.keys() & {"--subtree", "--subtrees"}) != 1:
                 raise Fault("usage")
             return []
-        if not {"--uid", "--subtree"} <= self.given.keys():
+        if self.given.keys() & {"--subtrees", *OF_EVERYBODY} or not {"--uid", "--subtree"} <= self.given.keys():
             raise Fault("usage")
         if self.command == "advise" and len(self.given["--uid"]) == 1 and re.fullmatch(PLAIN, self.given["--uid"][0]):
             return self.one_user()
@@ -237,6 +259,13 @@ def listed_user(word):
     return uid, tuple(gids)
 
 
+def listed_group(word):
+    if not re.fullmatch("[0-9]+=([0-9]+(,[0-9]+)*)?", word):
+        raise Fault("usage")
+    gid, *uids = map(plain_number, re.findall("[0-9]+", word))
+    return gid, tuple(uids)
+
+
 # Reports
 
 
@@ -265,22 +294,30 @@ def report(words, stdin, files, lines):
     call = Call(words)
     files = {**files, "-": stdin}
     named = "-" if call.one("--tree") is None else call.one("--tree")
-    if "-" == named in (call.one("--ops"), call.one("--pairs")):
+    if "-" == named in (call.one("--ops"), call.one("--pairs"), call.one("--subtrees")):
         raise Fault("usage")
     tree = files.get(named)
     if not isinstance(tree, bytes) or call.command == "replay" and files.get(call.one("--ops")) is None:
         raise Fault("read")
-    subtrees = call.subtrees()
+    subtrees = named_in(call, files)
     if call.one("--pairs") is not None:
-        text = files.get(call.one("--pairs"))
-        if not isinstance(text, bytes):
-            raise Fault("read")
-        pairs = pairs_of(text)
+        pairs = pairs_of(text_in(files, call.one("--pairs")))
         call.users, subtrees = [user for user, _ in pairs], [path for _, path in pairs]
     test_arguments(call, subtrees)
     state = tree_of(tree)
     tops = [subtree_of(state, word) for word in subtrees]
     return REPORTS[call.command](call, state, tops, files, lines)
+
+
+def named_in(call, files):
+    """The subtrees that words name, or the lines of a text."""
+    return call.subtrees() if call.one("--subtrees") is None else subtrees_of(text_in(files, call.one("--subtrees")))
+
+
+def text_in(files, name):
+    if not isinstance(files.get(name), bytes):
+        raise Fault("read")
+    return files[name]
 
 
 def test_arguments(call, subtrees):
@@ -399,19 +436,18 @@ def asked(call, tops):
     return list(itertools.product(dict.fromkeys(call.users), dict.fromkeys(tops)))
 
 
-def audit_of_everybody(state, tops, lines):
+def audit_of_everybody(call, state, tops, lines):
     for top in dict.fromkeys(tops):
-        found = everybody.lines_of(state, top)
+        found = everybody.lines_of(state, top, call.asked)
         lines += [f"subtree {text_of(top)}", *found] if found else []
-    if lines:
-        return 1
-    lines.append("contained")
-    return 0
+    is_held = not lines
+    lines += ["contained"] * is_held + call.asked.lines()
+    return 0 if is_held else 1
 
 
 def audit(call, state, tops, _files, lines):
     if "--everybody" in call.given:
-        return audit_of_everybody(state, tops, lines)
+        return audit_of_everybody(call, state, tops, lines)
     if "--settle" in call.given:
         return settled_audit(call, state, tops, lines)
     listed = bool(call.given.keys() & {"--all", "--pairs"})

@@ -1,25 +1,53 @@
 """The second model: whom what is guarded lets in, whoever there is, by the words of docs/MODEL.md. Written from that page alone, as
 rules.py is.
 """
+from dataclasses import dataclass
+from typing import Tuple
+
 from . import rules
 from .rules import text_of
 
 
-def classes_of(entry):
-    """The classes that an entry lets in. Root is nobody here."""
-    lets_in = {"owner": entry.uid != 0, "group": entry.mode & 0o020, "others": entry.mode & 0o002}
+@dataclass(frozen=True)
+class Asked:
+    """Everybody but root and those who are left out, and the groups of which it is told who may be a member."""
+    but: Tuple[int, ...] = ()
+    groups: Tuple[Tuple[int, Tuple[int, ...]], ...] = ()
+
+    def lines(self):
+        """What an answer stands on."""
+        return [f"but {uid}" for uid in self.but] + [f"group {gid}={','.join(map(str, uids))}" for gid, uids in self.groups]
+
+    def is_meant(self, uid):
+        return uid != 0 and uid not in self.but
+
+    def may_be_in(self, gid):
+        """The uids of whoever may be in a group; None where it isn't listed, and may be anybody's."""
+        lists = [uids for other, uids in self.groups if other == gid]
+        return {uid for uids in lists for uid in uids} if lists else None
+
+    def has_members(self, entry):
+        """Whether somebody who is meant may be in an entry's group, and isn't its owner."""
+        uids = self.may_be_in(entry.gid)
+        return uids is None or any(self.is_meant(uid) and uid != entry.uid for uid in uids)
+
+
+def classes_of(entry, asked):
+    """The classes that an entry lets in. Root is nobody here, and so is who is left out."""
+    lets_in = {"owner": asked.is_meant(entry.uid), "group": entry.mode & 0o020 and asked.has_members(entry), "others": entry.mode & 0o002}
     return [name for name, is_let_in in lets_in.items() if is_let_in]
 
 
-def listed(state, top):
+def listed(state, top, asked):
     """The guarded entries that let a class in, in order, each with its classes."""
-    found = [(guard, path, name, classes_of(state.cgroups[path].entries[name])) for guard, path, name in rules.guarded(state, top)]
+    found = [(guard, path, name, classes_of(state.cgroups[path].entries[name], asked))
+             for guard, path, name in rules.guarded(state, top)]
     return [each for each in found if each[-1]]
 
 
-def lines_of(state, top):
+def lines_of(state, top, asked):
     """The lines of a subtree that isn't held against everybody, below the one that names it; of one that is there are none."""
     lines = []
-    for guard, path, name, classes in listed(state, top):
+    for guard, path, name, classes in listed(state, top, asked):
         lines += rules.class_lines(guard, f"{text_of(path)} {name}", state.cgroups[path].entries[name], classes)
     return lines + ([f"fails already-over {text_of(top)}"] if rules.over(state, top) else [])

@@ -21,11 +21,24 @@ def entries_of(state):
     return [entry for cgroup in state.cgroups.values() for entry in cgroup.entries.values()]
 
 
-def users_of(state):
-    """All whom a tree can tell apart, but root: each uid of an entry and one more, with each set of the entries' gids."""
-    uids, gids = {entry.uid for entry in entries_of(state)} - {0}, sorted({entry.gid for entry in entries_of(state)})
+def users_of(state, asked):
+    """All who are meant and whom a tree can tell apart: each uid of an entry or of a list and one more, with each set of the entries' gids,
+    but who is left out or in a listed group that doesn't list them."""
+    uids = {entry.uid for entry in entries_of(state)} | set(asked.but) | {uid for _, some in asked.groups for uid in some} | {0}
+    gids = sorted({entry.gid for entry in entries_of(state)})
     sets = [some for count in range(len(gids) + 1) for some in itertools.combinations(gids, count)]
-    return list(itertools.product([*sorted(uids), max(uids, default=0) + 1], sets))
+    listed = {gid: {uid for other, some in asked.groups if other == gid for uid in some} for gid, _ in asked.groups}
+    return [(uid, some) for uid, some in itertools.product([*sorted(uids), max(uids) + 1], sets)
+            if uid and uid not in asked.but and all(uid in listed.get(gid, {uid}) for gid in some)]
+
+
+def asked_of(rng, state):
+    """Everybody, and at times all but some of the tree's uids, with who is in some of its groups."""
+    uids, gids = [sorted({getattr(entry, name) for entry in entries_of(state)} | {1000}) for name in ("uid", "gid")]
+    def some(values):
+        return tuple(rng.choice([*values, 4000]) for _ in range(rng.randrange(3)))
+
+    return rng.choice([everybody.Asked(), everybody.Asked(some(uids), tuple((gid, some(uids)) for gid in some(gids)))])
 
 
 def is_member(user, line):
@@ -47,11 +60,11 @@ def small_tree(rng):
     return state
 
 
-def compare(test, state, counts):
+def compare(test, state, asked, counts):
     """Of each subtree of a tree: whoever check doesn't call contained is in a class that is listed, by the entries that they reach."""
-    users = users_of(state)
+    users = users_of(state, asked)
     for top in [path for path in state.cgroups if path]:
-        lines = everybody.lines_of(state, top)
+        lines = everybody.lines_of(state, top, asked)
         over = f"fails already-over {rules.text_of(top)}"
         for user in users:
             failed = rules.failures(state, user, top)
@@ -72,9 +85,10 @@ def compared(test, trees, seed=0):
     counts = dict.fromkeys(("contained", "over", "listed", "users", "trees"), 0)
     number = 0
     while counts["trees"] < trees:
-        state, number = small_tree(random.Random(f"{seed} {number}")), number + 1
+        rng = random.Random(f"{seed} {number}")
+        state, number = small_tree(rng), number + 1
         if len({entry.gid for entry in entries_of(state)}) <= MOST_GIDS:
-            compare(test, state, counts)
+            compare(test, state, asked_of(rng, state), counts)
             counts["trees"] += 1
     return counts
 
@@ -88,12 +102,20 @@ class EverybodyTest(unittest.TestCase):
     def test_classes_by_hand(self):
         for uid, mode, classes in ((0, 0o755, []), (0, 0o664, ["group"]), (0, 0o646, ["others"]), (1000, 0o400, ["owner"]),
                                    (1000, 0o662, ["owner", "group", "others"]), (1000, 0o604, ["owner"]), (0, 0o200, [])):
-            self.assertEqual(everybody.classes_of(rules.Entry(uid, 50, mode)), classes)
+            self.assertEqual(everybody.classes_of(rules.Entry(uid, 50, mode), everybody.Asked()), classes)
+
+    def test_classes_of_who_is_left_out_and_of_listed_groups(self):
+        for asked, uid, classes in (
+                (everybody.Asked((1000,)), 1000, ["group"]), (everybody.Asked((1001,)), 1000, ["owner", "group"]),
+                (everybody.Asked((), ((50, ()),)), 0, []), (everybody.Asked((), ((50, (0, 1000)),)), 1000, ["owner"]),
+                (everybody.Asked((), ((50, (0, 1000)), (51, ()), (50, (7,)))), 1000, ["owner", "group"]),
+                (everybody.Asked((7,), ((50, (7,)),)), 0, []), (everybody.Asked((), ((51, ()),)), 0, ["group"])):
+            self.assertEqual(everybody.classes_of(rules.Entry(uid, 50, 0o664), asked), classes, asked)
 
     def test_lines_are_those_of_the_guards_in_their_order(self):
         rows = [("/", "p", [], {}), ("/a", "pcd", [], {}), ("/a/s", "", [], {DEPTH: 0}), ("/a/s/x", "", [], {})]
         state = state_of(rows)
-        told = [line.split(" ")[1:4] for line in everybody.lines_of(state, ("a", "s"))]
+        told = [line.split(" ")[1:4] for line in everybody.lines_of(state, ("a", "s"), everybody.Asked())]
         self.assertEqual(told, [["common-ancestor", "/a", PROCS], ["common-ancestor", "/", PROCS], ["parent-control", "/a", CONTROL],
                                 ["parent-dir", "/a", DIR], ["already-over", "/a/s"]])
 
@@ -114,7 +136,19 @@ class ReportTest(unittest.TestCase):
         asked = "audit --everybody --subtree /c0"
         self.assertEqual(self.ask(f"{asked} --subtree /c0", "delegation-over-limit.toml"), self.ask(asked, "delegation-over-limit.toml"))
 
+    def test_what_an_answer_stands_on_is_told_last(self):
+        asked = "audit --everybody --but 1000 --group 7=5,06 --group 7= --but 1000 --subtree /c0"
+        self.assertEqual(self.ask(asked, "delegation.toml"),
+                         (["contained", "but 1000", "but 1000", "group 7=5,6", "group 7="], 0))
+        self.assertEqual(self.ask(asked, "delegation-ancestor-owned.toml"), (
+            ["subtree /c0", "fails common-ancestor / cgroup.procs 1000:0 446 others", "but 1000", "but 1000", "group 7=5,6", "group 7="], 1))
+
     def test_words(self):
+        for words in ("--but", "--but x", "--but -1", "--but 4294967296", "--group 5", "--group =5", "--group 5=,", "--group 5=6,", "--group 5:6",
+                      "--group 5=4294967296", "--group 5==6"):
+            self.assertEqual(self.ask(f"audit --everybody --subtree /c0 {words}", "delegation.toml"), (["fault: usage"], 3), words)
+        for words in ("--but 5", "--group 5="):
+            self.assertEqual(self.ask(f"audit --uid 1000 --subtree /c0 {words}", "delegation.toml"), (["fault: usage"], 3), words)
         for words in ("--uid 1000 --subtree /c0", "--all --subtree /c0", "--settle --subtree /c0", "--pairs -", "", "--everybody --subtree /c0",
                       "--gid 5 --subtree /c0"):
             self.assertEqual(self.ask(f"audit --everybody {words}".strip(), "delegation.toml"), (["fault: usage"], 3), words)

@@ -7,7 +7,7 @@ from second.controllers import controllers_in
 from second.rules import text_of
 from trials import directed, faults, format_4, further, small, spelling, trees
 
-TREE, OPS, PAIRS = "tree.toml", "list.ops", "list.pairs"
+TREE, OPS, PAIRS, SUBTREES = "tree.toml", "list.ops", "list.pairs", "list.subtrees"
 # the first case of format 4 that may be of a large text, or of many rows: by then most mutants are told apart, which are asked of it
 FIRST_HEAVY, ONE_LARGE_OF = 400, 30
 # the last of so many cases is a directed one
@@ -99,13 +99,15 @@ def drawn_case(seed, number, known):
             and rng.random() < 0.7 and state_of(data)):
         further.open_device(rng, tree)
         data = spelling.document(rng, tree.document(rng))
-    if command == "audit --everybody" and not large and rng.random() < 0.5:
+    if command in ("audit --everybody", "audit --subtrees") and not large and rng.random() < 0.5:
         data = closed_text(rng, tree.subtree, data)
     case = Case(MAKERS[command](rng, tree, state_of(data)))
     if command.startswith("replay"):
         case.files[OPS] = operations(rng, tree, data, case.words, wide)
     if command.endswith(" --pairs"):
         case.files[PAIRS] = pair_lines(rng, tree, state_of(data))
+    if command.endswith(" --subtrees"):
+        case.files[SUBTREES] = subtree_lines(rng, tree, state_of(data))
     if wide and number >= FIRST_HEAVY and command in ("may", "upgrade") and rng.random() < 0.06:
         data = format_4.with_many(rng, data)
     give_tree(rng, case, data)
@@ -147,15 +149,16 @@ def closed_text(rng, top, data):
 
 
 def give_tree(rng, case, data):
-    """As standard input or as a file, beside pairs, which then may be standard input."""
+    """As standard input or as a file, beside pairs or subtrees, which then may be standard input."""
     if rng.random() < 0.5:
         case.stdin = data
         return
     case.files[TREE] = data
     case.words[1:1] = ["--tree", TREE]
-    if PAIRS in case.files and rng.random() < 0.3:
-        case.stdin = case.files.pop(PAIRS)
-        case.words[case.words.index(PAIRS)] = "-"
+    for name in {PAIRS, SUBTREES} & case.files.keys():
+        if rng.random() < 0.3:
+            case.stdin = case.files.pop(name)
+            case.words[case.words.index(name)] = "-"
 
 
 def state_of(data):
@@ -248,7 +251,7 @@ def pair_lines(rng, tree, state):
     if rng.random() < 0.16:
         lines.insert(rng.randrange(len(lines) + 1), bad_pair(rng, lines))
     if rng.random() < 0.03:
-        long = commands.LONGEST_PAIRS - sum(len(line) + 1 for line in lines) - rng.choice([1, 1, 1, 0])
+        long = commands.LONGEST_LIST - sum(len(line) + 1 for line in lines) - rng.choice([1, 1, 1, 0])
         lines.append(b"unsettled ".ljust(long, b"#"))
     return b"".join(line + b"\n" for line in lines) + (rng.choice([b"pair 1000 /a", b"x"]) if rng.random() < 0.04 else b"")
 
@@ -301,7 +304,38 @@ def everybody_words(rng, tree, state):
     words += ["--subtree", subtree_word(rng, tree, state)]
     for _ in range(rng.choice([0, 0, 0, 1, 2, 3, 9])):
         words += ["--subtree", text_of(rng.choice(below)) if below and rng.random() < 0.9 else subtree_word(rng, tree, state)]
+    words += left_out(rng)
     return words + rng.choice([["--all"], ["--settle"], ["--uid", "1000"]]) if rng.random() < 0.03 else words
+
+
+def left_out(rng):
+    """At times who is left out, and who is in a group."""
+    words, ids = [], (0, 5, 7, 1000, 1001, 1002)
+    while rng.random() < 0.25:
+        uids = ",".join(str(rng.choice(ids)) for _ in range(rng.choice([0, 1, 1, 2])))
+        words += rng.choice([["--but", str(rng.choice(ids))], ["--group", f"{rng.choice(ids)}={uids}"]])
+    return words
+
+
+def subtrees_words(rng, _tree, _state):
+    words = ["audit", "--everybody", "--subtrees", SUBTREES, *left_out(rng)]
+    return words + rng.choice([["--all"], ["--settle"], ["--uid", "1000"], ["--subtree", "/a"]]) if rng.random() < 0.03 else words
+
+
+def subtree_lines(rng, tree, state):
+    """Lines of paths, and at times one that is none."""
+    below = [path for path in tree.rows if path]
+    words = [text_of(rng.choice(below)) if below and rng.random() < 0.85 else subtree_word(rng, tree, state)
+             for _ in range(rng.choice([0, 1, 1, 2, 3, 3, 5]))]
+    lines = [word.encode() for word in words if rules.path_of(word) is not None or rng.random() < 0.05]
+    if rng.random() < 0.14:
+        near = lines[0] if lines else b"/a"
+        lines.insert(rng.randrange(len(lines) + 1), rng.choice([
+            b"", near + b" ", near + b"\r", b" " + near, near + b"/", near + b"\0", near[1:], b"pair 1000 " + near, b"subtree " + near, b"# by hand",
+            b"/\xc3\xa9", b"/\xff", b"/cgroup.procs", b"/" + b"a" * 256, b"\xef\xbb\xbf" + near, b"/", b"/nowhere", near + b"\t" + near]))
+    if rng.random() < 0.02:
+        lines.append(b"/a".ljust(commands.LONGEST_LIST - sum(len(line) + 1 for line in lines) - rng.choice([1, 1, 0]), b"#"))
+    return b"".join(line + b"\n" for line in lines) + (rng.choice([b"/a", b"x", b"/"]) if rng.random() < 0.06 else b"")
 
 
 def settled_audit_words(rng, tree, state):
@@ -355,16 +389,16 @@ MAKERS = {"may": may_words, "check": check_words, "audit": audit_words, "audit -
           "advise --pairs": pairs_words, "settle": of_one("settle"), "audit --settle": settled_audit_words,
           "advise --settle": settled_advice_words, "explain": explain_words, "replay": replay_words,
           "replay alone": replay_alone_words, "upgrade": upgrade_words, "audit --pairs": audit_pairs_words,
-          "explain --pairs": explain_pairs_words, "audit --everybody": everybody_words}
+          "explain --pairs": explain_pairs_words, "audit --everybody": everybody_words, "audit --subtrees": subtrees_words}
 WEIGHTS = {"may": 14, "check": 30, "audit": 12, "audit --all": 12, "advise": 14, "advise --pairs": 12, "settle": 24,
            "audit --settle": 14, "advise --settle": 8, "explain": 18, "replay": 28, "replay alone": 6, "upgrade": 7,
-           "audit --pairs": 10, "explain --pairs": 5, "audit --everybody": 12}
+           "audit --pairs": 10, "explain --pairs": 5, "audit --everybody": 12, "audit --subtrees": 8}
 # of one user and one subtree, with no weight of its own
 FURTHER = [name for name in commands.OF_ONE if name not in MAKERS]
 MAKERS.update((name, of_one(name)) for name in FURTHER)
 WEIGHTS.update((name, 5) for name in FURTHER)
 # commands that came when a seed was fixed by which mutants are told apart: fresh cases have them
-LATER = frozenset({"audit --pairs", "explain --pairs", "audit --everybody", *FURTHER})
+LATER = frozenset({"audit --pairs", "explain --pairs", "audit --everybody", "audit --subtrees", *FURTHER})
 
 
 # Operations
@@ -606,7 +640,7 @@ def join_option(rng, case):
 
 
 def no_file(rng, case):
-    given = [option for option in ("--tree", "--ops", "--pairs") if option in case.words] or ["--tree"]
+    given = [option for option in ("--tree", "--ops", "--pairs", "--subtrees") if option in case.words] or ["--tree"]
     replace_after(rng, case, rng.choice(given), rng.choice(["none.toml", "folder", "none/none", ""]))
 
 

@@ -27,22 +27,28 @@ def asked(case):
         call = commands.Call(case.words)
         named = call.one("--tree") or "-"
         state = texts.tree_of(case.stdin if named == "-" else case.files[named])
-        users = some_of(state) if "--everybody" in call.given else list(dict.fromkeys(call.users))
-        tops = [rules.path_of(word) for word in dict.fromkeys(call.subtrees())]
+        users = some_of(state, call.asked) if "--everybody" in call.given else list(dict.fromkeys(call.users))
+        tops = [rules.path_of(word) for word in dict.fromkeys(commands.named_in(call, {**case.files, "-": case.stdin}))]
     except (commands.Fault, documents.Fault, documents.Unsure, KeyError, TypeError):
         return None
     return (machine.view(state), users, tops) if len(state.cgroups) <= MOST_CGROUPS and users else None
 
 
-def some_of(state):
-    """Of everybody some: the owners of entries, and somebody else, in every group that an entry has, or in none."""
+def is_member(asked, uid, gid):
+    uids = asked.may_be_in(gid)
+    return uids is None or uid in uids
+
+
+def some_of(state, asked):
+    """Of everybody some: the owners of entries, and somebody else, in every group that an entry has and they may be in, or in none."""
     entries = [entry for cgroup in state.cgroups.values() for entry in cgroup.entries.values()]
     owners, gids = sorted({entry.uid for entry in entries} - {0}), tuple(sorted({entry.gid for entry in entries}))
-    return [(uid, those) for uid in [*owners[:MOST_OWNERS], NOBODY_S] for those in ((), gids)]
+    return [(uid, tuple(gid for gid in those if is_member(asked, uid, gid)))
+            for uid in [*owners[:MOST_OWNERS], NOBODY_S] if asked.is_meant(uid) for those in ((), gids)]
 
 
 def is_contained(written):
-    return (written[0], written[1]) == (b"contained\n", 0)
+    return written[1] == 0 and written[0].startswith(b"contained\n")
 
 
 def chance_of(case):

@@ -28,7 +28,7 @@ FAULTS = ["usage", "uid", "gid", "pid", "path", "subtree root", "subtree missing
           "too-many-steps", "read", "write", *("tree " + name for name in re.split(r",\s+", TREE_FAULTS))]
 STATUSES = {"may": 2, "audit": 3, "audit --all": 3, "replay": 2, "upgrade": 1, "advise": 2, "advise --pairs": 2, "audit --settle": 3,
             **{name: 3 for name in commands.OF_ONE}, "audit --all --settle": 3, "advise --settle": 2, "explain": 3, "audit --pairs": 3,
-            "explain --pairs": 3, "audit --everybody": 2}
+            "explain --pairs": 3, "audit --everybody": 2, "audit --subtrees": 2}
 # of trees of format 4, and of controllers that other formats don't have
 FAULTS_4 = """bad-controller cgroup, bad-controller top, bad-entry cgroup, bad-value cgroup, internal-process process, no-such-file cgroup,
 shape cgroup, too-many, top-down cgroup"""
@@ -102,7 +102,8 @@ def wanted_of_explain():
 def labels_of(case, expected):
     """The labels of a case with the lines, the status and the fault that it should give."""
     lines, status, fault = expected
-    name = " ".join(case.words[:1] + [word for word in ("--all", "--pairs", "--settle", "--everybody") if word in case.words])
+    name = " ".join(case.words[:1] + [word for word in ("--all", "--pairs", "--settle", "--everybody", "--subtrees") if word in case.words])
+    name = name.replace("--everybody --subtrees", "--subtrees")
     found = [f"{name}: status {status}"] if name in STATUSES else []
     if fault:
         found.append(re.sub(r"(cgroup|process|line) \d+", r"\1", fault))
@@ -335,6 +336,7 @@ def advise_labels(_case, lines):
 def everybody_labels(case, lines):
     found, tops = [], [part.splitlines() for part in "\n".join(lines).split("subtree ")[1:]]
     for _, *told in tops:
+        told = [line for line in told if line.startswith("fails ")]
         classes = [line.split(" ") for line in told if "already-over" not in line]
         entries = [tuple(words[:-1]) for words in classes]
         found += [f"{words[1]} lets in {words[-1]}" for words in classes]
@@ -343,7 +345,7 @@ def everybody_labels(case, lines):
         found += ["the group of root's entry" for words in classes if words[-1] == "group" and words[4].startswith("0:")]
         found += ["the root's cgroup.procs alone"] * ({each[1:4] for each in entries} == {("common-ancestor", "/", rules.PROCS)})
     asked = commands.Call(case.words).subtrees()
-    found += ["contained"] * (lines == ["contained"]) + ["one of several is held"] * (0 < len(tops) < len({*asked}))
+    found += ["contained"] * (lines[:1] == ["contained"]) + ["one of several is held"] * (0 < len(tops) < len({*asked}))
     return sorted({f"everybody: {what}" for what in found})
 
 

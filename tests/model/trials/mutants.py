@@ -139,14 +139,13 @@ OF_COMMANDS = {
         "for word in subtrees]\n    return", 'for word in sorted(subtrees, key=lambda word: word != "/")]\n    return'),
     "advises all users of pairs with all their subtrees": ('zip(call.users, tops) if "--pairs" in call.given else ', ""),
     "a line is a pair's that begins with the word": ('line.startswith(b"pair ")', 'line.startswith(b"pair")'),
-    "a line of pairs that is cut is passed over": (
-        '    if end:\n        raise Fault(f"line {len(lines) + 1} cut")\n    if not pairs', "    if not pairs"),
+    "a line of pairs that is cut is passed over": ('    if end:\n        raise Fault(f"line {len(lines) + 1} cut")\n', ""),
     "a line that no audit writes is passed over": ("        elif not is_audited(line):", "        elif False:"),
     "a line of pairs may be anything that begins as an answer": ('line in (b"contained", b"escapes")', 'line.startswith((b"contained", b"escapes"))'),
     "an operation among pairs is one of format 2": ("operation_of(line, 4) is not None", "operation_of(line) is not None"),
     "a text may name no pair": ("    if not pairs and data != NOTHING_LISTED:", "    if False:"),
     "a text without a pair has to say so at its beginning alone": ("data != NOTHING_LISTED", "not data.startswith(NOTHING_LISTED)"),
-    "16777216 bytes of pairs are too many": ("    if len(data) > LONGEST_PAIRS:", "    if len(data) >= LONGEST_PAIRS:"),
+    "16777216 bytes of pairs are too many": ("    if len(data) > LONGEST_LIST:", "    if len(data) >= LONGEST_LIST:"),
     "audit goes by subtree first": (
         "in asked(call, tops):", "in sorted(asked(call, tops), key=lambda pair: tops.index(pair[1])):"),
     "audit asks who is named again": (USERS, USERS.replace("dict.fromkeys(call.users)", "call.users")),

@@ -6,7 +6,9 @@ FURTHER_ORDER = """    "io.latency": ("io", "target=max"),
 EIGHT_ORDER = """    "memory.low": ("memory", 0, 0, MOST, True),
     "memory.high": ("memory", MAX, 0, MOST, True),
 """
-LETS_IN = '{"owner": entry.uid != 0, "group": entry.mode & 0o020, "others": entry.mode & 0o002}'
+LETS_IN = '{"owner": asked.is_meant(entry.uid), "group": entry.mode & 0o020 and asked.has_members(entry), "others": entry.mode & 0o002}'
+IS_MEANT, OF_GROUP = "return uid != 0 and uid not in self.but", "lists = [uids for other, uids in self.groups if other == gid]"
+MEMBERS = "any(self.is_meant(uid) and uid != entry.uid for uid in uids)"
 GUARDED = "for guard, path, name in rules.guarded(state, top)]"
 OVER_LAST = """return lines + ([f"fails already-over {text_of(top)}"] if rules.over(state, top) else [])"""
 LIVE_PID = "found = [(\"bad-pid\", not 1 <= pid <= rules.LAST_PID)"
@@ -70,14 +72,14 @@ OF_ROWS = {
     "upgrade writes processes before cgroups": (
         "written", "written", '    for row in document["process"]:\n        lines += ["", "[[process]]", *values_of(row)]\n    return lines',
         '    return lines + [line for row in document["process"] for line in ["", "[[process]]", *values_of(row)][1:]]'),
-    "a class forgotten: an entry's owner": ("everybody", "everybody", LETS_IN, LETS_IN.replace("entry.uid != 0", "False")),
+    "a class forgotten: an entry's owner": ("everybody", "everybody", LETS_IN, LETS_IN.replace("asked.is_meant(entry.uid)", "False")),
     "a class forgotten: an entry's group": ("everybody", "everybody", LETS_IN, LETS_IN.replace("entry.mode & 0o020", "False")),
     "a class forgotten: all others": ("everybody", "everybody", LETS_IN, LETS_IN.replace("entry.mode & 0o002", "False")),
     "an owner who doesn't write is let in by nothing": (
-        "everybody", "everybody", LETS_IN, LETS_IN.replace("entry.uid != 0", "entry.uid != 0 and entry.mode & 0o200")),
+        "everybody", "everybody", LETS_IN, LETS_IN.replace("asked.is_meant(entry.uid)", "asked.is_meant(entry.uid) and entry.mode & 0o200")),
     "an owner is let in by no mode alone": (
-        "everybody", "everybody", LETS_IN, LETS_IN.replace("entry.uid != 0", "entry.uid != 0 and entry.mode & 0o777")),
-    "root is let in as an owner": ("everybody", "everybody", LETS_IN, LETS_IN.replace("entry.uid != 0", "True")),
+        "everybody", "everybody", LETS_IN, LETS_IN.replace("asked.is_meant(entry.uid)", "asked.is_meant(entry.uid) and entry.mode & 0o777")),
+    "root is let in as an owner": ("everybody", "everybody", LETS_IN, LETS_IN.replace("asked.is_meant(entry.uid)", "True")),
     "a group's write is its owner's": (
         "everybody", "everybody", LETS_IN, LETS_IN.replace("entry.mode & 0o020", "entry.mode & 0o020 and entry.uid != 0")),
     "group 0 has no members but root": ("everybody", "everybody", LETS_IN, LETS_IN.replace("entry.mode & 0o020", "entry.mode & 0o020 and entry.gid")),
@@ -107,6 +109,30 @@ OF_ROWS = {
         "everybody", "commands", "    for top in dict.fromkeys(tops):\n", "    for top in tops[:1]:\n"),
     "a subtree that is held has a line": (
         "everybody", "commands", 'lines += [f"subtree {text_of(top)}", *found] if found else []', 'lines += [f"subtree {text_of(top)}", *found]'),
+    "who is left out is asked about": ("left out", "everybody", IS_MEANT, "return uid != 0"),
+    "where somebody is left out so are all owners": ("left out", "everybody", IS_MEANT, "return uid != 0 and not self.but"),
+    "the first who is left out alone": ("left out", "everybody", IS_MEANT, "return uid != 0 and uid not in self.but[:1]"),
+    "a listed group has members whoever is listed": ("left out", "everybody", MEMBERS, "True"),
+    "a listed group has none": ("left out", "everybody", MEMBERS, "False"),
+    "the owner is a member of their entry's group": (
+        "left out", "everybody", MEMBERS, "any(self.is_meant(uid) for uid in uids)"),
+    "root and who is left out are members": ("left out", "everybody", MEMBERS, "any(uid != entry.uid for uid in uids)"),
+    "the lists of one group are every group's": ("left out", "everybody", OF_GROUP, "lists = [uids for _, uids in self.groups]"),
+    "the first list of a group alone": ("left out", "everybody", OF_GROUP, OF_GROUP + "[:1]"),
+    "of a group that isn't listed nobody is a member": (
+        "left out", "everybody", "for uid in uids} if lists else None", "for uid in uids}"),
+    "what an answer stands on isn't told": ("left out", "commands", " + call.asked.lines()", ""),
+    "what an answer stands on is told where it is contained alone": (
+        "left out", "commands", " + call.asked.lines()", " + call.asked.lines() * is_held"),
+    "who is left out may stand beside users": ("left out", "commands", '{"--subtrees", *OF_EVERYBODY} or not', '{"--subtrees"} or not'),
+    "a text may name no subtree": ("lines of subtrees", "commands", "    if not words:\n", "    if False:\n"),
+    "the first path of a text is dropped": ("lines of subtrees", "commands", "    return words\n", "    return words[1:] or words\n"),
+    "the last path of a text is dropped": ("lines of subtrees", "commands", "    return words\n", "    return words[:-1] or words\n"),
+    "paths of a text in their own order": ("lines of subtrees", "commands", "    return words\n", "    return sorted(words)\n"),
+    "a line that is no path is a fault of its path": (
+        "lines of subtrees", "commands", "        if rules.path_of(word) is None:\n", "        if False:\n"),
+    "a last path without its newline counts": (
+        "lines of subtrees", "commands", "    words = [line.decode", "    lines, end = lines + [end] * bool(end), b\"\"\n    words = [line.decode"),
     "upgrade puts a backslash before each quote": ("written", "written", "if \"'\" not in text:", 'if text == "":'),
 }
 # which of the other mutants are told apart by which table

@@ -275,6 +275,50 @@ def everybody():
             yield Case(["audit", "--everybody", *(word for top in (*tops, tops[0]) for word in ("--subtree", top))], tree)
 
 
+def left_out():
+    """An entry in the hands of several, with who is left out and with who is in its group."""
+    but = [], [1000], [5], [0], [7, 1000], [1000, 1000]
+    groups = [], ["5="], ["5=1000"], ["5=0"], ["5=7"], ["5=1000,7"], ["5=7", "5=1000"], ["5=", "5=7"], ["6="], ["0="], ["5=6", "6="]
+    for uid, gid, mode in itertools.product((0, 1000, LAST_ID), (0, 5), (0, 0o020, 0o002, 0o664)):
+        tree = text_of(2, {"/": {}, "/a": {"files": {rules.DEPTH: {"uid": uid, "gid": gid, "mode": mode}}}})
+        for some, listed in itertools.product(but, groups):
+            words = [word for name, values in (("--but", some), ("--group", listed)) for value in values for word in (name, str(value))]
+            yield Case(["audit", "--everybody", *words, "--subtree", "/a"], tree)
+    over = text_of(2, {"/a": {"files": {rules.DEPTH: {"value": 0}}}, "/a/b": {}})
+    yield Case(["audit", "--everybody", "--but", "007", "--group", "05=006,7", "--subtree", "/a"], over)
+    yield Case(["audit", "--everybody", "--but", "7", "--subtrees", "list", "--group", "5="], over, {"list": b"/a/b\n/a\n"})
+    wrong = ["--but"], ["--but", ""], ["--but", "x"], ["--but", "-1"], ["--but", "+1"], ["--but", str(LAST_ID + 2)], ["--but=5", "--but=x"]
+    wrong += tuple(["--group", word] for word in ("", "5", "=", "=5", "5=,", "5=6,", "5=,6", "5:6", "5==6", "5=6=7", "5=x", "x=5", "-5=", "5=-6",
+                                                  "+5=", f"{LAST_ID + 2}=", f"5={LAST_ID + 2}", "5= 6", " 5="))
+    for words in wrong:
+        yield Case(["audit", "--everybody", "--subtree", "/a", *words], over)
+    for words in ["--but", "5"], ["--group", "5="]:
+        yield Case(["audit", "--uid", "1000", "--subtree", "/a", *words], over)
+        yield Case(["audit", "--pairs", "list", *words], over, {"list": b"pair 1000 /a\n"})
+        yield from (Case([command, "--uid", "1000", "--subtree", "/a", *words], over) for command in ("check", "explain", "advise", "settle"))
+
+
+def lines_of_subtrees():
+    """Texts of a path a line: whole ones, in each order, ones with a line that is none, and ones that are cut or empty."""
+    theirs = {"files": {rules.DEPTH: {"uid": 1000}}}
+    tree = text_of(2, {"/a": theirs, "/b": {}, "/c": theirs, "/c/a": theirs})
+    paths = b"/a", b"/b", b"/c", b"/c/a"
+    texts = [b"".join(path + b"\n" for path in some) for count in (1, 2, 3) for some in itertools.product(paths, repeat=count)]
+    bad = b"", b" ", b"a", b"/a ", b"/a\r", b"/a/", b"//", b"/a b", b"/a\t", b"/\xc3\xa9", b"/\xff", b"/.", b"/memory.max", b"pair 1 /a"
+    texts += [b"\n".join(lines) + b"\n" for line in bad for lines in ((line,), (line, b"/a"), (b"/a", line), (b"/b", line, line), (b"/x", line))]
+    texts += [b"", b"/", b"/a", b"/b", b"/\n", b"/b\n/\n", b"/x\n", b"/b\n/x\n/\n", b"/b\n/a", b"/b\n/", b"/b\nx", b"/b\n\0"]
+    long = (15 * (b"/" + 255 * b"b") + b"/" + 254 * b"b" + b"\n") * (commands.LONGEST_LIST // 4096)
+    texts += [long, long[:-1], long[:-2] + b"\n", long + b"/", long + b"\n", long + b"/b\n"]
+    for text in texts:
+        yield Case(["audit", "--everybody", "--subtrees", "list"], tree, {"list": text})
+    for beside in ["--subtree", "/a"], ["--uid", "1000"], ["--all"], ["--settle"], ["--subtrees", "list"], ["--pairs", "list"]:
+        yield Case(["audit", "--everybody", "--subtrees", "list", *beside], tree, {"list": b"/b\n"})
+    for words in ["--subtrees", "-"], ["--subtrees", "none"], ["--subtrees", "folder"], ["--subtrees", ""], ["--subtrees"]:
+        yield Case(["audit", "--everybody", *words], tree)
+    yield Case(["audit", "--everybody", "--tree", TREE, "--subtrees", "-"], b"/c\n/a\n", {TREE: tree})
+    yield Case(["audit", "--subtrees", "list", "--uid", "1000"], tree, {"list": b"/b\n"})
+
+
 # What is written of a tree
 
 
@@ -297,5 +341,5 @@ def bounds():
 
 
 TABLES = {**{file: functools.partial(limit_file, file) for file in rules.ALL_FILES}, "bounds": bounds, "names": names, "two tries": two_tries,
-          "at the root": at_the_root, "theirs": theirs, "classes": classes, "everybody": everybody,
-          "written": written}
+          "at the root": at_the_root, "theirs": theirs, "classes": classes, "everybody": everybody, "left out": left_out,
+          "lines of subtrees": lines_of_subtrees, "written": written}

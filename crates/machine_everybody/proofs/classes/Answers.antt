@@ -5,6 +5,6 @@ use Rattle.machine_everybody.proofs.classes.Goals as goal
 pub returns : goal.returns
 returns c = record {
   reached = reached;
-  unlisted = λ machine users subtree present fits none. unlisted machine users subtree present fits none;
-  listed = λ machine user subtree real fits. listed machine subtree user real fits;
+  unlisted = λ machine asked users subtree present fits none. unlisted machine asked users subtree present fits none;
+  listed = λ machine asked user subtree real fits. listed machine asked subtree user real fits;
 }

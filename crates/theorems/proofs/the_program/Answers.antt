@@ -1,4 +1,4 @@
-use Rattle.theorems.proofs.ProgramLaws.{carried_by_status, led_to_fault, help_ended, may_ended, check_ended, settle_ended, audit_ended, all_ended, everybody_ended, explain_ended, settled_ended, all_settled_ended, advise_ended, advise_settled_ended, advise_pairs_ended, audit_pairs_ended, explain_pairs_ended, upgrade_ended, replay_ended}
+use Rattle.theorems.proofs.ProgramLaws.{carried_by_status, led_to_fault, help_ended, may_ended, check_ended, settle_ended, audit_ended, all_ended, everybody_ended, subtrees_ended, explain_ended, settled_ended, all_settled_ended, advise_ended, advise_settled_ended, advise_pairs_ended, audit_pairs_ended, explain_pairs_ended, upgrade_ended, replay_ended}
 use Rattle.theorems.proofs.the_program.Goals as goal
 
 pub returns : goal.returns
@@ -16,6 +16,8 @@ returns c = record {
       all_ended files given old new status text st audit carried of_known of_text guards each;
   audit_everybody = λ asked files given old new status text st subtrees.
       everybody_ended files given old new status text st asked subtrees;
+  audit_subtrees = λ asked files given old new status text lines st.
+      subtrees_ended files given old new status text st asked lines;
   audit_settled = λ audit files given old new status text st users subtrees carried further first of_known of_text of_users of_paths.
       settled_ended files given old new status text st audit carried of_known of_text users subtrees further of_users of_paths first;
   audit_all_settled = λ audit files given old new status text st users subtrees carried further each of_known of_text of_users of_paths.

@@ -18,6 +18,9 @@ returns-in-Audit-clause-answer g c = rw c.in-Audit.is c.on_tree-in-Audit.ensures
 pub returns-in-AuditEverybody-clause-answer : goal.returns-in-AuditEverybody-clause-answer
 returns-in-AuditEverybody-clause-answer g c = rw c.in-AuditEverybody.is c.on_tree-in-AuditEverybody.ensures.answer
 
+pub returns-in-AuditSubtrees-clause-answer : goal.returns-in-AuditSubtrees-clause-answer
+returns-in-AuditSubtrees-clause-answer g c = rw c.in-AuditSubtrees.is c.on_subtrees.ensures.answer
+
 pub returns-in-Explain-clause-answer : goal.returns-in-Explain-clause-answer
 returns-in-Explain-clause-answer g c = rw c.in-Explain.is c.on_tree-in-Explain.ensures.answer
 
@@ -53,6 +56,9 @@ returns-in-Audit-clause-noted g c = rw c.in-Audit.is c.on_tree-in-Audit.ensures.
 
 pub returns-in-AuditEverybody-clause-noted : goal.returns-in-AuditEverybody-clause-noted
 returns-in-AuditEverybody-clause-noted g c = rw c.in-AuditEverybody.is c.on_tree-in-AuditEverybody.ensures.noted
+
+pub returns-in-AuditSubtrees-clause-noted : goal.returns-in-AuditSubtrees-clause-noted
+returns-in-AuditSubtrees-clause-noted g c = rw c.in-AuditSubtrees.is c.on_subtrees.ensures.noted
 
 pub returns-in-Explain-clause-noted : goal.returns-in-Explain-clause-noted
 returns-in-Explain-clause-noted g c = rw c.in-Explain.is c.on_tree-in-Explain.ensures.noted

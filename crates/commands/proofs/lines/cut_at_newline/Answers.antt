@@ -1,6 +1,6 @@
 use Rattle.std.proofs.Common.{◌+◌, ◌-◌, ◌<◌, drop, length, length-drop, take_all, arith}
-use Rattle.commands.proofs.PairLaws.{uncut, cut_here}
-use Rattle.commands.proofs.pairs.cut_at_newline.Goals as goal
+use Rattle.commands.proofs.LineLaws.{uncut, cut_here}
+use Rattle.commands.proofs.lines.cut_at_newline.Goals as goal
 
 pub returns-then-end-bytes-clause-pieces : goal.returns-then-end-bytes-clause-pieces
 returns-then-end-bytes-clause-pieces c = uncut c.args.bytes.now c.line_end-end.result (omega arith) c.line_end-end.ensures.before

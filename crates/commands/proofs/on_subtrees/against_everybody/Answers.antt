@@ -1,0 +1,20 @@
+use Rattle.std.proofs.Common.{◌≡◌, ◌∙◌, ap, map, subst}
+use Rattle.machine_everybody.specs.Everybody.{Everybody}
+use Rattle.cg_everybody.specs.Everybody.{members_of}
+use Rattle.cg_cli.specs.Everybody.{everybody_report}
+use Rattle.cg_cli.specs.Reports.{Reports}
+use Rattle.arguments.specs.Given.{listed_group}
+use Rattle.commands.proofs.on_subtrees.against_everybody.Goals as goal
+
+-- the groups as the call takes them are those of the words
+pub returns : goal.returns
+returns g c =
+    let groups : map members_of c.as_slice-3.result.now ≡ map listed_group c.args.everyone.now.groups.items =
+    ap (map members_of) c.as_slice-3.ensures.value ∙ c.in_ok-groups.ensures.members ∙ ap (map listed_group) c.as_slice.ensures.value in
+    let said = c.everybody_bytes.ensures in (
+      said.0,
+      said.1,
+      subst (λ (asked : Everybody). Reports (everybody_report asked said.0 (map (λ subtree. subtree.now) c.args.subtrees.now))
+          (g.W.Write.contents c.args.out.now) (g.W.Write.contents c.everybody_bytes.new.out) c.everybody_bytes.result)
+          (λ i. let it : Everybody = record { but = c.as_slice-2.ensures.value i; groups = groups i } in it) said.2,
+    )
