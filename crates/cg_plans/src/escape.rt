@@ -4,7 +4,6 @@ ghost use Rattle.cg_plans.specs.Breaking.{Breaks};
 
 use crate::draft::Draft;
 use crate::goals::goals;
-use crate::loose::Loose;
 use crate::planner::Planner;
 use crate::replayed::replayed;
 use cg_cgroup::memory::NoMemory;
@@ -14,6 +13,7 @@ use cg_model::hierarchy::Hierarchy;
 use cg_model::operation::Op;
 use cg_model::operations::Operations;
 use std::alloc::Global;
+use std::cell::OnceCell;
 
 /// A list of operations of a user that breaks a subtree, where one is found: nothing bars any of them, and the last breaks it.
 ///
@@ -32,15 +32,14 @@ pub fn find_escape<H: Hierarchy + Drop>(
     if subtree.depth() == 0 {
         return Ok(None);
     }
-    let paths = tree.paths(alloc)?;
     let planner = Planner {
         alloc,
         tree,
         user,
         subtree,
-        loose: Loose::new(alloc, tree, user, subtree, paths.as_slice())?,
-        paths,
+        paths: tree.paths(alloc)?,
         pids: tree.pids(alloc)?,
+        loose: OnceCell::new(),
     };
     for goal in goals(&planner)? {
         if let Some(found) = planned(&planner, goal)? {

@@ -1,6 +1,4 @@
 //! What of a tree may go, by the directories and the control files that a user reaches. Of processes nothing is asked.
-ghost use Rattle.std.specs.Prelude.{◌≤◌, length};
-
 use cg_cgroup::memory::NoMemory;
 use cg_cgroup::path::Path;
 use cg_cgroup::user::User;
@@ -39,11 +37,111 @@ impl Tally {
     }
 }
 
+/// A cgroup with all below it. It goes by its place among the paths of the tree, where those below it come directly behind it.
+#[derive(Clone, Copy, Debug, PartialEq, Eq)]
+struct Branch {
+    /// The place of its parent; none of the root.
+    parent: Option<usize>,
+    /// The place behind it and all below it.
+    end: usize,
+    /// Whether the user reaches its directory.
+    is_reached: bool,
+    /// Whether it enables a controller, and the user doesn't reach its `cgroup.subtree_control`.
+    stays_enabled: bool,
+    /// Whether it, or a cgroup below it, has a child and a directory that isn't reached.
+    is_shut: bool,
+}
+
+impl Branch {
+    /// A cgroup with nothing below it.
+    fn new<H: Hierarchy>(
+        tree: &H,
+        user: &User,
+        path: &Path,
+        at: usize,
+        parent: Option<usize>,
+    ) -> Branch {
+        let (is_reached, stays_enabled) = match tree.get(path, path.depth()) {
+            Some(cgroup) => (
+                user.reaches(&cgroup.dir),
+                !cgroup.enabled.is_empty() && !user.reaches(&cgroup.subtree_control),
+            ),
+            None => (false, false),
+        };
+        Branch {
+            parent,
+            end: at.saturating_add(1),
+            is_reached,
+            stays_enabled,
+            is_shut: false,
+        }
+    }
+
+    /// With one of its children, of which all is known.
+    fn with_child(self, child: Branch) -> Branch {
+        Branch {
+            end: self.end.max(child.end),
+            is_shut: self.is_shut || child.is_shut || !self.is_reached,
+            ..self
+        }
+    }
+}
+
+/// Each cgroup of a tree by itself.
+fn alone<H: Hierarchy>(
+    alloc: Global,
+    tree: &H,
+    user: &User,
+    paths: &[Path],
+) -> Result<Vec<Branch>, NoMemory> {
+    let mut branches = Vec::new(alloc);
+    // the last one and those above it
+    let mut above: Vec<usize> = Vec::new(alloc);
+    for (at, path) in paths.iter().enumerate() {
+        above.truncate(path.depth());
+        let parent = above.as_slice().last().copied();
+        branches.push(Branch::new(tree, user, path, at, parent))?;
+        above.push(at)?;
+    }
+    Ok(branches)
+}
+
+/// Adds to each cgroup what is known of those below it.
+fn join(branches: &mut [Branch]) {
+    for at in (0..branches.len()).rev() {
+        tell_parent(branches, at);
+    }
+}
+
+/// Adds to a cgroup's parent what is known of the one at a place, once all is known of it.
+fn tell_parent(branches: &mut [Branch], at: usize) {
+    let Some(child) = branches.get(at).copied() else {
+        return;
+    };
+    let Some(place) = child.parent else {
+        return;
+    };
+    if let Some(parent) = branches.get_mut(place) {
+        *parent = parent.with_child(child);
+    }
+}
+
+/// Whether the user may remove a cgroup and all below it.
+fn is_removable(branches: &[Branch], branch: &Branch) -> bool {
+    let Some(place) = branch.parent else {
+        return false;
+    };
+    match branches.get(place) {
+        Some(parent) => parent.is_reached && !branch.is_shut,
+        None => false,
+    }
+}
+
 /// Which cgroups may be removed, and which have to enable a controller as long as they are there. Cgroups go by their place among
-/// the paths of the tree, where those below one come directly behind it.
+/// the paths of the tree.
 #[derive(Drop)]
 pub struct Loose {
-    ends: Vec<usize>,
+    branches: Vec<Branch>,
     removable: Tally,
     enabling: Tally,
 }
@@ -56,45 +154,26 @@ impl Loose {
         subtree: &Path,
         paths: &[Path],
     ) -> Result<Loose, NoMemory> {
-        let mut loose = Loose {
-            ends: Vec::new(alloc),
-            removable: Tally::new(alloc)?,
-            enabling: Tally::new(alloc)?,
-        };
-        let shut = loose.shut(alloc, tree, user, paths)?;
-        for (at, path) in paths.iter().enumerate() {
-            let is_removable = shut.between(at, loose.end(at)) == 0
-                && !path.is_prefix_of(subtree)
-                && is_parent_reached(tree, user, path);
-            loose.removable.add(is_removable)?;
-            loose
-                .enabling
-                .add(!is_removable && stays_enabled(tree, user, path))?;
+        let mut branches = alone(alloc, tree, user, paths)?;
+        join(&mut branches);
+        let mut removable = Tally::new(alloc)?;
+        let mut enabling = Tally::new(alloc)?;
+        for (branch, path) in branches.iter().zip(paths) {
+            let goes = is_removable(branches.as_slice(), branch) && !path.is_prefix_of(subtree);
+            removable.add(goes)?;
+            enabling.add(!goes && branch.stays_enabled)?;
         }
-        Ok(loose)
-    }
-
-    /// Adds where those below each cgroup end, and counts the cgroups that have a child and whose directory isn't reached.
-    fn shut<H: Hierarchy>(
-        &mut self,
-        alloc: Global,
-        tree: &H,
-        user: &User,
-        paths: &[Path],
-    ) -> Result<Tally, NoMemory> {
-        let mut shut = Tally::new(alloc)?;
-        for (at, path) in paths.iter().enumerate() {
-            let below = count_below(tree, path);
-            self.ends.push(at.saturating_add(1).saturating_add(below))?;
-            shut.add(below > 0 && !is_dir_reached(tree, user, path, path.depth()))?;
-        }
-        Ok(shut)
+        Ok(Loose {
+            branches,
+            removable,
+            enabling,
+        })
     }
 
     /// The place behind the cgroup at a place and all below it.
     fn end(&self, at: usize) -> usize {
-        match self.ends.as_slice().get(at) {
-            Some(end) => *end,
+        match self.branches.as_slice().get(at) {
+            Some(branch) => branch.end,
             None => at,
         }
     }
@@ -107,36 +186,5 @@ impl Loose {
     /// Whether each cgroup below the one at a place may be removed, or enable nothing.
     pub fn opens_below(&self, at: usize) -> bool {
         self.enabling.between(at.saturating_add(1), self.end(at)) == 0
-    }
-}
-
-/// How many cgroups lie below one.
-fn count_below<H: Hierarchy>(tree: &H, path: &Path) -> usize {
-    match tree.get(path, path.depth()) {
-        Some(_) => tree.count_below(path, path.depth()) as usize,
-        None => 0,
-    }
-}
-
-/// Whether a user reaches the directory of a cgroup's parent.
-fn is_parent_reached<H: Hierarchy>(tree: &H, user: &User, path: &Path) -> bool {
-    path.depth() > 0 && is_dir_reached(tree, user, path, path.parent_len())
-}
-
-/// Whether a user reaches the directory of the cgroup of the first `len` names of a path.
-fn is_dir_reached<H: Hierarchy>(tree: &H, user: &User, path: &Path, len: usize) -> bool
-    requires { len ≤ length path.now }
-{
-    match tree.get(path, len) {
-        Some(cgroup) => user.reaches(&cgroup.dir),
-        None => false,
-    }
-}
-
-/// Whether a cgroup enables a controller, and the user doesn't reach its `cgroup.subtree_control`.
-fn stays_enabled<H: Hierarchy>(tree: &H, user: &User, path: &Path) -> bool {
-    match tree.get(path, path.depth()) {
-        Some(cgroup) => !cgroup.enabled.is_empty() && !user.reaches(&cgroup.subtree_control),
-        None => false,
     }
 }

@@ -92,10 +92,12 @@ impl<'a, H: Hierarchy> Planner<'a, H> {
     ) -> Result<Vec<Path>, NoMemory> {
         let mut found = Found::new(self.alloc, most)?;
         let mut rooms = Rooms::new(self.alloc);
+        let loose = self.loose()?;
         for (at, path) in self.paths.iter().enumerate() {
             if let Some(cgroup) = tree.get(path, path.depth()) {
-                let room = rooms.next(tree, self.user, path, self.loose.removable_below(at))?;
-                let kind = self.kind(cgroup, path, self.loose.opens_below(at));
+                let removable = loose.removable_below(at);
+                let room = rooms.next(tree, self.user, path, cgroup, removable)?;
+                let kind = self.kind(cgroup, path, loose.opens_below(at));
                 self.add_place(tree, sought, kind, path, &mut found)?;
                 let kind = self.child_kind(cgroup, room);
                 self.add_place(tree, sought, kind, path, &mut found)?;

@@ -10,6 +10,7 @@ use cg_cgroup::process::Pid;
 use cg_cgroup::user::User;
 use cg_model::hierarchy::Hierarchy;
 use std::alloc::Global;
+use std::cell::OnceCell;
 
 /// A user, the subtree of a tree that they would break, and what was in the tree at the start.
 #[derive(Drop)]
@@ -20,11 +21,24 @@ pub struct Planner<'a, H: Hierarchy> {
     pub subtree: &'a Path,
     pub paths: Vec<Path>,
     pub pids: Vec<Pid>,
-    /// What may go of the tree at the start.
-    pub loose: Loose,
+    /// What may go of the tree at the start, once a place is sought.
+    pub loose: OnceCell<Loose>,
 }
 
 impl<'a, H: Hierarchy> Planner<'a, H> {
+    /// What may go of the tree at the start.
+    pub fn loose(&self) -> Result<&Loose, NoMemory> {
+        self.loose.get_or_try_init(|| {
+            Loose::new(
+                self.alloc,
+                self.tree,
+                self.user,
+                self.subtree,
+                self.paths.as_slice(),
+            )
+        })
+    }
+
     /// Whether a live process is the user's.
     pub fn is_own(&self, pid: Pid) -> bool {
         self.tree.owner(pid) == Some(self.user.uid())

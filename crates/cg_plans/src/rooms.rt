@@ -1,4 +1,7 @@
 //! Where there is room for a new cgroup.
+ghost use Rattle.std.specs.Prelude.{◌≡◌, true};
+ghost use Rattle.cg_model.specs.WellFormed.{has_row};
+
 use cg_cgroup::cgroup::Cgroup;
 use cg_cgroup::files::Limit;
 use cg_cgroup::memory::NoMemory;
@@ -42,6 +45,40 @@ impl Levels {
         }
     }
 
+    /// With a cgroup's limit of descendants, below which so many may be removed.
+    fn under_descendants<H: Hierarchy>(
+        self,
+        tree: &H,
+        user: &User,
+        path: &Path,
+        cgroup: &Cgroup,
+        removable: u64,
+    ) -> Levels
+        requires { has_row (H.state tree.now) path.now ≡ true }
+    {
+        let Limit::At(most) = cgroup.max_descendants.value else {
+            return self;
+        };
+        let count = tree.count_below(path, path.depth());
+        if most > count {
+            return self;
+        }
+        let excess = count.saturating_add(1).saturating_sub(most);
+        let lifts = user.reaches(&cgroup.max_descendants.entry) || excess <= removable;
+        self.with(0, lifts)
+    }
+
+    /// With the limit of depth of a cgroup of so many names.
+    fn under_depth(self, user: &User, cgroup: &Cgroup, depth: u64) -> Levels {
+        match cgroup.max_depth.value {
+            Limit::At(most) => {
+                let lifts = user.reaches(&cgroup.max_depth.entry);
+                self.with(most.saturating_add(depth), lifts)
+            }
+            Limit::Max => self,
+        }
+    }
+
     /// What room a cgroup of so many names has for a child.
     fn room(self, depth: u64) -> Room {
         if self.any > depth {
@@ -73,46 +110,21 @@ impl Rooms {
         tree: &H,
         user: &User,
         path: &Path,
+        cgroup: &Cgroup,
         removable: usize,
-    ) -> Result<Room, NoMemory> {
+    ) -> Result<Room, NoMemory>
+        requires { has_row (H.state tree.now) path.now ≡ true }
+    {
         let depth = path.depth();
         self.levels.truncate(depth);
         let above = match self.levels.as_slice().last() {
             Some(levels) => *levels,
             None => Levels::NONE,
         };
-        let levels = match tree.get(path, depth) {
-            Some(cgroup) => {
-                let count = tree.count_below(path, depth);
-                limited(above, user, cgroup, depth as u64, count, removable as u64)
-            }
-            None => above.with(0, false),
-        };
+        let levels = above
+            .under_descendants(tree, user, path, cgroup, removable as u64)
+            .under_depth(user, cgroup, depth as u64);
         self.levels.push(levels)?;
         Ok(levels.room(depth as u64))
     }
-}
-
-/// The levels with the limits of a cgroup of so many names, below which there are so many and so many may be removed.
-fn limited(
-    above: Levels,
-    user: &User,
-    cgroup: &Cgroup,
-    depth: u64,
-    count: u64,
-    removable: u64,
-) -> Levels {
-    let mut levels = above;
-    if let Limit::At(most) = cgroup.max_descendants.value {
-        if most <= count {
-            let excess = count.saturating_add(1).saturating_sub(most);
-            let lifts = user.reaches(&cgroup.max_descendants.entry) || excess <= removable;
-            levels = levels.with(0, lifts);
-        }
-    }
-    if let Limit::At(most) = cgroup.max_depth.value {
-        let lifts = user.reaches(&cgroup.max_depth.entry);
-        levels = levels.with(most.saturating_add(depth), lifts);
-    }
-    levels
 }
