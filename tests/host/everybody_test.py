@@ -51,8 +51,7 @@ class EverybodyTest(HostTest):
         self.assertEqual((against(found)["/alice"], against(found)["/bob"]), (EVERYBODY, EVERYBODY))
         self.assertNotEqual(against(found)["/up/carol"], EVERYBODY)
         asked = [call for call in self.called() if call[:2] == ["audit", "--everybody"]]
-        self.assertEqual([call[call.index("--tree") + 2:] for call in asked],
-                         [[word for top in ("/alice", "/bob", "/up", "/up/carol") for word in ("--subtree", top)]])
+        self.assertEqual(["--subtrees" in call for call in asked], [True])
         self.assertNotIn("/alice", [word for call in self.called() if call not in asked for word in call])
 
     def test_nothing_else_is_asked_where_all_is_held(self):

@@ -23,6 +23,10 @@ from zirofen_host.collect.model import User  # noqa: E402
 from zirofen_host.profile import path_of, text_of  # noqa: E402
 
 
+# what comes with something else that it can
+WITH = {"subtrees": "everybody"}
+
+
 def can(what):
     return what in os.environ.get("MADE_UP", "").split(",")
 
@@ -155,9 +159,13 @@ def explain(delegations, user, subtree):
     yield f"holds already-over {subtree} cgroup.max.depth 0 max"
 
 
-def pairs_in(file):
+def lines_in(file):
     with open(file, encoding="ascii") as text:
-        return [(user, subtree) for _, user, subtree in (line.split() for line in text)]
+        return text.read().splitlines()
+
+
+def pairs_in(file):
+    return [(user, subtree) for _, user, subtree in map(str.split, lines_in(file))]
 
 
 @functools.lru_cache(maxsize=8)
@@ -178,7 +186,7 @@ def main(words):
     if words[-1] == "--help":
         if words[0] == "advise" and not can("advise") or words[0] == "explain" and not can("explain"):
             return fault("fault: usage")
-        known = {"audit": "".join(f"  --{name}  x\n" for name in ("all", "pairs", "settle", "everybody") if can(name)),
+        known = {"audit": "".join(f"  --{name}  x\n" for name in ("all", "pairs", "settle", "everybody", "subtrees") if can(WITH.get(name, name))),
                  "advise": "  --pairs <FILE>  x\n", "explain": "  --subtree <PATH>  x\n"}
         print("Options:\n  --tree <FILE>\n" + known.get(words[0], ""))
         return 0
@@ -192,8 +200,8 @@ def main(words):
     given = options(words[1 + len(flags):])
     named = itertools.product(given.get("--uid", ()), given.get("--subtree", ()))
     pairs = pairs_in(given["--pairs"][0]) if "--pairs" in given else list(named)
-    if any(path.endswith("/odd") for _, path in pairs) or "--everybody" in flags and any(
-            path.endswith("/strange") for path in given["--subtree"]):
+    subtrees = lines_in(given["--subtrees"][0]) if "--everybody" in flags else given.get("--subtree", [])
+    if any(path.endswith("/odd") for _, path in pairs) or "--everybody" in flags and any(path.endswith("/strange") for path in subtrees):
         return fault("fault: subtree missing")
     file = given["--tree"][0]
     try:
@@ -203,9 +211,9 @@ def main(words):
     if words[0] == "replay":
         return 0
     if "--everybody" in flags:
-        return audit_everybody(delegations, given["--subtree"])
+        return audit_everybody(delegations, subtrees)
     if words[0] == "audit" and "--settle" in flags:
-        return audit_settled(delegations, given["--uid"], given["--subtree"])
+        return audit_settled(delegations, given["--uid"], subtrees)
     if words[0] == "audit":
         return audit(delegations, pairs, is_all or "--pairs" in given)
     if words[0] == "advise":

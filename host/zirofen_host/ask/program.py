@@ -160,8 +160,7 @@ class Program:
 
     def breaks(self, user: User, subtree: CgroupPath, operations: Sequence[str]) -> bool:
         """Whether a user's operations come to their end and break a subtree; Refused is for the caller."""
-        file = f"{self.tree}.{os.urandom(8).hex()}.ops"
-        output.make(file, "".join(f"{line}\n" for line in operations).encode("ascii", "replace"))
+        file = self.lines_file("ops", (line.encode("ascii", "replace") for line in operations))
         words = ("replay", "--tree", self.tree, *user_words(user), "--ops", file, "--subtree", text_of(subtree))
         return self.in_half().run(*words).status == ESCAPES
 
@@ -184,12 +183,12 @@ class Program:
 
     def held(self, subtrees: Sequence[CgroupPath]) -> Set[CgroupPath]:
         """Those of some subtrees that are contained against everybody but root; Refused is for the caller."""
-        found = set(subtrees)
-        for some in blocks_of(subtrees, lambda path: ["--subtree", text_of(path)], ROOM):
-            ended = self.run("audit", "--everybody", "--tree", self.tree, *subtree_words(some))
-            paths = {text_of(path): path for path in some}
-            found -= {paths[word] for word in listed_in(ended, paths)}
-        return found
+        paths = {text_of(path): path for path in subtrees}
+        if not paths:
+            return set()
+        file = self.lines_file("subtrees", (word.encode("ascii") for word in paths))
+        ended = self.run("audit", "--everybody", "--tree", self.tree, "--subtrees", file)
+        return {*subtrees} - {paths[word] for word in listed_in(ended, paths)}
 
     def settled(self, found: Answered, users: Sequence[User], made: Container[CgroupPath] = ()) -> Answered:
         """The answers, with what `audit --settle` says of those that are unsettled, where all users can be asked of in one run: it
@@ -243,9 +242,14 @@ class Program:
 
     def pair_words(self, pairs: Iterable[Pair]) -> Sequence[str]:
         """The words by which the program is asked of pairs, whose lines go into a file."""
-        file = f"{self.tree}.{os.urandom(8).hex()}.pairs"
-        output.make(file, "".join(f"{pair_line(pair)}\n" for pair in pairs).encode("ascii"))
+        file = self.lines_file("pairs", (pair_line(pair).encode("ascii") for pair in pairs))
         return "--tree", self.tree, "--pairs", file
+
+    def lines_file(self, kind: str, lines: Iterable[bytes]) -> str:
+        """Makes a file of lines beside the tree text, which goes with it."""
+        file = f"{self.tree}.{os.urandom(8).hex()}.{kind}"
+        output.make(file, b"".join(line + b"\n" for line in lines))
+        return file
 
     def advise(self, pairs: Sequence[Pair]) -> List[Advice]:
         """What fails for pairs of a user and a subtree, each with its changes, as words; Refused is for the caller."""
@@ -260,7 +264,7 @@ def abilities_of(path: str) -> Abilities:
     program = Program(path, "")
     audit, advise = help_of(program, "audit"), help_of(program, "advise")
     return Abilities("--all" in audit.split(), "--pairs" in advise.split(), version_of(program), "--settle" in audit.split(),
-                     "--subtree" in help_of(program, "explain").split(), "--pairs" in audit.split(), "--everybody" in audit.split())
+                     "--subtree" in help_of(program, "explain").split(), "--pairs" in audit.split(), "--subtrees" in audit.split())
 
 
 def subtree_words(subtrees: Iterable[CgroupPath]) -> List[str]:
