@@ -327,8 +327,14 @@ same_whom found everyone asked of given =
 -- where no subtree is named, whatever is held of the text
 held_of_none : (text : List ℕ) (asked : Whom) (words : List (List ℕ)) → AreHeldAgainstEverybody text asked words
     → AreHeldAgainstEverybody text asked []
-held_of_none text asked words held = record { machine = held.machine; told = held.told; each = λ word among. absurd (omega (arith,
-    among.1)) }
+held_of_none text asked words held = record {
+  machine = held.machine;
+  told = held.told;
+  each = λ word among. absurd (omega (
+    arith,
+    among.1,
+  ));
+}
 
 -- ---- what the words ask
 
