@@ -1,5 +1,5 @@
 -- What the lines of a text name, line by line.
-use Rattle.std.proofs.Common.{◌≡◌, ◌≢◌, ℕ, ◌+◌, ◌<◌, ◌≤◌, Bool, true, false, cond, List, [], ◌∷◌, ◌++◌, length, take, get_or, add-one, take-append-drop, take_all, arith, refl, ap, sym, subst, inl, inr, ◌∙◌, append_assoc, append-nil}
+use Rattle.std.proofs.Common.{◌≡◌, ◌≢◌, ◌⊎◌, ℕ, ◌+◌, ◌<◌, ◌≤◌, Bool, true, false, cond, List, [], ◌∷◌, ◌++◌, length, take, get_or, add-one, take-append-drop, take_all, arith, refl, ap, sym, subst, inl, inr, ◌∙◌, append_assoc, append-nil}
 use Rattle.std.specs.Prelude.{drop, nat_lt, Option, Some, None, Result, Ok, Err}
 use Rattle.std.specs.List.{All, slice_split, onto_first}
 use Rattle.std.proofs.Math.Seq.{drop-cons}
@@ -13,7 +13,7 @@ use Rattle.cg_cli.proofs.ReadingOf.{on_text}
 use Rattle.cg_faults.specs.declared.fault.CliFault.{CliFault}
 use Rattle.cg_faults.specs.declared.fault.CliFault.TheVariants.{Write, NoMemory}
 use Rattle.commands.specs.Lines.{LineReading, end_fault, nothing_unless, followed_by, pieces_read}
-use Rattle.commands.specs.Requests.{OnLines, AnswersLines}
+use Rattle.commands.specs.Requests.{OnLines, AnswersLines, IsUnread, IsTree, IsOtherText, OnBothTexts}
 use Rattle.commands.proofs.RequestLaws.{Keeps-refl, unread}
 
 -- a text without a newline
@@ -128,4 +128,24 @@ module _ {A : Type 0} (lines : List ℕ → Result (List A) CliFault) (Says : Li
         said.0,
         said.1,
         subst (λ (found : Result (List A) CliFault). OnLines Says found said.0 old new result) (sym is) said.2,
+      )
+
+  -- by a call that may end before
+  pub call_answered : (named : List A) (old new : Option (List ℕ)) (result : Result ℕ CliFault) → lines text ≡ Ok named
+      → OnText tree (λ read. Says named read old new result) ⊎ IsUnread old new result → AnswersLines lines Says tree text old new result
+  call_answered named old new result is (inl said) = lines_answered named old new result is said
+  call_answered named old new result is (inr ended) = inr ended
+
+  -- on texts that were read before
+  pub both_answered : (known other : Option (List ℕ)) (given named : List ℕ) (old new : Option (List ℕ)) (result : Result ℕ CliFault)
+      → IsTree known tree → IsOtherText other text → given ≡ tree → named ≡ text → AnswersLines lines Says given named old new result
+      → OnBothTexts lines Says known other old new result
+  both_answered known other given named old new result of_tree of_text is_tree is_text said =
+      inl (
+        tree,
+        text,
+        of_tree,
+        of_text,
+        subst (λ (named : List ℕ). AnswersLines lines Says tree named old new result) is_text
+            (subst (λ (given : List ℕ). AnswersLines lines Says given named old new result) is_tree said),
       )

@@ -32,6 +32,15 @@ path_read line text path same utf8 is =
     ap (λ b. cond b (option_map (λ path. line) (path_at line)) None) (is_utf8-from_IsUtf8 line utf8)
     ∙ ap (option_map (λ path. line)) (ap path_at (sym same) ∙ is) ∙ ap Some (sym same)
 
+-- one that is text, and no path
+pub no_path : (line text : List ℕ) → text ≡ line → path_at text ≡ None → subtree_read line ≡ None
+no_path line text same none = by_tests (is_utf8 line) (path_at line) (ap path_at (sym same) ∙ none)
+  where
+    by_tests : (b : Bool) (path : Option Names) → path ≡ None → cond b (option_map (λ path. line) path) None ≡ None
+    by_tests true (Some path) is = cc
+    by_tests true None is = refl
+    by_tests false path is = refl
+
 -- what a line names is itself
 read_is : (line named : List ℕ) → subtree_read line ≡ Some named → named ≡ line
 read_is line named is = by_tests (is_utf8 line) (path_at line) is

@@ -1,11 +1,11 @@
 //! The command that is asked of everybody, of a tree and of the subtrees that a text names.
-ghost use Rattle.std.specs.Prelude.{IfOk, map};
+ghost use Rattle.std.specs.Prelude.{◌⊎◌, IfOk, map};
 ghost use Rattle.cg_format.specs.Readings.{OnText};
 ghost use Rattle.cg_cli.specs.Everybody.{everybody_report};
 ghost use Rattle.cg_cli.specs.Reports.{Reports};
 ghost use Rattle.arguments.specs.Given.{tree_file, other_file};
 ghost use Rattle.commands.specs.Beside.{IsPlain};
-ghost use Rattle.commands.specs.Requests.{source, whom, EverybodyOn, AnswersLines, OnBothTexts};
+ghost use Rattle.commands.specs.Requests.{source, whom, EverybodyOn, IsUnread, AnswersLines, OnBothTexts};
 ghost use Rattle.commands.specs.SubtreeLines.{subtrees_read};
 
 use crate::both::plain;
@@ -80,7 +80,8 @@ pub(crate) fn against_everybody<W: Write>(
 ) -> Result<u8, CliFault>
     ensures { OnText tree.now (λ read. Reports
         (everybody_report (whom everyone.now) read (map (λ subtree. subtree.now) subtrees.now))
-        (W.contents out.old) (W.contents out.new) result) }
+        (W.contents out.old) (W.contents out.new) result)
+        ⊎ IsUnread (W.contents out.old) (W.contents out.new) result }
 {
     let groups = all_members(alloc, everyone.groups.as_slice())?;
     let asked = Asked {

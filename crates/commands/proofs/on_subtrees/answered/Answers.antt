@@ -2,7 +2,7 @@ use Rattle.std.proofs.Common.{◌∙◌, List, ℕ, map, ap, sym, Ok}
 use Rattle.std.specs.Borrow.{Bor}
 use Rattle.commands.specs.Requests.{whom, EverybodyOn}
 use Rattle.commands.specs.SubtreeLines.{subtrees_read}
-use Rattle.commands.proofs.LineLaws.{fault_said, lines_answered}
+use Rattle.commands.proofs.LineLaws.{fault_said, call_answered}
 use Rattle.commands.proofs.on_subtrees.answered.Goals as goal
 
 pub returns-in-Err : goal.returns-in-Err
@@ -13,7 +13,7 @@ returns-in-Err g c =
 
 pub returns-in-Ok : goal.returns-in-Ok
 returns-in-Ok g c =
-    lines_answered subtrees_read (EverybodyOn (whom c.args.everyone.now)) c.args.tree.now c.args.text.now
+    call_answered subtrees_read (EverybodyOn (whom c.args.everyone.now)) c.args.tree.now c.args.text.now
     (map (λ subtree. subtree.now) c.as_slice.result.now)
     (g.W.Write.contents c.args.out.now) (g.W.Write.contents c.against_everybody.new.out) c.against_everybody.result
     (c.in-Ok.ensures.subtrees
