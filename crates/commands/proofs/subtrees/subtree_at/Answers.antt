@@ -11,6 +11,8 @@ returns-clause-subtree c =
     elim c.match-parse.branch [
       | in-Ok-parse w ↦ rw w.result-is
           (path_read c.args.line.now c.in-Ok.subtree.now _ c.in-Ok.ensures.cases.0 c.in-Ok.ensures.cases.1 w.in-Ok-parse.ensures.value)
-      | in-Err-BadPath w ↦ rw w.result-is (λ _. (no_path c.args.line.now c.in-Ok.subtree.now c.in-Ok.ensures.cases.0 (w.in-Err-BadPath.ensures.value w.in-Err-BadPath.field-0-is), refl))
+      | in-Err-BadPath w ↦
+          let none = w.in-Err-BadPath.ensures.value w.in-Err-BadPath.field-0-is in
+          rw w.result-is (λ _. (no_path c.args.line.now c.in-Ok.subtree.now c.in-Ok.ensures.cases.0 none, refl))
       | in-Err-NoMemory w ↦ rw w.result-is (λ other. absurd (other refl))
     ]
