@@ -115,7 +115,7 @@ class RunTest(Called):
             self.assertIn("- Wrong programs: 3 of 15 noticed", said)
 
     def test_each_wrong_program_is_noticed_by_made_cases(self):
-        """But for the one that has trees of its own: further_test."""
+        """But for the one that has trees of its own: limit_files_test."""
         for name in [it for it in wrong.NAMES if it != mutants.FORGETS]:
             with self.subTest(name), tempfile.TemporaryDirectory() as room:
                 kind = settled.CONTAINED if name in wrong.SETTLES else "contained"

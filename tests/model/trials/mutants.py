@@ -493,7 +493,7 @@ OF_TEXTS_NAMED_4 = {
     "a text names limit files of format 4 wherever it is": (
         STAND, STAND.replace("rules.files_at(bare, path)", "tuple(file for file in LIMIT_FILES if is_text(file) or file in rules.files_at(bare, path))")),
     "a text names cgroup.freeze of them alone": (
-        STAND, STAND.replace("rules.files_at(bare, path)", 'tuple(file for file in rules.files_at(bare, path) if file == "cgroup.freeze" or not is_text(file))')),
+        NOWHERE, '    first("no-such-file cgroup", numbered, lambda each: {*filter(is_text, named[each[0]])} - {"cgroup.freeze"})\n' + NOWHERE),
     "limit files of format 1 are looked for first": (
         NOWHERE, '    first("no-such-file cgroup", numbered, lambda each: not {name for name in named[each[0]] if not is_text(name)} '
                  "<= {*files[each[0]]})\n" + NOWHERE),
