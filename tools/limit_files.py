@@ -1,23 +1,17 @@
 """Whether what the code and the helpers for hosts say of limit files is what the one table of them in docs/MODEL.md says, and whether that
 is the definition's: one row for each in KINDS or OTHER_KINDS. And how much a text takes by the helpers, and by the definition."""
-import collections, os, re, sys
+import os, re, sys
 
 from edited import text_of
+from limit_table import MODEL, File, rows_of_docs
 
-TOP = os.path.dirname(os.path.dirname(os.path.abspath(__file__)))
-sys.path.append(f"{TOP}/host")
+sys.path.append(f"{os.path.dirname(os.path.dirname(os.path.abspath(__file__)))}/host")
 from zirofen_host import files, profile
 
-MODEL = "docs/MODEL.md"
 KINDS = "crates/cg_cgroup/specs/Kinds.antt"
 OTHER_KINDS = "crates/cg_cgroup/specs/OtherKinds.antt"
 CODE = "crates/cg_cgroup/src/files.rt"
 HOST, FORMATS_OF_HOST = "host/zirofen_host/files.py", "host/zirofen_host/profile.py"
-
-# a limit file: its name; the controller that brings it, or None; the numbers that it takes, which are None where its value is a text, and
-# whether it takes max; whether the lines of a text begin with a device; its value where none is given, which is None where it isn't known;
-# the two that a try sets it to; the first format that names it; and whether it stands at the root
-File = collections.namedtuple("File", "name controller least greatest takes_max has_devices default loose other since at_root")
 
 ROW = re.compile(
     r"^kind_of \w+ = (?:record \()?usual \d+ \(codes \"([^\"]+)\"\) (?:None|\(Some (\w+)\)) (?:(Max)|\(At (\d+)\))"
@@ -33,12 +27,6 @@ NUMBERS = [
     (profile.LARGEST_PID, "crates/cg_cgroup/specs/Numbers.antt", r"^is_pid .* nat_le number (\d+)$"),
 ]
 USUAL = re.compile(r"least = (\d+);\s+greatest = (\d+);\s+takes_max = (true|false);")
-# how the page says what a value is, and which files of no controller stand at the root
-NUMBER = re.compile(r"number(?: from (\d+) to (\d+))?$")
-TEXTS = {"text": False, "text of devices": True}
-AT_ROOT = {"none, at every cgroup": True, "none, but at the root": False}
-NOT_KNOWN = "not known"
-GREATEST = 2 ** 63 - 1
 
 
 def kinds_of(text):
@@ -61,48 +49,6 @@ def text_kinds_of(text):
 
 def rows_of_definition():
     return kinds_of(text_of(KINDS)) + text_kinds_of(text_of(OTHER_KINDS))
-
-
-def table_below(text, header):
-    """Returns the cells of each row of the table that has such a first cell."""
-    rows, lines = [], iter(text.split("\n"))
-    for line in lines:
-        if line.startswith(f"| {header} |"):
-            next(lines)
-            break
-    for line in lines:
-        if not line.startswith("|"):
-            break
-        rows.append([it.strip() for it in line.strip("|").split("|")])
-    return rows
-
-
-def names_in(cell):
-    """Returns the files that a first cell names, each alone or for each SIZE in turn."""
-    names, _, sizes = cell.partition(", where SIZE is ")
-    names = re.findall("`([^`]+)`", names)
-    return [name.replace("SIZE", size) for size in re.findall("`([^`]+)`", sizes) or ["SIZE"] for name in names]
-
-
-def files_of(cells):
-    """Returns the files of a row of the page's table; a cell that says nothing known is a ValueError."""
-    names, controller, value, default, loose, other, since = [it.strip("`") if "," not in it else it for it in cells]
-    number = NUMBER.match(value)
-    if not (number or value in TEXTS) or not (controller in AT_ROOT or controller.isalpha()) or default == NOT_KNOWN and number:
-        raise ValueError(f"no such row: {cells}")
-    least, greatest = (int(number[1] or 0), int(number[2] or GREATEST)) if number else (None, None)
-    known = None if default == NOT_KNOWN else default if default == "max" else int(default)
-    brought = None if controller in AT_ROOT else controller
-    return [File(name, brought, least, greatest, bool(number and not number[1]), TEXTS.get(value, False), known, loose, other, int(since),
-                 AT_ROOT.get(controller, False)) for name in names_in(cells[0])]
-
-
-def rows_of_docs(text=None):
-    """Returns the limit files of the table of docs/MODEL.md, in their order."""
-    if text is None:
-        with open(f"{TOP}/{MODEL}", encoding="utf-8") as page:
-            text = page.read()
-    return [it for cells in table_below(text, "Limit file") for it in files_of(cells)]
 
 
 def differing(found, wanted, name_of=lambda it: it.name):

@@ -9,7 +9,7 @@ from second.limit_files import LIMIT_FILES, NUMBER_FILES, TEXT_FILES
 from second.rules import Entry
 from trials.limit_files import DEVICE_FILES, named_at, texts_at
 import format_4_rows as rows
-import limit_files as of_docs
+import limit_table
 
 ONE, TOP, CHILD = (1000, (7,)), ("s",), ("s", "a")
 NINE, OF_NINE = rules.ALL_CONTROLLERS, rows.EVERY
@@ -42,10 +42,10 @@ def run(state, *lines, user=ONE):
 
 class FilesTest(unittest.TestCase):
     def test_the_table_is_that_of_the_docs(self):
-        for row, (name, file) in zip(of_docs.rows_of_docs(), LIMIT_FILES.items(), strict=True):
+        for row, (name, file) in zip(limit_table.rows_of_docs(), LIMIT_FILES.items(), strict=True):
             form = (*file.form, False) if name in NUMBER_FILES else (None, None, False, file.form.has_devices)
             texts_tried = tuple(map(str, (file.loose, file.other)))
-            self.assertEqual(row, of_docs.File(name, file.controller, *form, file.default, *texts_tried, file.since, file.at_root))
+            self.assertEqual(row, limit_table.File(name, file.controller, *form, file.default, *texts_tried, file.since, file.at_root))
 
     def test_files_are_in_the_order_of_their_names_but_for_the_first(self):
         self.assertEqual((len(LIMIT_FILES), limit_files.files_in(1), limit_files.files_in(2)), (51, NUMBER_FILES, NUMBER_FILES))
