@@ -328,7 +328,7 @@ class BesideTest(HostTest):
 class MemoryTest(unittest.TestCase):
     @unittest.skipUnless(REAL_PROGRAM, "the program isn't built")
     def test_a_run_takes_no_more_than_is_reckoned_with(self):
-        """Of cgroups with each further limit file in few bytes, and with none: it answers, and with a quarter of that it doesn't."""
+        """Of cgroups with each limit file of format 4 in few bytes, and with none: it answers, and with a quarter of that it doesn't."""
         for files, count in ((TEXT_FILES, 700), ((), 3000)):
             entry, top = Entry(1000, 0, 0o644), Row(path("/a"), files={"cgroup.procs": Entry(1000, 0, 0o644)}, enabled=CONTROLLERS)
             below = [Row(path(f"/a/{number}"), Entry(1000, 0, 0o755), dict.fromkeys(files, entry)) for number in range(count)]

@@ -63,7 +63,7 @@ at = '/'
 
 
 def as_taken(tree, text_format):
-    """A tree as a snapshot in a format has it: of the further limit files with those that the format names and somebody but root
+    """A tree as a snapshot in a format has it: of limit files of format 4 with those that the format names and somebody but root
     reaches."""
     def told(row, parts):
         return {name: part for name, part in parts.items()

@@ -25,7 +25,7 @@ LARGEST_ID, LARGEST_PID, LARGEST_MODE = 2**32 - 1, 4194303, 0o777
 GROUP_WRITES = 0o020
 STRANGER = 4242
 DEEP, WIDE = 100, 2050
-# lines of further limit files, each of which is spelled in another way, and the longest
+# lines of values that are texts, each of which is spelled in another way, and the longest
 LINES = ("max 100000", 'a"b', "a\\b", "it's", "'\"", "'''\\", "'''\"\"\"\\", 4095 * "7")
 # cgroups whose text, as `upgrade` writes it, is some 20 MB long
 LARGE = 45000
@@ -69,8 +69,8 @@ def limited():
     return tree_of(rows, [(1, 1000, "/least/in"), (LARGEST_PID, 1000, "/most")])
 
 
-def told():
-    """Every further limit file with a line, with several, and as it is; of root, of a user, and with a group that writes."""
+def of_texts():
+    """Every limit file of format 4 with a line, with several, and with none; of root, of a user, and with a group that writes."""
     owners = itertools.cycle((Entry(0, 0, 0o644), Entry(1000, 1000, 0o644), Entry(0, 1000, 0o664)))
     lines, rows = itertools.cycle(LINES), [Row("/", enabled=NINE)]
     for name, count in (("line", 1), ("lines", 3), ("as-it-is", 0)):
@@ -164,7 +164,7 @@ def edge_trees():
         text = tree_text(tree, [])
         yield f"{name}, format 2", text
         yield f"{name}, format 1", text.replace("format = 2", "format = 1", 1)
-    yield "further limit files", tree_text(told(), [])
+    yield "limit files of format 4", tree_text(of_texts(), [])
     yield "groups", tree_text(grouped(), [])
     yield "all modes", tree_text(with_modes(lambda mode: True), [])
     yield "a controller less at each level", tree_text(nested(), [])

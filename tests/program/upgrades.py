@@ -60,8 +60,8 @@ def is_limit(file):
     return is_entry(file, "value") and (file["value"] == "max" or type(file["value"]) is int)
 
 
-def is_further(file):
-    """A further limit file may have no value; else it is a line, or an array of several."""
+def is_text(file):
+    """A limit file whose value is a text may have none; else it is a line, or an array of several."""
     if "value" not in file:
         return is_entry(file)
     value = file["value"]
@@ -75,7 +75,7 @@ def is_row(row, tree):
     files = row["files"]
     return (set(row) == {"path", "enabled", "dir", "files"} and is_entry(row["dir"]) and set(files) == {*CONTROL_FILES, *limits}
             and all(is_entry(files[name]) for name in CONTROL_FILES)
-            and all((is_further if name in TEXT_FILES else is_limit)(files[name]) for name in limits))
+            and all((is_text if name in TEXT_FILES else is_limit)(files[name]) for name in limits))
 
 
 def is_in_order(names):
