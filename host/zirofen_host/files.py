@@ -2,7 +2,7 @@
 from dataclasses import dataclass
 from enum import Enum
 from functools import cached_property, lru_cache
-from typing import Collection, Dict, List, NamedTuple, Optional, Tuple, Union
+from typing import Collection, Dict, Iterator, List, NamedTuple, Optional, Tuple, Union
 
 
 class Kind(Enum):
@@ -15,13 +15,6 @@ class Kind(Enum):
     ACTS = "acts"
     # a kernel lists it in KERNEL_LIST, as made to be delegated
     DELEGATED = "delegated"
-
-
-class Texts(Enum):
-    """Which tree texts tell of a file."""
-    ALWAYS = "every text"
-    FURTHER = "a text of format 4, where it isn't root's own"
-    NEVER = "none"
 
 
 class Form(Enum):
@@ -61,13 +54,14 @@ USUAL_RANGE = Range(0, 2**63 - 1, True)
 
 @dataclass(frozen=True)
 class LimitFile:
-    """A file by which a limit or its like is set."""
+    """A file by which a limit or its like is set. One that a tree text may name is a row of the table in docs/MODEL.md."""
     name: str
     # what it has where nobody set it
     usual: Union[int, str]
     # the first kernel that has it, in a hierarchy of version 2
     since: Tuple[int, int]
-    texts: Texts = Texts.FURTHER
+    # the first format of tree texts that names it: 1 with a number, 4 with a text, or None
+    since_format: Optional[int] = 4
     kind: Kind = Kind.LIMIT
     # the setting of a unit that brings its value back, and how
     setting: Optional[str] = None
@@ -80,7 +74,8 @@ class LimitFile:
     changes: Tuple[str, ...] = ()
     # what is below that it counts
     counts: Optional[str] = None
-    range: Range = USUAL_RANGE
+    # of what is a number in tree texts
+    range: Optional[Range] = None
 
     @cached_property
     def controller(self) -> Optional[str]:
@@ -94,16 +89,16 @@ class LimitFile:
 
 
 CPU_WEIGHTS = ("cpu.idle", "cpu.weight")
-# first what every text tells of, in its order; then what a text of format 4 tells of, in the order of bytes; and then others
+# first the rows of docs/MODEL.md, in their order, and then others
 LIMITS = (
-    LimitFile("cgroup.max.descendants", "max", (4, 14), Texts.ALWAYS, counts="cgroups"),
-    LimitFile("cgroup.max.depth", "max", (4, 14), Texts.ALWAYS, counts="levels"),
-    LimitFile("cpu.weight", 100, (4, 15), Texts.ALWAYS, setting="CPUWeight", is_share=True, range=Range(1, 10000, False)),
-    LimitFile("memory.min", 0, (4, 18), Texts.ALWAYS, setting="MemoryMin", is_share=True),
-    LimitFile("memory.low", 0, (4, 5), Texts.ALWAYS, setting="MemoryLow", is_share=True),
-    LimitFile("memory.high", "max", (4, 5), Texts.ALWAYS, setting="MemoryHigh"),
-    LimitFile("memory.max", "max", (4, 5), Texts.ALWAYS, setting="MemoryMax"),
-    LimitFile("pids.max", "max", (4, 5), Texts.ALWAYS, setting="TasksMax"),
+    LimitFile("cgroup.max.descendants", "max", (4, 14), 1, counts="cgroups", range=USUAL_RANGE),
+    LimitFile("cgroup.max.depth", "max", (4, 14), 1, counts="levels", range=USUAL_RANGE),
+    LimitFile("cpu.weight", 100, (4, 15), 1, setting="CPUWeight", is_share=True, range=Range(1, 10000, False)),
+    LimitFile("memory.min", 0, (4, 18), 1, setting="MemoryMin", is_share=True, range=USUAL_RANGE),
+    LimitFile("memory.low", 0, (4, 5), 1, setting="MemoryLow", is_share=True, range=USUAL_RANGE),
+    LimitFile("memory.high", "max", (4, 5), 1, setting="MemoryHigh", range=USUAL_RANGE),
+    LimitFile("memory.max", "max", (4, 5), 1, setting="MemoryMax", range=USUAL_RANGE),
+    LimitFile("pids.max", "max", (4, 5), 1, setting="TasksMax", range=USUAL_RANGE),
 
     LimitFile("cgroup.freeze", "0", (5, 2), kind=Kind.ACTS),
     LimitFile("cpu.idle", "0", (5, 15), setting="CPUWeight", form=Form.IDLE, changes=CPU_WEIGHTS),
@@ -133,22 +128,28 @@ LIMITS = (
     LimitFile("misc.max", "max", (5, 13), is_keyed=True),
     LimitFile("rdma.max", "max", (4, 11), is_keyed=True),
 
-    LimitFile("io.cost.model", "", (5, 4), Texts.NEVER),
-    LimitFile("io.cost.qos", "", (5, 4), Texts.NEVER),
-    LimitFile("cgroup.pressure", "1", (6, 1), Texts.NEVER, Kind.ACTS),
-    LimitFile("cgroup.type", "domain", (4, 14), Texts.NEVER, Kind.ACTS),
-    LimitFile("memory.oom.group", "0", (4, 19), Texts.NEVER, Kind.DELEGATED))
+    LimitFile("io.cost.model", "", (5, 4), None),
+    LimitFile("io.cost.qos", "", (5, 4), None),
+    LimitFile("cgroup.pressure", "1", (6, 1), None, Kind.ACTS),
+    LimitFile("cgroup.type", "domain", (4, 14), None, Kind.ACTS),
+    LimitFile("memory.oom.group", "0", (4, 19), None, Kind.DELEGATED))
 BY_NAME: Dict[str, LimitFile] = {row.name: row for row in LIMITS}
 
 
-def files_in(texts: Texts) -> Dict[str, LimitFile]:
-    """The limit files of some texts by their whole names, of each size of a huge page one, in their order."""
-    found = {row.name.replace(SIZE, size): row for row in LIMITS if row.texts is texts
-             for size in (PAGE_SIZES if SIZE in row.name else ("",))}
-    return found if texts is Texts.ALWAYS else dict(sorted(found.items()))
+def whole_names() -> Iterator[Tuple[str, LimitFile]]:
+    """The limit files that tree texts name, of each size of a huge page one: first those of format 1, then others in the order of names."""
+    for row in LIMITS:
+        if row.since_format == 1:
+            yield row.name, row
+    yield from sorted((row.name.replace(SIZE, size), row) for row in LIMITS if row.since_format == 4
+                      for size in (PAGE_SIZES if SIZE in row.name else ("",)))
 
 
-LIMIT_FILES, FURTHER_FILES = files_in(Texts.ALWAYS), files_in(Texts.FURTHER)
+# those that tree texts name, by their whole names
+LIMIT_FILES: Dict[str, LimitFile] = dict(whole_names())
+# and those of them whose values are numbers, which are in every text, or texts, of format 4
+NUMBER_FILES = {name: row for name, row in LIMIT_FILES.items() if row.range}
+TEXT_FILES = {name: row for name, row in LIMIT_FILES.items() if not row.range}
 # by the settings that bring them, the limit files that have one number by these
 BY_SETTING: Dict[str, str] = {row.setting: row.name for row in LIMITS if row.setting and row.form is Form.NUMBER}
 # those that bound how much is below a cgroup, and what each counts
@@ -206,13 +207,13 @@ def may_set(file: str) -> bool:
 
 
 def is_other_limit(file: str) -> bool:
-    """Whether something is set by a file that isn't one of the limit files of every text."""
-    return is_known(file) and may_set(file) and file not in CONTROL_FILES and file not in LIMIT_FILES
+    """Whether something is set by a file that isn't in every text."""
+    return is_known(file) and may_set(file) and file not in CONTROL_FILES and file not in NUMBER_FILES
 
 
 def standing(enabled: Collection[str]) -> List[str]:
     """The limit files of every text that stand below a cgroup that enables some controllers."""
-    return [file for file, row in LIMIT_FILES.items() if row.is_brought_by(enabled)]
+    return [file for file, row in NUMBER_FILES.items() if row.is_brought_by(enabled)]
 
 
 def setting_of(file: str) -> Optional[str]:
@@ -229,7 +230,7 @@ def usual_of(file: str) -> Union[int, str]:
 def is_usual(file: str, value: Union[int, str, None]) -> bool:
     """Whether a limit is as it is where nobody has set it."""
     usual, row = usual_of(file), BY_NAME.get(file)
-    if file in LIMIT_FILES:
+    if file in NUMBER_FILES:
         return value == usual
     if row and row.is_keyed:
         return all(word.rpartition("=")[2] == usual for line in str(value or "").splitlines() for word in line.split()[1:])
@@ -238,6 +239,6 @@ def is_usual(file: str, value: Union[int, str, None]) -> bool:
 
 
 def accepts(file: str, value: Union[int, str]) -> bool:
-    """Whether a limit file of every tree text may have a value."""
-    taken = LIMIT_FILES[file].range
+    """Whether a limit file whose value is a number, or max, may have one."""
+    taken = NUMBER_FILES[file].range or USUAL_RANGE
     return value == "max" and taken.takes_max if isinstance(value, str) else taken.least <= value <= taken.greatest

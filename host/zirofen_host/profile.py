@@ -3,7 +3,7 @@ import os
 import re
 from typing import Dict, FrozenSet, Iterable, Iterator, List, NamedTuple, NewType, Optional, Tuple, TypeVar, Union
 
-from zirofen_host.files import CONTROL_FILES, CONTROLLERS, FURTHER_FILES, LIMIT_FILES
+from zirofen_host.files import CONTROL_FILES, CONTROLLERS, TEXT_FILES, NUMBER_FILES
 
 # a cgroup's path from the mount on, with the bytes that its names have; the root's is /
 CgroupPath = NewType("CgroupPath", bytes)
@@ -13,20 +13,20 @@ AnyPath = TypeVar("AnyPath", str, CgroupPath)
 
 
 class TextFormat(NamedTuple):
-    """A format in which tree texts are written: the controllers that it names, what a text of it has at most, and the further limit
-    files that it names."""
+    """A format in which tree texts are written: the controllers that it names, what a text of it has at most, and the limit files
+    that it names with texts as values."""
     number: int
     controllers: Tuple[str, ...]
     most_rows: int
     most_processes: int
     longest: int
-    further: Tuple[str, ...] = ()
+    text_files: Tuple[str, ...] = ()
 
 
-# bytes of one line of a further limit file's value
+# bytes of one line of a value that is a text
 LONGEST_LINE = 4095
 
-RESERVED_NAMES = {".", "..", "cgroup.controllers", *CONTROL_FILES, *LIMIT_FILES}
+RESERVED_NAMES = {".", "..", "cgroup.controllers", *CONTROL_FILES, *NUMBER_FILES}
 DIRECTORY_MODE = 0o755
 FILE_MODE = 0o644
 LONGEST_PATH = 4095
@@ -37,7 +37,7 @@ LARGEST_ID, LARGEST_PID = 4294967295, 4194303
 # by their numbers; a text of format 1 has no more than one of format 2, and is written so
 TEXT_FORMATS: Dict[int, TextFormat] = {
     2: TextFormat(2, ("cpu", "memory", "pids"), 4096, 4096, 16777216),
-    4: TextFormat(4, CONTROLLERS, 65536, 65536, 67108864, tuple(FURTHER_FILES)),
+    4: TextFormat(4, CONTROLLERS, 65536, 65536, 67108864, tuple(TEXT_FILES)),
 }
 NEWEST = 4
 # bytes of the longest text that is read
@@ -57,7 +57,7 @@ def is_name(name: bytes) -> bool:
 
 
 def is_line(text: str) -> bool:
-    """Whether a tree text takes a line as one of a further limit file's value."""
+    """Whether a tree text takes a line as one of a value that is a text."""
     return len(text) <= LONGEST_LINE and _LINE.match(text) is not None
 
 

@@ -19,7 +19,7 @@ class Entry:
 
 @dataclass(frozen=True)
 class Limit:
-    """A limit file, and what it holds: a number or "max", of further limit files a line or a list of lines; without a value its default."""
+    """A limit file, and what it holds: a number or "max", or a line or a list of lines; without a value its default."""
     value: Optional[Value] = None
     uid: int = 0
     gid: int = 0

@@ -7,7 +7,7 @@ from unittest import mock
 from check_test import HostTest, owned
 from zirofen_host import files
 from zirofen_host.collect import bounded
-from zirofen_host.files import CONTROL_FILES, FURTHER_FILES, LIMITS, LIMIT_FILES, USUAL_LIST, Form, Kind, Texts, kind_of
+from zirofen_host.files import CONTROL_FILES, TEXT_FILES, LIMITS, NUMBER_FILES, USUAL_LIST, Form, Kind, Texts, kind_of
 
 REAL_MOUNT = "/sys/fs/cgroup"
 
@@ -20,9 +20,9 @@ class TableTest(unittest.TestCase):
 
     def test_which_texts_tell_of_limits(self):
         by_texts = {each: [limit.name for limit in LIMITS if limit.texts is each] for each in Texts}
-        self.assertEqual(by_texts[Texts.ALWAYS], list(LIMIT_FILES))
+        self.assertEqual(by_texts[Texts.ALWAYS], list(NUMBER_FILES))
         self.assertEqual(by_texts[Texts.FURTHER], sorted(by_texts[Texts.FURTHER]))
-        self.assertEqual({files.in_tables(name) for name in FURTHER_FILES}, set(by_texts[Texts.FURTHER]))
+        self.assertEqual({files.in_tables(name) for name in TEXT_FILES}, set(by_texts[Texts.FURTHER]))
         never = {limit.name for limit in LIMITS if limit.kind is Kind.LIMIT and limit.texts is Texts.NEVER}
         self.assertEqual(never, {"io.cost.model", "io.cost.qos"})
 
@@ -33,7 +33,7 @@ class TableTest(unittest.TestCase):
         self.assertEqual({each for limit in LIMITS for each in limit.changes} - set(files.BY_NAME), set())
 
     def test_what_others_name_is_in_it(self):
-        self.assertEqual({kind_of(file) for file in LIMIT_FILES}, {Kind.LIMIT})
+        self.assertEqual({kind_of(file) for file in NUMBER_FILES}, {Kind.LIMIT})
         self.assertEqual({kind_of(file) for file in (*CONTROL_FILES, *USUAL_LIST)}, {Kind.DELEGATED})
         self.assertEqual({kind_of(file) for file in files.PRESSURE}, {Kind.TELLS})
         self.assertTrue(all(files.may_set(file) and files.is_known(file) for file in (*files.BY_NAME, *files.WITHOUT_VALUE)))

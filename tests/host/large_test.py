@@ -13,7 +13,7 @@ import made_up_program
 from check_test import BY_GROUP, MARK, REAL_PROGRAM, HostTest, InTurn, owned
 from made_up import MEMORY, path, small_texts
 from zirofen_host import fault, progress
-from zirofen_host.files import CONTROLLERS, FURTHER_FILES
+from zirofen_host.files import CONTROLLERS, TEXT_FILES
 from zirofen_host.profile import TEXT_FORMATS, text_of
 from zirofen_host.collect import bounded, walk
 from zirofen_host.ask import program as asking
@@ -328,8 +328,8 @@ class BesideTest(HostTest):
 class MemoryTest(unittest.TestCase):
     @unittest.skipUnless(REAL_PROGRAM, "the program isn't built")
     def test_a_run_takes_no_more_than_is_reckoned_with(self):
-        """Of cgroups with each further limit file in few bytes, and with none: it answers, and with a quarter of that it doesn't."""
-        for files, count in ((FURTHER_FILES, 700), ((), 3000)):
+        """Of cgroups with each limit file of format 4 in few bytes, and with none: it answers, and with a quarter of that it doesn't."""
+        for files, count in ((TEXT_FILES, 700), ((), 3000)):
             entry, top = Entry(1000, 0, 0o644), Row(path("/a"), files={"cgroup.procs": Entry(1000, 0, 0o644)}, enabled=CONTROLLERS)
             below = [Row(path(f"/a/{number}"), Entry(1000, 0, 0o755), dict.fromkeys(files, entry)) for number in range(count)]
             rows = {row.path: row for row in (Row(path("/"), enabled=CONTROLLERS), top, *below)}

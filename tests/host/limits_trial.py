@@ -1,5 +1,5 @@
 #!/usr/bin/env python3
-"""Hands further limit files over by hand, one at the top of each of some services and of a user's manager, carries out as that user
+"""Hands limit files of format 4 over by hand, one at the top of each of some services and of a user's manager, carries out as that user
 what `zirofen-host check` prints, makes what it advises, and tries once more. Run by hand, as root, in a machine with systemd that may
 be thrown away:
 

@@ -15,7 +15,7 @@ from zirofen_host.collect import walk  # noqa: E402
 from zirofen_host.collect.bounded import Attributes  # noqa: E402
 from zirofen_host.collect.accounts import Accounts, accounts_here  # noqa: E402
 from zirofen_host.collect.processes import read_processes  # noqa: E402
-from zirofen_host.files import LIMIT_FILES, standing  # noqa: E402
+from zirofen_host.files import NUMBER_FILES, standing  # noqa: E402
 from zirofen_host.options import Options  # noqa: E402
 from zirofen_host.profile import TEXT_FORMATS, parent_of, path_of, text_of  # noqa: E402
 from zirofen_host.collect.snapshot import all_that_changes, take  # noqa: E402
@@ -71,7 +71,7 @@ class MadeUp:
                  "cgroup.controllers": (enabled + " io" if path == "/" else " ".join(above)) + "\n"}
         if path != "/":
             texts["cgroup.type"] = kind + "\n"
-        texts.update({file: f"{LIMIT_FILES[file].usual}\n" for file in standing(above)})
+        texts.update({file: f"{NUMBER_FILES[file].usual}\n" for file in standing(above)})
         texts.update({file: "" for file in more})
         texts.update({file: f"{value}\n" for file, value in (values or {}).items()})
         for file in set(texts) - set(without):

@@ -12,7 +12,7 @@ from made_up import DELEGATED, KERNEL_THREAD, TOP, MadeUpTest, path
 from zirofen_host import command, files
 from zirofen_host.collect import mount, walk
 from zirofen_host.fault import Fault
-from zirofen_host.files import FURTHER_FILES, LIMIT_FILES
+from zirofen_host.files import TEXT_FILES, NUMBER_FILES
 from zirofen_host.profile import TEXT_FORMATS, text_of
 from zirofen_host.collect.mount import Mounts
 from zirofen_host.collect.snapshot import note_lines, tree_text
@@ -23,7 +23,7 @@ PAGES = ("64KB", "128KB", "256KB", "512KB", "1MB", "2MB", "4MB", "8MB", "16MB", 
          "16GB")
 # limit files beyond those of every text, the 42 that a text of format 4 tells of where they aren't root's among them
 FURTHER = sorted({name.replace(files.SIZE, size) for name, kind in files.KINDS.items() if kind is files.Kind.LIMIT for size in PAGES}
-                 - set(LIMIT_FILES))
+                 - set(NUMBER_FILES))
 WRITTEN = r"""
 [[cgroup]]
 path = '/'
@@ -63,11 +63,11 @@ at = '/'
 
 
 def as_taken(tree, text_format):
-    """A tree as a snapshot in a format has it: of the further limit files with those that the format names and somebody but root
+    """A tree as a snapshot in a format has it: of limit files of format 4 with those that the format names and somebody but root
     reaches."""
     def told(row, parts):
         return {name: part for name, part in parts.items()
-                if name not in FURTHER_FILES or (name in text_format.further and row.entry(name).is_reached)}
+                if name not in TEXT_FILES or (name in text_format.text_files and row.entry(name).is_reached)}
     rows = {place: replace(row, files=told(row, row.files), values=told(row, row.values)) for place, row in tree.rows.items()}
     return replace(tree, rows=rows, format=text_format)
 

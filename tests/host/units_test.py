@@ -242,8 +242,8 @@ Slice=b.slice\nTasksAccounting=no\nMemoryAccounting=no\n{text}"""))
 "memory.max" = { uid = 5""")
         lines, _ = self.planned(self.write("old.service", "[Service]\nExecStart=/x\nTasksMax=infinity\n"), tree=tree)
         row = self.row("/system.slice/old.service")
-        self.assertEqual(row.further, ["cgroup.freeze", "memory.swap.max"])
-        self.assertEqual({row.entry(file) for file in row.further}, {Entry(0, 0, 0o644)})
+        self.assertEqual(row.text_files, ["cgroup.freeze", "memory.swap.max"])
+        self.assertEqual({row.entry(file) for file in row.text_files}, {Entry(0, 0, 0o644)})
         self.assertIn("chown /system.slice/old.service memory.swap.max 0:0", lines)
 
 

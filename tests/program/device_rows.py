@@ -42,7 +42,7 @@ ANSWERS = (
     ("build-io-cpuset", "check --uid 1001 --subtree /build.slice/nightly", 1, "escapes|control /build.slice -io"),
     ("build-io-cpuset", "replay --tree {tree} --uid 1001 --subtree /build.slice/nightly --ops {others}", 1,
      "refused not-available dmem|refused child-uses cpuset|ok|broken 3 limits"),
-    # further limit files that the text names
+    # limit files of format 4 that the text names
     ("service-limits-handed-over", "check --uid 880 --gid 880 --subtree /system.slice/transcode.service", 1,
      "escapes|set /system.slice/transcode.service cpu.max max 100000"),
     ("service-limits-handed-over", "replay --tree {tree} --uid 880 --gid 880 --subtree /system.slice/transcode.service --ops {limits}", 1,

@@ -65,7 +65,7 @@ TOLD_OF_1000 = ("pair 1000 /p/s", *GUARDS_OF_S, "holds parent-control /p cgroup.
                 "holds parent-dir /p dir 0:0 755", *WITHIN, "contained")
 ADVISED = ("fails parent-control /p cgroup.subtree_control 1001:0 644 owner", "chown /p cgroup.subtree_control 0:0")
 
-# of a further limit file that is the user's: its value as the text has it, and the text to which the user sets it, which for some files
+# of a limit file that is the user's: its value as the text has it, and the text to which the user sets it, which for some files
 # stands behind the device that the value names first
 DEVICE, TOO_LONG = 255 * "d", 256 * "d"
 LOOSE, TURNED = "rbps=max wbps=max riops=max wiops=max", "rbps=2 wbps=2 riops=2 wiops=2"
@@ -159,14 +159,14 @@ def operation_lines():
 
 
 def lines_at_the_root():
-    """No further limit file stands there, cgroup.freeze neither."""
+    """No limit file of format 4 stands there, cgroup.freeze neither."""
     for name in "cgroup.freeze", "io.max":
         for line in f"set / {name} 0", f"chmod / {name} 644":
             yield Case(replayed("1000"), 0, [f"refused no-such-file / {name}"], given=of_root(4, NINE).encode("ascii"), piped=lines([line]))
 
 
 def sets():
-    """Of a further limit file that is the user's the escape, and that it is one."""
+    """Of a limit file that is the user's the escape, and that it is one."""
     for name, value, text in SETS:
         more = "" if value is None else f", value = {json.dumps(value)}"
         tree = of_root(4, NINE, row("/a", f'files."{name}" = {{ uid = 1000{more} }}'), f"enabled = {json.dumps(NINE)}").encode("ascii")
@@ -209,7 +209,7 @@ def tree_faults():
     yield is_fault("top-down cgroup 1", of_root(4, ["io"], root="enabled = ['io', 'rdma']"))
     yield is_fault("internal-process process 1", of_root(4, ["io"], row("/a", "enabled = ['io']") + process(1, "/a"), "enabled = ['io']"))
     yield is_fault("no-such-file cgroup 2", of_root(4, NINE, row("/a", 'files."pids.max".value = 1'), "enabled = ['io']"))
-    # a further limit file: what it takes, and that no cgroup is kept from its name
+    # a limit file of format 4: what it takes, and that no cgroup is kept from its name
     yield is_fault("shape cgroup 2", of_root(4, NINE, row("/a", 'files."io.maxx".uid = 1000'), "enabled = ['io']"))
     yield is_read(of_root(4, NINE, row("/a", 'files."io.max".uid = 1000'), "enabled = ['io']"))
     yield is_fault("shape cgroup 2", of_root(2, ["cpu"], row("/a", 'files."cpu.max".uid = 1000'), "enabled = ['cpu']"))

@@ -273,7 +273,7 @@ def of_format_4():
     yield row('"pids"]', '"network"]', "bad-controller top", f"'network' of controllers is none of {ALL_NINE}: left out")
     yield row('enabled = ["memory"]', 'enabled = ["cpusets"]', "bad-controller cgroup 1", "'cpusets' of enabled is no controller: write cpuset")
     yield row('enabled = ["memory"]', 'enabled = ["io"]', "top-down cgroup 1", "io isn't in controllers")
-    yield from of_further_files()
+    yield from of_files_of_format_4()
     few = "a tree has at most 4096 cgroups and 4096 processes, or 65536 of each with format = 4"
     for text, count in ((TREE, 4097), (FOUR, 65537)):
         yield Row(CHECK, "tree too-many", [few], text + "[[cgroup]]\n" * (count - 2))
@@ -283,7 +283,7 @@ def of_format_4():
         yield Row(CHECK, "tree too-long", ["a text has at most 16777216 bytes, or 67108864 where format = 4 is its first line"], text + "#" * 16777216)
 
 
-def of_further_files():
+def of_files_of_format_4():
     """Limit files that format 4 has beside those of format 2: at `/c0` those of `memory`, and `cgroup.freeze`."""
     def row(written, line, *helps, tree=FOUR):
         return Row(CHECK, f"tree {line}", helps, tree.replace(LIMIT, written))
@@ -329,7 +329,7 @@ def strangers():
     of_group = TREE.replace("gid = 1000, mode", "gid = 5, mode").replace("0o644", "0o664")
     of_all, running = TREE.replace("0o644", "0o646"), TREE.replace("pid = 10\nuid = 1000", "pid = 10\nuid = 1001")
     a_limit = TREE.replace("value = 4096", "uid = 1001, value = 4096")
-    a_further_one = FOUR.replace(LIMIT, '"cgroup.freeze" = { uid = 1001 }')
+    one_of_format_4 = FOUR.replace(LIMIT, '"cgroup.freeze" = { uid = 1001 }')
     at = ["--subtree", "/c0"]
     check, audit, advise = (["check", "--uid", "1001"], ["audit", "--uid", "1000", "--uid", "1001"], ["advise", "--uid", "1001"])
     audits = [audit, [*audit, "--all"], [*audit, "--settle"], [*audit, "--settle", "--all"], ["explain", *audit[1:]]]
@@ -337,7 +337,7 @@ def strangers():
                   [*audit[:3], "--uid", "1001:5,6"]):
         yield Row([*words, *at], None, [said])
         yield Row([*words, *at], None, [said], of_all)
-        for tree in (running, a_limit, a_further_one):
+        for tree in (running, a_limit, one_of_format_4):
             yield Row([*words, *at], None, (), tree)
     yield Row([*check, *at], None, [said], of_group)
     yield Row([*check, "--gid", "7", "--gid", "5", *at], None, (), of_group)

@@ -14,7 +14,7 @@ EMPTY_ANCESTOR, EMPTY_DIRECTORY, NESTED = "empty-ancestor-writable", "empty-pare
 PROCS_OWNED, NO_PROCESS = "parent-procs-owned", "parent-procs-no-process"
 # of format 4
 OTHERS, OTHERS_SUBTREE = "build-io-cpuset", "/build.slice/nightly"
-# the same, and it names further limit files
+# the same, and it names limit files of format 4
 FURTHER, FURTHER_SUBTREE = "service-limits", "/system.slice/transcode.service"
 NO_PARENT, INTERNAL_PROCESS = "fault-no-parent", "fault-internal-process"
 

@@ -241,7 +241,7 @@ BACKSLASH = ('"a\\\\b"', "'a\\b'")
 BOTH_QUOTES = ('"\'a\\"b"', '"""\'a"b"""')
 ALL_THREE = ('"\'a\\"b\\\\"', "\'\'\'\'a\"b\\\'\'\'")
 NO_OTHER = ('"\'\'\'\\"\\\\"', '"\'\'\'\\"\\\\"')
-# values of further limit files: one line, several, an integer and none
+# values that are texts: one line, several, an integer and none
 OF_FORMAT_4 = f"""format = 4
 controllers = ["memory", "io"]
 

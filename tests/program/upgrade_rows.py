@@ -10,7 +10,7 @@ import re
 from device_rows import ANSWERS, ASKED, FAULTS
 from of_one import OF_ONE
 from trial_rows import CHECKS, REPLAYS, lines
-from zirofen_host.files import CONTROL_FILES, FURTHER_FILES, LIMIT_FILES, accepts
+from zirofen_host.files import CONTROL_FILES, TEXT_FILES, NUMBER_FILES, accepts
 from zirofen_host.profile import LONGEST_PATH, MOST_GROUPS, TEXT_FORMATS, is_root, path_of, text_of
 from zirofen_host.collect.tree import Row, Tree, tree_text
 from zirofen_host.collect.model import Entry, Placed
@@ -25,7 +25,7 @@ LARGEST_ID, LARGEST_PID, LARGEST_MODE = 2**32 - 1, 4194303, 0o777
 GROUP_WRITES = 0o020
 STRANGER = 4242
 DEEP, WIDE = 100, 2050
-# lines of further limit files, each of which is spelled in another way, and the longest
+# lines of values that are texts, each of which is spelled in another way, and the longest
 LINES = ("max 100000", 'a"b', "a\\b", "it's", "'\"", "'''\\", "'''\"\"\"\\", 4095 * "7")
 # cgroups whose text, as `upgrade` writes it, is some 20 MB long
 LARGE = 45000
@@ -57,26 +57,26 @@ def named():
 
 def bound(file, bounds):
     """The first of some values that a file accepts, else its default."""
-    return next((value for value in bounds if accepts(file, value)), LIMIT_FILES[file].usual)
+    return next((value for value in bounds if accepts(file, value)), NUMBER_FILES[file].usual)
 
 
 def limited():
     """Cgroups with every limit file at the least value, at the largest, at `max` and with what it has by default."""
     rows = [Row("/", enabled=THREE)]
     for name, bounds in (("least", (0, 1)), ("most", (2**63 - 1, 10000)), ("max", ("max",)), ("default", ())):
-        rows.append(owned(f"/{name}", 1000, values={file: bound(file, bounds) for file in LIMIT_FILES} if bounds else {}))
+        rows.append(owned(f"/{name}", 1000, values={file: bound(file, bounds) for file in NUMBER_FILES} if bounds else {}))
         rows.append(owned(f"/{name}/in", 1000))
     return tree_of(rows, [(1, 1000, "/least/in"), (LARGEST_PID, 1000, "/most")])
 
 
-def told():
-    """Every further limit file with a line, with several, and as it is; of root, of a user, and with a group that writes."""
+def of_texts():
+    """Every limit file of format 4 with a line, with several, and with none; of root, of a user, and with a group that writes."""
     owners = itertools.cycle((Entry(0, 0, 0o644), Entry(1000, 1000, 0o644), Entry(0, 1000, 0o664)))
     lines, rows = itertools.cycle(LINES), [Row("/", enabled=NINE)]
     for name, count in (("line", 1), ("lines", 3), ("as-it-is", 0)):
         row = owned(f"/{name}", 1000, 1000)
-        files = {**row.files, **{file: next(owners) for file in FURTHER_FILES}}
-        values = {file: "\n".join(next(lines) for _ in range(count)) for file in FURTHER_FILES if count}
+        files = {**row.files, **{file: next(owners) for file in TEXT_FILES}}
+        values = {file: "\n".join(next(lines) for _ in range(count)) for file in TEXT_FILES if count}
         rows.append(dataclasses.replace(row, files=files, values=values))
     return tree_of(rows, [(1, 1000, "/line")], 4)
 
@@ -164,7 +164,7 @@ def edge_trees():
         text = tree_text(tree, [])
         yield f"{name}, format 2", text
         yield f"{name}, format 1", text.replace("format = 2", "format = 1", 1)
-    yield "further limit files", tree_text(told(), [])
+    yield "limit files of format 4", tree_text(of_texts(), [])
     yield "groups", tree_text(grouped(), [])
     yield "all modes", tree_text(with_modes(lambda mode: True), [])
     yield "a controller less at each level", tree_text(nested(), [])
@@ -199,7 +199,7 @@ def operations(tree, paths, pids):
         said += [f"mkdir {inside}", f"mkdir {inside}/in"]
         said += [f"control {path} {sign}{name}" for name in tree.format.controllers for sign in "+-"]
         said += [f"control {path} +memory +pids -cpu", f"rmdir {inside}/in"]
-        said += [f"set {at} {file} {value}" for at in (path, inside) for file in LIMIT_FILES for value in ("max", 7)]
+        said += [f"set {at} {file} {value}" for at in (path, inside) for file in NUMBER_FILES for value in ("max", 7)]
         said += [f"move {pid} {at}" for pid in pids for at in (inside, path)] + [f"rmdir {inside}"]
     said += [f"fork {pid} {free}" for pid in pids] + [f"exit {pid}" for pid in (*pids, free)]
     return "".join(f"{line}\n" for line in said)

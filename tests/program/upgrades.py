@@ -28,7 +28,7 @@ from device_rows import named as operation_files  # noqa: E402
 from upgrade_bytes import WRITTEN  # noqa: E402
 from upgrade_rows import (BEFORE_LARGE, LARGE_BEGINNING, LARGE_MOVE, OPS, Asked, asked_of, asked_of_all, edge_trees,  # noqa: E402
                           large_text)
-from zirofen_host.files import CONTROL_FILES, CONTROLLERS, FURTHER_FILES, LIMIT_FILES  # noqa: E402
+from zirofen_host.files import CONTROL_FILES, CONTROLLERS, TEXT_FILES, NUMBER_FILES  # noqa: E402
 from zirofen_host.profile import TEXT_FORMATS, path_of  # noqa: E402
 from zirofen_host.collect.tree import read_tree  # noqa: E402
 
@@ -60,8 +60,8 @@ def is_limit(file):
     return is_entry(file, "value") and (file["value"] == "max" or type(file["value"]) is int)
 
 
-def is_further(file):
-    """A further limit file may have no value; else it is a line, or an array of several."""
+def is_text(file):
+    """A limit file whose value is a text may have none; else it is a line, or an array of several."""
     if "value" not in file:
         return is_entry(file)
     value = file["value"]
@@ -75,7 +75,7 @@ def is_row(row, tree):
     files = row["files"]
     return (set(row) == {"path", "enabled", "dir", "files"} and is_entry(row["dir"]) and set(files) == {*CONTROL_FILES, *limits}
             and all(is_entry(files[name]) for name in CONTROL_FILES)
-            and all((is_further if name in FURTHER_FILES else is_limit)(files[name]) for name in limits))
+            and all((is_text if name in TEXT_FILES else is_limit)(files[name]) for name in limits))
 
 
 def is_in_order(names):
@@ -94,7 +94,7 @@ def is_whole(document, tree, number):
 
 def meaning(tree):
     """All that a tree says, with what its text leaves out."""
-    rows, defaults = {}, {name: limit.usual for name, limit in LIMIT_FILES.items()}
+    rows, defaults = {}, {name: limit.usual for name, limit in NUMBER_FILES.items()}
     for path, row in tree.rows.items():
         entries = {name: row.entry(name) for name in ("dir", *CONTROL_FILES, *tree.limit_files(path))}
         values = {name: row.values.get(name, defaults.get(name)) for name in tree.limit_files(path)}

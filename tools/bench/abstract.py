@@ -119,17 +119,16 @@ def state_of(abstract, user, name_of="c{}".format):
         paths.append(paths[row.parent] + (name_of(number),) if number else ())
     enabled = [frozenset(name for bit, name in enumerate(rules.CONTROLLERS) if row.enabled >> bit & 1) for row in abstract.rows]
     controllers = frozenset(name for bit, name in enumerate(rules.CONTROLLERS) if abstract.controllers >> bit & 1)
-    cgroups = {path: rules.Cgroup({}, {}, those) for path, those in zip(paths, enabled)}
+    cgroups = {path: rules.Cgroup({}, those) for path, those in zip(paths, enabled)}
     bare = rules.State(controllers, cgroups, {}, frozenset())
     for path, row in zip(paths, abstract.rows):
         for letter, name in LETTERS.items():
             mode = rules.DIR_MODE if name == rules.DIR else rules.FILE_MODE
             cgroups[path].entries[name] = rules.Entry(user[0] if letter in row.reached else 0, 0, mode)
         for file in rules.files_at(bare, path):
-            cgroups[path].entries[file] = rules.Entry()
-            cgroups[path].values[file] = rules.default_of(file)
+            cgroups[path].entries[file] = rules.Entry(value=rules.default_of(file))
         for file, value in ((rules.DESCENDANTS, row.descendants), (rules.DEPTH, row.depth)):
-            cgroups[path].values[file] = rules.MAX if value < 0 else value
+            cgroups[path].entries[file] = rules.Entry(value=rules.MAX if value < 0 else value)
     live = {10 + at: (uid, paths[place]) for at, (uid, place) in enumerate(
         [(0, place) for place in abstract.others] + [(user[0], place) for place in abstract.own])}
     return rules.State(controllers, cgroups, live, frozenset(live))

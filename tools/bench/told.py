@@ -1,4 +1,4 @@
-"""Trees of format 4 whose cgroups tell of further limit files, and what is asked of them, for tools/bench/run."""
+"""Trees of format 4 whose cgroups name limit files of format 4, and what is asked of them, for tools/bench/run."""
 from itertools import chain
 from typing import NamedTuple, Sequence
 
@@ -55,7 +55,7 @@ def questions(count, told):
     for name, root, last in (
             ("contained", "", ""),
             ("an escape by a move", '[cgroup.files]\n"cgroup.procs" = { mode = 0o646 }\n', ""),
-            ("an escape by a further file", "", '"cgroup.freeze" = { uid = 1000 }\n'),
+            ("an escape by a file of format 4", "", '"cgroup.freeze" = { uid = 1000 }\n'),
             ("unsettled", "dir = { uid = 1000 }\n", "")):
         yield Asked("check, " + name, telling(count, told, root, last), ["check", "--uid", "1000", "--subtree", "/s"])
     users = [word for uid in range(2000, 2012) for word in ("--uid", str(uid))]
@@ -83,7 +83,7 @@ def replays(count, told, ops):
 
 
 def made_and_set(paths):
-    """Cgroups are made, and a further file of each is set, of which nothing was told."""
+    """Cgroups are made, and a file of format 4 of each is set, which nothing named."""
     return [line for path in paths for line in ("mkdir " + path, "set %s cpu.idle 1" % path)]
 
 

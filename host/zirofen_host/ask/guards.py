@@ -2,7 +2,7 @@
 from dataclasses import dataclass
 from typing import Dict, Tuple
 
-from zirofen_host.files import CONTROL, DIRECTORY, FURTHER_FILES, LIMIT_FILES, PROCS
+from zirofen_host.files import CONTROL, DIRECTORY, LIMIT_FILES, PROCS
 
 
 @dataclass(frozen=True)
@@ -25,7 +25,7 @@ COMMON_ANCESTOR = Guard(
     "moves processes over the subtree's edge, into what else they write cgroup.procs of",
     "by cgroup.procs of {path} processes are moved into and out of the subtree")
 LIMIT_FILE = Guard(
-    "limit-file", (*LIMIT_FILES, *FURTHER_FILES), "", "somebody writes a limit file of a subtree, and so lifts the limit",
+    "limit-file", tuple(LIMIT_FILES), "", "somebody writes a limit file of a subtree, and so lifts the limit",
     "sets this limit", "by a limit file of the subtree its limit is set")
 PARENT_CONTROL = Guard(
     "parent-control", (CONTROL,), "", "somebody writes cgroup.subtree_control above a subtree, and so takes its limit files away",

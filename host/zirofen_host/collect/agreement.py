@@ -19,14 +19,14 @@ class Agreed(NamedTuple):
 
 
 def walk_until_agreed(mount: str, only: Optional[CgroupPath], subtrees_of: Callable[[Walk, Whys], Iterable[CgroupPath]],
-                      charged_user: ChargedUser = int, further: Sequence[str] = (), below: Below = NOTHING,
+                      charged_user: ChargedUser = int, text_files: Sequence[str] = (), below: Below = NOTHING,
                       shallow: Sequence[int] = ()) -> Agreed:
     """Walks until two walks in a row agree on all that can matter for a subtree: itself, what is inside, and its ancestors.
     Only what doesn't agree is walked over again. `subtrees_of` gives the subtrees that are asked of, by a walk and by what
-    changes; the values of some further limit files are read. `below` has what is mounted inside of the mount."""
+    changes; the values of some limit files of format 4 are read. `below` has what is mounted inside of the mount."""
     tops = None if only is None else (only,)
     before = walk_over(mount, tops, None, charged_user, (), below, shallow)
-    walk = walk_over(mount, tops, before, charged_user, further, below, shallow)
+    walk = walk_over(mount, tops, before, charged_user, text_files, below, shallow)
     walk.charged_tops = {**before.charged_tops, **walk.charged_tops}
     if only is not None and only not in walk.found and only not in walk.unread:
         raise Fault(f"there is no cgroup {shown(only)}")
@@ -37,7 +37,7 @@ def walk_until_agreed(mount: str, only: Optional[CgroupPath], subtrees_of: Calla
             path for path, why in unanswerable.items() if isinstance(why, Changed)]
         if not again:
             break
-        part = walk_over(mount, again, walk, charged_user, further, below, shallow)
+        part = walk_over(mount, again, walk, charged_user, text_files, below, shallow)
         changing = {**{path: why for path, why in changing.items() if not part.covers(path)}, **part.differing(walk)}
         walk.take(part)
         unanswerable = unanswerable_by(changing, subtrees_of(walk, changing))

@@ -9,7 +9,7 @@ from zirofen_host.collect.accounts import is_id
 from zirofen_host.collect.model import DEFAULT_FILE, Cgroup, Entry, Placed, Row, Snapshot, Value
 from zirofen_host.collect.walk import MARKS
 from zirofen_host.fault import Fault
-from zirofen_host.files import CONTROL_FILES, FURTHER_FILES, LIMIT_FILES, PRESSURE, Kind, accepts, is_known, kind_of, standing
+from zirofen_host.files import CONTROL_FILES, TEXT_FILES, NUMBER_FILES, PRESSURE, Kind, accepts, is_known, kind_of, standing
 from zirofen_host.profile import (DIRECTORY_MODE, LARGEST_PID, LONGEST_PATH, CgroupPath, ancestors, is_inside, is_line, is_name, is_number,
                                   is_root, parent_of, path_of, shown, text_of)
 
@@ -77,10 +77,10 @@ class Changes:
     def limit_files(self, path: CgroupPath) -> List[str]:
         return [] if is_root(path) else standing(self.controllers_for(path))
 
-    def is_further(self, path: CgroupPath, name: str) -> bool:
-        """Whether a name is that of a further limit file that stands at a cgroup, and that the text's format has."""
-        is_in_format = name in self.snapshot.tree.format.further and not is_root(path)
-        return is_in_format and FURTHER_FILES[name].is_brought_by(self.controllers_for(path))
+    def is_text_file(self, path: CgroupPath, name: str) -> bool:
+        """Whether a name is that of a limit file of format 4 that stands at a cgroup, and that the text's format has."""
+        is_in_format = name in self.snapshot.tree.format.text_files and not is_root(path)
+        return is_in_format and TEXT_FILES[name].is_brought_by(self.controllers_for(path))
 
     def children(self, path: CgroupPath) -> List[CgroupPath]:
         return [each for each in self.rows if parent_of(each) == path]
@@ -111,7 +111,7 @@ class Changes:
         """A limit file comes, with its default."""
         row = self.rows[path]
         files = {**row.files, file: DEFAULT_FILE}
-        self.rows[path] = replace(row, files=files, values={**row.values, file: LIMIT_FILES[file].usual})
+        self.rows[path] = replace(row, files=files, values={**row.values, file: NUMBER_FILES[file].usual})
         self.cgroups[path] = replace(self.cgroups[path], files={**self.cgroups[path].files, file: DEFAULT_FILE})
 
     def take_away(self, path: CgroupPath, file: str) -> None:
@@ -127,7 +127,7 @@ class Changes:
         found, controllers = self.cgroups[path].files.get(name), ("cgroup", *self.controllers_for(path))
         # files of pressure stand whatever is enabled
         stands = name in PRESSURE or is_known(name) and name.partition(".")[0] in controllers
-        if name not in LIMIT_FILES and (found or stands):
+        if name not in NUMBER_FILES and (found or stands):
             return found or DEFAULT_FILE
         return refuse(f"there is no {name!a} at {shown(path)}, as far as is known")
 
@@ -136,7 +136,7 @@ class Changes:
         if name == "dir":
             self.rows[path], self.cgroups[path] = replace(row, directory=entry), replace(found, directory=entry)
             return
-        if name in CONTROL_FILES or name in LIMIT_FILES or self.is_further(path, name):
+        if name in CONTROL_FILES or name in NUMBER_FILES or self.is_text_file(path, name):
             self.rows[path] = replace(row, files={**row.files, name: entry})
         elif self.snapshot.source.file is not None and self.snapshot.source.carried is None:
             if name not in HANDED_OVER_TOO and kind_of(name) not in (Kind.TELLS, Kind.DELEGATED):
@@ -187,7 +187,7 @@ class Changes:
         self.cgroups[path] = replace(self.cgroups[path], enabled=enabled)
         for each in children:
             behind = self.limit_files(each)
-            gone = {file for file in self.snapshot.tree.format.further if FURTHER_FILES[file].controller in disabled}
+            gone = {file for file in self.snapshot.tree.format.text_files if TEXT_FILES[file].controller in disabled}
             for file in gone.union(before[each]).difference(behind):
                 self.take_away(each, file)
             for file in set(behind) - set(before[each]):
@@ -196,8 +196,8 @@ class Changes:
     def set_limit(self, words: Words) -> None:
         word, file, *parts = words
         path, text = self.path(word), " ".join(parts)
-        if parts and self.is_further(path, file):
-            self.set_further(path, file, text)
+        if parts and self.is_text_file(path, file):
+            self.set_text(path, file, text)
             return
         if len(parts) != 1:
             raise ValueError
@@ -208,7 +208,7 @@ class Changes:
             refuse(f"{file} doesn't take {text!a}")
         self.rows[path] = replace(self.rows[path], values={**self.rows[path].values, file: value})
 
-    def set_further(self, path: CgroupPath, file: str, text: str) -> None:
+    def set_text(self, path: CgroupPath, file: str, text: str) -> None:
         if not is_line(text):
             refuse(f"{file} doesn't take {text!a}")
         self.put(path, file, self.entry(path, file))

@@ -16,7 +16,7 @@ from zirofen_host.collect.model import (About, AccountLists, Carried, Cgroup, En
 from zirofen_host.collect.mount import read_kernel_list
 from zirofen_host.collect.notes import LimitsOfVersion1, Note, OtherType
 from zirofen_host.fault import Fault
-from zirofen_host.files import CONTROL_FILES, DIRECTORY, LIMIT_FILES, OF_LIMITS, is_known, is_other_limit
+from zirofen_host.files import CONTROL_FILES, DIRECTORY, NUMBER_FILES, OF_LIMITS, is_known, is_other_limit
 from zirofen_host.options import Options
 from zirofen_host.profile import CgroupPath, is_root, text_of
 
@@ -94,7 +94,7 @@ def with_defaults(tree: Tree) -> Tree:
     """A tree with the values that aren't written since they are the default. The root has no limits."""
     rows = {}
     for path, row in tree.rows.items():
-        values = {name: LIMIT_FILES[name].usual for name in tree.limit_files(path) if name in LIMIT_FILES}
+        values = {name: NUMBER_FILES[name].usual for name in tree.limit_files(path) if name in NUMBER_FILES}
         rows[path] = row if is_root(path) else replace(row, values={**values, **row.values})
     return replace(tree, rows=rows)
 
@@ -156,7 +156,7 @@ def carried_of(snapshot: Snapshot, path: CgroupPath, found: Cgroup) -> carrying.
     others = {name: entry for name, entry in found.files.items()
               if is_other_limit(name) or not is_known(name) or entry.is_reached or entry.mode > 0o777}
     # what the row tells isn't carried again
-    in_tree = {name for name in row.further if row.files[name] == others.get(name)}
+    in_tree = {name for name in row.text_files if row.files[name] == others.get(name)}
     if found.directory.mode > 0o777:
         others[DIRECTORY] = found.directory
     values = {name: value for name in others if is_other_limit(name) and name not in row.values

@@ -6,7 +6,7 @@ from typing import Collection, FrozenSet, Iterable, List, Mapping, NamedTuple, O
 
 from zirofen_host.collect.notes import Note
 from zirofen_host.collect.reasons import Reason
-from zirofen_host.files import FURTHER_FILES, standing
+from zirofen_host.files import TEXT_FILES, standing
 from zirofen_host.options import Options
 from zirofen_host.profile import DIRECTORY_MODE, FILE_MODE, TEXT_FORMATS, CgroupPath, TextFormat, parent_of
 
@@ -14,7 +14,7 @@ OWNER, GROUP, OTHERS = CLASSES = ("owner", "group", "others")
 
 # the group's and everybody's bits
 SOMEBODY_ELSE_WRITES = 0o022
-# a limit's value as a tree text has it; of a further limit file a text, with a newline between two lines
+# a limit's value as a tree text has it; or a text, with a newline between two lines
 Value = Union[int, str]
 # a device and an inode
 FilePlace = Tuple[int, int]
@@ -89,13 +89,13 @@ class User(NamedTuple):
 @dataclass(frozen=True)
 class Cgroup:
     """A cgroup as it was found: every file with its owner, and the texts that matter."""
-    __slots__ = ("directory", "files", "texts", "further", "enabled", "available", "kind", "marks", "pids")
+    __slots__ = ("directory", "files", "texts", "read", "enabled", "available", "kind", "marks", "pids")
     directory: Entry
     files: Mapping[str, Entry]
     # what the limit files have
     texts: Mapping[str, str]
-    # what those further ones had, as far as they were read, that somebody but root reaches: no answer rests on it
-    further: Mapping[str, str]
+    # what limit files of format 4 had, as far as they were read, that somebody but root reaches: no answer rests on it
+    read: Mapping[str, str]
     enabled: Tuple[str, ...]
     available: Tuple[str, ...]
     # what cgroup.type has
@@ -119,9 +119,9 @@ class Row:
         return self.directory if name == "dir" else self.files.get(name, DEFAULT_FILE)
 
     @property
-    def further(self) -> List[str]:
-        """The further limit files that it tells of, in their order."""
-        return [] if FURTHER_FILES.keys().isdisjoint(self.files) else sorted(name for name in self.files if name in FURTHER_FILES)
+    def text_files(self) -> List[str]:
+        """The limit files that it names whose values are texts, in their order."""
+        return [] if TEXT_FILES.keys().isdisjoint(self.files) else sorted(name for name in self.files if name in TEXT_FILES)
 
 
 class Placed(NamedTuple):
@@ -140,12 +140,12 @@ class Tree:
     format: TextFormat = TEXT_FORMATS[2]
 
     def limit_files(self, path: CgroupPath) -> List[str]:
-        """The limit files that stand at a cgroup, in their order, and behind them the further ones that it has."""
+        """The limit files of a cgroup, in their order: those of every text that stand there, and the others that its row names."""
         parent = parent_of(path)
         enabled = self.rows[parent].enabled if parent else ()
         first = standing(enabled)
-        further = self.rows[path].further
-        return first + further if further else first
+        named = self.rows[path].text_files
+        return first + named if named else first
 
 
 @dataclass(frozen=True)

@@ -230,7 +230,7 @@ class OtherValue(Note):
 
 @dataclass(frozen=True)
 class NoValue(Note):
-    """A further limit's value that the format hasn't, and for which nothing is written."""
+    """A value of a limit file of format 4 that the format hasn't, and for which nothing is written."""
     kind = "value"
     file: str
     value: str

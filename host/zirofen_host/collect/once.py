@@ -2,7 +2,7 @@
 from typing import Dict, List, Mapping, Tuple
 
 from zirofen_host.collect.model import Entry
-from zirofen_host.files import FURTHER_FILES
+from zirofen_host.files import TEXT_FILES
 
 # a uid, a gid and a mode
 Owned = Tuple[int, int, int]
@@ -30,7 +30,7 @@ class Once:
         return found
 
     def reached_in(self, files: Mapping[str, Entry]) -> Tuple[str, ...]:
-        """The further limit files of a table of `files_of` that somebody but root reaches."""
+        """The limit files of format 4 in a table of `files_of` that somebody but root reaches."""
         if id(files) not in self.reached:
             self.reached[id(files)] = tuple(reached_in(files))
         return self.reached[id(files)]
@@ -43,5 +43,5 @@ class Once:
 
 
 def reached_in(files: Mapping[str, Entry]) -> List[str]:
-    """The further limit files of a cgroup that somebody but root reaches, in their order."""
-    return sorted(file for file, entry in files.items() if file in FURTHER_FILES and entry.is_reached)
+    """The limit files of format 4 of a cgroup that somebody but root reaches, in their order."""
+    return sorted(file for file, entry in files.items() if file in TEXT_FILES and entry.is_reached)

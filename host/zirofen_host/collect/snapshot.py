@@ -20,14 +20,14 @@ from zirofen_host.collect.once import reached_in
 from zirofen_host.collect.processes import Reader, lacking_notes
 from zirofen_host.collect.tree import tree_text as text_of_tree
 from zirofen_host.fault import Fault
-from zirofen_host.files import CONTROL_FILES, FURTHER_FILES, KERNEL_LIST, KINDS, LIMIT_FILES, accepts
+from zirofen_host.files import CONTROL_FILES, TEXT_FILES, KERNEL_LIST, KINDS, NUMBER_FILES, accepts
 from zirofen_host.options import PROC, Options
 from zirofen_host.profile import (LARGEST_PID, ROOT, CgroupPath, TextFormat, ancestors, is_inside, is_line, is_root, parent_of, shown,
                                   text_of, topmost)
 
 NOTHING_HELD: held.Found = (), (), ()
 # names of files that may stand nowhere yet
-KNOWN = {name.encode() for name in (*KINDS, *FURTHER_FILES)}
+KNOWN = {name.encode() for name in (*KINDS, *TEXT_FILES)}
 
 Cgroups = Mapping[CgroupPath, Cgroup]
 # the subtrees that are asked of, by a snapshot that may have changed while it was taken, and by what changed
@@ -78,7 +78,7 @@ class Conversion:
         self.notes: List[Note] = []
         # the entries of the cgroup whose row is made that have more in their modes than a text has
         self.modes: List[Tuple[str, int]] = []
-        # the further limit files that a text has, by the table of files that cgroups with the same ones share
+        # the limit files of format 4 that a text has, by the table of files that cgroups with the same ones share
         self.reached: Dict[int, List[str]] = {}
 
     def row(self, path: CgroupPath, found: Cgroup) -> Row:
@@ -90,7 +90,7 @@ class Conversion:
         values: Dict[str, Value] = {}
         parent = parent_of(path)
         available = self.cgroups[parent].enabled if parent else ()
-        for file, limit in LIMIT_FILES.items():
+        for file, limit in NUMBER_FILES.items():
             stands = limit.is_brought_by(available)
             if file not in found.files:
                 if stands and parent and (path, file) not in self.covered:
@@ -100,28 +100,28 @@ class Conversion:
                 values[file] = self.value(path, file, found.texts[file])
             else:
                 self.notes.append(FileOfNoController(text_of(path), file, limit.controller))
-        for file in self.further(path, found, available):
+        for file in self.text_files(path, found, available):
             files[file] = self.plain(file, found.files[file])
-            value = self.further_value(path, file, found.further.get(file, ""))
+            value = self.text_value(path, file, found.read.get(file, ""))
             if value is not None:
                 values[file] = value
         if self.modes:
             self.notes.append(OtherModes(text_of(path), tuple(self.modes)))
         return Row(path, directory, files, values, tuple(name for name in self.text_format.controllers if name in found.enabled))
 
-    def further(self, path: CgroupPath, found: Cgroup, available: Sequence[str]) -> List[str]:
-        """The further limit files that a text has: those that somebody but root reaches, and that the parent brings."""
+    def text_files(self, path: CgroupPath, found: Cgroup, available: Sequence[str]) -> List[str]:
+        """The limit files of format 4 that a text has: those that somebody but root reaches, and that the parent brings."""
         reached = self.reached.get(id(found.files))
         if reached is None:
-            reached = self.reached[id(found.files)] = reached_in(found.files) if self.text_format.further else []
+            reached = self.reached[id(found.files)] = reached_in(found.files) if self.text_format.text_files else []
         if not reached or is_root(path):
             return []
-        brought = [file for file in reached if FURTHER_FILES[file].is_brought_by(available)]
+        brought = [file for file in reached if TEXT_FILES[file].is_brought_by(available)]
         for file in sorted(set(reached).difference(brought)):
-            self.notes.append(FileOfNoController(text_of(path), file, FURTHER_FILES[file].controller))
+            self.notes.append(FileOfNoController(text_of(path), file, TEXT_FILES[file].controller))
         return brought
 
-    def further_value(self, path: CgroupPath, file: str, text: str) -> Optional[str]:
+    def text_value(self, path: CgroupPath, file: str, text: str) -> Optional[str]:
         """What such a file has, as lines of a text. Nothing is in one that isn't set, or that wasn't read."""
         lines = [line.rstrip(" ") for line in text.split("\n")]
         if text and all(map(is_line, lines)):
@@ -142,7 +142,7 @@ class Conversion:
         value: Value = int(text) if text.isdigit() and len(text) <= 20 else text
         if accepts(file, value):
             return value
-        replacement = 1 if value == 0 else LIMIT_FILES[file].usual
+        replacement = 1 if value == 0 else NUMBER_FILES[file].usual
         self.notes.append(OtherValue(text_of(path), file, text, replacement))
         return replacement
 
@@ -224,7 +224,7 @@ def take(options: Options, subtrees_of: SubtreesOf) -> Snapshot:
         found = snapshot_of(Agreed(walked, {}, {}), running[0], options, mounts)
         return subtrees_of(found, changing)
 
-    agreed = walk_until_agreed(options.mount, options.only, subtrees_in, charged_user, options.text_format.further,
+    agreed = walk_until_agreed(options.mount, options.only, subtrees_in, charged_user, options.text_format.text_files,
                                mounts.below(options.mount), options.shallow)
     reader = look_at_processes(options, charged_user, gids_in(agreed.walk.found))
     found, attempts = snapshot_of(agreed, reader, options, mounts), Attempts()

@@ -5,7 +5,7 @@ from typing import Callable, Iterable, List, Mapping, Sequence, Tuple, Type, Typ
 
 from zirofen_host.collect.model import Entry, Placed, Row, Tree, Value
 from zirofen_host.fault import Fault
-from zirofen_host.files import CONTROL_FILES, FURTHER_FILES, LIMIT_FILES
+from zirofen_host.files import CONTROL_FILES, TEXT_FILES, NUMBER_FILES
 from zirofen_host.profile import (DIRECTORY_MODE, FILE_MODE, TEXT_FORMATS, CgroupPath, TextFormat, is_root, parent_of, path_of, text_of,
                                   tree_order)
 
@@ -29,14 +29,14 @@ def entry_parts(entry: Entry, usual_mode: int) -> List[str]:
 def file_line(row: Row, file: str) -> List[str]:
     """The line of a file, or nothing where all of it is default."""
     parts = entry_parts(row.entry(file), FILE_MODE)
-    if file in row.values and row.values[file] != LIMIT_FILES[file].usual:
+    if file in row.values and row.values[file] != NUMBER_FILES[file].usual:
         value = row.values[file]
         parts.append('value = "max"' if value == "max" else f"value = {value}")
     return [f'"{file}" = {{ {", ".join(parts)} }}'] if parts else []
 
 
-def further_line(row: Row, file: str) -> str:
-    """The line of a further limit file: as it is, where no value is known."""
+def text_line(row: Row, file: str) -> str:
+    """The line of a limit file whose value is a text, without one where it isn't known."""
     parts = entry_parts(row.entry(file), FILE_MODE)
     if file in row.values:
         # what is printable ASCII is in JSON as in TOML
@@ -53,8 +53,8 @@ def row_lines(row: Row, text_format: TextFormat) -> List[str]:
     parts = entry_parts(row.directory, DIRECTORY_MODE)
     if parts:
         lines.append(f"dir = {{ {', '.join(parts)} }}")
-    files = [line for file in (*CONTROL_FILES, *LIMIT_FILES) for line in file_line(row, file)]
-    files += [further_line(row, file) for file in row.further]
+    files = [line for file in (*CONTROL_FILES, *NUMBER_FILES) for line in file_line(row, file)]
+    files += [text_line(row, file) for file in row.text_files]
     return lines + (["[cgroup.files]"] + files if files else [])
 
 
@@ -125,8 +125,8 @@ def value_in(value: object) -> Value:
     return value if isinstance(value, str) else number_in(value)
 
 
-def further_value(value: object) -> str:
-    """The text of a further limit file's value: of a number its digits, and of several lines these with a newline between two."""
+def text_value(value: object) -> str:
+    """The text of a value: of a number its digits, and of several lines these with a newline between two."""
     return "\n".join(texts_in(value)) if isinstance(value, list) else str(value_in(value))
 
 
@@ -139,7 +139,7 @@ def read_row(table: Table) -> Row:
     return Row(path=path_of(text_in(table["path"])),
                directory=read_entry(table_in(table.get("dir", {})), DIRECTORY_MODE),
                files={name: read_entry(entry, FILE_MODE) for name, entry in files.items()},
-               values={name: (further_value if name in FURTHER_FILES else value_in)(entry["value"])
+               values={name: (text_value if name in TEXT_FILES else value_in)(entry["value"])
                        for name, entry in files.items() if "value" in entry},
                enabled=texts_in(table.get("enabled", [])))
 

@@ -16,7 +16,7 @@ from zirofen_host.collect.model import Cgroup, Entry, FilePlace
 from zirofen_host.collect.once import Once, Owned
 from zirofen_host.collect.reasons import CHANGED, MountedOver, Reason, Unreadable
 from zirofen_host.fault import Fault
-from zirofen_host.files import CONTROL_FILES, CONTROLLERS, LIMIT_FILES, may_set
+from zirofen_host.files import CONTROL_FILES, CONTROLLERS, NUMBER_FILES, may_set
 from zirofen_host.options import EVERYBODY
 from zirofen_host.profile import LONGEST_PATH, ROOT, CgroupPath, ancestors, is_name, parent_of, shown, topmost
 
@@ -62,11 +62,11 @@ class ChargedTop(NamedTuple):
 class Walk:
     """One walk over a mount: the cgroups that were found by path, what was left out on the way, what went before it was read,
     and what can't be read. Where tops are named, it is these with what is inside, and their ancestors. What is read is charged to
-    the owner of a cgroup, and of root's own inside of somebody's to whose that is. Of some further limit files values are read, where
+    the owner of a cgroup, and of root's own inside of somebody's to whose that is. Of some limit files of format 4 values are read, where
     somebody but root reaches them. What is mounted inside of the mount is no cgroup's, nor what is of another device."""
 
     def __init__(self, mount: str, tops: Optional[Iterable[CgroupPath]] = None, charged_user: ChargedUser = int,
-                 further: Sequence[str] = (), below: Below = NOTHING, shallow: Sequence[int] = ()) -> None:
+                 text_files: Sequence[str] = (), below: Below = NOTHING, shallow: Sequence[int] = ()) -> None:
         # persons of whose cgroups the topmost ones are read alone
         self.shallow = frozenset(shallow)
         self.mount = os.fsencode(mount)
@@ -75,7 +75,7 @@ class Walk:
         self.device: Optional[int] = None
         self.covered: Dict[Tuple[CgroupPath, str], str] = {}
         self.charged_user = charged_user
-        self.further = frozenset(further)
+        self.text_files = frozenset(text_files)
         self.cgroups, self.bytes, self.levels = (
             Spent(budget, charged_user) for budget in (bounded.CGROUPS, bounded.CGROUP_BYTES, bounded.LEVELS))
         self.tops: Optional[FrozenSet[CgroupPath]] = None if tops is None else topmost(tops)
@@ -201,23 +201,23 @@ class Walk:
                 raise Unread(MountedOver(self.covered[path, file], file))
             if file not in files:
                 raise FileNotFoundError(errno.ENOENT, os.strerror(errno.ENOENT), file)
-        return self.cgroup(folder, files, directory, self.further if path != ROOT else NONE), names
+        return self.cgroup(folder, files, directory, self.text_files if path != ROOT else NONE), names
 
-    def cgroup(self, folder: int, files: Mapping[str, Entry], directory: Owned, further: FrozenSet[str]) -> Cgroup:
+    def cgroup(self, folder: int, files: Mapping[str, Entry], directory: Owned, text_files: FrozenSet[str]) -> Cgroup:
         with still_listed():
-            texts = self.once.texts_of(tuple((file, text_of(folder, file)) for file in LIMIT_FILES if file in files))
+            texts = self.once.texts_of(tuple((file, text_of(folder, file)) for file in NUMBER_FILES if file in files))
         # each is a number or a word: a kernel writes it
         self.charge(self.bytes, sum(map(len, texts.values())) + len(texts))
         kind = self.text(folder, "cgroup.type") if "cgroup.type" in files else "domain"
         marks = marks_of(folder)
         self.charge(self.bytes, marks.read)
-        others = self.further_texts(folder, [file for file in self.once.reached_in(files) if file in further] if further else ())
-        return Cgroup(directory=self.once.entry(directory), files=files, texts=texts, further=others,
+        others = self.read_texts(folder, [file for file in self.once.reached_in(files) if file in text_files] if text_files else ())
+        return Cgroup(directory=self.once.entry(directory), files=files, texts=texts, read=others,
                       enabled=tuple(map(sys.intern, self.text(folder, "cgroup.subtree_control").split())),
                       available=tuple(map(sys.intern, self.text(folder, "cgroup.controllers").split())),
                       kind=sys.intern(kind), marks=marks.values, pids=self.pids(folder))
 
-    def further_texts(self, folder: int, files: Iterable[str]) -> Mapping[str, str]:
+    def read_texts(self, folder: int, files: Iterable[str]) -> Mapping[str, str]:
         """What some files have, as far as they can be read."""
         found = []
         for file in files:
@@ -309,10 +309,10 @@ class Walk:
 
 
 def walk_over(mount: str, tops: Optional[Iterable[CgroupPath]] = None, before: Optional[Walk] = None, charged_user: ChargedUser = int,
-              further: Sequence[str] = (), below: Below = NOTHING, shallow: Sequence[int] = ()) -> Walk:
-    """A walk; what is equal to what one before found is held once. The first reads no further limit file, since nothing that two have
+              text_files: Sequence[str] = (), below: Below = NOTHING, shallow: Sequence[int] = ()) -> Walk:
+    """A walk; what is equal to what one before found is held once. The first reads no limit file of format 4, since nothing that two have
     to agree on is in one."""
-    walk = Walk(mount, tops, charged_user, further if before else (), below, shallow)
+    walk = Walk(mount, tops, charged_user, text_files if before else (), below, shallow)
     if before:
         walk.once = before.once
     walk.walk()

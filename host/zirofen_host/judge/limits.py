@@ -50,7 +50,7 @@ def of_options(options: Options) -> Iterator[AnswerLimit]:
                           "escape may be refused")
     if options.tree is None and options.text_format.number != NEWEST:
         yield AnswerLimit(TREE_FORMAT, f"a text of format {options.text_format.number} has three controllers alone, and no "
-                          "further limit file")
+                          "limit file of format 4")
     if options.tree is None and options.plain_folder:
         yield AnswerLimit(PLAIN_FOLDER, "the mount was taken as a folder of plain files: nothing was asked of root, mounts and namespaces")
 

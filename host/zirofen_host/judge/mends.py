@@ -13,7 +13,7 @@ from zirofen_host.arguments import MENDS
 from zirofen_host.ask.guards import OVER, UNKNOWN
 from zirofen_host.collect.notes import FAILED
 from zirofen_host.collect.model import OWNER
-from zirofen_host.files import BY_NAME, COUNTING, FURTHER_FILES, HANDED_OVER, LIMIT_FILES, PERIOD, Form, is_usual, setting_of
+from zirofen_host.files import BY_NAME, COUNTING, HANDED_OVER, LIMIT_FILES, NUMBER_FILES, PERIOD, TEXT_FILES, Form, is_usual, setting_of
 from zirofen_host.judge.finding_lines import whom_text
 from zirofen_host.judge.host_model import ABSENT, Absent, ReportCgroup, Wanted
 from zirofen_host.judge.model import Report
@@ -204,7 +204,7 @@ class Place:
 
     def why_withheld(self) -> Iterator[Tuple[str, List[str]]]:
         """The limit files whose values of now aren't written, by the reason."""
-        opened = [each for each in self.found if each.entry in self.files and (each.entry in LIMIT_FILES or each.entry in FURTHER_FILES)]
+        opened = [each for each in self.found if each.entry in self.files and (each.entry in LIMIT_FILES)]
         by_whom = dict.fromkeys(whom_text(each.whom) for each in opened)
         for whom in by_whom:
             yield (f"it is the value of now, which {whom} could write", [each.entry for each in opened if whom_text(each.whom) == whom])
@@ -295,7 +295,7 @@ def restored_below(report: Report, rows: Mapping[str, ReportCgroup], path: str) 
 
 
 def controller_of(file: str) -> Optional[str]:
-    found = LIMIT_FILES.get(file) or FURTHER_FILES.get(file)
+    found = NUMBER_FILES.get(file) or TEXT_FILES.get(file)
     return found.controller if found else None
 
 

@@ -12,7 +12,7 @@ from zirofen_host.ask.questions import Questions
 from zirofen_host.collect.bounded import Spent
 from zirofen_host.collect.model import GROUP, OTHERS, OWNER, Entry, Snapshot, User
 from zirofen_host.collect.walk import MANAGERS_MARK
-from zirofen_host.files import CONTROL_FILES, FURTHER_FILES, LIMIT_FILES, PRESSURE, is_known, may_set
+from zirofen_host.files import CONTROL_FILES, LIMIT_FILES, PRESSURE, is_known, may_set
 from zirofen_host.judge.judged import LetIn, Place
 from zirofen_host.profile import ANYBODY, CgroupPath, is_root, tree_order
 
@@ -36,7 +36,7 @@ class Looked:
             return is_made_in(self.questions, path)
         if name in CONTROL_FILES:
             return is_root(path) or path in self.questions.kept
-        if name in LIMIT_FILES or name in FURTHER_FILES and name in self.snapshot.tree.rows[path].files:
+        if name in LIMIT_FILES and name in self.snapshot.tree.rows[path].files:
             return path not in self.asked
         if name == "cgroup.threads":
             return self.has_threads(path)

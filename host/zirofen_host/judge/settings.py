@@ -11,7 +11,7 @@ from zirofen_host import ending
 from zirofen_host.collect.model import Snapshot, Value
 from zirofen_host.collect.snapshot import value_of
 from zirofen_host.fault import Fault
-from zirofen_host.files import BY_SETTING, LIMIT_FILES, PAGE, Kind, is_usual, kind_of, setting_of
+from zirofen_host.files import BY_SETTING, NUMBER_FILES, PAGE, Kind, is_usual, kind_of, setting_of
 from zirofen_host.judge.notes import Restart
 from zirofen_host.judge.wanted import PROPERTIES, LostLimit, Shown, wanted_by
 from zirofen_host.judge.wanted import is_same as wanted_is_same
@@ -69,8 +69,8 @@ def agreed(before: Settings, behind: Settings) -> Settings:
 def values_of(snapshot: Snapshot, path: CgroupPath) -> Dict[str, Optional[Value]]:
     """What the limits of a cgroup have: of the tree's at the walk, and of others now, with the share of processors whoever's it is."""
     carried = snapshot.tree.rows[path].values
-    values: Dict[str, Optional[Value]] = {name: carried[name] for name in LIMIT_FILES if name in carried}
-    others = {name for name in snapshot.cgroups[path].files if kind_of(name) is Kind.LIMIT and name not in LIMIT_FILES}
+    values: Dict[str, Optional[Value]] = {name: carried[name] for name in NUMBER_FILES if name in carried}
+    others = {name for name in snapshot.cgroups[path].files if kind_of(name) is Kind.LIMIT and name not in NUMBER_FILES}
     values.update({name: value_of(snapshot, path, name) for name in sorted(others | {SHARE})})
     return values
 

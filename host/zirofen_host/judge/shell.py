@@ -5,13 +5,13 @@ from typing import Callable, Dict, Iterable, List, Mapping, Optional, Sequence, 
 
 from zirofen_host.collect.model import Entry, User
 from zirofen_host.fault import Fault
-from zirofen_host.files import CONTROL_FILES, CONTROLLERS, FURTHER_FILES, LIMIT_FILES
+from zirofen_host.files import CONTROLLERS, CONTROL_FILES, LIMIT_FILES, NUMBER_FILES, TEXT_FILES
 from zirofen_host.profile import is_line, is_number, is_root
 
 # the words of what to change, as the program advises it
 Change = Sequence[str]
 
-ENTRIES = frozenset(("dir", *CONTROL_FILES, *LIMIT_FILES, *FURTHER_FILES))
+ENTRIES = frozenset(("dir", *CONTROL_FILES, *LIMIT_FILES))
 # lines of a report that stand around operations
 ANSWERS = ("escapes", "contained", "unsettled", "pair")
 NOBODYS_GROUP = 65534
@@ -53,7 +53,7 @@ def remove(mount: str, words: Sequence[str]) -> Optional[str]:
 def set_limit(mount: str, words: Sequence[str]) -> Optional[str]:
     path, file, *parts = words
     value = " ".join(parts)
-    known = file in LIMIT_FILES and (value == "max" or is_number(value)) or file in FURTHER_FILES and is_line(value)
+    known = file in NUMBER_FILES and (value == "max" or is_number(value)) or file in TEXT_FILES and is_line(value)
     return f"{echoed(value)} >{place(mount, path, file)}" if known and is_path(path) else None
 
 

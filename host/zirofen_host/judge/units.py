@@ -9,7 +9,8 @@ from zirofen_host.collect.accounts import is_id
 from zirofen_host.collect.model import AccountLists, Snapshot
 from zirofen_host.collect.unit_files import UnitFile, filled, specifiers
 from zirofen_host.fault import Fault
-from zirofen_host.files import BY_SETTING, CONTROL_FILES, CONTROLLERS, FURTHER_FILES, HANDED_OVER, LIMIT_FILES, PAGE, USUAL_LIST, standing
+from zirofen_host.files import (
+    BY_SETTING, CONTROL_FILES, CONTROLLERS, HANDED_OVER, NUMBER_FILES, PAGE, TEXT_FILES, USUAL_LIST, accepts, standing)
 from zirofen_host.profile import LARGEST_PID, ROOT, CgroupPath, ancestors, is_name, is_root, parent_of, path_of, text_of
 
 SERVICE, SLICE = "service", "slice"
@@ -25,7 +26,7 @@ DYNAMIC = range(61184, 65520)
 FACTORS = {"": 1, "B": 1, "K": 2**10, "M": 2**20, "G": 2**30, "T": 2**40, "P": 2**50, "E": 2**60}
 YES, NO = ("1", "yes", "y", "true", "t", "on"), ("0", "no", "n", "false", "f", "off")
 # the limit file that each setting sets, with what it is in
-LIMITS: Dict[str, str] = {setting: file for setting, file in BY_SETTING.items() if file in LIMIT_FILES}
+LIMITS: Dict[str, str] = {setting: file for setting, file in BY_SETTING.items() if file in NUMBER_FILES}
 # the controllers that a manager enables, all of them for a unit with Delegate=yes; and the settings for which it enables some
 MANAGED = ("cpuset", "cpu", "io", "memory", "pids")
 ENABLING = {"cpuset": re.compile(r"(Startup)?Allowed(CPUs|MemoryNodes)\Z"), "cpu": re.compile(r"(Startup)?CPU(Weight|Shares|Quota)"),
@@ -94,11 +95,11 @@ class Plan:
         """Whether there is a place for what a tree text alone has none for."""
         return self.snapshot.source.file is None or self.snapshot.source.carried is not None
 
-    def further(self, path: CgroupPath) -> List[str]:
-        """The further limit files that a text has of a cgroup, as far as the cgroup above still brings them."""
+    def text_files(self, path: CgroupPath) -> List[str]:
+        """The limit files of format 4 that a text has of a cgroup, as far as the cgroup above still brings them."""
         row, parent = self.snapshot.tree.rows.get(path), parent_of(path)
         brought = self.enabled[parent] if parent else ()
-        return [file for file in row.further if FURTHER_FILES[file].is_brought_by(brought)] if row else []
+        return [file for file in row.text_files if TEXT_FILES[file].is_brought_by(brought)] if row else []
 
     def cgroup(self, path: CgroupPath) -> None:
         """A cgroup is there, and all above it; files of one that was there are as a new one's."""
@@ -239,7 +240,7 @@ class Started:
                    if (self.unit.last(setting) or "yes").lower() not in NO}
         wanted |= {name for name, setting in (("io", "IOAccounting"), ("io", "BlockIOAccounting"))
                    if (self.unit.last(setting) or "no").lower() in YES}
-        wanted |= {str(LIMIT_FILES[file].controller) for setting, file in LIMITS.items() if self.is_limited(setting, file)}
+        wanted |= {str(NUMBER_FILES[file].controller) for setting, file in LIMITS.items() if self.is_limited(setting, file)}
         return wanted | {name for name, enabling in ENABLING.items() if any(enabling.match(each.name) for each in self.unit.settings)}
 
     def is_limited(self, setting: str, file: str) -> bool:
@@ -247,7 +248,7 @@ class Started:
         value = self.unit.last(setting)
         if value is None:
             return setting == "TasksMax" and self.unit.name.kind == SERVICE
-        return of_text(file, value) != str(LIMIT_FILES[file].usual)
+        return of_text(file, value) != str(NUMBER_FILES[file].usual)
 
     def start_slices(self, path: CgroupPath) -> None:
         """The slices that it brings, which aren't there yet, with what their files say."""
@@ -275,12 +276,12 @@ class Started:
         parent = parent_of(path)
         files = standing(self.plan.enabled[parent]) if parent else []
         if was_there and self.unit.name.kind == SERVICE:
-            further = self.plan.further(path)
-            for name in ("dir", *CONTROL_FILES, *files, *further):
+            named = self.plan.text_files(path)
+            for name in ("dir", *CONTROL_FILES, *files, *named):
                 self.plan.change("chown", text_of(path), name, "0:0")
                 self.plan.change("chmod", text_of(path), name, "755" if name == "dir" else "644")
             for file in files:
-                self.plan.change("set", text_of(path), file, str(LIMIT_FILES[file].usual))
+                self.plan.change("set", text_of(path), file, str(NUMBER_FILES[file].usual))
         for file, number in self.limits():
             if file in files:
                 self.plan.change("set", text_of(path), file, number)
@@ -319,7 +320,7 @@ class Started:
         """The entries of a cgroup that are given to whoever runs in it, as far as the text has a place for them."""
         has_memory = "memory" in self.plan.enabled[parent_of(path) or ROOT]
         for name in (*DELEGATED, *(OF_MEMORY if has_memory else ()), *(OF_A_SUBGROUP if is_subgroup else ())):
-            if self.plan.can_carry or name in ("dir", *CONTROL_FILES, *LIMIT_FILES):
+            if self.plan.can_carry or name in ("dir", *CONTROL_FILES, *NUMBER_FILES):
                 yield name
 
     def tell_the_rest(self) -> None:
@@ -380,7 +381,7 @@ def slice_path(name: str) -> CgroupPath:
 def of_text(file: str, value: str) -> Optional[str]:
     """What a limit file has where a unit has a value; None for a share of what the host has, and for what is no number."""
     if value == "infinity":
-        return "max" if LIMIT_FILES[file].range.takes_max else None
+        return "max" if accepts(file, "max") else None
     found = _SIZE.match(value)
     if found is None or found[2] and not file.startswith(("memory.", "pids.")):
         return None

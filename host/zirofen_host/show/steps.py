@@ -6,7 +6,7 @@ from dataclasses import dataclass
 from typing import Callable, Dict, List, Mapping, NamedTuple, Optional, Sequence, Tuple, Union
 
 from zirofen_host.collect.model import Value
-from zirofen_host.files import LIMIT_FILES
+from zirofen_host.files import NUMBER_FILES
 from zirofen_host.profile import is_inside, parent_of
 from zirofen_host.show.view import Host
 from zirofen_host.show.words import listed, size
@@ -99,7 +99,7 @@ class Describer:
         if path == parent_of(self.subtree):
             self.breaks = Breaks(LIMITS, changes=tuple(
                 Change(file, self.host.value(self.subtree, file), None if f"-{limit.controller}" in changes else limit.usual)
-                for file, limit in LIMIT_FILES.items() if limit.controller in names))
+                for file, limit in NUMBER_FILES.items() if limit.controller in names))
         on = listed(each[1:] for each in changes if each[0] == "+")
         off = listed(each[1:] for each in changes if each[0] == "-")
         changed = listed([*([f"enable {on}"] if on else []), *([f"disable {off}"] if off else [])])

@@ -7,7 +7,7 @@ from typing import Callable, Dict, Iterable, Iterator, List, Mapping, Optional, 
 
 from zirofen_host.collect.model import Value
 from zirofen_host.collect.walk import OWNERS_MARK
-from zirofen_host.files import CONTROL_FILES, FURTHER_FILES, HANDED_OVER, LIMIT_FILES, is_usual
+from zirofen_host.files import CONTROL_FILES, TEXT_FILES, HANDED_OVER, NUMBER_FILES, is_usual
 from zirofen_host.judge.host_model import Absent, NamedScope, Owner, ReportCgroup, ReportFile, ReportProcess, ReportUser
 from zirofen_host.judge.model import (DiffersFinding, EntryFinding, FaultFinding, HeldBy, HeldFinding, OpenedFinding, PremiseFinding,
                                       Report, RootInside, RunsElsewhere, Subtree, Whom)
@@ -304,7 +304,7 @@ class Host:
         def among(names: Iterable[str]) -> List[str]:
             return [name for name in names if name in entries and is_handed(entries[name], held)]
 
-        handed = among(("dir", *CONTROL_FILES, *LIMIT_FILES)) or among(FURTHER_FILES)
+        handed = among(("dir", *CONTROL_FILES, *NUMBER_FILES)) or among(TEXT_FILES)
         return sorted(handed, key=lambda name: name not in HANDED_OVER)
 
     def value(self, path: str, file: str) -> Optional[Value]:

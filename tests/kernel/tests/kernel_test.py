@@ -16,6 +16,7 @@ TOP = os.path.dirname(os.path.dirname(os.path.abspath(__file__)))
 sys.path[:0] = [TOP, os.path.join(TOP, "..", "model")]
 from second import commands, rules, texts
 from second.controllers import ALL_CONTROLLERS
+from second.limit_files import MAX, MOST
 from trial import advice, asking, classes, comparing, machine, made, making, mutants, packages, script, settled, tally
 from trials import format_4, trees
 
@@ -86,7 +87,7 @@ class KernelTest(unittest.TestCase):
             if kind == "control" and words[0] == case.subtrees[0][:-1]:
                 self.assertEqual(comparing.break_of(case, record, case.subtrees[0]), f"broken {len(case.steps)} limits")
                 found |= set(words[1])
-        self.assertGreaterEqual(found, {(sign, name) for sign in "+-" for name in CONTROLLERS if name in format_4.FURTHER})
+        self.assertGreaterEqual(found, {(sign, name) for sign in "+-" for name in CONTROLLERS if name in format_4.OTHERS})
 
     def test_recorded_internal_processes_bar_at_domain_controllers(self):
         barred = {"move": set(), "control": set()}
@@ -177,18 +178,18 @@ class KernelTest(unittest.TestCase):
         row = last.cgroups[()]
         entry = rules.Entry(7, 7, 0o777)
         for changed in (rules.replace(row, entries={**row.entries, rules.PROCS: entry}), rules.replace(row, enabled=frozenset()),
-                        rules.replace(row, values={**row.values, rules.DEPTH: 77})):
+                        rules.replace(row, entries={**row.entries, rules.DEPTH: rules.replace(row.entries[rules.DEPTH], value=77)})):
             states = [*record.states[:-1], rules.replace(last, cgroups={**last.cgroups, (): changed})]
             other = script.Record([], states, record.numbers)
             if changed != row:
                 self.assertTrue(any(not each.kind for each in comparing.compare(case, answers, other).differences))
 
     def test_values_are_kept_as_the_list_says(self):
-        kept = [("memory.max", 100, 0), ("memory.low", rules.MOST, rules.MAX), (rules.DEPTH, 2147483647, rules.MAX),
+        kept = [("memory.max", 100, 0), ("memory.low", MOST, MAX), (rules.DEPTH, 2147483647, MAX),
                 ("memory.max", 4097, 4096)]
         for each in kept:
             self.assertEqual(classes.kind_of_value(*each, {}), "range of values", each)
-        for each in [("memory.max", 4096, 0), ("pids.max", 5, 6), (rules.DEPTH, 5, rules.MAX), ("memory.max", rules.MAX, 0)]:
+        for each in [("memory.max", 4096, 0), ("pids.max", 5, 6), (rules.DEPTH, 5, MAX), ("memory.max", MAX, 0)]:
             self.assertIsNone(classes.kind_of_value(*each, {}), each)
 
     def test_removal_of_a_file_is_explained(self):
@@ -199,7 +200,7 @@ class KernelTest(unittest.TestCase):
 
     def outcome(self, step, said, number, uid=0):
         """An outcome where the root enables cpuset and io, `/a` has a process, and `/b` none."""
-        row = rules.Cgroup({name: rules.Entry(1000) for name in rules.STANDING}, {}, frozenset())
+        row = rules.Cgroup({name: rules.Entry(1000) for name in rules.STANDING})
         cgroups = {(): rules.replace(row, enabled=frozenset(["cpuset", "io"])), ("a",): row, ("b",): row}
         state = rules.State(frozenset(CONTROLLERS), cgroups, {7: (uid, ("a",))}, frozenset([7]), 4)
         return classes.kind_of(classes.Outcome(state, (1000, ()), step, said, number, state))

@@ -5,7 +5,7 @@ from urllib.parse import quote
 
 from second import commands, rules, settled, texts
 from second.controllers import ALL_CONTROLLERS
-from second.further import FURTHER_FILES
+from second.limit_files import TEXT_FILES
 from second.rules import text_of
 from trial import advice, classes, comparing, script, shown
 
@@ -72,28 +72,29 @@ class Kernel:
         refusal = rules.step(self.state, user, operation)[1]
         if refusal:
             return min(comparing.NUMBERS[refusal.split(" ")[0]])
-        if operation[0] == "set" and (file in FURTHER_FILES or file == shown.WEIGHT):
+        if operation[0] == "set" and (file in TEXT_FILES or file == shown.WEIGHT):
             turned = shown.turned_by(file, operation[3], self.shown_at(path))
             if turned is None:
                 return errno.EINVAL
             self.shown.setdefault(path, {}).update(turned)
         self.state = rules.next_state(self.state, user, operation)
-        self.shown = {path: {file: text for file, text in self.shown[path].items() if file in rules.further_at(self.state, path)}
+        self.shown = {path: {file: text for file, text in self.shown[path].items() if file in rules.files_at(self.state, path)}
                       for path in self.shown if path in self.state.cgroups}
         return 0
 
     def shown_at(self, path):
-        first = {file: text for file, text in shown.FIRST.items() if file in rules.further_at(self.state, path)}
+        first = {file: text for file, text in shown.FIRST.items() if file in rules.files_at(self.state, path)}
         return {**first, **self.shown.get(path, {})}
 
     def line_of(self, path, row):
-        """A cgroup's, with what it has of the further limit files that are watched."""
-        further = [file for file in self.watched if path and file in rules.further_at(self.state, path)]
+        """A cgroup's, with what it has of the limit files that are watched."""
+        watched = [file for file in self.watched if file in rules.files_at(self.state, path)]
         texts_there = self.shown_at(path)
-        values = {**row.values, **{file: texts_there.get(file, "") for file in further}}
+        values = {**{file: value for file, value in row.values.items() if file not in TEXT_FILES},
+                  **{file: texts_there.get(file, "") for file in watched}}
         if shown.IDLE in texts_there and shown.WEIGHT in values:
             values[shown.WEIGHT] = (*shown.weights_of(texts_there), values[shown.WEIGHT])[texts_there[shown.IDLE] != "1"]
-        entries = {name: rules.entry_of(self.state, path, name) for name in (*rules.STANDING, *values)}
+        entries = {name: row.entries[name] for name in (*rules.STANDING, *values)}
         return line_of(path, entries, values, row.enabled, rules.brought(self.state, path))
 
     def process(self, _line, rest):

@@ -56,7 +56,7 @@ class RunTest(Called):
                          "- Operations: 7 cases", "- Contained: 32 cases", "- Settled, escapes: 2 lists",
                          "- Settled, contained: 2 pairs", "- Wrong programs: 15 of 15 noticed by 51 cases",
                          "- Controllers: cpuset, cpu, io, memory, hugetlb, pids, rdma, misc.",
-                         "- Of format 4: operations ", "one controller 16", "- Further limit files: the kernel has 23 of the 43",
+                         "- Of format 4: operations ", "one controller 16", "- Limit files whose values are texts: the kernel has 23 of the 43",
                          "- Further limit files, operations: 2 cases", "- Unexplained: 0."):
                 self.assertIn(part, report)
             self.assertTrue(all(name in report.replace("\n  ", " ") for name in tally.WRONG))
@@ -115,7 +115,7 @@ class RunTest(Called):
             self.assertIn("- Wrong programs: 3 of 15 noticed", said)
 
     def test_each_wrong_program_is_noticed_by_made_cases(self):
-        """But for the one that has trees of its own: further_test."""
+        """But for the one that has trees of its own: limit_files_test."""
         for name in [it for it in wrong.NAMES if it != mutants.FORGETS]:
             with self.subTest(name), tempfile.TemporaryDirectory() as room:
                 kind = settled.CONTAINED if name in wrong.SETTLES else "contained"

@@ -8,7 +8,7 @@ from second.rules import text_of
 from trial import asking, making, mutants
 from trial.shown import WEIGHT
 from trials import spelling, trees
-from trials.format_4 import FURTHER
+from trials.format_4 import OTHERS
 
 # so many operations are tried after the changes and the escape
 TRIES = 24
@@ -33,9 +33,7 @@ def changed(state, lines):
 
 def with_owner(state, path, name, value):
     uid, gid = map(int, value.split(":"))
-    row = state.cgroups[path]
-    entries = {**row.entries, name: replace(rules.entry_of(state, path, name), uid=uid, gid=gid)}
-    return rules.with_cgroup(state, path, replace(row, entries=entries))
+    return rules.with_entry(state, path, name, uid=uid, gid=gid)
 
 
 CHANGES = {"chown": with_owner,
@@ -45,9 +43,9 @@ CHANGES = {"chown": with_owner,
 
 def text_of_state(state):
     """The text of a tree that a kernel has; the weight 0 of what is idle is written as 1."""
-    rows = {path: replace(row, values={file: 1 if (file, value) == (WEIGHT, 0) else value for file, value in row.values.items()})
-            for path, row in state.cgroups.items()}
-    document = commands.document_of(replace(state, cgroups=rows))
+    for path in [path for path, row in state.cgroups.items() if row.values.get(WEIGHT) == 0]:
+        state = rules.with_entry(state, path, WEIGHT, value=1)
+    document = commands.document_of(state)
     return spelling.document(random.Random(0), document).decode().removeprefix("\ufeff")
 
 
@@ -110,7 +108,8 @@ def bare_tree():
 
 def made_trees():
     """Of each guarded entry alone, and of all together, a tree for each way to reach it; and the two counts."""
-    guarded = [(path, name) for _, path, name in rules.guarded(settled(bare_tree())[2], TOP)]
+    state = settled(bare_tree())[2]
+    guarded = [(path, name) for _, path, name in rules.guarded(state, TOP) if rules.is_shown(state, path, name)]
     for way in WAYS:
         for opened in [[each] for each in guarded] + [guarded]:
             tree = bare_tree()
@@ -126,9 +125,9 @@ def made_trees():
         yield tree
 
 
-def further_trees(controllers):
+def trees_of_others(controllers):
     """Of each controller but cpu, memory and pids a tree whose user enables it at the subtree's parent, and one whose user disables it."""
-    for name, enabled in itertools.product([name for name in FURTHER if name in controllers], ([], [True])):
+    for name, enabled in itertools.product([name for name in OTHERS if name in controllers], ([], [True])):
         tree = bare_tree()
         tree.form, tree.rows[()]["enabled"], tree.rows[ABOVE]["enabled"] = 4, [name], [name for _ in enabled]
         tree.entry(ABOVE, rules.CONTROL)["uid"] = USER[0]
@@ -140,7 +139,7 @@ def settled(tree, controllers=rules.CONTROLLERS):
 
 
 def made_cases(program, controllers):
-    return [case for number, tree in enumerate([*made_trees(), *further_trees(controllers)])
+    return [case for number, tree in enumerate([*made_trees(), *trees_of_others(controllers)])
             for case in cases_of(random.Random(f"made {number}"), program, *settled(tree, controllers))]
 
 

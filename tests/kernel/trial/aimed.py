@@ -2,6 +2,7 @@
 ancestor, a child or a limit file.
 """
 from second import rules
+from second.limit_files import is_text
 
 # how many of each kind are tried where a tree is drawn
 MOST = 80
@@ -15,10 +16,10 @@ def tries_of(state, users, tops):
 
 
 def steps_at(state, user, top):
-    for _, path, name in rules.guarded(state, top):
+    for _, path, name in [each for each in rules.guarded(state, top) if rules.is_shown(state, *each[1:])]:
         yield "chmod", path, name, 0o777
-    for file in rules.files_at(state, top):
-        yield "set", top, file, rules.other_value(file, state.cgroups[top].values[file])
+    for file in [file for file in rules.files_at(state, top) if not is_text(file)]:
+        yield "set", top, file, rules.other_value(file, state.cgroups[top].entries[file].value)
     for controller in sorted(state.controllers):
         for sign in "-+":
             yield "control", top[:-1], ((sign, controller),)

@@ -1,7 +1,7 @@
 """Where a running kernel differs: a rule for each entry of docs/MODEL.md's list, by the name that stands in bold before it.
 
 A rule of outcomes is asked of a difference of outcomes, and says whether the entry explains it. A rule of values is asked of a
-value of the eight limit files that a kernel keeps otherwise than it was written; those of further ones are held against shown.py, and
+number that a kernel keeps otherwise than it was written; texts are held against shown.py, and
 `SHOWN` has the entries of these. A rule of ways is asked of what threads and descriptors do, which no operation of the model has
 (ways.c). Any other entry never comes up, since the cases are made so that it can't, or aren't compared in it:
 `LEFT_OUT` says how.
@@ -13,7 +13,7 @@ from dataclasses import dataclass
 
 from second import rules
 from second.controllers import ALL_CONTROLLERS
-from second.further import FURTHER_FILES
+from second.limit_files import MAX, MOST, TEXT_FILES
 from trial import shown
 
 LIST = os.path.join(os.path.dirname(os.path.abspath(__file__)), "../../../docs/MODEL.md")
@@ -60,16 +60,16 @@ def value_taken(outcome):
     if outcome.step[0] != "set":
         return False
     _, _, file, value = outcome.step
-    if file in FURTHER_FILES:
+    if file in TEXT_FILES:
         return False
     if outcome.said == f"refused bad-value {file}":
         return outcome.number == 0 and file.startswith("memory.") and value >= 2 ** 63
-    return outcome.refuses(errno.EINVAL, errno.ERANGE) and value != rules.MAX and value > GREATEST.get(file, rules.MOST)
+    return outcome.refuses(errno.EINVAL, errno.ERANGE) and value != MAX and value > GREATEST.get(file, MOST)
 
 
 def text_refused(outcome):
-    """A text that a further limit file doesn't take, at least beside what the others of its cgroup have."""
-    if outcome.step[0] != "set" or outcome.step[2] not in FURTHER_FILES:
+    """A text that a limit file doesn't take, at least beside what the others of its cgroup have."""
+    if outcome.step[0] != "set" or outcome.step[2] not in TEXT_FILES:
         return False
     if not outcome.refuses(errno.EINVAL, errno.ERANGE, errno.ENODEV, errno.EOPNOTSUPP) or is_idle(outcome):
         return False
@@ -95,23 +95,23 @@ def weight_of_the_idle(outcome):
 
 
 def file_is_unknown(outcome):
-    """A further limit file that the kernel doesn't have anywhere, or at its root; or one that it has there too, which is root's."""
-    if outcome.step[0] not in ("set", "chmod") or outcome.step[2] not in FURTHER_FILES:
+    """A limit file of format 4 that the kernel doesn't have anywhere, or at its root; or one that it has there too, which is root's."""
+    if outcome.step[0] not in ("set", "chmod") or outcome.step[2] not in TEXT_FILES:
         return False
     _, path, file, _ = outcome.step
     if not path and outcome.said.startswith("refused no-such-file"):
         return outcome.number == (errno.EACCES if outcome.step[0] == "set" else errno.EPERM)
     there = outcome.there.cgroups
-    return outcome.number == errno.ENOENT and path in there and (not path or not any(file in cgroup.entries for cgroup in there.values()))
+    return outcome.number == errno.ENOENT and path in there and (not path or not any(file in cgroup.named for cgroup in there.values()))
 
 
 def value_kept(file, written, kept, _now):
     """The greatest of `cgroup.max.*` is kept as `max`; memory is kept in whole pages, and what is near to 2^63 as `max`."""
     if file in (rules.DESCENDANTS, rules.DEPTH):
-        return written == GREATEST[file] and kept == rules.MAX
-    if not file.startswith("memory.") or written == rules.MAX:
+        return written == GREATEST[file] and kept == MAX
+    if not file.startswith("memory.") or written == MAX:
         return False
-    return kept == (written // PAGE * PAGE if written < PAGES_FROM else rules.MAX)
+    return kept == (written // PAGE * PAGE if written < PAGES_FROM else MAX)
 
 
 def weight_turned(file, _written, kept, now):
@@ -179,8 +179,8 @@ def effect_of_limits(outcome):
 
 
 def limit_of(state, path, file):
-    value = state.cgroups[path].values.get(file, rules.MAX)
-    return rules.MOST if value == rules.MAX else value
+    value = state.cgroups[path].values.get(file, MAX)
+    return MOST if value == MAX else value
 
 
 RULES = {
@@ -196,7 +196,7 @@ RULES = {
     "unknown file": file_is_unknown,
 }
 VALUES = {"range of values": value_kept, "file that turns another": weight_turned}
-# of what a kernel shows of further limit files after a set: comparing.further_differences says where
+# of texts that a kernel shows after a set: comparing.text_differences says where
 SHOWN = ("read back", "one line of several")
 # of each way the numbers that it ends with: of errors, and of the second whether its process is listed where the thread was, before and
 # behind. Where one place were all that a process has, and each write opened what it writes, the second would be EACCES, 0 and 0, and EACCES

@@ -3,7 +3,7 @@ import errno
 from dataclasses import dataclass, replace
 
 from second import commands, rules
-from second.further import FURTHER_FILES
+from second.limit_files import LIMIT_FILES, NUMBER_FILES, TEXT_FILES
 from second.rules import text_of
 from trial import advice, asking, classes, script, mutants, shown
 
@@ -45,31 +45,23 @@ def same_outcome(said, number):
 
 
 def values_of(state):
-    """Those of the eight limit files."""
-    return {(path, file): value for path, cgroup in state.cgroups.items() for file, value in cgroup.values.items()
-            if file in rules.LIMIT_FILES}
+    """Those that are numbers, or `max`."""
+    return {(path, file): value for path, cgroup in state.cgroups.items() for file, value in cgroup.values.items() if file in NUMBER_FILES}
 
 
 def without_values(state, watched=()):
-    """Owners and modes, with those of the further limit files that are watched, be they told of or not, and what stands."""
-    return {path: (entries_of(state, path, watched), cgroup.enabled, sorted(set(cgroup.values) & set(rules.LIMIT_FILES)))
-            for path, cgroup in state.cgroups.items()}
-
-
-def entries_of(state, path, watched):
-    further = [file for file in watched if path and file in rules.further_at(state, path)]
-    return {**{name: entry for name, entry in state.cgroups[path].entries.items() if name not in FURTHER_FILES},
-            **{file: rules.entry_of(state, path, file) for file in further}}
+    """Owners and modes of what every tree is written with and of the limit files that are watched, and what is enabled."""
+    return {path: ({name: replace(entry, value=None) for name, entry in cgroup.entries.items() if name in rules.WRITTEN or name in watched},
+                   cgroup.enabled) for path, cgroup in state.cgroups.items()}
 
 
 def there_of(state):
     """The same of a kernel's state, which has what it watched."""
-    return {path: (cgroup.entries, cgroup.enabled, sorted(set(cgroup.values) & set(rules.LIMIT_FILES)))
-            for path, cgroup in state.cgroups.items()}
+    return without_values(state, {name for cgroup in state.cgroups.values() for name in cgroup.named})
 
 
 def state_differences(number, model, there, watched=()):
-    """What of a state differs: rows, entries and places have no entry that explains them, values of the eight limit files may."""
+    """What of a state differs: rows, entries and places have no entry that explains them, numbers may."""
     found = []
     mine, its = without_values(model, watched), there_of(there)
     for path in sorted(mine.keys() | its.keys()):
@@ -86,23 +78,23 @@ def state_differences(number, model, there, watched=()):
 
 
 def compare(case, answers, record):
-    """The steps that were compared, and the differences: the first of outcomes ends it, and a value's is told once."""
+    """The steps that were compared, and the differences: the first of outcomes ends it, and a value's counts once."""
     if not script.is_whole(case, record):
         return Compared(0, [Difference(0, None, f"not built or carried out: {record.faults[:3]}, {len(record.states)} states")])
     if len(answers) < len(case.steps):
         return Compared(0, [Difference(0, None, f"{len(answers)} answers to {len(case.steps)} steps")])
     watched = standing_of(case, record)
-    found = state_differences(0, case.state, record.states[0], watched) + told_differences(case.state, record.states[0])
-    told, model = {each.what for each in found}, case.state
+    found = state_differences(0, case.state, record.states[0], watched) + value_differences(case.state, record.states[0])
+    seen, model = {each.what for each in found}, case.state
     for number, ((user, step), said, number_said) in enumerate(zip(case.steps, answers, record.numbers), 1):
         if not same_outcome(said, number_said):
             kind = classes.kind_of(classes.Outcome(model, user, step, said, number_said, record.states[number - 1]))
             what = f"{commands.spelling(step)}: {said}, and there {errno.errorcode.get(number_said, number_said)}"
             return Compared(number, found + [Difference(number, kind, what)])
-        new = further_differences(number, model, step if said == "ok" else (), *record.states[number - 1:number + 1])
+        new = text_differences(number, model, step if said == "ok" else (), *record.states[number - 1:number + 1])
         model = rules.step(model, user, step)[0]
-        new += [each for each in state_differences(number, model, record.states[number], watched) if each.what not in told]
-        told |= {each.what for each in new}
+        new += [each for each in state_differences(number, model, record.states[number], watched) if each.what not in seen]
+        seen |= {each.what for each in new}
         found += new
         if any(each.kind is None for each in new):
             return Compared(number, found)
@@ -110,16 +102,16 @@ def compare(case, answers, record):
 
 
 def standing_of(case, record):
-    """Of the further limit files that a case watches those that stand somewhere on the kernel: the others it doesn't have."""
-    standing = {name for state in record.states for cgroup in state.cgroups.values() for name in cgroup.entries}
+    """Of the limit files that a case watches those that stand somewhere on the kernel: the others it doesn't have."""
+    standing = {name for state in record.states for cgroup in state.cgroups.values() for name in cgroup.named}
     return [file for file in script.watched(case) if file in standing]
 
 
-def told_differences(model, there):
-    """What a kernel shows of further limit files otherwise than it was told while the tree was built."""
+def value_differences(model, there):
+    """Texts that a kernel shows otherwise than they were written while the tree was built."""
     found = []
     for path, cgroup in model.cgroups.items():
-        for file in [file for file in cgroup.values if file in FURTHER_FILES and path in there.cgroups]:
+        for file in [file for file in cgroup.values if file in TEXT_FILES and path in there.cgroups]:
             value, text, now = cgroup.values[file], there.cgroups[path].values.get(file, ""), {}
             for line in value.split("\n"):
                 now.update(shown.turned_by(file, line, now) or {})
@@ -129,19 +121,19 @@ def told_differences(model, there):
     return found
 
 
-def further_differences(number, model, step, before, after):
-    """What a kernel shows of the further limit files after a step that was let through, where it shows another text than it was to by
+def text_differences(number, model, step, before, after):
+    """What a kernel shows of texts after a step that was let through, where it shows another text than it was to by
     the rules of shown.py, or where that is another one than was set."""
     found, turned = [], {}
-    if step[:1] == ("set",) and (step[2] in FURTHER_FILES or step[2] == shown.WEIGHT):
+    if step[:1] == ("set",) and (step[2] in TEXT_FILES or step[2] == shown.WEIGHT):
         now = before.cgroups[step[1]].values
         turned = shown.turned_by(step[2], step[3], now)
         if turned is None:
             return [Difference(number, None, f"{commands.spelling(step)}: let through, and a kernel was to refuse it")]
         found += kind_of_set(number, model, step, now, turned)
-    for path, file in sorted(further_of(after)):
+    for path, file in sorted(texts_of(after)):
         text, was = after.cgroups[path].values.get(file, ""), shown.FIRST.get(file, "")
-        if (path, file) in further_of(before):
+        if (path, file) in texts_of(before):
             was = before.cgroups[path].values.get(file, "")
         if step[1:2] == (path,):
             was = turned.get(file, was)
@@ -152,8 +144,8 @@ def further_differences(number, model, step, before, after):
     return found
 
 
-def further_of(state):
-    return {(path, file) for path, cgroup in state.cgroups.items() for file in cgroup.entries if file in FURTHER_FILES}
+def texts_of(state):
+    return {(path, file) for path, cgroup in state.cgroups.items() for file in cgroup.named}
 
 
 def kind_of_set(number, model, step, now, turned):
@@ -162,10 +154,10 @@ def kind_of_set(number, model, step, now, turned):
     what, found = commands.spelling(step), []
     if [name for name in turned if name != file and name in now and now[name] != turned[name]]:
         found.append(Difference(number, "file that turns another", f"{what}: turns {turned}"))
-    if file in FURTHER_FILES and not shown.are_alike(file, turned[file], str(text)):
+    if file in TEXT_FILES and not shown.are_alike(file, turned[file], str(text)):
         kind = "one line of several" if file == "io.max" else "read back"
         found.append(Difference(number, kind, f"{what}: is shown as {turned[file]!r}"))
-    elif file in FURTHER_FILES and now.get(file) == text and model.cgroups[path].values.get(file) != text:
+    elif file in TEXT_FILES and now.get(file) == text and model.cgroups[path].values.get(file) != text:
         found.append(Difference(number, "read back", f"{what}: stands there already"))
     return found
 
@@ -173,7 +165,12 @@ def kind_of_set(number, model, step, now, turned):
 def turned_entries(case, record, top):
     """The limit files of a subtree's top whose owner or mode isn't what it was at the first."""
     first, *rest = [state.cgroups[top].entries for state in record.states[len(case.mends):] if top in state.cgroups]
-    return sorted({file for file in rules.ALL_FILES for entries in rest if entries.get(file) != first.get(file)})
+    return sorted({file for file in LIMIT_FILES for entries in rest if owner_of(entries.get(file)) != owner_of(first.get(file))})
+
+
+def owner_of(entry):
+    """An owner, a group and a mode, where there is an entry."""
+    return entry and (entry.uid, entry.gid, entry.mode)
 
 
 def tells_apart(turn, case, answers, record):
@@ -209,4 +206,4 @@ def changes_differences(case, mends, record):
     """What of the state that a kernel has after a case's changes isn't the tree with these changes."""
     there = record.states[len(case.mends)]
     model, watched = advice.changed(case.state, mends), standing_of(case, record)
-    return [each for each in state_differences(0, model, there, watched) + told_differences(model, there) if not each.kind]
+    return [each for each in state_differences(0, model, there, watched) + value_differences(model, there) if not each.kind]

@@ -4,6 +4,7 @@ import random
 from dataclasses import dataclass, field
 
 from second import rules, texts
+from second.limit_files import MAX, MOST, NUMBER_FILES
 from trial import aimed, asking, script
 from trial.classes import GREATEST
 from trials import cases, format_4, spelling, trees
@@ -81,7 +82,7 @@ def settle(rng, tree, controllers):
         settle_entry(row.setdefault("dir", {}), 0o755, SEARCH)
         for name, entry in row.get("files", {}).items():
             settle_entry(entry, 0o644, 0)
-            if "value" in entry and name in rules.LIMIT_FILES:
+            if "value" in entry and name in NUMBER_FILES:
                 entry["value"] = settled_value(rng, name, entry["value"])
 
 
@@ -94,10 +95,10 @@ def settle_entry(entry, default, bits):
 
 def settled_value(rng, file, value):
     """A value that stands there as it was written, and that doesn't end what runs."""
-    if value == rules.MAX or not file.startswith("memory."):
-        return value if value == rules.MAX else min(value, GREATEST.get(file, rules.MOST) - 1)
-    if value == rules.MOST:
-        return rules.MAX
+    if value == MAX or not file.startswith("memory."):
+        return value if value == MAX else min(value, GREATEST.get(file, MOST) - 1)
+    if value == MOST:
+        return MAX
     return (value or (rng.choice([0, 1]) if file in ("memory.min", "memory.low") else 1)) * 2 ** 24
 
 
@@ -115,29 +116,29 @@ def rename_rows(tree):
 
 def settled_step(rng, state, step):
     """A step that a kernel can be told: directories can be searched, and a child has a PID of its own."""
-    if state.form == 4 and step[0] in FURTHER_STEPS:
-        return FURTHER_STEPS[step[0]](rng, state, *step)
+    if state.form == 4 and step[0] in STEPS_OF_FORMAT_4:
+        return STEPS_OF_FORMAT_4[step[0]](rng, state, *step)
     if step[0] == "chmod" and step[2] == rules.DIR:
         return (*step[:3], step[3] | SEARCH)
     if step[0] == "fork":
         return (*step[:2], next(pid for pid in itertools.count(5001) if pid not in state.used))
-    if step[0] == "set" and step[2] in ("memory.high", "memory.max") and step[3] != rules.MAX and step[3] < 2 ** 20:
+    if step[0] == "set" and step[2] in ("memory.high", "memory.max") and step[3] != MAX and step[3] < 2 ** 20:
         return (*step[:3], step[3] * 2 ** 24 + 2 ** 24)
     return step
 
 
-def further_control(rng, state, kind, path, changes):
+def control_of_others(rng, state, kind, path, changes):
     """Mostly without the controllers that the kernel doesn't have."""
     return kind, path, changes if rng.random() < UNKNOWN else tuple(each for each in changes if each[1] in state.controllers)
 
 
-def further_mkdir(rng, _state, kind, path):
+def mkdir_of_others(rng, _state, kind, path):
     """Of any controller's file in the place of the one whose name the random ones have."""
     return kind, path[:-1] + (rng.choice(FILE_NAMES),) if path[-1:] == FILE_NAMES[:1] else path
 
 
 FILE_NAMES = ("memory.stat", *script.OTHERS.values())
-FURTHER_STEPS = {"control": further_control, "mkdir": further_mkdir}
+STEPS_OF_FORMAT_4 = {"control": control_of_others, "mkdir": mkdir_of_others}
 
 
 def settled(rng, tree, controllers):
@@ -220,7 +221,7 @@ def tries_of(rng, tree, state, users, count, first=0):
 def other_step(rng, state, user, number):
     kind = rng.choice(OTHERS)
     path, other = (rules.text_of(rng.choice(list(state.cgroups))) for _ in range(2))
-    entry = rng.choice([rules.DIR, rules.PROCS, rules.CONTROL, *rules.LIMIT_FILES])
+    entry = rng.choice([rules.DIR, rules.PROCS, rules.CONTROL, *NUMBER_FILES])
     return {"threads": ("threads", rng.choice(list(state.live) or [7]), path), "rename": ("rename", path, other.rstrip("/") + "/r"),
             "born": ("born", path, 9000 + number), "xattr": ("xattr", path, entry), "chown": ("chown", path, entry, user[0]),
             "write": ("write", path, rng.choice(WRITTEN), rng.choice(TEXTS))}[kind]

@@ -1,11 +1,11 @@
 """Mutants of the program: each turns one clause of what the program says of a case. Comparing has to find every one of them.
 
-Those of `MUTANTS`, and of `OF_FORMAT_4` and `OF_FURTHER` in trees of that format, say other outcomes of the operations, and are held
+Those of `MUTANTS`, and of `OF_FORMAT_4` and `OF_LIMIT_FILES` in trees of that format, say other outcomes of the operations, and are held
 against what a kernel made of them. The changes that those of `ADVICE` advise are carried out on a kernel in place of the program's.
 """
 from second import rules
-from second.further import FURTHER_FILES
-from trials.format_4 import FURTHER
+from second.limit_files import TEXT_FILES
+from trials.format_4 import OTHERS
 
 
 def lets(word):
@@ -58,10 +58,10 @@ MUTANTS = {
 }
 
 
-def lets_further(word):
+def lets_of_others(word):
     """A program that has a clause for cpu, memory and pids alone: what is refused by it for another controller is let through."""
     def turn(_state, _user, _step, said):
-        return "ok" if said.startswith(f"refused {word}") and said.split(" ")[2] in FURTHER else said
+        return "ok" if said.startswith(f"refused {word}") and said.split(" ")[2] in OTHERS else said
     return turn
 
 
@@ -70,50 +70,50 @@ def internal_process_of_three(state, _user, step, said):
     if not said.startswith("refused internal-process"):
         return said
     enabled = state.cgroups[step[2]].enabled if step[0] == "move" else rules.enabled_after(state, *step[1:])
-    return "ok" if enabled <= {*FURTHER} else said
+    return "ok" if enabled <= {*OTHERS} else said
 
 
 def has_three(_state, _user, step, said):
     """Has the controllers cpu, memory and pids alone."""
-    found = [name for sign, name in step[2] if sign == "+" and name in FURTHER] if step[0] == "control" and said == "ok" else []
+    found = [name for sign, name in step[2] if sign == "+" and name in OTHERS] if step[0] == "control" and said == "ok" else []
     return f"refused not-available {found[0]}" if found else said
 
 
 OF_FORMAT_4 = {
     "has cpu, memory and pids alone": has_three,
     "takes processes where another controller is enabled": internal_process_of_three,
-    "disables another controller that a child uses": lets_further("child-uses"),
-    "enables another controller that isn't available": lets_further("not-available"),
+    "disables another controller that a child uses": lets_of_others("child-uses"),
+    "enables another controller that isn't available": lets_of_others("not-available"),
 }
 
 
-def lets_of_further(kind, word):
-    """A program that has a clause for other entries alone: what is refused by it for a further limit file is let through."""
+def lets_of_files(kind, word):
+    """A program that has a clause for other entries alone: what is refused by it for a limit file whose values are texts is let through."""
     def turn(_state, _user, step, said):
-        return "ok" if step[0] == kind and step[2] in FURTHER_FILES and said.startswith(f"refused {word}") else said
+        return "ok" if step[0] == kind and step[2] in TEXT_FILES and said.startswith(f"refused {word}") else said
     return turn
 
 
-def untold_of_root(state, _user, step, said):
-    """Takes for root's every further limit file of which nothing was told."""
-    if said != "ok" or step[0] != "set" or step[2] not in FURTHER_FILES or step[2] in state.cgroups[step[1]].entries:
+def unnamed_of_root(state, _user, step, said):
+    """Takes for root's every limit file that nothing named."""
+    if said != "ok" or step[0] != "set" or step[2] not in TEXT_FILES or rules.is_shown(state, step[1], step[2]):
         return said
     return f"refused no-access {rules.text_of(step[1])} {step[2]}"
 
 
-OF_FURTHER = {
-    "lets anyone set a further limit file": lets_of_further("set", "no-access"),
-    "lets anyone set the mode of a further limit file": lets_of_further("chmod", "not-owner"),
-    "takes further limit files that a user brings for root's": untold_of_root,
+OF_LIMIT_FILES = {
+    "lets anyone set a limit file": lets_of_files("set", "no-access"),
+    "lets anyone set the mode of a limit file": lets_of_files("chmod", "not-owner"),
+    "takes limit files that a user brings for root's": unnamed_of_root,
 }
-# says contained where no other guard fails than that of a further limit file
-FORGETS = "check forgets further limit files"
+# says contained where no other guard fails than that of a limit file whose values are texts
+FORGETS = "check forgets limit files whose values are texts"
 
 
 def forgets(state, user, top):
     """Whether that program says contained of a pair that this one says otherwise of."""
     failures = rules.failures(state, user, top)
-    return bool(failures) and all(name in FURTHER_FILES for _, _, name in failures)
+    return bool(failures) and all(name in TEXT_FILES for _, _, name in failures)
 
 
 def answers_of(turn, case, answers):

@@ -4,7 +4,7 @@ from urllib.parse import unquote
 
 from second import commands, rules
 from second.controllers import ALL_CONTROLLERS
-from second.further import FURTHER_FILES
+from second.limit_files import NUMBER_FILES, TEXT_FILES
 from second.rules import text_of
 from trial import classes, shown
 
@@ -24,7 +24,7 @@ class Record:
 
 
 def head():
-    return "files " + " ".join(rules.LIMIT_FILES) + "\nothers " + " ".join(OTHERS.values())
+    return "files " + " ".join(NUMBER_FILES) + "\nothers " + " ".join(OTHERS.values())
 
 
 def spelled(step):
@@ -33,12 +33,12 @@ def spelled(step):
 
 
 def watched(case):
-    """The further limit files that a case names, in their order, and with one of those that turn `cpu.weight` the other one."""
-    named = {name for cgroup in case.state.cgroups.values() for name in cgroup.entries}
+    """The limit files whose values are texts that a case names, in their order, and with one of those that turn `cpu.weight` the other one."""
+    named = {name for cgroup in case.state.cgroups.values() for name in cgroup.named}
     named |= {step[2] for _, step in [*case.steps, *case.tries] if step[0] in ("set", "chmod")}
     if named & {shown.IDLE, shown.NICE}:
         named |= {shown.IDLE, shown.NICE}
-    return [file for file in FURTHER_FILES if file in named] if case.state.form == 4 else []
+    return [file for file in TEXT_FILES if file in named] if case.state.form == 4 else []
 
 
 def lines_of(number, case):
@@ -63,7 +63,8 @@ def building_lines(case):
     lines += [f"process {pid} {uid} {text_of(path)}" for pid, (uid, path) in sorted(state.live.items())]
     for path, cgroup in rows:
         lines += value_lines(path, cgroup)
-        lines += [f"own {text_of(path)} {name} {entry.uid} {entry.gid} {entry.mode:o}" for name, entry in cgroup.entries.items()]
+        lines += [f"own {text_of(path)} {name} {entry.uid} {entry.gid} {entry.mode:o}" for name, entry in cgroup.entries.items()
+                  if rules.is_shown(state, path, name)]
         if case.tries:
             # a delegation that hands over the one hands over the other; the model has no cgroup.threads
             procs = cgroup.entries[rules.PROCS]
@@ -72,17 +73,17 @@ def building_lines(case):
 
 
 def value_lines(path, cgroup):
-    """The values of a cgroup's files: of the eight those that aren't there anyway, and of further ones a line for each of theirs."""
+    """The values of a cgroup's files: of numbers those that aren't there anyway, and of texts a line for each of theirs."""
     lines = [f"set {text_of(path)} {file} {value}" for file, value in cgroup.values.items()
-             if file in rules.LIMIT_FILES and value != rules.default_of(file)]
-    return lines + [f"set {text_of(path)} {file} {line}" for file in FURTHER_FILES if file in cgroup.values
+             if file in NUMBER_FILES and value != rules.default_of(file)]
+    return lines + [f"set {text_of(path)} {file} {line}" for file in TEXT_FILES if file in cgroup.values
                     for line in cgroup.values[file].split("\n")]
 
 
 def is_whole(case, record):
     """Whether a case was built, and carried out to its end."""
-    told = 1 + len(case.mends) + len(case.steps) + len(case.tries) + bool(case.tries)
-    return not record.faults and len(record.states) == told
+    count = 1 + len(case.mends) + len(case.steps) + len(case.tries) + bool(case.tries)
+    return not record.faults and len(record.states) == count
 
 
 def script_of(cases):
@@ -90,9 +91,9 @@ def script_of(cases):
 
 
 def standing_script():
-    """What has a kernel tell of the further limit files that it has."""
+    """What has a kernel say which limit files it has whose values are texts."""
     enabling = [f"control / +{name}" for name in ALL_CONTROLLERS]
-    lines = [head(), "case 0", "watch " + " ".join(FURTHER_FILES), *enabling, "mkdir /a", "state", "case 1"]
+    lines = [head(), "case 0", "watch " + " ".join(TEXT_FILES), *enabling, "mkdir /a", "state", "case 1"]
     return "\n".join(lines + [way_line(name) for _ in range(WAY_TURNS) for name in classes.WAYS]) + "\n"
 
 
@@ -111,9 +112,9 @@ def ways_in(said):
 
 
 def standing_in(said):
-    """The further limit files that a kernel tells of, in their order."""
+    """The limit files that a kernel says so, in their order."""
     found, _ = records_of(said)
-    return tuple(file for file in FURTHER_FILES if found and file in found[0].states[0].cgroups[("a",)].entries)
+    return tuple(file for file in TEXT_FILES if found and file in found[0].states[0].cgroups[("a",)].named)
 
 
 def controllers_of(said):
@@ -159,7 +160,7 @@ def misplaced(lines, state):
 
 
 def state_of(lines, controllers):
-    """A kernel's state in the model's terms; values that are no numbers stay texts. A further limit file that the root has there has no
+    """A kernel's state in the model's terms; values that are no numbers stay texts. A limit file that the root alone has there has no
     place in a tree, and is left out."""
     cgroups, live = {}, {}
     for line in lines:
@@ -168,26 +169,25 @@ def state_of(lines, controllers):
             live[int(words[0])] = (int(words[1]), rules.path_of(words[2]))
         else:
             path = rules.path_of(words[0])
-            cgroups[path] = cgroup_of(words[1:] if path else [word for word in words[1:] if word.partition("=")[0] not in FURTHER_FILES])
-    return rules.State(frozenset(controllers), cgroups, live, frozenset(live), 4)
+            cgroups[path] = cgroup_of(words[1:] if path else [word for word in words[1:] if word.partition("=")[0] not in TEXT_FILES])
+    state = rules.State(frozenset(controllers), cgroups, live, frozenset(live), 4)
+    for path, cgroup in cgroups.items():
+        # what wasn't watched, and comes and goes with its controller
+        cgroup.entries.update((file, rules.Entry()) for file in TEXT_FILES if file in rules.files_at(state, path) and file not in cgroup.entries)
+    return state
 
 
 def cgroup_of(words):
     enabled, *standing = words[:4]
     entries = {name: entry_of(word.split(":")) for name, word in zip(rules.STANDING, standing)}
-    values = {}
     for word in words[4:]:
         name, is_limit, rest = word.partition("=")
         if not is_limit:
             continue
         *entry, value = rest.split(":", 3)
-        entries[name] = entry_of(entry)
-        if name in rules.LIMIT_FILES:
-            values[name] = int(value) if value.isdigit() else value
-        elif value:
-            values[name] = unquote(value)
-    return rules.Cgroup(entries, values, frozenset(enabled.split(",")) & frozenset(ALL_CONTROLLERS))
+        entries[name] = entry_of(entry, unquote(value) or None if name in TEXT_FILES else int(value) if value.isdigit() else value)
+    return rules.Cgroup(entries, frozenset(enabled.split(",")) & frozenset(ALL_CONTROLLERS), frozenset(entries) - rules.WRITTEN)
 
 
-def entry_of(words):
-    return rules.Entry(int(words[0]), int(words[1]), int(words[2], 8))
+def entry_of(words, value=None):
+    return rules.Entry(int(words[0]), int(words[1]), int(words[2], 8), value)

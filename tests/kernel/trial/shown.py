@@ -1,8 +1,8 @@
-"""What a kernel shows of the further limit files after a write, in the wide machine of machine.py: of two CPUs, two memory nodes and
+"""What a kernel shows of the limit files whose values are texts after a write, in the wide machine of machine.py: of two CPUs, two memory nodes and
 two discs. A file doesn't always show what was written, and a write of one file can turn another one."""
 import re
 
-from second.further import FURTHER_FILES
+from second.limit_files import TEXT_FILES
 
 PAGE, MAX = 4096, "max"
 DISCS = ("259:0", "259:1")
@@ -17,7 +17,7 @@ PARTITION = "cpuset.cpus.partition"
 # what a file shows where nothing was written to it, and the others show nothing
 FIRST = {"cgroup.freeze": "0", IDLE: "0", "cpu.max": "max 100000", "cpu.max.burst": "0", NICE: "0", PARTITION: "member",
          "cpu.uclamp.min": "0.00", "cpu.uclamp.max": MAX, WRITEBACK: "1", "io.weight": "default 100",
-         **{file: MAX for file in FURTHER_FILES if file.startswith(("hugetlb.", "memory.swap.", "memory.zswap.max"))}}
+         **{file: MAX for file in TEXT_FILES if file.startswith(("hugetlb.", "memory.swap.", "memory.zswap.max"))}}
 # of each nice value from -20 on the weight that the scheduler gives it, which shows as a hundred of 1024
 WEIGHTS = (88761, 71755, 56483, 46273, 36291, 29154, 23254, 18705, 14949, 11916, 9548, 7620, 6100, 4904, 3906, 3121, 2501, 1991, 1586,
            1277, 1024, 820, 655, 526, 423, 335, 272, 215, 172, 137, 110, 87, 70, 56, 45, 36, 29, 23, 18, 15)

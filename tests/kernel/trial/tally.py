@@ -5,14 +5,14 @@ import json
 import os
 
 from second.controllers import ALL_CONTROLLERS
-from second.further import FURTHER_FILES
+from second.limit_files import TEXT_FILES
 import tap
-from trial import asking, classes, comparing, further, made, refusals, script, selftests, settled, shown, mutants, wrong
-from trials.format_4 import FURTHER
+from trial import asking, classes, comparing, limit_files, made, refusals, script, selftests, settled, shown, mutants, wrong
+from trials.format_4 import OTHERS
 
 OF_OPERATIONS = {**mutants.MUTANTS, **mutants.OF_FORMAT_4}
-OF_FURTHER = [*mutants.OF_FURTHER, mutants.FORGETS]
-WRONG = [*OF_OPERATIONS, *mutants.ADVICE, *OF_FURTHER, *wrong.OF_MADE]
+OF_LIMIT_FILES = [*mutants.OF_LIMIT_FILES, mutants.FORGETS]
+WRONG = [*OF_OPERATIONS, *mutants.ADVICE, *OF_LIMIT_FILES, *wrong.OF_MADE]
 
 
 class Tally:
@@ -26,15 +26,15 @@ class Tally:
         self.noticed = collections.Counter()
         # what the kernel's own test says of each of its cases
         self.selftests = {}
-        # by what came of a set of a further limit file in which an escape ends the texts of each file; "as it is" marks those of a file
+        # by what came of a set of a limit file in which an escape ends the texts of each file; "not known" marks those of a file
         # of whose value the tree's text tells nothing, and so no device
         self.sets = collections.defaultdict(lambda: collections.defaultdict(set))
         # by the kind of a step the controllers at which a kernel bars it for internal processes, where they alone are enabled
         self.barring = {"move": set(), "control": set()}
         self.takers = {"operations": self.operations, made.ALONE: self.alone, "escapes": self.escapes, "contained": self.contained,
                        "advice": self.advice, "wrong advice": self.wrong_advice, settled.ESCAPES: self.escapes,
-                       settled.CONTAINED: self.contained, further.OPERATIONS: self.operations, further.ESCAPES: self.escapes,
-                       further.CONTAINED: self.contained, further.ADVICE: self.advice, further.NEIGHBOURS: self.neighbours,
+                       settled.CONTAINED: self.contained, limit_files.OPERATIONS: self.operations, limit_files.ESCAPES: self.escapes,
+                       limit_files.CONTAINED: self.contained, limit_files.ADVICE: self.advice, limit_files.NEIGHBOURS: self.neighbours,
                        wrong.KIND: self.wrong_program}
 
     def take(self, case, name, record):
@@ -95,17 +95,17 @@ class Tally:
     def compared(self, case, name, answers, record):
         found = comparing.compare(case, answers, record)
         self.counts[f"{case.kind} steps"] += found.steps
-        self.count_further(case.steps[:found.steps], record.numbers)
+        self.count_others(case.steps[:found.steps], record.numbers)
         self.kinds.update(each.kind for each in found.differences if each.kind)
         unexplained = [each for each in found.differences if not each.kind]
         if unexplained:
             self.fail(case, name, f"step {unexplained[0].step}: {unexplained[0].what}")
         return found
 
-    def count_further(self, deeds, numbers):
+    def count_others(self, deeds, numbers):
         """Counts the steps that turn another controller than cpu, memory and pids."""
         for (_, step), number in zip(deeds, numbers):
-            if turns_further(step):
+            if turns_others(step):
                 self.counts["further"] += 1
                 self.counts["further let through"] += number == 0
 
@@ -118,7 +118,7 @@ class Tally:
         answers = asking.replay(self.program, case)
         found = self.compared(case, name, answers, record)
         if all(each.kind for each in found.differences):
-            for wrong, turn in (mutants.OF_FURTHER if case.kind == further.OPERATIONS else OF_OPERATIONS).items():
+            for wrong, turn in (mutants.OF_LIMIT_FILES if case.kind == limit_files.OPERATIONS else OF_OPERATIONS).items():
                 if wrong not in self.told and comparing.tells_apart(turn, case, answers, record):
                     self.told[wrong] = self.counts[f"{case.kind} cases"]
 
@@ -130,21 +130,21 @@ class Tally:
         there = comparing.break_of(case, record, case.subtrees[0])
         self.breaks[case.kind][" ".join(there.split(" ")[::2])] += 1
         self.counts[f"{case.kind} as said"] += there == answers[-1]
-        self.counts["further escapes"] += turns_further(case.steps[-1][1])
+        self.counts["further escapes"] += turns_others(case.steps[-1][1])
         self.take_set(case, record, there)
         # a value that the kernel keeps as `max` isn't changed by a write of `max`
         if answers[-1] == "kept" or there != answers[-1] and not found.differences:
             self.fail(case, name, f"the program says {answers[-1]}, and there it is {there}")
 
     def take_set(self, case, record, there):
-        """Notes an escape that ends in a set of a further limit file, and whether check could forget these."""
+        """Notes an escape that ends in a set of a limit file whose values are texts, and whether check could forget these."""
         user, step = case.steps[-1]
-        if step[0] != "set" or step[2] not in FURTHER_FILES:
+        if step[0] != "set" or step[2] not in TEXT_FILES:
             return
         number = record.numbers[-1]
-        is_told = step[2] in case.state.cgroups[step[1]].values
+        is_known = step[2] in case.state.cgroups[step[1]].values
         what = "changes" if there != "kept" else "refused" if number else "nothing"
-        marks = ([] if is_told else ["as it is"]) + ([errno.errorcode[number]] if number else [])
+        marks = ([] if is_known else ["not known"]) + ([errno.errorcode[number]] if number else [])
         self.sets[what][step[2]].add(f"`{step[3]}`" + (f" ({', '.join(marks)})" if marks else ""))
         if there != "kept" and mutants.forgets(case.state, user, case.subtrees[0]):
             self.told.setdefault(mutants.FORGETS, self.counts[f"{case.kind} cases"])
@@ -170,7 +170,7 @@ class Tally:
         users = {user for user, _ in case.tries} - {settled.THIRD}
         self.counts[f"{case.kind} steps"] += len(case.tries)
         self.counts[f"{case.kind} steps let through"] += record.numbers.count(0)
-        self.count_further(case.tries, record.numbers)
+        self.count_others(case.tries, record.numbers)
         self.counts[f"{case.kind} pairs"] += len(case.subtrees) * len(users)
         self.counts[f"{case.kind} steps of a third let through"] += sum(
             user == settled.THIRD and not number for (user, _), number in zip(case.tries, record.numbers))
@@ -208,8 +208,8 @@ class Tally:
             self.told.setdefault(case.turned, self.counts["wrong advice cases"])
 
 
-def turns_further(step):
-    return step[0] == "control" and any(controller in FURTHER for _, controller in step[2])
+def turns_others(step):
+    return step[0] == "control" and any(controller in OTHERS for _, controller in step[2])
 
 
 def listed(counter):
@@ -229,35 +229,35 @@ def settled_lines(tally):
 
 
 def lines_of_files(tally):
-    """What came of the further limit files."""
-    of, named = tally.counts, "- Further limit files"
-    if not of[f"{further.OPERATIONS} cases"]:
+    """What came of the limit files whose values are texts."""
+    of, named = tally.counts, "- Limit files whose values are texts"
+    if not of[f"{limit_files.OPERATIONS} cases"]:
         return []
     return [
-        f"{named}: the kernel has {len(tally.files)} of the {len(FURTHER_FILES)}.",
-        f"{named}, operations: {of[f'{further.OPERATIONS} cases']} cases, {of[f'{further.OPERATIONS} steps']} operations compared "
+        f"{named}: the kernel has {len(tally.files)} of the {len(TEXT_FILES)}.",
+        f"{named}, operations: {of[f'{limit_files.OPERATIONS} cases']} cases, {of[f'{limit_files.OPERATIONS} steps']} operations compared "
         "with their states.",
-        f"{named}, escapes: {of[f'{further.ESCAPES} cases']} lists of {of[f'{further.ESCAPES} steps']} operations, "
-        f"{of[f'{further.ESCAPES} as said']} of which break at the step and by the clause that the program says. There: "
-        f"{listed(tally.breaks[further.ESCAPES])}.",
-        f"{named}, contained: {of[f'{further.CONTAINED} cases']} cases, {of[f'{further.CONTAINED} pairs']} pairs of a user and a subtree, "
-        f"{of[f'{further.CONTAINED} steps']} steps, of which the kernel let {of[f'{further.CONTAINED} steps let through']} through.",
-        f"{named}, advice: {of[f'{further.ADVICE} cases']} pairs advised, {of[f'{further.ADVICE} changes']} changes carried out. Of "
-        f"{of[f'{further.ADVICE} escapes']} escapes {of[f'{further.ADVICE} escapes refused']} were refused afterwards.",
-        f"{named}, neighbours: {of['partitions turned']} of {of[f'{further.NEIGHBOURS} cases']} contained partitions were turned invalid "
+        f"{named}, escapes: {of[f'{limit_files.ESCAPES} cases']} lists of {of[f'{limit_files.ESCAPES} steps']} operations, "
+        f"{of[f'{limit_files.ESCAPES} as said']} of which break at the step and by the clause that the program says. There: "
+        f"{listed(tally.breaks[limit_files.ESCAPES])}.",
+        f"{named}, contained: {of[f'{limit_files.CONTAINED} cases']} cases, {of[f'{limit_files.CONTAINED} pairs']} pairs of a user and a subtree, "
+        f"{of[f'{limit_files.CONTAINED} steps']} steps, of which the kernel let {of[f'{limit_files.CONTAINED} steps let through']} through.",
+        f"{named}, advice: {of[f'{limit_files.ADVICE} cases']} pairs advised, {of[f'{limit_files.ADVICE} changes']} changes carried out. Of "
+        f"{of[f'{limit_files.ADVICE} escapes']} escapes {of[f'{limit_files.ADVICE} escapes refused']} were refused afterwards.",
+        f"{named}, neighbours: {of['partitions turned']} of {of[f'{limit_files.NEIGHBOURS} cases']} contained partitions were turned invalid "
         "by `cpuset.cpus` of a cgroup beside them.",
-        f"{named}, mutants of the program: {len(tally.told.keys() & OF_FURTHER)} of {len(OF_FURTHER)} found.", *table_of_sets(tally)]
+        f"{named}, mutants of the program: {len(tally.told.keys() & OF_LIMIT_FILES)} of {len(OF_LIMIT_FILES)} found.", *table_of_sets(tally)]
 
 
 def table_of_sets(tally):
-    """Of each further limit file that the kernel has the texts of the sets in which printed escapes end, by what came of them there."""
+    """Of each limit file that the kernel has the texts of the sets in which printed escapes end, by what came of them there."""
     columns = ["changes", "nothing", "refused"]
     rows = ["| `" + file + "` | " + " | ".join(", ".join(sorted(tally.sets[column].get(file, []))) for column in columns) + " |"
             for file in tally.files]
     return ["", "| The set that ends an escape, of | changes it | changes nothing | is refused |", "|---|---|---|---|", *rows, ""]
 
 
-def further_lines(tally):
+def lines_of_others(tally):
     """What came of trees of format 4."""
     of = tally.counts
     kinds = ", ".join(f"{name.removesuffix(' of format 4')} {number}" for name, number in of.items() if name.endswith(" of format 4"))
@@ -313,6 +313,6 @@ def lines_of(tally):
     return [f"## {tally.kernel}", "", f"- Controllers: {in_order(tally.controllers)}.", refusals.line_of(tally.runs),
             *way_lines(tally), *selftests.lines_of(tally.selftests),
             *(line for kind, line in kinds.items() if of[f"{kind} cases"]), *settled_lines(tally), *wrong_lines(tally),
-            *further_lines(tally),
+            *lines_of_others(tally),
             f"- Differences by kind: {listed(tally.kinds)}.", f"- Unexplained: {tally.failures}.",
             *(found if of["operations cases"] else []), *lines_of_files(tally), f"- Time: {tally.seconds:.0f} s.", ""]

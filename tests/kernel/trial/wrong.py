@@ -58,7 +58,7 @@ SETTLES = {
        for name in ("every cgroup stays", "no process is moved")},
 }
 OF_MADE = [*CHECKS, *SETTLES]
-# those of further limit files have trees of their own
+# those of limit files whose values are texts have trees of their own
 NAMES = [*OF_MADE, mutants.FORGETS]
 
 

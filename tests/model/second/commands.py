@@ -8,7 +8,7 @@ import re
 from . import everybody, explained, rules, settled, written
 from .controllers import controllers_in
 from .documents import Fault
-from .further import FURTHER_FILES, is_value, value_written
+from .limit_files import MAX, files_in, is_text, is_value, value_written
 from .rules import text_of
 from .texts import LAST_ID, tree_of
 
@@ -48,7 +48,7 @@ def operation_of(line, form=2):
         read = [rules.path_of(rest[0]), tuple(change_word(word, form) for word in rest[1:])]
         return None if read[0] is None or None in read[1] else (kind, *read)
     value = value_word
-    if kind == "set" and further_word("".join(rest[1:2]), form):
+    if kind == "set" and rest[1:] and limit_word(rest[1], form) and is_text(rest[1]):
         rest, value = [*rest[:2], " ".join(rest[2:])], text_word
     forms = {"move": (pid_word, rules.path_of), "mkdir": (rules.path_of,), "rmdir": (rules.path_of,), "fork": (pid_word, pid_word),
              "set": (rules.path_of, lambda word: limit_word(word, form), value), "exit": (pid_word,),
@@ -68,22 +68,17 @@ def change_word(word, form):
     return (word[0], word[1:]) if word[:1] in ("+", "-") and word[1:] in controllers_in(form) else None
 
 
-def further_word(word, form):
-    """A further limit file's name, which lines for a tree of format 4 have."""
-    return word if form == 4 and word in FURTHER_FILES else None
-
-
 def limit_word(word, form):
-    return word if word in rules.LIMIT_FILES else further_word(word, form)
+    return word if word in files_in(form) else None
 
 
 def text_word(word):
-    """The value of a further limit file, which is the rest of its line."""
+    """The value of a limit file whose values are texts, which is the rest of its line."""
     return word if is_value(word) else None
 
 
 def value_word(word):
-    if word == rules.MAX:
+    if word == MAX:
         return word
     return int(word) if re.fullmatch(NUMBER, word) and int(word) < 2 ** 64 else None
 
@@ -519,18 +514,22 @@ def upgrade(_call, state, _tops, _files, lines):
 
 
 def document_of(state):
-    rows = [full_row(path, state.cgroups[path]) for path in sorted(state.cgroups)]
+    rows = [full_row(state, path) for path in sorted(state.cgroups)]
     processes = [{"pid": pid, "uid": uid, "at": text_of(path)} for pid, (uid, path) in sorted(state.live.items())]
     controllers = [c for c in rules.ALL_CONTROLLERS if c in state.controllers]
     return {"format": state.form, "controllers": controllers, "cgroup": rows, "process": processes}
 
 
-def full_row(path, cgroup):
-    files = {name: {"uid": entry.uid, "gid": entry.gid, "mode": entry.mode} for name, entry in cgroup.entries.items()}
-    for name, value in cgroup.values.items():
-        files[name]["value"] = value_written(value) if name in FURTHER_FILES else value
+def full_row(state, path):
+    cgroup = state.cgroups[path]
+    tables = {name: table_of(name, entry) for name, entry in cgroup.entries.items() if rules.is_shown(state, path, name)}
     enabled = [c for c in rules.ALL_CONTROLLERS if c in cgroup.enabled]
-    return {"path": text_of(path), "enabled": enabled, "dir": files.pop(rules.DIR), "files": files}
+    return {"path": text_of(path), "enabled": enabled, "dir": tables.pop(rules.DIR), "files": tables}
+
+
+def table_of(name, entry):
+    value = {} if entry.value is None else {"value": value_written(name, entry.value)}
+    return {"uid": entry.uid, "gid": entry.gid, "mode": entry.mode, **value}
 
 
 REPORTS = {"may": may, "check": check, "settle": settle, "audit": audit, "explain": explain, "replay": replay, "advise": advise,

@@ -16,7 +16,8 @@ def line_of(holds, *words):
 
 
 def first_row(state, user, top):
-    return [entry_line(user, guard, path, name, state.cgroups[path].entries[name]) for guard, path, name in rules.guarded(state, top)]
+    shown = [each for each in rules.guarded(state, top) if rules.is_shown(state, *each[1:])]
+    return [entry_line(user, guard, path, name, state.cgroups[path].entries[name]) for guard, path, name in shown]
 
 
 def entry_line(user, guard, path, name, entry):
@@ -31,7 +32,7 @@ def second_row(state, users, top):
     for controller in rules.controllers_of(state):
         by = control_by(state, users, found, top[:-1], controller)
         lines.append(line_of(by != "turned", "control", text_of(top[:-1]), controller, by))
-    reached = any(lasting.is_reached(state, users, top, file) for file in rules.ALL_FILES)
+    reached = any(lasting.is_reached(state, users, top, file) for file in rules.LIMIT_FILES)
     lines.append(line_of(not reached, "files", text_of(top), "reached" if reached else "spared"))
     for path in led_to(state, users, top):
         takes, grows = takes_by(state, users, found, path), grows_by(state, users, found, path)
@@ -80,5 +81,5 @@ def grows_by(state, users, found, path):
 
 def limits(state, top):
     there = {DESCENDANTS: len(rules.below(state, top)), DEPTH: rules.depth_below(state, top)}
-    return [line_of(file not in rules.over(state, top), "already-over", text_of(top), file, count, state.cgroups[top].values[file])
+    return [line_of(file not in rules.over(state, top), "already-over", text_of(top), file, count, state.cgroups[top].entries[file].value)
             for file, count in there.items()]

@@ -58,9 +58,8 @@ def is_full(state, users, lasting, path):
 def bounds(state, users, lasting, top, path):
     """Whether the limits of a cgroup above a path, or of the path itself, leave no room for a child of the path."""
     left = {DESCENDANTS: sum(one in lasting.stays for one in rules.below(state, top)), DEPTH: len(path) - len(top)}
-    values = state.cgroups[top].values
-    return any(values[file] != MAX and values[file] <= count and not is_reached(state, users, top, file)
-               for file, count in left.items())
+    return any(most != MAX and most <= count and not is_reached(state, users, top, file)
+               for (file, count), most in zip(left.items(), rules.bounds(state, top)))
 
 
 def takes_none(state, users, lasting, path):
@@ -80,7 +79,7 @@ def second_row_holds(state, users, top):
         return False
     if any((top[:-1], controller) not in lasting.on | lasting.off for controller in rules.controllers_of(state)):
         return False
-    if any(is_reached(state, users, top, file) for file in rules.ALL_FILES):
+    if any(is_reached(state, users, top, file) for file in rules.LIMIT_FILES):
         return False
     edges = [above for above in rules.upwards(top)[1:] if is_reached(state, users, above, PROCS)]
     closed = [path for path in state.cgroups if edges and rules.inside(path, top) or rules.common(path, top) in edges]

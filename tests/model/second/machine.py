@@ -34,10 +34,7 @@ class Machine:
 
 def view(state):
     """The machine of a state of the exact model."""
-    cgroups = {}
-    for path, cgroup in state.cgroups.items():
-        names = dict.fromkeys([*cgroup.entries, *rules.further_at(state, path)])
-        cgroups[path] = {name: (rules.entry_of(state, path, name), cgroup.values.get(name)) for name in names}
+    cgroups = {path: {name: (replace(entry, value=None), entry.value) for name, entry in cgroup.entries.items()} for path, cgroup in state.cgroups.items()}
     return Machine(cgroups, {pid: path for pid, (_, path) in state.live.items()})
 
 

@@ -5,30 +5,21 @@ the code's mistakes. It is plain and slow: each count is taken anew from all pat
 
 A path is a tuple of names. A user is (uid, gids). A state and what it holds are never changed: a step makes another state.
 """
+import functools
 import itertools
-from dataclasses import dataclass, field, replace
+from dataclasses import dataclass, replace
+from typing import Union
 
 from .controllers import ALL_CONTROLLERS, CONTROLLERS
-from .further import FURTHER_FILES, other_text
+from .limit_files import LIMIT_FILES, MAX, accepts, files_in, other_value
 
-MOST = 2 ** 63 - 1
-MAX = "max"
-# each of the eight limit files, in the order used everywhere: its controller, default, least and greatest number, whether it takes `max`
-LIMIT_FILES = {
-    "cgroup.max.descendants": (None, MAX, 0, MOST, True),
-    "cgroup.max.depth": (None, MAX, 0, MOST, True),
-    "cpu.weight": ("cpu", 100, 1, 10000, False),
-    "memory.min": ("memory", 0, 0, MOST, True),
-    "memory.low": ("memory", 0, 0, MOST, True),
-    "memory.high": ("memory", MAX, 0, MOST, True),
-    "memory.max": ("memory", MAX, 0, MOST, True),
-    "pids.max": ("pids", MAX, 0, MOST, True),
-}
+# the limit files that bound what is made
 DESCENDANTS, DEPTH = "cgroup.max.descendants", "cgroup.max.depth"
 DIR, PROCS, CONTROL = "dir", "cgroup.procs", "cgroup.subtree_control"
 STANDING = (DIR, PROCS, CONTROL)
-ALL_FILES = (*LIMIT_FILES, *FURTHER_FILES)
-RESERVED = {"cgroup.controllers", PROCS, CONTROL, *LIMIT_FILES}
+RESERVED = {"cgroup.controllers", PROCS, CONTROL, *files_in(1)}
+# the entries with which each cgroup is written
+WRITTEN = {*STANDING, *files_in(1)}
 LONGEST_PATH, LONGEST_NAME = 4095, 255
 LAST_PID = 4194303
 DIR_MODE, FILE_MODE = 0o755, 0o644
@@ -36,20 +27,25 @@ DIR_MODE, FILE_MODE = 0o755, 0o644
 
 @dataclass(frozen=True)
 class Entry:
+    """`value` is a limit file's: a number, `max`, or a text with a newline between two lines; None where it isn't known."""
     uid: int = 0
     gid: int = 0
     mode: int = FILE_MODE
+    value: Union[int, str, None] = None
 
 
 @dataclass(frozen=True)
 class Cgroup:
-    """`entries` by name: the directory, the control files, the eight limit files that stand and the further ones that are told of;
-    `values` of the eight, and the texts of further ones that aren't as they are, with a newline between two lines. `untold` by the
-    controller that brings them, or None: the entry of further ones of which nothing is told, where it isn't root's."""
+    """`entries` by name: the directory, the control files and all limit files that stand. `named`: of the limit files of format 4 those that
+    the tree text names, and those that a set or a chmod named since."""
     entries: dict
-    values: dict
     enabled: frozenset = frozenset()
-    untold: dict = field(default_factory=dict)
+    named: frozenset = frozenset()
+
+    @property
+    def values(self):
+        """The values of the limit files of which they are known."""
+        return {name: entry.value for name, entry in self.entries.items() if entry.value is not None}
 
 
 @dataclass(frozen=True)
@@ -147,41 +143,25 @@ def controllers_of(state):
     return [c for c in ALL_CONTROLLERS if c in CONTROLLERS or c in state.controllers]
 
 
+@functools.lru_cache(maxsize=None)
+def standing(controllers, is_root):
+    """The limit files that stand where these controllers bring theirs, in their order."""
+    return tuple(file for file, row in LIMIT_FILES.items()
+                 if (row.controller in controllers if row.controller else row.at_root or not is_root))
+
+
 def files_at(state, path):
-    """Those of the eight limit files that belong at a path, in their order."""
-    return [file for file, (controller, *_) in LIMIT_FILES.items() if controller is None or controller in brought(state, path)]
+    """The limit files that belong at a path, in their order."""
+    return standing(brought(state, path), not path)
 
 
-def further_at(state, path):
-    """The further limit files that belong at a path, in their order: at the root none."""
-    return [file for file, (controller, _) in FURTHER_FILES.items() if path and (controller is None or controller in brought(state, path))]
-
-
-def told_at(state, path):
-    """The further limit files of a path that are told of, in their order."""
-    return [file for file in FURTHER_FILES if file in state.cgroups[path].entries]
-
-
-def stands(state, path, name):
-    return name in state.cgroups[path].entries or name in further_at(state, path)
-
-
-def entry_of(state, path, name):
-    """An entry that stands, which may be a further limit file of which nothing is told."""
-    cgroup = state.cgroups[path]
-    return cgroup.entries[name] if name in cgroup.entries else cgroup.untold.get(FURTHER_FILES[name][0], Entry())
+def is_shown(state, path, name):
+    """Whether reports name an entry, and trees are written with it: all but limit files of format 4 that nothing named."""
+    return name in WRITTEN or name in state.cgroups[path].named
 
 
 def default_of(file):
-    return LIMIT_FILES[file][1]
-
-
-def accepts(file, value):
-    """A further limit file accepts any text."""
-    if file in FURTHER_FILES:
-        return True
-    _, _, least, greatest, takes_max = LIMIT_FILES[file]
-    return takes_max if value == MAX else least <= value <= greatest
+    return LIMIT_FILES[file].default
 
 
 def rising(state):
@@ -194,12 +174,12 @@ def lives_at(state, path):
 
 
 # Operations: ("move", pid, path), ("control", path, ((sign, controller), ..)), ("mkdir", path), ("rmdir", path),
-# ("set", path, file, value), where the value of a further limit file is a text, ("fork", parent, child), ("exit", pid),
+# ("set", path, file, value), where the value is of the file's form, ("fork", parent, child), ("exit", pid),
 # ("chmod", path, entry, mode).
 
 
 def entry_bar(state, user, path, name):
-    return [] if writes(user, entry_of(state, path, name)) else [f"no-access {text_of(path)} {name}"]
+    return [] if writes(user, state.cgroups[path].entries[name]) else [f"no-access {text_of(path)} {name}"]
 
 
 def bars(state, user, operation):
@@ -251,14 +231,19 @@ def control_bars(state, user, path, changes):
     return found
 
 
+def bounds(state, path):
+    """The most cgroups below a path, and the most levels."""
+    return [state.cgroups[path].entries[file].value for file in (DESCENDANTS, DEPTH)]
+
+
 def limit_bars(state, parent):
     """What bars a further child of a cgroup: of each ancestor, the nearest first, its descendants and then its depth."""
     found = []
     for top in upwards(parent):
-        values = state.cgroups[top].values
-        if values[DESCENDANTS] != MAX and len(below(state, top)) >= values[DESCENDANTS]:
+        most, deepest = bounds(state, top)
+        if most != MAX and len(below(state, top)) >= most:
             found.append(f"descendant-limit {text_of(top)}")
-        if values[DEPTH] != MAX and len(parent) - len(top) >= values[DEPTH]:
+        if deepest != MAX and len(parent) - len(top) >= deepest:
             found.append(f"depth-limit {text_of(top)}")
     return found
 
@@ -285,7 +270,7 @@ def rmdir_bars(state, user, path):
 
 def set_bars(state, user, path, file, value):
     found = missing(state, path)
-    if not found and not stands(state, path, file):
+    if not found and file not in state.cgroups[path].entries:
         found.append(f"no-such-file {text_of(path)} {file}")
     elif not found:
         found += entry_bar(state, user, path, file)
@@ -305,9 +290,9 @@ def exit_bars(state, user, pid):
 def chmod_bars(state, user, path, name, _mode):
     if path not in state.cgroups:
         return missing(state, path)
-    if not stands(state, path, name):
+    if name not in state.cgroups[path].entries:
         return [f"no-such-file {text_of(path)} {name}"]
-    return [] if owns(user, entry_of(state, path, name)) else [f"not-owner {text_of(path)} {name}"]
+    return [] if owns(user, state.cgroups[path].entries[name]) else [f"not-owner {text_of(path)} {name}"]
 
 
 BARS = {"move": move_bars, "control": control_bars, "mkdir": mkdir_bars, "rmdir": rmdir_bars, "set": set_bars,
@@ -327,43 +312,41 @@ def after_move(state, _user, pid, to):
     return replace(state, live={**state.live, pid: (state.live[pid][0], to)})
 
 
-def refitted(state, user, path, came):
-    """A cgroup with the limit files that belong at it: one that stands is kept, one that comes is the user's, and of a further one that
-    goes all is forgotten. `came` has what brings further ones that weren't there."""
+def refitted(state, user, path):
+    """A cgroup with the limit files that belong at it: one that stands is kept, and one that comes is the user's, with its default."""
     old = state.cgroups[path]
-    told = [file for file in told_at(state, path) if file in further_at(state, path)]
-    entries = {name: old.entries[name] for name in (*STANDING, *told)}
-    values = {file: old.values[file] for file in told if file in old.values}
+    entries = {name: old.entries[name] for name in STANDING}
     for file in files_at(state, path):
-        entries[file] = old.entries.get(file, made_by(user, FILE_MODE))
-        values[file] = old.values.get(file, default_of(file))
-    kept = {one: entry for one, entry in old.untold.items() if one is None or one in brought(state, path)}
-    return replace(old, entries=entries, values=values, untold={**kept, **{one: made_by(user, FILE_MODE) for one in came}})
+        entries[file] = old.entries.get(file) or replace(made_by(user, FILE_MODE), value=default_of(file))
+    return replace(old, entries=entries, named=old.named & {*entries})
 
 
 def after_control(state, user, path, changes):
-    old, enabled = state.cgroups[path], enabled_after(state, path, changes)
-    state = with_cgroup(state, path, replace(old, enabled=enabled))
+    state = with_cgroup(state, path, replace(state.cgroups[path], enabled=enabled_after(state, path, changes)))
     for child in children(state, path):
-        state = with_cgroup(state, child, refitted(state, user, child, enabled - old.enabled))
+        state = with_cgroup(state, child, refitted(state, user, child))
     return state
 
 
 def after_mkdir(state, user, path):
     entries = {DIR: made_by(user, DIR_MODE), PROCS: made_by(user, FILE_MODE), CONTROL: made_by(user, FILE_MODE)}
-    state = with_cgroup(state, path, Cgroup(entries, {}))
-    return with_cgroup(state, path, refitted(state, user, path, {None, *brought(state, path)}))
+    state = with_cgroup(state, path, Cgroup(entries))
+    return with_cgroup(state, path, refitted(state, user, path))
 
 
 def after_rmdir(state, _user, path):
     return replace(state, cgroups={other: cgroup for other, cgroup in state.cgroups.items() if other != path})
 
 
-def after_set(state, _user, path, file, value):
-    """A further limit file is told of from then on."""
+def with_entry(state, path, name, **changes):
+    """A state in which something of an entry is changed."""
     old = state.cgroups[path]
-    entries = {**old.entries, file: entry_of(state, path, file)}
-    return with_cgroup(state, path, replace(old, entries=entries, values={**old.values, file: value}))
+    entries = {**old.entries, name: replace(old.entries[name], **changes)}
+    return with_cgroup(state, path, replace(old, entries=entries, named=old.named | {name} - WRITTEN))
+
+
+def after_set(state, _user, path, file, value):
+    return with_entry(state, path, file, value=value)
 
 
 def after_fork(state, _user, parent, child):
@@ -375,9 +358,7 @@ def after_exit(state, _user, pid):
 
 
 def after_chmod(state, _user, path, name, mode):
-    """A further limit file is told of from then on, and its value is what it was."""
-    old, entry = state.cgroups[path], replace(entry_of(state, path, name), mode=mode)
-    return with_cgroup(state, path, replace(old, entries={**old.entries, name: entry}))
+    return with_entry(state, path, name, mode=mode)
 
 
 NEXT = {"move": after_move, "control": after_control, "mkdir": after_mkdir, "rmdir": after_rmdir, "set": after_set,
@@ -401,14 +382,13 @@ def crossing(before, after, top):
 
 def over(state, top):
     """The limits of a cgroup that it is over, with what is there."""
-    values = state.cgroups[top].values
     there = {DESCENDANTS: len(below(state, top)), DEPTH: depth_below(state, top)}
-    return {file: count for file, count in there.items() if values[file] != MAX and count > values[file]}
+    return {file: count for (file, count), most in zip(there.items(), bounds(state, top)) if most != MAX and count > most}
 
 
 def limits_of(state, top):
-    """The values of limit files of a cgroup, but of further ones that are as they are, and the controllers whose files stand there."""
-    return state.cgroups[top].values, brought(state, top)
+    """The limit files that stand at a cgroup, with their values."""
+    return {name: entry.value for name, entry in state.cgroups[top].entries.items() if name in LIMIT_FILES}
 
 
 def broken(limits, before, after, top):
@@ -439,10 +419,9 @@ def verdict(states, top):
 
 
 def guarded(state, top):
-    """The guarded entries in order: each guard with the cgroup and the name of its entry. Of further limit files those that are told of:
-    in a tree that was read, and of no other a command asks, all others are root's."""
+    """The guarded entries in order: each guard with the cgroup and the name of its entry."""
     found = [("common-ancestor", path, PROCS) for path in upwards(top)[1:]]
-    found += [("limit-file", top, file) for file in ALL_FILES if file in state.cgroups[top].entries]
+    found += [("limit-file", top, file) for file in files_at(state, top)]
     return found + [("parent-control", top[:-1], CONTROL), ("parent-dir", top[:-1], DIR)]
 
 
@@ -452,19 +431,10 @@ def failures(state, user, top):
     return found + ([("already-over", top, None)] if over(state, top) else [])
 
 
-def other_value(file, value):
-    """Another value of a file, which is None where it is as it is."""
-    if file in FURTHER_FILES:
-        return other_text(file, value)
-    if file == "cpu.weight":
-        return 1 if value == 100 else 100
-    return 0 if value == MAX else MAX
-
-
 def plain_tries(state, top):
     yield []
-    for file in files_at(state, top) + told_at(state, top):
-        yield [("set", top, file, other_value(file, state.cgroups[top].values.get(file)))]
+    for file in files_at(state, top):
+        yield [("set", top, file, other_value(file, state.cgroups[top].entries[file].value))]
     for controller, sign in itertools.product(controllers_of(state), "-+"):
         yield [("control", top[:-1], ((sign, controller),))]
     yield [("rmdir", top)]

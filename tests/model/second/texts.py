@@ -7,7 +7,7 @@ import itertools
 from . import rules
 from .controllers import controllers_in
 from .documents import Fault, document_of
-from .further import FURTHER_FILES, is_told, text_told
+from .limit_files import LIMIT_FILES, MAX, accepts, are_lines, files_in, is_text, value_read
 from .rules import Cgroup, Entry, State
 
 LAST_ID = 2 ** 32 - 1
@@ -34,17 +34,12 @@ def number(value):
     return is_a(value, int)
 
 
-def limit_value(value):
+def number_value(value):
     return number(value) or is_a(value, str)
 
 
-def further_value(value):
-    return number(value) or is_a(value, str) or texts(value)
-
-
-def further_files(form):
-    """The further limit files that a text of a format may name."""
-    return FURTHER_FILES if form == 4 else {}
+def text_value(value):
+    return number_value(value) or texts(value)
 
 
 def entry_form(form, value=None):
@@ -59,8 +54,7 @@ def entry_form(form, value=None):
 
 def files_form(form):
     tests = {name: entry_form(form) for name in (rules.PROCS, rules.CONTROL)}
-    tests.update((name, entry_form(form, limit_value)) for name in rules.LIMIT_FILES)
-    tests.update((name, entry_form(form, further_value)) for name in further_files(form))
+    tests.update((name, entry_form(form, text_value if is_text(name) else number_value)) for name in files_in(form))
     return lambda table: has_form(table, {}, tests)
 
 
@@ -132,9 +126,9 @@ def bad_entry(form, table):
 
 
 def bad_value(name, value):
-    if name in FURTHER_FILES:
-        return not is_told(value)
-    return not (value == rules.MAX or number(value)) or not rules.accepts(name, value)
+    if is_text(name):
+        return not are_lines(value)
+    return not (value == MAX or number(value)) or not accepts(name, value)
 
 
 def state_of(form, controllers, rows, processes):
@@ -147,32 +141,32 @@ def state_of(form, controllers, rows, processes):
         raise Fault("tree no-root")
     first("no-parent cgroup", paths, lambda path: path and path[:-1] not in at)
     first("top-down cgroup", paths, lambda path: not at[path] <= (at[path[:-1]] if path else set(controllers)))
-    bare = State(frozenset(controllers), {path: Cgroup({}, {}, at[path]) for path in paths}, {}, frozenset(), max(form, 2))
-    limits = [set(row.get("files", {})) & {*rules.ALL_FILES} for row in rows]
-    first("no-such-file cgroup", numbered, lambda each: limits[each[0]] and not limits[each[0]] <= set(nameable(bare, paths[each[0]])))
-    cgroups = {path: cgroup_of(bare, path, row) for path, row in zip(paths, rows)}
+    bare = State(frozenset(controllers), {path: Cgroup({}, at[path]) for path in paths}, {}, frozenset(), max(form, 2))
+    named = [frozenset(row.get("files", {}).keys() & LIMIT_FILES.keys()) for row in rows]
+    files = [rules.files_at(bare, path) for path in paths]
+    first("no-such-file cgroup", numbered, lambda each: named[each[0]] and not named[each[0]] <= {*files[each[0]]})
+    cgroups = {path: Cgroup(entries_of(*each), at[path], names - rules.WRITTEN) for path, names, *each in zip(paths, named, files, rows)}
     live = live_of(cgroups, processes)
     return State(bare.controllers, cgroups, live, frozenset(live), bare.form)
 
 
-def nameable(bare, path):
-    """The limit files that a row may name, which are those that stand there."""
-    return [*rules.files_at(bare, path), *rules.further_at(bare, path)]
+@functools.lru_cache(maxsize=None)
+def unnamed(files):
+    """The entries of a cgroup of which a text says nothing, where these limit files stand: root's, with their defaults."""
+    entries = {rules.DIR: Entry(mode=rules.DIR_MODE), rules.PROCS: Entry(), rules.CONTROL: Entry()}
+    return {**entries, **{file: Entry(value=rules.default_of(file)) for file in files}}
 
 
-def cgroup_of(bare, path, row):
-    files = row.get("files", {})
-    told = [name for name in files if name in FURTHER_FILES]
-    entries = {rules.DIR: entry_of(row.get("dir", {}), rules.DIR_MODE)}
-    for name in (rules.PROCS, rules.CONTROL, *rules.files_at(bare, path), *told):
-        entries[name] = entry_of(files.get(name, {}), rules.FILE_MODE)
-    values = {name: files.get(name, {}).get("value", rules.default_of(name)) for name in rules.files_at(bare, path)}
-    values.update((name, text_told(files[name]["value"])) for name in told if "value" in files[name])
-    return Cgroup(entries, values, bare.cgroups[path].enabled)
+def entries_of(files, row):
+    """The entries of a cgroup at which these limit files stand, as its row says."""
+    entries, tables = unnamed(files), {rules.DIR: row.get("dir", {}), **row.get("files", {})}
+    return {**entries, **{name: entry_of(name, table, entries[name]) for name, table in tables.items()}}
 
 
-def entry_of(table, mode):
-    return Entry(table.get("uid", 0), table.get("gid", 0), table.get("mode", mode))
+def entry_of(name, table, usual):
+    """An entry as its table says; what that leaves out is usual."""
+    value = value_read(name, table["value"]) if "value" in table else usual.value
+    return Entry(table.get("uid", 0), table.get("gid", 0), table.get("mode", usual.mode), value)
 
 
 def live_of(cgroups, processes):

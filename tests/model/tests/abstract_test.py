@@ -42,7 +42,7 @@ class AbstractTest(unittest.TestCase):
         rows = [abstract.Row(-1, "", 0), abstract.Row(0, "", 0, 3, 2), abstract.Row(1, "", 0, 3, 2)]
         state = abstract.state_of(abstract.Abstract(0, rows, [], [], 2), USER)
         for path in (("c1",), ("c1", "c2")):
-            state.cgroups[path].entries[rules.DEPTH] = rules.Entry(1000)
+            state.cgroups[path].entries[rules.DEPTH] = rules.replace(state.cgroups[path].entries[rules.DEPTH], uid=1000)
         found = abstract.of_state(state, USER, ("c1", "c2")).rows
         self.assertEqual([(row.descendants, row.depth) for row in found], [(-1, -1), (3, -1), (3, 2)])
 

@@ -52,11 +52,11 @@ def small_tree(rng):
     """A small tree of either format, in which at times few of the entries that matter are reached."""
     state = small.random_state(rng)
     if rng.random() < 0.3:
-        state = small.with_told(rng, small.in_format_4(rng, state))
-    for entry_of in [cgroup.entries for cgroup in state.cgroups.values()]:
-        for name, entry in entry_of.items():
+        state = small.with_named(rng, small.in_format_4(rng, state))
+    for path, entry_of in [(path, cgroup.entries) for path, cgroup in state.cgroups.items()]:
+        for name, entry in [each for each in entry_of.items() if rules.is_shown(state, path, each[0])]:
             uid, mode = rng.choice([0, entry.uid, 1000, 1002]), rng.choice([entry.mode, 0o644, 0o644, 0o664, 0o646, 0o222, 0o400])
-            entry_of[name] = rules.Entry(uid, rng.choice([0, entry.gid, 5, 7]), mode) if rng.random() < 0.15 else entry
+            entry_of[name] = rules.Entry(uid, rng.choice([0, entry.gid, 5, 7]), mode, entry.value) if rng.random() < 0.15 else entry
     return state
 
 

@@ -71,14 +71,14 @@ def controlled(*controllers):
     return [(NAMED, f"controllers = {[*controllers]}"), (ENABLED, 'files = { "cgroup.subtree_control" = { uid = 1000 } }'), (WEIGHT, "")]
 
 
-def told(*files):
+def named(*files):
     """A change of H: /s has no cpu.weight but these files."""
     return WEIGHT, "\n".join(files)
 
 
 def valued(value):
     """A change of H: /s has io.max with a value."""
-    return told(f'"io.max" = {{ value = {value} }}')
+    return named(f'"io.max" = {{ value = {value} }}')
 
 
 # the text that loosens io.max, behind the device that its value tells of first, and the other one
@@ -88,7 +88,7 @@ OWN_CONTROL = behind(ENABLED, 'files = { "cgroup.subtree_control" = { uid = 1000
 SHUT_CONTROL = behind(ENABLED, 'files = { "cgroup.subtree_control" = { uid = 1000, mode = 0o444 } }')
 GROUPS_CONTROL = behind(ENABLED, 'files = { "cgroup.subtree_control" = { gid = 50, mode = 0o664 } }')
 CHECK, AS_ONE = "check --uid 1000 --subtree /s", "replay --uid 1000 --gid 7 --subtree /s --ops OPS"
-TOLD_OF_P = """\
+EXPLAINED_P = """\
 pair 1000 /p/s
 fails common-ancestor /p cgroup.procs 1000:0 644 owner
 holds common-ancestor / cgroup.procs 0:0 644
@@ -130,14 +130,14 @@ TEXTS = [
     ([(ENABLED, 'enabled = ["cpuset", "cpu", "io", "rdma"]')], "fault: tree top-down cgroup 1"),
     ([behind('path = "/t"', 'enabled = ["cpuset", "pids"]')], "fault: tree top-down cgroup 4"),
     ([behind('path = "/t"', 'enabled = ["cpuset", "io"]')], "contained"),
-    *(([told(f'"{name}" = {{}}')], "fault: tree shape cgroup 2") for name in (
+    *(([named(f'"{name}" = {{}}')], "fault: tree shape cgroup 2") for name in (
         "cpu.stat", "io", "hugetlb.4MB.max", "cpu.max.", "CPU.MAX", "memory.oom.group", "io.cost.qos", "cgroup.kill", "cgroup.type", "")),
-    *(([told(f'"{name}" = {{}}')], "contained") for name in (
+    *(([named(f'"{name}" = {{}}')], "contained") for name in (
         "cpu.max", "io.max", "io.weight", "cpuset.cpus", "cgroup.freeze", "memory.swap.max", "cpu.weight.nice", "memory.zswap.writeback")),
-    *(([told(f'"{name}" = {{}}')], "fault: tree no-such-file cgroup 2") for name in ("hugetlb.2MB.max", "misc.max", "rdma.max", "dmem.low")),
-    ([told('"io.max" = 5')], "fault: tree shape cgroup 2"),
-    ([told('"io.max" = { values = 5 }')], "fault: tree shape cgroup 2"),
-    ([told('"cgroup.procs.max" = { value = 5 }')], "fault: tree shape cgroup 2"),
+    *(([named(f'"{name}" = {{}}')], "fault: tree no-such-file cgroup 2") for name in ("hugetlb.2MB.max", "misc.max", "rdma.max", "dmem.low")),
+    ([named('"io.max" = 5')], "fault: tree shape cgroup 2"),
+    ([named('"io.max" = { values = 5 }')], "fault: tree shape cgroup 2"),
+    ([named('"cgroup.procs.max" = { value = 5 }')], "fault: tree shape cgroup 2"),
     *(([valued(value)], "contained") for value in (
         "0", "-5", "0x10", "9223372036854775807", "-9223372036854775808", '"5"', '"max 100000"', "'\"'", '"# ~ !"', '["a"]', '["a", "b c"]',
         '["a", "a"]', f'"{4095 * "x"}"', f'["1", "x{2047 * " x"}"]')),
@@ -146,21 +146,21 @@ TEXTS = [
         '["1\\n2"]', f'"{4096 * "x"}"', f'["1", "xx{2047 * " x"}"]')),
     *(([valued(value)], "fault: tree shape cgroup 2") for value in (
         "true", "1.5", "{}", "[1]", '["1", 2]', '["", 2]', '[["1"]]', "[true]", "1979-05-27", '{ value = "1" }')),
-    *(([told(f'"io.max" = {{ {key} }}')], "fault: tree bad-entry cgroup 2") for key in (
+    *(([named(f'"io.max" = {{ {key} }}')], "fault: tree bad-entry cgroup 2") for key in (
         "uid = -1", "gid = 4294967296", "mode = 0o1000", "mode = 644")),
-    ([told('"io.max" = { uid = 4294967295, gid = 4294967295, mode = 0o664 }')], "contained"),
+    ([named('"io.max" = { uid = 4294967295, gid = 4294967295, mode = 0o664 }')], "contained"),
     # of a row an entry comes before a value, and of two rows the first; both before what doesn't stand, which goes by rows alone
-    ([told('"io.max" = { value = [] }', '"rdma.max" = { uid = -1 }')], "fault: tree bad-entry cgroup 2"),
-    ([told('"io.max" = { value = [] }'), behind('path = "/t"', 'dir = { uid = -1 }')], "fault: tree bad-value cgroup 2"),
-    ([told('"rdma.max" = { value = "" }')], "fault: tree bad-value cgroup 2"),
-    ([told('"rdma.max" = {}'), behind('path = "/t"', 'files = { "cpu.max" = { value = "" } }')], "fault: tree bad-value cgroup 4"),
-    ([told('"rdma.max" = {}'), behind('path = "/t"', 'files = { "pids.max" = {} }')], "fault: tree no-such-file cgroup 2"),
-    ([told('"pids.max" = {}'), behind('path = "/t"', 'files = { "rdma.max" = {} }')], "fault: tree no-such-file cgroup 2"),
-    ([told('"io.max" = {}'), behind('path = "/t"', 'files = { "rdma.max" = {} }')], "fault: tree no-such-file cgroup 4"),
-    ([told('"rdma.max" = {}'), behind('path = "/t"', 'enabled = ["pids"]')], "fault: tree top-down cgroup 4"),
-    ([told('"rdma.max" = {}'), ("pid = 10", "pid = 0")], "fault: tree no-such-file cgroup 2"),
+    ([named('"io.max" = { value = [] }', '"rdma.max" = { uid = -1 }')], "fault: tree bad-entry cgroup 2"),
+    ([named('"io.max" = { value = [] }'), behind('path = "/t"', 'dir = { uid = -1 }')], "fault: tree bad-value cgroup 2"),
+    ([named('"rdma.max" = { value = "" }')], "fault: tree bad-value cgroup 2"),
+    ([named('"rdma.max" = {}'), behind('path = "/t"', 'files = { "cpu.max" = { value = "" } }')], "fault: tree bad-value cgroup 4"),
+    ([named('"rdma.max" = {}'), behind('path = "/t"', 'files = { "pids.max" = {} }')], "fault: tree no-such-file cgroup 2"),
+    ([named('"pids.max" = {}'), behind('path = "/t"', 'files = { "rdma.max" = {} }')], "fault: tree no-such-file cgroup 2"),
+    ([named('"io.max" = {}'), behind('path = "/t"', 'files = { "rdma.max" = {} }')], "fault: tree no-such-file cgroup 4"),
+    ([named('"rdma.max" = {}'), behind('path = "/t"', 'enabled = ["pids"]')], "fault: tree top-down cgroup 4"),
+    ([named('"rdma.max" = {}'), ("pid = 10", "pid = 0")], "fault: tree no-such-file cgroup 2"),
     *(([behind(ENABLED, f'files = {{ "{name}" = {{}} }}')], "fault: tree no-such-file cgroup 1") for name in ("cgroup.freeze", "cpu.max", "io.max")),
-    *(([("format = 4", f"format = {number}"), (NAMED, 'controllers = ["cpu"]'), (ENABLED, 'enabled = ["cpu"]'), told(f'"{name}" = {{}}')],
+    *(([("format = 4", f"format = {number}"), (NAMED, 'controllers = ["cpu"]'), (ENABLED, 'enabled = ["cpu"]'), named(f'"{name}" = {{}}')],
        "fault: tree shape cgroup 2") for number in (1, 2) for name in ("cpu.max", "cgroup.freeze")),
     ([(WEIGHT, '"pids.max" = {}')], "fault: tree no-such-file cgroup 2"),
     ([(WEIGHT, '"cpu.weight" = { value = "max" }')], "fault: tree bad-value cgroup 2"),
@@ -197,13 +197,13 @@ ANSWERS = [
     (H, [OWN_CONTROL], "audit --uid 1001 --uid 1000 --subtree /s", ["pair 1000 /s", "escapes", "control / -cpuset"], 1),
     (H, [OWN_CONTROL], "advise --uid 1000 --subtree /s",
      ["fails parent-control / cgroup.subtree_control 1000:0 644 owner", "chown / cgroup.subtree_control 0:0"], 1),
-    # further limit files of the subtree that a text tells of
-    (H, [told('"io.max" = { uid = 1000 }')], CHECK, ["escapes", SET_LOOSE], 1),
-    (H, [told('"io.max" = { uid = 1000, mode = 0o444 }')], CHECK, ["escapes", "chmod /s io.max 644", SET_LOOSE], 1),
-    (H, [told('"io.max" = { gid = 50, mode = 0o664 }')], "check --uid 1000 --gid 5 --gid 50 --subtree /s", ["escapes", SET_LOOSE], 1),
-    (H, [told('"io.max" = { gid = 50, mode = 0o664 }')], CHECK, ["contained"], 0),
-    (H, [told('"io.max" = { mode = 0o646 }')], "audit --uid 1001 --subtree /s", ["pair 1001 /s", "escapes", SET_LOOSE], 1),
-    *((H, [told(f'"{name}" = {{ uid = 1000, value = {value} }}')], CHECK, ["escapes", f"set /s {name} {other}"], 1) for name, value, other in (
+    # limit files of the subtree that a text names, whose values are texts
+    (H, [named('"io.max" = { uid = 1000 }')], CHECK, ["escapes", SET_LOOSE], 1),
+    (H, [named('"io.max" = { uid = 1000, mode = 0o444 }')], CHECK, ["escapes", "chmod /s io.max 644", SET_LOOSE], 1),
+    (H, [named('"io.max" = { gid = 50, mode = 0o664 }')], "check --uid 1000 --gid 5 --gid 50 --subtree /s", ["escapes", SET_LOOSE], 1),
+    (H, [named('"io.max" = { gid = 50, mode = 0o664 }')], CHECK, ["contained"], 0),
+    (H, [named('"io.max" = { mode = 0o646 }')], "audit --uid 1001 --subtree /s", ["pair 1001 /s", "escapes", SET_LOOSE], 1),
+    *((H, [named(f'"{name}" = {{ uid = 1000, value = {value} }}')], CHECK, ["escapes", f"set /s {name} {other}"], 1) for name, value, other in (
         ("io.max", '"8:0 rbps=1"', f"8:0 {LOOSE}"), ("io.max", '"max"', LOOSE), ("io.weight", '"default 10000"', "default 9999"),
         ("io.weight", '["default 10000"]', "default 9999"), ("io.weight", '["default 10000", "default 10000"]', "default 9999"),
         ("io.weight", '["default 10000", "8:16 200"]', "default 9999"), ("io.weight", '["8:16 200", "default 10000"]', "default 9999"),
@@ -212,33 +212,33 @@ ANSWERS = [
         ("cpu.max", '"max 100000"', "max 50000"), ("cpu.max", "5", "max 100000"), ("cpu.weight.nice", "-20", "-19"), ("cpuset.cpus", '"0-3,5"', "0-1"),
         ("cgroup.freeze", "1", "0"))),
     # the eight come first, and then the others by their names
-    (H, [told('"cpu.max" = { uid = 1000 }', '"memory.max" = { uid = 1000 }')], CHECK, ["escapes", "set /s memory.max 0"], 1),
-    (H, [told('"cpuset.mems" = { uid = 1000 }', '"cpu.uclamp.min" = { uid = 1000 }')], CHECK, ["escapes", "set /s cpu.uclamp.min max"], 1),
-    (H, [told('"cpuset.mems" = { uid = 1000, mode = 0o400 }', '"cpu.idle" = { uid = 1000, mode = 0o444 }')], CHECK,
+    (H, [named('"cpu.max" = { uid = 1000 }', '"memory.max" = { uid = 1000 }')], CHECK, ["escapes", "set /s memory.max 0"], 1),
+    (H, [named('"cpuset.mems" = { uid = 1000 }', '"cpu.uclamp.min" = { uid = 1000 }')], CHECK, ["escapes", "set /s cpu.uclamp.min max"], 1),
+    (H, [named('"cpuset.mems" = { uid = 1000, mode = 0o400 }', '"cpu.idle" = { uid = 1000, mode = 0o444 }')], CHECK,
      ["escapes", "chmod /s cpu.idle 644", "chmod /s cpuset.mems 600", "set /s cpu.idle 0"], 1),
-    (H, [told('"io.max" = { uid = 1000 }'), OWN_CONTROL], CHECK, ["escapes", SET_LOOSE], 1),
+    (H, [named('"io.max" = { uid = 1000 }'), OWN_CONTROL], CHECK, ["escapes", SET_LOOSE], 1),
     (H, [behind('path = "/t"', 'files = { "io.max" = { uid = 1000 } }')], CHECK, ["contained"], 0),
-    (H, [told('"io.max" = { uid = 1000, value = 5 }')], "advise --uid 1000 --subtree /s",
+    (H, [named('"io.max" = { uid = 1000, value = 5 }')], "advise --uid 1000 --subtree /s",
      ["fails limit-file /s io.max 1000:0 644 owner", "chown /s io.max 0:0"], 1),
-    (H, [told('"io.max" = { gid = 5, mode = 0o666 }', '"cgroup.freeze" = { uid = 1000, mode = 0o606 }')], "advise --uid 1001:5 --uid 1000 --subtree /s",
+    (H, [named('"io.max" = { gid = 5, mode = 0o666 }', '"cgroup.freeze" = { uid = 1000, mode = 0o606 }')], "advise --uid 1001:5 --uid 1000 --subtree /s",
      ["fails limit-file /s cgroup.freeze 1000:0 606 owner", "fails limit-file /s cgroup.freeze 1000:0 606 others", "chown /s cgroup.freeze 0:0",
       "chmod /s cgroup.freeze 604", "fails limit-file /s io.max 0:5 666 group", "fails limit-file /s io.max 0:5 666 others", "chmod /s io.max 644"], 1),
-    (H, [told('"io.max" = { uid = 1000 }')], "settle --uid 1000 --subtree /s", ["escapes", SET_LOOSE], 1),
-    (H, [told('"io.max" = { uid = 1000 }')], "advise --settle --uid 1001 --uid 1000 --subtree /s",
+    (H, [named('"io.max" = { uid = 1000 }')], "settle --uid 1000 --subtree /s", ["escapes", SET_LOOSE], 1),
+    (H, [named('"io.max" = { uid = 1000 }')], "advise --settle --uid 1001 --uid 1000 --subtree /s",
      ["fails limit-file /s io.max 1000:0 644 owner", "chown /s io.max 0:0"], 1),
     (P, [('path = "/p/s"', 'path = "/p/s"\nfiles = { "io.weight" = {}, "io.max" = { gid = 5, mode = 0o640, value = "max" } }')],
-     "explain --uid 1000 --subtree /p/s", [*TOLD_OF_P[:5], "holds limit-file /p/s io.max 0:5 640", "holds limit-file /p/s io.weight 0:0 644",
-                                           *TOLD_OF_P[5:]], 2),
+     "explain --uid 1000 --subtree /p/s", [*EXPLAINED_P[:5], "holds limit-file /p/s io.max 0:5 640", "holds limit-file /p/s io.weight 0:0 644",
+                                           *EXPLAINED_P[5:]], 2),
     (P, [('path = "/p/s"', 'path = "/p/s"\nfiles = { "io.max" = { gid = 5, mode = 0o660 } }')], "explain --uid 1001:5 --subtree /p/s",
-     ["pair 1001:5 /p/s", "holds common-ancestor /p cgroup.procs 1000:0 644", *TOLD_OF_P[2:5], "fails limit-file /p/s io.max 0:5 660 group",
-      *TOLD_OF_P[5:12], "fails files /p/s reached", *TOLD_OF_P[15:17], "escapes"], 1),
+     ["pair 1001:5 /p/s", "holds common-ancestor /p cgroup.procs 1000:0 644", *EXPLAINED_P[2:5], "fails limit-file /p/s io.max 0:5 660 group",
+      *EXPLAINED_P[5:12], "fails files /p/s reached", *EXPLAINED_P[15:17], "escapes"], 1),
     (P, [], "check --uid 1000 --subtree /p/s", ["unsettled common-ancestor /p"], 2),
     (P, [], "may --uid 1000 --pid 20 --to /p", ["refused internal-process /p"], 1),
     # memory alone is counted on
     (P, [('enabled = ["io"]', 'enabled = ["memory"]')], "settle --uid 1000 --subtree /p/s", ["contained"], 0),
     (P, [('enabled = ["io"]', 'enabled = ["io", "memory"]')], "settle --uid 1000 --subtree /p/s", ["contained"], 0),
     (P, [], "settle --uid 1000 --subtree /p/s", ["unsettled common-ancestor /p"], 2),
-    (P, [], "explain --uid 1000 --subtree /p/s", TOLD_OF_P, 2),
+    (P, [], "explain --uid 1000 --subtree /p/s", EXPLAINED_P, 2),
 ]
 # the root has all nine controllers and enables them
 EVERY = f"""format = 4
@@ -301,8 +301,8 @@ OUTCOMES = [
     ("control /s +io", "refused internal-process /s"),
     ("control /s -io", "ok"),
 ]
-# the same on further limit files
-OUTCOMES_OF_FURTHER = [
+# the same on limit files whose values are texts
+OUTCOMES_OF_TEXTS = [
     ("set /x cpu.max max", "refused no-such-cgroup /x"),
     ("set / cpu.max max 100000", "refused no-such-file / cpu.max"),
     ("set / cgroup.freeze 0", "refused no-such-file / cgroup.freeze"),
@@ -362,24 +362,24 @@ VERDICTS = [
     ([], ["control /s +io", "control /s -io", "control /s +cpuset"], ["ok", "ok", "ok", "kept"]),
     ([], ["control /s +io", "set /s/a io.max max", "chmod /s/a io.max 600", "control /s -io"], ["ok", "ok", "ok", "ok", "kept"]),
     ([OWN_CONTROL], ["control / -io", "control / +io", "set /s io.max max"], ["ok", "ok", "ok", "broken 1 limits"]),
-    # what a text tells of the subtree
-    *(([told(f'"io.max" = {{ uid = 1000, value = {value} }}')], [f"set /s io.max {text}"], ["ok", verdict]) for value, text, verdict in (
+    # what a text has of the subtree
+    *(([named(f'"io.max" = {{ uid = 1000, value = {value} }}')], [f"set /s io.max {text}"], ["ok", verdict]) for value, text, verdict in (
         ("5", "5", "kept"), ("+5", "5", "kept"), ('"5"', "5", "kept"), ('["5"]', "5", "kept"), ('"05"', "5", "broken 1 limits"),
         ("-5", "-5", "kept"), ("0x10", "16", "kept"), ('"a b"', "a b", "kept"), ('["a b"]', "a b", "kept"), ('["a", "b"]', "a b", "broken 1 limits"),
         ('["a", "b"]', "a", "broken 1 limits"), ('["a", "a"]', "a", "broken 1 limits"), ("5", "max", "broken 1 limits"))),
-    ([told('"io.max" = { uid = 1000 }')], ["set /s io.max max"], ["ok", "broken 1 limits"]),
-    *(([told(f'"io.max" = {{ uid = 1000, value = "8:0 {LOOSE}" }}')], [f"set /s io.max {text}"], ["ok", verdict]) for text, verdict in (
+    ([named('"io.max" = { uid = 1000 }')], ["set /s io.max max"], ["ok", "broken 1 limits"]),
+    *(([named(f'"io.max" = {{ uid = 1000, value = "8:0 {LOOSE}" }}')], [f"set /s io.max {text}"], ["ok", verdict]) for text, verdict in (
         (f"8:0 {LOOSE}", "kept"), (LOOSE, "broken 1 limits"), (f"8:16 {LOOSE}", "broken 1 limits"), (f"8:0 {TURNED}", "broken 1 limits"))),
-    ([told('"io.max" = { gid = 7, mode = 0o664, value = 5 }')], ["set /s io.max 5", "chmod /s io.max 600", "set /s io.max 6"],
+    ([named('"io.max" = { gid = 7, mode = 0o664, value = 5 }')], ["set /s io.max 5", "chmod /s io.max 600", "set /s io.max 6"],
      ["ok", "refused not-owner /s io.max", "ok", "broken 3 limits"]),
-    ([told('"io.max" = { uid = 1000, value = ["a", "b"] }')], ["chmod /s io.max 444", "set /s io.max 1", "chmod /s io.max 644"],
+    ([named('"io.max" = { uid = 1000, value = ["a", "b"] }')], ["chmod /s io.max 444", "set /s io.max 1", "chmod /s io.max 644"],
      ["ok", "refused no-access /s io.max", "ok", "kept"]),
-    ([told('"io.max" = { value = 5 }')], ["set /s io.max 5", "chmod /s io.max 666", "set /s io.weight 5"],
+    ([named('"io.max" = { value = 5 }')], ["set /s io.max 5", "chmod /s io.max 666", "set /s io.weight 5"],
      ["refused no-access /s io.max", "refused not-owner /s io.max", "refused no-access /s io.weight", "kept"]),
-    ([told('"io.max" = { value = 5 }'), OWN_CONTROL], ["control / -io +io", "control / -io", "control / +io", "set /s io.max 5"],
+    ([named('"io.max" = { value = 5 }'), OWN_CONTROL], ["control / -io +io", "control / -io", "control / +io", "set /s io.max 5"],
      ["ok", "ok", "ok", "ok", "broken 2 limits"]),
 ]
-# of a cgroup in the subtree what a text tells is kept until its controller is disabled or the cgroup removed
+# of a cgroup in the subtree what a text has is kept until its controller is disabled or the cgroup removed
 B = """format = 4
 controllers = ["io", "memory"]
 [[cgroup]]
@@ -397,7 +397,7 @@ path = "/s/a"
 "io.max" = { mode = 0o600, value = 5 }
 "memory.swap.max" = { gid = 7, mode = 0o420 }
 """
-OUTCOMES_OF_TOLD = [
+OUTCOMES_OF_NAMED = [
     ("set /s/a io.max 6", "refused no-access /s/a io.max"),
     ("chmod /s/a io.max 666", "refused not-owner /s/a io.max"),
     ("set /s/a io.weight 6", "refused no-access /s/a io.weight"),
@@ -500,10 +500,10 @@ GOOD_WORDS = [
     *((4, f"control / +{name}") for name in ("cpuset", "cpu", "io", "memory", "hugetlb", "pids", "rdma", "misc", "dmem")),
     *((2, f"control / -{name}") for name in ("cpu", "memory", "pids")),
 ]
-# values of a further limit file
+# values that are texts
 VALUES = ["0", "-20", "05", "max 100000", "8:0 rbps=1048576 wiops=120", "!", "~ ~", "# \" ' \\", "+io", 3800 * "x", "12" + 1899 * " x"]
-# values of further limit files as a text tells them, and as upgrade writes them
-TOLD_VALUES = [
+# values that are texts as a tree text has them, and as upgrade writes them
+VALUES_OF_TEXTS = [
     ("5", "5"), ("+5", "5"), ("-5", "-5"), ("0x10", "16"), ("0", "0"), ("-0", "0"), ("9223372036854775807", "9223372036854775807"),
     ("-9223372036854775808", "-9223372036854775808"), ('"5"', "5"), ('"05"', "05"), ('"a b"', "a b"), ('["a b"]', "a b"), ('["a", "b"]', ["a", "b"]),
     ('["a", "a"]', ["a", "a"]), ("['\"', '\\']", ['"', "\\"]), ('["8:0 rbps=1", "8:16 max", "5"]', ["8:0 rbps=1", "8:16 max", "5"])]

@@ -8,8 +8,8 @@ import unittest
 
 sys.path.insert(0, os.path.dirname(os.path.dirname(os.path.abspath(__file__))))
 from second import commands, documents, rules, texts
-from second.further import FURTHER_FILES
-from trials import cases, format_4, further, programs, spelling, trees
+from second.limit_files import LIMIT_FILES, TEXT_FILES
+from trials import cases, format_4, limit_files, programs, spelling, trees
 import format_4_rows as rows
 
 MOST, LARGE = documents.MOST_BYTES, documents.MOST_LARGE
@@ -51,7 +51,7 @@ class RowsTest(unittest.TestCase):
                 self.assertEqual(said, (lines, status), (change, words))
 
     def test_outcomes(self):
-        for tree, outcomes in ((rows.H, rows.OUTCOMES), (rows.H, rows.OUTCOMES_OF_FURTHER), (rows.B, rows.OUTCOMES_OF_TOLD)):
+        for tree, outcomes in ((rows.H, rows.OUTCOMES), (rows.H, rows.OUTCOMES_OF_TEXTS), (rows.B, rows.OUTCOMES_OF_NAMED)):
             lines = [outcome for _, outcome in outcomes]
             self.assertEqual(ask(rows.AS_ONE, tree.encode(), [operation for operation, _ in outcomes]), ([*lines, "kept"], 0))
 
@@ -67,8 +67,8 @@ class RowsTest(unittest.TestCase):
             said = ask(rows.AS_ONE, (rows.H if form == 4 else rows.TWO).encode(), [line])
             self.assertEqual(said, (["refused no-access / cgroup.subtree_control", "kept"], 0), line)
 
-    def test_words_of_further_files(self):
-        for name in FURTHER_FILES:
+    def test_words_of_files_whose_values_are_texts(self):
+        for name in TEXT_FILES:
             for line in (f"set / {name} max", f"chmod / {name} 644"):
                 for tree in (rows.H, rows.EVERY):
                     self.assertEqual(ask(rows.AS_ONE, tree.encode(), [line]), ([f"refused no-such-file / {name}", "kept"], 0))
@@ -79,9 +79,10 @@ class RowsTest(unittest.TestCase):
             self.assertEqual(commands.operation_of(line.encode(), 4), ("set", (), "io.max", value))
             self.assertEqual(commands.spelling(("set", (), "io.max", value)), line)
 
-    def test_each_further_file_has_a_key_where_it_stands(self):
+    def test_each_limit_file_has_a_key_where_it_stands(self):
         every, text = format_4.ALL_CONTROLLERS, rows.EVERY
-        for name, (controller, loose) in FURTHER_FILES.items():
+        for name in TEXT_FILES:
+            controller, loose = LIMIT_FILES[name].controller, LIMIT_FILES[name].loose
             key = f"files = {{ '{name}' = {{ uid = 1000 }} }}"
             self.assertEqual(ask(rows.CHECK, changed(text, [("'/s'", f"'/s', {key}")])), (["escapes", f"set /s {name} {loose}"], 1))
             self.assertEqual(ask(rows.CHECK, changed(text, [("'/', ", f"'/', {key}, ")])), (["fault: tree no-such-file cgroup 1"], 3))
@@ -89,20 +90,20 @@ class RowsTest(unittest.TestCase):
             expected = (["fault: tree no-such-file cgroup 2"], 3) if controller else (["escapes", f"set /s {name} {loose}"], 1)
             self.assertEqual(ask(rows.CHECK, other), expected)
 
-    def test_devices_of_further_files(self):
+    def test_devices_of_values(self):
         for name, value, text in rows.DEVICES:
             tree = changed(rows.EVERY, [("'/s'", f"'/s', files = {{ '{name}' = {{ uid = 1000, value = {value} }} }}")])
             escape = f"set /s {name} {text}"
             self.assertEqual(ask(rows.CHECK, tree), (["escapes", escape], 1), (name, value))
             self.assertEqual(ask(rows.AS_ONE, tree, [escape]), (["ok", "broken 1 limits"], 1), (name, value))
 
-    def test_upgrade_of_told_files(self):
-        for value, written in rows.TOLD_VALUES:
-            text = changed(rows.H, [rows.told(f'"io.max" = {{ value = {value} }}', '"cpu.max" = { uid = 5, gid = 6, mode = 0o660 }')])
+    def test_upgrade_of_named_files(self):
+        for value, written in rows.VALUES_OF_TEXTS:
+            text = changed(rows.H, [rows.named(f'"io.max" = {{ value = {value} }}', '"cpu.max" = { uid = 5, gid = 6, mode = 0o660 }')])
             files = {row["path"]: row["files"] for row in written_of(text)["cgroup"]}
             self.assertEqual(files["/s"]["io.max"], {"uid": 0, "gid": 0, "mode": 0o644, "value": written}, value)
             self.assertEqual(files["/s"]["cpu.max"], {"uid": 5, "gid": 6, "mode": 0o660})
-            self.assertEqual({name for path, names in files.items() for name in names if name in FURTHER_FILES}, {"io.max", "cpu.max"})
+            self.assertEqual({name for path, names in files.items() for name in names if name in TEXT_FILES}, {"io.max", "cpu.max"})
             self.assertEqual(ask("upgrade", spelling.document(random.Random(value), written_of(text))), ask("upgrade", text))
 
     def test_upgrade(self):
@@ -168,17 +169,17 @@ class FormatTest(unittest.TestCase):
             document = commands.document_of(state)
             self.assertEqual(texts.tree_of(spelling.document(rng, document)), state)
 
-    def test_random_trees_tell_of_each_further_file(self):
+    def test_random_trees_name_each_limit_file(self):
         found = set()
         for number in range(60):
             rng = random.Random(number)
             tree = trees.random_tree(rng)
             format_4.widen(rng, tree)
-            further.tell(rng, tree)
+            limit_files.name_some(rng, tree)
             state = texts.tree_of(spelling.document(rng, tree.document(rng)))
-            found.update(name for path in state.cgroups for name in rules.told_at(state, path))
+            found.update(name for path in state.cgroups for name in limit_files.named_at(state, path))
             self.assertEqual(texts.tree_of(spelling.document(rng, commands.document_of(state))), state)
-        self.assertEqual(found, {*FURTHER_FILES})
+        self.assertEqual(found, {*TEXT_FILES})
 
     def test_random_trees_have_each_controller(self):
         found = set()

@@ -36,10 +36,9 @@ def state_of(rows, live=()):
         for letter, name in ALL_LETTERS.items():
             uid = ONE[0] if letter in owned else OTHER[0] if letter.upper() in owned else 0
             entries[name] = Entry(uid, 0, rules.DIR_MODE if name == DIR else rules.FILE_MODE)
-        cgroups[path] = Cgroup(entries, {}, frozenset(enabled))
+        cgroups[path] = Cgroup(entries, frozenset(enabled))
         for file in rules.files_at(State(controllers, cgroups, {}, frozenset()), path):
-            entries[file] = Entry()
-            cgroups[path].values[file] = values.get(file, rules.default_of(file))
+            entries[file] = Entry(value=values.get(file, rules.default_of(file)))
     return State(controllers, cgroups, dict(live), frozenset(dict(live)))
 
 
@@ -97,7 +96,7 @@ class RowTest(unittest.TestCase):
     def test_a_limit_is_raised(self):
         rows = [("/", "", ["memory"], {}), ("/a", "p", ["memory"], {DESCENDANTS: 2}), ("/a/b", "", [], {}), ("/a/s", "d", [], {})]
         state = state_of(rows, {7: (0, ("a", "b"))})
-        state.cgroups[("a",)].entries[DESCENDANTS] = Entry(ONE[0])
+        state.cgroups[("a",)].entries[DESCENDANTS] = Entry(ONE[0], value=2)
         self.assertEqual(found(state, "/a/s"), (False, True))
         self.assertTrue(row_mutants.holds(row_mutants.RARE[1], state, [ONE], ("a", "s")))
 
@@ -113,7 +112,7 @@ class SearchTest(unittest.TestCase):
             state = draw(random.Random(number))
             for path, cgroup in state.cgroups.items():
                 self.assertLessEqual(cgroup.enabled, rules.available(state, path))
-                self.assertEqual(list(cgroup.values), rules.files_at(state, path))
+                self.assertEqual(list(cgroup.entries), [*rules.STANDING, *rules.files_at(state, path)])
             for _, place in state.live.values():
                 self.assertTrue(not place or not state.cgroups[place].enabled)
 

@@ -4,8 +4,9 @@ from dataclasses import dataclass, field, replace
 
 from second import commands, documents, rules, texts
 from second.controllers import controllers_in
+from second.limit_files import MAX, NUMBER_FILES, TEXT_FILES, is_text
 from second.rules import text_of
-from trials import directed, faults, format_4, further, small, spelling, trees
+from trials import directed, faults, format_4, limit_files, small, spelling, trees
 
 TREE, OPS, PAIRS, SUBTREES = "tree.toml", "list.ops", "list.pairs", "list.subtrees"
 # the first case of format 4 that may be of a large text, or of many rows: by then most mutants are told apart, which are asked of it
@@ -89,15 +90,15 @@ def drawn_case(seed, number, known):
     if not large and ("settle" in command and rng.random() < 0.75 or command == "explain" and rng.random() < 0.5):
         tree = trees.tree_of_state(rng, 35 if command in ("audit --settle", "advise --settle") else 9, wide)
         if wide and rng.random() < 0.4:
-            further.tell(rng, tree)
+            limit_files.name_some(rng, tree)
         data = spelling.document(rng, tree.document(rng))
     if wide and not large and command.startswith("replay") and tree.form == 4 and tree.subtree and state_of(data) and rng.random() < 0.8:
-        further.make_room(rng, tree)
-        further.tell(rng, tree)
+        limit_files.make_room(rng, tree)
+        limit_files.name_some(rng, tree)
         data = spelling.document(rng, tree.document(rng))
     if (wide and not large and command.split(" ")[0] in ("check", "settle", "audit") and tree.form == 4 and tree.subtree
             and rng.random() < 0.7 and state_of(data)):
-        further.open_device(rng, tree)
+        limit_files.open_device(rng, tree)
         data = spelling.document(rng, tree.document(rng))
     if command in ("audit --everybody", "audit --subtrees") and not large and rng.random() < 0.5:
         data = closed_text(rng, tree.subtree, data)
@@ -123,7 +124,7 @@ def text_of_tree(rng, tree, wide):
     if wide and rng.random() < 0.9:
         format_4.widen(rng, tree)
         if rng.random() < 0.5:
-            further.tell(rng, tree)
+            limit_files.name_some(rng, tree)
     parts = tree.document(rng)
     if rng.random() < (0.32 if wide else 0.25):
         (format_4 if wide and rng.random() < 0.6 else faults).turn_document(rng, parts)
@@ -141,7 +142,7 @@ def closed_text(rng, top, data):
     if not state or not top or top not in state.cgroups:
         return data
     often = rng.choice([0.8, 0.95, 1])
-    for _, path, name in rules.guarded(state, top):
+    for _, path, name in [each for each in rules.guarded(state, top) if rules.is_shown(state, *each[1:])]:
         entries = state.cgroups[path].entries
         if rng.random() < often:
             entries[name] = replace(entries[name], uid=0, mode=entries[name].mode & 0o755)
@@ -394,11 +395,11 @@ WEIGHTS = {"may": 14, "check": 30, "audit": 12, "audit --all": 12, "advise": 14,
            "audit --settle": 14, "advise --settle": 8, "explain": 18, "replay": 28, "replay alone": 6, "upgrade": 7,
            "audit --pairs": 10, "explain --pairs": 5, "audit --everybody": 12, "audit --subtrees": 8}
 # of one user and one subtree, with no weight of its own
-FURTHER = [name for name in commands.OF_ONE if name not in MAKERS]
-MAKERS.update((name, of_one(name)) for name in FURTHER)
-WEIGHTS.update((name, 5) for name in FURTHER)
+OTHERS_OF_ONE = [name for name in commands.OF_ONE if name not in MAKERS]
+MAKERS.update((name, of_one(name)) for name in OTHERS_OF_ONE)
+WEIGHTS.update((name, 5) for name in OTHERS_OF_ONE)
 # commands that came when a seed was fixed by which mutants are told apart: fresh cases have them
-LATER = frozenset({"audit --pairs", "explain --pairs", "audit --everybody", "audit --subtrees", *FURTHER})
+LATER = frozenset({"audit --pairs", "explain --pairs", "audit --everybody", "audit --subtrees", *OTHERS_OF_ONE})
 
 
 # Operations
@@ -413,7 +414,7 @@ def operations(rng, tree, data, words, wide=False):
     user = asked_in(words)
     if state:
         lines = escape_lines(rng, state, user, tree)
-        several = further.some_operations(rng, state, user) if wide and state.form == 4 else []
+        several = limit_files.some_operations(rng, state, user) if wide and state.form == 4 else []
         count = rng.choice([0, 1, 3, 6, 10, 16]) if rng.random() < 0.98 else rng.choice([60, 200, 500])
         for _ in range(count + len(several)):
             operation = next_operation(rng, tree, state, user, lines[-1:]) if not several or rng.random() < 0.1 else several.pop(0)
@@ -423,9 +424,9 @@ def operations(rng, tree, data, words, wide=False):
         near = format_4.bad_line(rng) if wide and rng.random() < 0.6 else bad_line(rng, lines)
         lines.insert(rng.randrange(len(lines) + 1), near)
     if wide and tree.form == 4 and rng.random() < 0.4:
-        lines.append(further.bad_line(rng))
+        lines.append(limit_files.bad_line(rng))
     if wide and tree.form != 4:
-        lines.insert(rng.randrange(len(lines) + 1), rng.choice([format_4, further]).later_line(rng))
+        lines.insert(rng.randrange(len(lines) + 1), rng.choice([format_4, limit_files]).later_line(rng))
     return b"".join(line + b"\n" for line in lines) + (rng.choice([b"exit 7", b"x", b" "]) if rng.random() < 0.04 else b"")
 
 
@@ -438,15 +439,16 @@ def escape_lines(rng, state, user, tree):
     if rng.random() > 0.3 or tree.subtree not in state.cgroups or not tree.subtree:
         return []
     answer = rules.answer(state, user, tree.subtree)
-    found = answer[1] if answer[0] == "escapes" else rng.choice(list(rules.plain_tries(state, tree.subtree)))
+    shown = [each for each in rules.plain_tries(state, tree.subtree) if not each or each[0][0] != "set" or rules.is_shown(state, *each[0][1:3])]
+    found = answer[1] if answer[0] == "escapes" else rng.choice(shown)
     return [commands.spelling(operation).encode("ascii") for operation in found]
 
 
 def next_operation(rng, tree, state, user, last):
     """A random one, or one that follows from the last: a move of a child, a fork of a PID that was used, a set of a file that came; of
-    format 4 at times one of a further limit file."""
+    format 4 at times one of a limit file whose values are texts."""
     if state.form == 4 and rng.random() < 0.12:
-        return further.some_operation(rng, state, user)
+        return limit_files.some_operation(rng, state, user)
     kind, *words = last[0].decode("ascii").split(" ") if last and rng.random() < 0.6 else [""]
     if kind in ("exit", "fork") and rng.random() < 0.4:
         return "fork", some_pid(rng, state, user), int(words[-1])
@@ -456,8 +458,8 @@ def next_operation(rng, tree, state, user, last):
     if below and words[-1][0] == "+":
         child = rng.choice(below)
         if state.form == 4 and rng.random() < 0.5:
-            return further.some_deed(rng, state, child)
-        file = rng.choice(rules.files_at(state, child))
+            return limit_files.some_deed(rng, state, child)
+        file = rng.choice([file for file in rules.files_at(state, child) if not is_text(file)])
         return rng.choice([("set", child, file, 1), ("chmod", child, file, 0o600)])
     return random_operation(rng, tree, state, user)
 
@@ -481,12 +483,12 @@ def some_pid(rng, state, user):
 
 
 def entry_where(rng, state, holds):
-    """A path and an entry of it for which something holds, where there is one; mostly. No further limit file."""
+    """A path and an entry of it for which something holds, where there is one; mostly. No limit file whose values are texts."""
     found = [(path, name) for path, cgroup in state.cgroups.items() for name, entry in cgroup.entries.items()
-             if name not in further.FURTHER_FILES and holds(entry)]
+             if name not in TEXT_FILES and holds(entry)]
     if found and rng.random() < 0.7:
         return rng.choice(found)
-    return some_path(rng, state, 0.2), rng.choice([*rules.STANDING, *rules.LIMIT_FILES])
+    return some_path(rng, state, 0.2), rng.choice([*rules.STANDING, *NUMBER_FILES])
 
 
 def written_path(rng, state, user, name):
@@ -524,8 +526,8 @@ def some_removal(rng, _tree, state, user):
 def some_value(rng, _tree, state, user):
     path, file = entry_where(rng, state, lambda entry: rules.writes(user, entry))
     if file in rules.STANDING:
-        file = rng.choice(list(rules.LIMIT_FILES)[:3])
-    return path, file, rng.choice([rules.MAX, *trees.NUMBERS, 2 ** 63, 2 ** 64 - 1])
+        file = rng.choice(NUMBER_FILES[:3])
+    return path, file, rng.choice([MAX, *trees.NUMBERS, 2 ** 63, 2 ** 64 - 1])
 
 
 def some_mode(rng, _tree, state, user):

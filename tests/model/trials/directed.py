@@ -4,15 +4,15 @@ import itertools
 
 from second import commands, rules
 from second.controllers import ALL_CONTROLLERS
-from second.further import FURTHER_FILES, OF_DEVICES, other_text
-from second.rules import MAX, text_of
+from second.limit_files import LIMIT_FILES, LINES, MAX, MOST, NUMBER_FILES, TEXT_FILES, accepts, is_text, other_value
+from second.rules import text_of
 from trials import trees
 
 PARENT, TOP = ("a",), ("a", "b")
 USER = (1000, ())
 # tries in their order: those of limit files, and by the entry that lets them through the others
 REMOVAL, MOVE, PROBE = "removal", "move", "probe"
-TRIED = [*rules.ALL_FILES, rules.CONTROL, REMOVAL, MOVE, PROBE]
+TRIED = [*LIMIT_FILES, rules.CONTROL, REMOVAL, MOVE, PROBE]
 NAMES = [*sorted(rules.RESERVED), ".", ".."]
 GOOD_NAMES = [chr(byte) for byte in range(0x21, 0x7F) if chr(byte) not in "/."]
 NEAR_NAMES = ["...", "..a", ".a", "cgroup.controllers2", "cgroup.controller", "cgroup.max", "CGROUP.PROCS", "pids.max.x", "cgroup.kill",
@@ -39,11 +39,11 @@ def user_words(user):
 
 
 def two_tries(rng, turn, first, later):
-    tree = bare_tree(2 if {first, later}.isdisjoint(FURTHER_FILES) else 4, ALL_CONTROLLERS)
+    tree = bare_tree(2 if {first, later}.isdisjoint(TEXT_FILES) else 4, ALL_CONTROLLERS)
     for tried in (first, later):
         let_through(tree, tried)
-    for file in {first, later} & {*rules.ALL_FILES}:
-        tell_value(rng, tree, file, turn == 0)
+    for file in [tried for tried in (first, later) if tried in LIMIT_FILES]:
+        give_value(rng, tree, file, turn == 0)
     if {first, later} <= {MOVE, PROBE}:
         tree.processes = [{"pid": rng.choice(trees.FEW_PIDS), "uid": 0, "at": text_of(TOP)}]
     return tree, ["check", *user_words(USER), "--subtree", text_of(TOP)], None
@@ -52,7 +52,7 @@ def two_tries(rng, turn, first, later):
 def let_through(tree, tried):
     """Has the user own what a try takes; a process that is moved in or out goes by the root."""
     own = {"uid": USER[0]}
-    if tried in rules.ALL_FILES:
+    if tried in LIMIT_FILES:
         tree.entry(TOP, tried).update(own)
     elif tried in (rules.CONTROL, REMOVAL):
         tree.entry(PARENT, rules.CONTROL if tried == rules.CONTROL else rules.DIR).update(own)
@@ -64,15 +64,15 @@ def let_through(tree, tried):
         tree.processes = [{"pid": 10, "uid": 0, "at": "/"}]
 
 
-def tell_value(rng, tree, file, is_loose):
+def give_value(rng, tree, file, is_loose):
     """A value that the try has to turn: at first the one that loosens the file, and then any."""
-    if file in rules.LIMIT_FILES:
+    if not is_text(file):
         known = [rules.default_of(file), MAX, 0, 1, 100, 10000]
-        tree.entry(TOP, file)["value"] = rng.choice([value for value in known if rules.accepts(file, value)])
+        tree.entry(TOP, file)["value"] = rng.choice([value for value in known if accepts(file, value)])
         return
-    loose = FURTHER_FILES[file][1]
-    other = other_text(file, loose)
-    device = rng.choice(["8:0", "sev", "d" * 255]) + " " if file in OF_DEVICES and rng.random() < 0.6 else ""
+    loose = LIMIT_FILES[file].loose
+    other = other_value(file, loose)
+    device = rng.choice(["8:0", "sev", "d" * 255]) + " " if LIMIT_FILES[file].form == LINES and rng.random() < 0.6 else ""
     value = rng.choice([loose] if is_loose else [loose, [loose, other], [other, loose], other, "7"])
     if is_loose or rng.random() < 0.85:
         tree.entry(TOP, file)["value"] = [device + line for line in value] if isinstance(value, list) else device + value
@@ -82,8 +82,8 @@ def tell_value(rng, tree, file, is_loose):
 
 
 def bounds_of(file):
-    _, default, least, greatest, _ = rules.LIMIT_FILES[file]
-    return [default, least, least + 1, greatest - 1, greatest, MAX, *[least - 1] * (least > 0), greatest + 1]
+    least, greatest, _ = LIMIT_FILES[file].form
+    return [rules.default_of(file), least, least + 1, greatest - 1, greatest, MAX, *[least - 1] * (least > 0), greatest + 1]
 
 
 def set_to_bounds(rng, _turn, file):
@@ -94,10 +94,10 @@ def set_to_bounds(rng, _turn, file):
     return replayed(tree, [("set", TOP, file, value) for value in values])
 
 
-def told_at_bounds(rng, _turn, file):
+def read_at_bounds(rng, _turn, file):
     tree = bare_tree(rng.choice([1, 2]), rules.CONTROLLERS)
-    told = [value for value in [*bounds_of(file), -1] if value == MAX or value <= rules.MOST]
-    tree.entry(TOP, file)["value"] = rng.choice(told)
+    values = [value for value in [*bounds_of(file), -1] if value == MAX or value <= MOST]
+    tree.entry(TOP, file)["value"] = rng.choice(values)
     return tree, ["upgrade"], None
 
 
@@ -154,7 +154,7 @@ def theirs_behind_a_control(rng, _turn, sign):
     for name in rules.STANDING:
         tree.entry(PARENT, name)["uid"] = USER[0]
     new = PARENT + ("new",)
-    files = ["cgroup.freeze", *(file for file, (controller, _) in FURTHER_FILES.items() if controller in names)]
+    files = ["cgroup.freeze", *(file for file in TEXT_FILES if LIMIT_FILES[file].controller in names)]
     deeds = [("set", new, file, "1") for file in files] + [("chmod", new, file, 0o600) for file in files]
     turned = ("control", PARENT, tuple((sign, name) for name in names))
     return replayed(tree, [("mkdir", new), turned, deeds[0], *rng.sample(deeds, min(len(deeds), 6))])
@@ -180,7 +180,7 @@ def replayed(tree, operations):
 
 # each with what it is about
 ROWS = [*((two_tries, *pair) for pair in zip(TRIED, TRIED[1:])),
-        *((maker, file) for maker in (set_to_bounds, told_at_bounds) for file in rules.LIMIT_FILES),
+        *((maker, file) for maker in (set_to_bounds, read_at_bounds) for file in NUMBER_FILES),
         *((named, name) for name in NAMES), (good_names,), (bad_name,), (bad_name,),
         *((limited, path, file) for path in ((), PARENT, TOP) for file in (rules.DESCENDANTS, rules.DEPTH)),
         *((theirs_behind_a_control, sign) for sign in "+-"),
@@ -198,7 +198,7 @@ def row_of(number):
 def is_wide(number):
     """Whether the row of a number is of format 4."""
     maker, *about = row_of(number)
-    return maker == theirs_behind_a_control or maker == two_tries and not {*about}.isdisjoint(FURTHER_FILES)
+    return maker == theirs_behind_a_control or maker == two_tries and not {*about}.isdisjoint(TEXT_FILES)
 
 
 def drawn(rng, number):

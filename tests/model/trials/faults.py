@@ -1,5 +1,6 @@
 """What makes a tree text faulty: each function turns something of a tree or of its document, and leaves the rest."""
 from second import rules
+from second.limit_files import NUMBER_FILES
 from trials.spelling import Raw
 
 
@@ -58,7 +59,7 @@ def shape_cgroup(rng, parts):
     elif way == 5:
         row["files"] = {rng.choice([rules.PROCS, rules.CONTROL]): {"value": 1}}
     elif way == 6:
-        row["files"] = {rng.choice(list(rules.LIMIT_FILES)): {"value": Raw(rng.choice(["true", "[]", "{}", "1e3"]))}}
+        row["files"] = {rng.choice(NUMBER_FILES): {"value": Raw(rng.choice(["true", "[]", "{}", "1e3"]))}}
     else:
         parts["cgroup"] = [*parts["cgroup"], rng.choice([1, "x", [], True])]
 
@@ -101,7 +102,7 @@ def bad_controller(rng, parts):
 
 def bad_entry(rng, parts):
     row = any_row(rng, parts)
-    name = rng.choice([rules.PROCS, rules.CONTROL, *rules.LIMIT_FILES])
+    name = rng.choice([rules.PROCS, rules.CONTROL, *NUMBER_FILES])
     entry = row.setdefault("files", {}).setdefault(name, {}) if rng.random() < 0.6 else row.setdefault("dir", {})
     entry.update(rng.choice([{"uid": -1}, {"uid": 2 ** 32}, {"mode": 0o1000}, {"mode": -1}, {"mode": 644}, {"uid": -2 ** 63}]))
     if parts["format"] in (2, 4) and rng.random() < 0.3:
@@ -141,7 +142,7 @@ def top_down(rng, parts):
 
 def no_such_file(rng, parts):
     row = any_row(rng, parts)
-    row.setdefault("files", {}).setdefault(rng.choice(list(rules.LIMIT_FILES)[2:]), {"mode": 0o600})
+    row.setdefault("files", {}).setdefault(rng.choice(NUMBER_FILES[2:]), {"mode": 0o600})
 
 
 def bad_pid(rng, parts):

@@ -3,13 +3,14 @@ import itertools
 
 from second import documents, rules
 from second.controllers import ALL_CONTROLLERS, CONTROLLERS
-from trials import further, spelling
+from second.limit_files import LIMIT_FILES, NUMBER_FILES
+from trials import limit_files, spelling
 from trials.spelling import Raw
 
 # among the commands that a program has: that it reads this format
 FORMAT_4 = "format 4"
 TREE = b'format = 4\ncontrollers = ["dmem"]\n[[cgroup]]\npath = "/"\n'
-FURTHER = [c for c in ALL_CONTROLLERS if c not in CONTROLLERS]
+OTHERS = [c for c in ALL_CONTROLLERS if c not in CONTROLLERS]
 # names of no controller, some of which are a kernel's, and of files that have no key
 NONE = ["perf_event", "net_cls", "cgroup", "", "IO", "io ", "cpuset.cpus", "freezer"]
 KEYLESS = ["pids.peak", "memory.oom.group", "hugetlb.4MB.max", "io.cost.qos", "cgroup.kill", "cgroup.type", "cpu.max.", "CPU.MAX", "io.stat"]
@@ -35,7 +36,7 @@ def widen(rng, tree):
     tree.form = 4
     if rng.random() < 0.5:
         rename(rng, tree)
-    tree.controllers += [c for c in FURTHER if c not in tree.controllers and rng.random() < 0.4]
+    tree.controllers += [c for c in OTHERS if c not in tree.controllers and rng.random() < 0.4]
     rng.shuffle(tree.controllers)
     busy = {process["at"] for process in tree.processes}
     for path in sorted(tree.rows, key=len):
@@ -50,8 +51,8 @@ def widen(rng, tree):
 
 def rename(rng, tree):
     """What goes by a controller's new name is its limit files."""
-    named = {c: other for c, other in zip(CONTROLLERS, rng.sample(FURTHER, len(CONTROLLERS))) if rng.random() < 0.5}
-    gone = [file for file, (controller, *_) in rules.LIMIT_FILES.items() if controller in named]
+    named = {c: other for c, other in zip(CONTROLLERS, rng.sample(OTHERS, len(CONTROLLERS))) if rng.random() < 0.5}
+    gone = [file for file in NUMBER_FILES if LIMIT_FILES[file].controller in named]
     tree.controllers = [named.get(c, c) for c in tree.controllers]
     for row in tree.rows.values():
         if "enabled" in row:
@@ -66,25 +67,25 @@ def some_control(rng, tree, state, user):
     paths = [path for path, cgroup in state.cgroups.items() if rules.writes(user, cgroup.entries[rules.CONTROL])]
     paths = [tree.subtree[:-1]] if tree.subtree[:-1] in paths and rng.random() < 0.6 else rng.sample(paths, min(len(paths), 12))
     found = {}
-    for path, sign, controller in itertools.product(paths, "+-", FURTHER):
+    for path, sign, controller in itertools.product(paths, "+-", OTHERS):
         refusals = rules.control_bars(state, user, path, ((sign, controller),))
         is_same = (sign == "+") == (controller in state.cgroups[path].enabled)
         outcome = refusals[0].partition(" ")[0] if refusals else "nothing" if is_same else "ok " + sign
         found.setdefault(outcome, []).append((path, ((sign, controller),)))
     if found:
         return rng.choice(found[rng.choice(sorted(found))])
-    return rng.choice(list(state.cgroups)), ((rng.choice("+-"), rng.choice(FURTHER)),)
+    return rng.choice(list(state.cgroups)), ((rng.choice("+-"), rng.choice(OTHERS)),)
 
 
 def later_line(rng):
     """A line that is an operation's in format 4 alone."""
-    return f"control {rng.choice(['/', '/a'])} {rng.choice('+-')}{rng.choice(FURTHER)}".encode()
+    return f"control {rng.choice(['/', '/a'])} {rng.choice('+-')}{rng.choice(OTHERS)}".encode()
 
 
 def bad_line(rng):
     """A line that is no operation's in format 4 either."""
-    return rng.choice([f"control / +{rng.choice(NONE)}", f"control / -{rng.choice(FURTHER)}x", f"control / {rng.choice(FURTHER)}",
-                       f"control / +{rng.choice(FURTHER)},cpu", f"control / +{rng.choice(FURTHER).upper()}"]).encode()
+    return rng.choice([f"control / +{rng.choice(NONE)}", f"control / -{rng.choice(OTHERS)}x", f"control / {rng.choice(OTHERS)}",
+                       f"control / +{rng.choice(OTHERS)},cpu", f"control / +{rng.choice(OTHERS).upper()}"]).encode()
 
 
 # Faults of a document
@@ -103,7 +104,7 @@ def enabled_of_others(rng, parts):
     """Another format, whose root has what it may have, and of which a cgroup may enable what it may not."""
     parts["format"] = rng.choice([1, 2, 2])
     parts["controllers"] = [c for c in parts["controllers"] if c in CONTROLLERS]
-    rng.choice(parts["cgroup"]).setdefault("enabled", []).append(rng.choice(FURTHER))
+    rng.choice(parts["cgroup"]).setdefault("enabled", []).append(rng.choice(OTHERS))
 
 
 def too_many(rng, parts):
@@ -111,13 +112,13 @@ def too_many(rng, parts):
 
 
 def top_down(rng, parts):
-    rng.choice(parts["cgroup"]).setdefault("enabled", []).append(rng.choice(FURTHER))
+    rng.choice(parts["cgroup"]).setdefault("enabled", []).append(rng.choice(OTHERS))
 
 
 def internal_process(rng, parts):
     """Where the parent enables nothing of the kind it is a fault before."""
     row = rng.choice([row for row in parts["cgroup"] if row.get("enabled")] or parts["cgroup"])
-    row["enabled"] = [c for c in row.get("enabled", []) if c in FURTHER]
+    row["enabled"] = [c for c in row.get("enabled", []) if c in OTHERS]
     parts["process"] = [*parts.get("process", []), {"pid": 77, "uid": 0, "at": row["path"]}]
 
 
@@ -130,7 +131,7 @@ def gid(rng, parts):
 
 
 FAULTS = [*2 * [bad_controller], *2 * [another_form], enabled_of_others, *2 * [too_many], top_down, *2 * [internal_process], keyless, gid,
-          *7 * [further.turn_told]]
+          *7 * [limit_files.turn]]
 
 
 def turn_document(rng, parts):

@@ -16,7 +16,7 @@ uid = 1000
 at = "/"
 """
 SMALL_4 = SMALL.replace(b"2", b"4", 1).replace(b'["cpu"]', b'["cpu", "io"]')
-SMALL_TOLD = b"""format = 4
+SMALL_4 = b"""format = 4
 controllers = ["io"]
 [[cgroup]]
 path = '/'
@@ -98,18 +98,18 @@ def doubled():
             yield HEAD + part + other + part
 
 
-def told():
-    """Texts of format 4 that tell of further limit files."""
-    yield from changed(SMALL_TOLD)
+def texts_of_4():
+    """Texts of format 4 that name limit files whose values are texts."""
+    yield from changed(SMALL_4)
     for value in spelled_numbers():
-        yield from (SMALL_TOLD.replace(b"value = 5", b"value = " + value), SMALL_TOLD.replace(b"'8:16'", value))
+        yield from (SMALL_4.replace(b"value = 5", b"value = " + value), SMALL_4.replace(b"'8:16'", value))
     for line in (b"x", b"x ", b" x", b"\xc3\xa9", b"\\n", b"'"):
         for count in (0, 1, 2, 2047, 2048, 4094, 4095, 4096, 70000):
-            yield SMALL_TOLD.replace(b"a b", line * count)
+            yield SMALL_4.replace(b"a b", line * count)
 
 
 def tree_texts(with_format_4):
-    of_4 = told() if with_format_4 else []
+    of_4 = texts_of_4() if with_format_4 else []
     for kind in (cut(SMALL), changed(SMALL), spliced(SMALL, 400), nested(), numbers(), odd_letters(), doubled(), of_4):
         yield from kind
 
@@ -126,7 +126,7 @@ def operation_texts():
 
 
 def operation_texts_4():
-    """Of controllers and further limit files that lines for a tree of format 4 may name."""
+    """Of controllers and limit files that lines for a tree of format 4 may name."""
     line = b"control /a +io -io\n"
     yield from cut(line)
     yield from changed(line)

@@ -3,9 +3,10 @@ import re
 
 from second import commands, documents, rules
 from second.controllers import CONTROLLERS
-from second.further import FURTHER_FILES, LONGEST_DEVICE, LONGEST_LINE, LONGEST_VALUE, OF_DEVICES, text_told
+from second.limit_files import LIMIT_FILES, LONGEST_DEVICE, LONGEST_LINE, LONGEST_VALUE, TEXT_FILES, value_read
 from trials.cases import OPS, TREE, state_of
-from trials.format_4 import FORMAT_4, FURTHER
+from trials.format_4 import FORMAT_4, OTHERS
+from trials.limit_files import DEVICE_FILES
 
 CLAUSES = {
     "move": ["ok", "no-such-cgroup", "no-access destination", "no-such-process", "no-access common ancestor", "internal-process"],
@@ -32,31 +33,31 @@ STATUSES = {"may": 2, "audit": 3, "audit --all": 3, "replay": 2, "upgrade": 1, "
 # of trees of format 4, and of controllers that other formats don't have
 FAULTS_4 = """bad-controller cgroup, bad-controller top, bad-entry cgroup, bad-value cgroup, internal-process process, no-such-file cgroup,
 shape cgroup, too-many, top-down cgroup"""
-# of a row that names a further limit file
+# of a row that names a limit file whose values are texts
 OF_NAMED = ["shape", "bad-entry", "bad-value", "no-such-file"]
-VALUES_TOLD = ["a text", "an integer", "an array of one", "an array of several", "no value"]
+VALUES_READ = ["a text", "an integer", "an array of one", "an array of several", "no value"]
 WIDE = ["upgrade", "a bad word", "read past 4096 rows", "read past 16777216 bytes", "too-long past 16777216 bytes",
         "too-long past 67108864 bytes", "broken limits by its controllers", "escapes by a control of its controllers",
         "escapes by an opened control of its controllers", "its controllers in another's text", "its controllers in a line for another",
         *(f"settle: {kind}" for kind in commands.STATUS), *(f"explain: a controller of its own is {by}" for by in ("on", "off", "turned")),
         *(f"control of its controllers: {outcome}" for outcome in CLAUSES["control"]),
-        *(f"set of a further file: {outcome}" for outcome in CLAUSES["set"] if outcome != "bad-value"),
-        *(f"chmod of a further file: {outcome}" for outcome in CLAUSES["chmod"]),
-        *(f"a set or a chmod of {name}: ok" for name in FURTHER_FILES),
+        *(f"set of a text file: {outcome}" for outcome in CLAUSES["set"] if outcome != "bad-value"),
+        *(f"chmod of a text file: {outcome}" for outcome in CLAUSES["chmod"]),
+        *(f"a set or a chmod of {name}: ok" for name in TEXT_FILES),
         *(f"{kind} of cgroup.freeze at the root: no-such-file" for kind in ("set", "chmod")),
-        "a further file in a line for another", "a value of several words", f"a value of {LONGEST_VALUE} bytes",
-        *(f"a text tells of {name}" for name in FURTHER_FILES), *(f"a text tells {kind}" for kind in VALUES_TOLD),
-        f"a text tells a line of {LONGEST_LINE} bytes", "a further file in another's text",
-        "fault: no-such-file of a further file at the root",
-        *(f"fault: {what} of a row with a further file" for what in OF_NAMED),
-        "escapes by a set of a further file", "escapes by an opened set of a further file", "escapes by a set of a further file that was loose",
-        *(f"escapes by a set of {name} on a device" for name in sorted(OF_DEVICES)), "escapes by a set on a device that was loose",
+        "a text file in a line for another", "a value of several words", f"a value of {LONGEST_VALUE} bytes",
+        *(f"a text has of {name}" for name in TEXT_FILES), *(f"a text has {kind}" for kind in VALUES_READ),
+        f"a text has a line of {LONGEST_LINE} bytes", "a text file in another's text",
+        "fault: no-such-file of a text file at the root",
+        *(f"fault: {what} of a row with a text file" for what in OF_NAMED),
+        "escapes by a set of a text file", "escapes by an opened set of a text file", "escapes by a set of a text file that was loose",
+        *(f"escapes by a set of {name} on a device" for name in DEVICE_FILES), "escapes by a set on a device that was loose",
         "escapes by a set without a device", "escapes by a set without a device that was loose",
-        f"escapes by a set on a device of {LONGEST_DEVICE} bytes", f"a text tells of a device of {LONGEST_DEVICE + 1} bytes",
-        "a text tells of a device behind a line of one word",
-        "a set of a further file to what a text tells",
-        "broken limits by a set of a further file", "explain: a further file holds", "explain: a further file fails",
-        *(f"advise: {change} of a further file" for change in ("chown", "chmod")),
+        f"escapes by a set on a device of {LONGEST_DEVICE} bytes", f"a text has of a device of {LONGEST_DEVICE + 1} bytes",
+        "a text has of a device behind a line of one word",
+        "a set of a text file to what a text has",
+        "broken limits by a set of a text file", "explain: a text file holds", "explain: a text file fails",
+        *(f"advise: {change} of a text file" for change in ("chown", "chmod")),
         *(f"fault: tree {name}" for name in re.split(r",\s+", FAULTS_4))]
 # what is told of a guarded entry, and of the second row
 BY = ["owner", "group", "others"]
@@ -132,24 +133,24 @@ def labels_of_others(case, fault):
     """Of a tree of another format what comes up of format 4: its controllers, and texts as long as one of it may be."""
     if fault == "fault: tree too-long":
         yield "too-long past 16777216 bytes"
-    if fault == "fault: tree bad-controller top" and not {*FURTHER}.isdisjoint(document_of(case)["controllers"]):
+    if fault == "fault: tree bad-controller top" and not {*OTHERS}.isdisjoint(document_of(case)["controllers"]):
         yield "its controllers in another's text"
     if fault.startswith("fault: tree shape cgroup") and named_in(row_of(document_of(case), fault)):
-        yield "a further file in another's text"
+        yield "a text file in another's text"
     where = re.fullmatch(r"fault: line ([0-9]+) bad-word", fault)
     found = commands.operation_of(case.files[OPS].split(b"\n")[int(where[1]) - 1], 4) if where and OPS in case.files else None
     if found:
-        yield "its controllers in a line for another" if found[0] == "control" else "a further file in a line for another"
+        yield "its controllers in a line for another" if found[0] == "control" else "a text file in a line for another"
 
 
 def wide_labels(case, lines, status, fault):
     """What comes up of a tree of format 4, and more."""
     yield "too-long past 67108864 bytes" if fault == "fault: tree too-long" else re.sub(r" [0-9]+$", "", fault)
-    yield from further_faults(document_of(case), fault)
+    yield from named_faults(document_of(case), fault)
     if status != 3:
         document, data = document_of(case), case.files.get(TREE, case.stdin)
         yield from case.words[:1]
-        yield from told_labels(document)
+        yield from read_labels(document)
         yield "read past 16777216 bytes" if len(data) > documents.MOST_BYTES else ""
         yield "read past 4096 rows" if max(len(document.get(name, [])) for name in ("cgroup", "process")) > 4096 else ""
     yield from wide_answers(case, [line.split(" ") for line in lines if isinstance(line, str)])
@@ -165,36 +166,36 @@ def row_of(document, fault):
 
 
 def named_in(row):
-    """The further limit files that a row names, with their tables."""
+    """The limit files that a row names whose values are texts, with their tables."""
     files = row.get("files", {})
-    return {name: table for name, table in files.items() if name in FURTHER_FILES} if isinstance(files, dict) else {}
+    return {name: table for name, table in files.items() if name in TEXT_FILES} if isinstance(files, dict) else {}
 
 
-def further_faults(document, fault):
+def named_faults(document, fault):
     row = row_of(document, fault)
     if named_in(row):
         what = fault.split(" ")[2]
-        yield f"fault: {what} of a row with a further file"
+        yield f"fault: {what} of a row with a text file"
         if what == "no-such-file" and row["path"] == "/":
-            yield "fault: no-such-file of a further file at the root"
+            yield "fault: no-such-file of a text file at the root"
 
 
-def told_labels(document):
+def read_labels(document):
     for row in document.get("cgroup", []):
         for name, table in named_in(row).items():
-            yield f"a text tells of {name}"
-            yield f"a text tells {kind_told(table)}"
-            yield f"a text tells a line of {len(str(table.get('value')))} bytes"
-            yield from device_labels(text_told(table["value"])) if name in OF_DEVICES and "value" in table else []
+            yield f"a text has of {name}"
+            yield f"a text has {kind_of_value(table)}"
+            yield f"a text has a line of {len(str(table.get('value')))} bytes"
+            yield from device_labels(value_read(name, table["value"])) if name in DEVICE_FILES and "value" in table else []
 
 
 def device_labels(value):
     first, _, rest = value.partition(" ")
-    yield f"a text tells of a device of {len(first) if rest else 0} bytes"
-    yield "a text tells of a device behind a line of one word" if "\n" in first and rest else ""
+    yield f"a text has of a device of {len(first) if rest else 0} bytes"
+    yield "a text has of a device behind a line of one word" if "\n" in first and rest else ""
 
 
-def kind_told(table):
+def kind_of_value(table):
     value = table.get("value")
     if isinstance(value, list):
         return "an array of one" if len(value) == 1 else "an array of several"
@@ -204,13 +205,13 @@ def kind_told(table):
 def wide_answers(case, lines):
     opened = "an opened" if any(words[0] == "chmod" for words in lines) else "a"
     for words in lines:
-        if words[0] == "set" and words[2] in FURTHER_FILES:
-            yield f"escapes by {opened} set of a further file"
+        if words[0] == "set" and words[2] in TEXT_FILES:
+            yield f"escapes by {opened} set of a text file"
             yield from set_labels(words[2], words[3:])
-        if case.words[:1] == ["advise"] and words[0] in ("chown", "chmod") and words[2] in FURTHER_FILES:
-            yield f"advise: {words[0]} of a further file"
-        if case.words[:1] == ["explain"] and words[1:2] == ["limit-file"] and words[3] in FURTHER_FILES:
-            yield f"explain: a further file {words[0]}"
+        if case.words[:1] == ["advise"] and words[0] in ("chown", "chmod") and words[2] in TEXT_FILES:
+            yield f"advise: {words[0]} of a text file"
+        if case.words[:1] == ["explain"] and words[1:2] == ["limit-file"] and words[3] in TEXT_FILES:
+            yield f"explain: a text file {words[0]}"
         if words[0] == "control" and any(word[1:] not in CONTROLLERS for word in words[2:]):
             yield f"escapes by {opened} control of its controllers"
         if words[1:2] == ["control"] and words[3] not in CONTROLLERS:
@@ -220,36 +221,36 @@ def wide_answers(case, lines):
 
 
 def set_labels(file, words):
-    """Of an escape by a set of a further limit file whether it was loose, and the device before the text."""
-    loose, text = FURTHER_FILES[file][1], " ".join(words)
+    """Of an escape by a set of a limit file whose values are texts whether it was loose, and the device before the text."""
+    loose, text = LIMIT_FILES[file].loose, " ".join(words)
     was_loose = "" if text.endswith(loose) else " that was loose"
-    yield f"escapes by a set of a further file{was_loose}"
-    if file in OF_DEVICES and len(words) > len(loose.split(" ")):
+    yield f"escapes by a set of a text file{was_loose}"
+    if file in DEVICE_FILES and len(words) > len(loose.split(" ")):
         yield f"escapes by a set of {file} on a device"
         yield f"escapes by a set on a device{was_loose}"
         yield f"escapes by a set on a device of {len(words[0])} bytes"
-    elif file in OF_DEVICES:
+    elif file in DEVICE_FILES:
         yield f"escapes by a set without a device{was_loose}"
 
 
-def values_told(document):
-    """What a text that is read tells as the value of a further limit file, by its cgroup and name."""
-    return {(row["path"], name): text_told(table["value"]) for row in document.get("cgroup", [])
+def values_read(document):
+    """What a tree text has as the value of a limit file whose values are texts, by its cgroup and name."""
+    return {(row["path"], name): value_read(name, table["value"]) for row in document.get("cgroup", [])
             for name, table in named_in(row).items() if "value" in table}
 
 
 def wide_replay(case, lines, fault):
     spelled = case.files.get(OPS, b"").split(b"\n")
-    further = [None if commands.operation_of(line) else commands.operation_of(line, 4) for line in spelled]
-    told = values_told(document_of(case)) if lines else {}
-    for operation, line in zip(further, lines):
+    wide = [None if commands.operation_of(line) else commands.operation_of(line, 4) for line in spelled]
+    read = values_read(document_of(case)) if lines else {}
+    for operation, line in zip(wide, lines):
         if operation:
             yield from wide_operation(operation, outcome_of(operation, line))
-            if operation[0] == "set" and line == "ok" and told.get((rules.text_of(operation[1]), operation[2])) == operation[3]:
-                yield "a set of a further file to what a text tells"
+            if operation[0] == "set" and line == "ok" and read.get((rules.text_of(operation[1]), operation[2])) == operation[3]:
+                yield "a set of a text file to what a text has"
     if lines and re.fullmatch("broken [1-9][0-9]* limits", lines[-1]):
-        last = further[int(lines[-1].split(" ")[1]) - 1]
-        yield f"broken limits by {'its controllers' if last[0] == 'control' else 'a set of a further file'}" if last else ""
+        last = wide[int(lines[-1].split(" ")[1]) - 1]
+        yield f"broken limits by {'its controllers' if last[0] == 'control' else 'a set of a text file'}" if last else ""
     if fault.endswith("bad-word"):
         yield "a bad word"
 
@@ -260,7 +261,7 @@ def wide_operation(operation, outcome):
     if kind == "control":
         yield f"control of its controllers: {outcome}"
         return
-    yield f"{kind} of a further file: {outcome}"
+    yield f"{kind} of a text file: {outcome}"
     yield f"{kind} of cgroup.freeze at the root: {outcome}" if words[:2] == [(), "cgroup.freeze"] else ""
     if outcome == "ok":
         yield f"a set or a chmod of {words[1]}: ok"

@@ -3,12 +3,12 @@ import functools
 import sys
 import types
 
-from second import commands, controllers, documents, everybody, explained, further, lasting, rules, settled, texts, written
+from second import commands, controllers, documents, everybody, explained, lasting, limit_files, rules, settled, texts, written
 from trials import row_tables
 from trials.format_4 import FORMAT_4
 
 # in the order in which one takes from another: those before the one that is changed are the right model's own
-MODULES = {"controllers": controllers, "further": further, "documents": documents, "rules": rules, "lasting": lasting, "settled": settled,
+MODULES = {"controllers": controllers, "limit_files": limit_files, "documents": documents, "rules": rules, "lasting": lasting, "settled": settled,
            "explained": explained, "everybody": everybody, "texts": texts, "written": written, "commands": commands}
 USERS = "return list(itertools.product(dict.fromkeys(call.users), dict.fromkeys(tops)))"
 MEMBER = 'return "group" if entry.gid in user[1] else "others"'
@@ -27,6 +27,8 @@ FIRSTS = """firsts = {path: place for place, path in reversed(list(enumerate(pat
     first("duplicate cgroup", numbered, lambda each: firsts[paths[each[0]]] < each[0])"""
 OVER = ["DESCENDANTS: len(below(state, top))", "DEPTH: depth_below(state, top)"]
 MANY_GIDS = '        if len(gids) > MOST_GIDS:\n'
+MADE = "made_by(user, FILE_MODE)"
+COMES = f"replace({MADE}, value=default_of(file))"
 
 
 def asked_once(same):
@@ -38,8 +40,8 @@ def asked_once(same):
 # of each the module, what stands there once, and what stands in its place
 OF_RULES = {
     "lets one cgroup more than cgroup.max.descendants": (
-        "len(below(state, top)) >= values[DESCENDANTS]", "len(below(state, top)) > values[DESCENDANTS]"),
-    "lets one level more than cgroup.max.depth": ("len(parent) - len(top) >= values[DEPTH]", "len(parent) - len(top) > values[DEPTH]"),
+        "len(below(state, top)) >= most:", "len(below(state, top)) > most:"),
+    "lets one level more than cgroup.max.depth": ("len(parent) - len(top) >= deepest:", "len(parent) - len(top) > deepest:"),
     "asks the limits of the farthest cgroup first": ("for top in upwards(parent):", "for top in reversed(upwards(parent)):"),
     "asks the others' bit of everybody": ("return entry.mode & bit != 0", "return entry.mode & (bit | 0o002) != 0"),
     "of the gids the first counts": (MEMBER, MEMBER.replace("user[1]", "user[1][:1]")),
@@ -47,7 +49,7 @@ OF_RULES = {
     "of the gids the first 16 count": (MEMBER, MEMBER.replace("user[1]", "user[1][:16]")),
     "of the gids the first 31 count": (MEMBER, MEMBER.replace("user[1]", "user[1][:31]")),
     "what a user makes is root's": ("return Entry(user[0], user[1][0]", "return Entry(0, user[1][0]"),
-    "a limit file that comes is root's": ("old.entries.get(file, made_by(user, FILE_MODE))", "old.entries.get(file, Entry())"),
+    "a limit file that comes is root's": (COMES, COMES.replace(MADE, "Entry()")),
     "the source of a move is asked, and not the common ancestor": (
         "entry_bar(state, user, common(state.live[pid][1], to), PROCS)", "entry_bar(state, user, state.live[pid][1], PROCS)"),
     "a move asks for the process first": (
@@ -73,19 +75,17 @@ OF_RULES = {
     "limits are compared with those at the end": (
         "limits = limits_of(states[0], top)", "limits = limits_of(states[-1] if top in states[-1].cgroups else states[0], top)"),
     "a limit file that goes is no change": (
-        "if limits_of(after, top) != limits:",
-        "if not (after.cgroups[top].values.items() <= limits[0].items() and brought(after, top) <= limits[1]):"),
+        "if limits_of(after, top) != limits:", "if not limits_of(after, top).items() <= limits.items():"),
     "of two counts the depth is told": ("if DESCENDANTS in exceeded:", "if DESCENDANTS in exceeded and DEPTH not in exceeded:"),
     "of two counts the depth is mended first": ("{%s, %s}" % (*OVER,), "{%s, %s}" % (*OVER[::-1],)),
     "who owns an entry doesn't reach it": ("return writes(user, entry) or owns(user, entry)", "return writes(user, entry)"),
     "of the common ancestors the parent is guarded alone": (
         'for path in upwards(top)[1:]]', 'for path in upwards(top)[1:2]]'),
     "limit files in the order of their names": (
-        "for file in ALL_FILES if file in state", "for file in sorted(ALL_FILES) if file in state"),
+        "for file in files_at(state, top)]", "for file in sorted(files_at(state, top))]"),
     "the parent's directory is guarded first": (
         '[("parent-control", top[:-1], CONTROL), ("parent-dir", top[:-1], DIR)]',
         '[("parent-dir", top[:-1], DIR), ("parent-control", top[:-1], CONTROL)]'),
-    "tries another weight": ("return 1 if value == 100 else 100", "return 100 if value == 1 else 1"),
     "tries to disable all before it enables": (
         'controller, sign in itertools.product(controllers_of(state), "-+")',
         'sign, controller in itertools.product("-+", controllers_of(state))'),
@@ -115,12 +115,16 @@ OF_RULES = {
     "advises the limits of the first subtree alone": (
         "for top in dict.fromkeys(top for _, top in pairs):", "for top in [top for _, top in pairs][:1]:"),
     "the root's cgroup.max.depth bars no mkdir": (
-        "if values[DEPTH] != MAX and len(parent)", "if top and values[DEPTH] != MAX and len(parent)"),
-    "cpu.weight may be 10001": ("1, 10000, False)", "1, 10001, False)"),
+        "if deepest != MAX and len(parent)", "if top and deepest != MAX and len(parent)"),
     "a name may be cgroup.controllers": ('RESERVED = {"cgroup.controllers", PROCS', "RESERVED = {PROCS"),
     "a name may be two dots": ('name not in (".", "..")', 'name != "."'),
     "a name of 255 bytes is none": ("1 <= len(name) <= LONGEST_NAME", "1 <= len(name) < LONGEST_NAME"),
     "a path of 4095 bytes is none": ("len(text) > LONGEST_PATH", "len(text) >= LONGEST_PATH"),
+}
+OF_NUMBER = "return other if value == loose else loose"
+OF_LIMIT_FILES = {
+    "tries another weight": (OF_NUMBER, OF_NUMBER.replace("value == loose", '(value != other if file == "cpu.weight" else value == loose)')),
+    "cpu.weight may be 10001": ("1, 10000, False)", "1, 10001, False)"),
 }
 OF_COMMANDS = {
     "a list is too long behind one operation more": ("if number > MOST_STEPS:", "if number > MOST_STEPS + 1:"),
@@ -269,7 +273,7 @@ OF_TEXTS = {
         FIRSTS, FIRSTS.replace("reversed(list(enumerate(paths)))", "enumerate(paths)").replace("<", ">")),
     "a row enables what its tree has": ("(at[path[:-1]] if path else set(controllers))", "set(controllers)"),
     "of a process the place is tested before its PID": (", ".join(REFUSED_PLACES), ", ".join(REFUSED_PLACES[::-1])),
-    "a directory's mode is a file's": ('entry_of(row.get("dir", {}), rules.DIR_MODE)', 'entry_of(row.get("dir", {}), rules.FILE_MODE)'),
+    "a directory's mode is a file's": ("Entry(mode=rules.DIR_MODE)", "Entry(mode=rules.FILE_MODE)"),
 }
 TOO_LONG = "len(data) > (MOST_LARGE if is_large(data) else MOST_BYTES)"
 OF_DOCUMENTS = {
@@ -289,6 +293,7 @@ OF_CONTROLLERS_4 = {
 }
 EVERY = "[c for c in ALL_CONTROLLERS if c in CONTROLLERS or c in state.controllers]"
 UNLIKE = "limits_of(after, top) != limits:"
+KNOWN = "{name: value for name, value in %s.items() if value is not None}"
 KEPT_OUT = "if to and to in state.cgroups and state.cgroups[to].enabled:"
 TURNED = "frozenset(c for c in ALL_CONTROLLERS if last"
 OF_RULES_4 = {
@@ -299,9 +304,10 @@ OF_RULES_4 = {
     "three controllers bar a control": ("for controller in ALL_CONTROLLERS:", "for controller in CONTROLLERS:"),
     "a control bars in the order of its changes": ("for controller in ALL_CONTROLLERS:", "for controller in last:"),
     "a control turns three controllers": (TURNED, TURNED.replace("frozenset", "enabled - {*CONTROLLERS} | frozenset").replace("ALL_", "")),
-    "files of other controllers come and go unseen": ("values, brought(state, top)", "values, frozenset()"),
-    "other files that go are no change": (UNLIKE, "limits_of(after, top)[0] != limits[0] or not brought(after, top) <= limits[1]:"),
-    "other files that come are no change": (UNLIKE, "limits_of(after, top)[0] != limits[0] or not brought(after, top) >= limits[1]:"),
+    "files without a known value come and go unseen": ("if name in LIMIT_FILES}", "if name in LIMIT_FILES and entry.value is not None}"),
+    **{f"files without a known value that {word} are no change": (
+        UNLIKE, f"{KNOWN % 'limits_of(after, top)'} != {KNOWN % 'limits'} or not limits_of(after, top).keys() {sign} limits.keys():")
+       for word, sign in (("go", "<="), ("come", ">="))},
     "the three alone keep a move out": (KEPT_OUT, KEPT_OUT.replace("enabled:", "enabled & {*CONTROLLERS}:")),
     "cpuset, cpu and pids let a move in": (KEPT_OUT, KEPT_OUT.replace("enabled:", 'enabled - {"cpuset", "cpu", "pids"}:')),
     "processes bar the three alone": (
@@ -312,16 +318,17 @@ OF_LASTING_4 = {
         BY_MEMORY, "any(is_on(state, users, lasting.on, path, one) for one in state.cgroups[path].enabled - {'cpuset', 'cpu', 'pids'})"),
     "three of the parent's controllers are asked of": ("for controller in rules.controllers_of(state)):", "for controller in rules.CONTROLLERS):"),
     "three controllers last": ("itertools.product(stays, rules.controllers_of(state))", "itertools.product(stays, rules.CONTROLLERS)"),
-    "a further limit file is forgotten by the second row": ("for file in rules.ALL_FILES)", "for file in rules.LIMIT_FILES)"),
+    "limit files of format 4 are forgotten by the second row": ("for file in rules.LIMIT_FILES)", "for file in rules.files_in(1))"),
 }
+SHOWN = "if rules.is_shown(state, *each[1:])]"
 OF_EXPLAINED_4 = {
     "explain tells of three controllers": ("for controller in rules.controllers_of(state):", "for controller in rules.CONTROLLERS:"),
-    "explain looks for the eight alone": ("for file in rules.ALL_FILES)", "for file in rules.LIMIT_FILES)"),
-    "explain has no line of a further limit file that isn't reached": (
-        "for guard, path, name in rules.guarded(state, top)]", "for guard, path, name in rules.guarded(state, top) "
-        "if name not in rules.FURTHER_FILES or rules.reaches(user, state.cgroups[path].entries[name])]"),
-    "explain has no line of a further limit file": (
-        "for guard, path, name in rules.guarded(state, top)]", "for guard, path, name in rules.guarded(state, top) if name not in rules.FURTHER_FILES]"),
+    "explain looks for limit files of format 1 alone": ("for file in rules.LIMIT_FILES)", "for file in rules.files_in(1))"),
+    "explain has no line of a limit file of format 4 that isn't reached": (
+        SHOWN, SHOWN.removesuffix("]") + ' and (each[0] != "limit-file" or each[2] in rules.files_in(1) or rules.reaches(user, state.cgroups[top].entries[each[2]]))]'),
+    "explain has no line of a limit file of format 4": (
+        SHOWN, SHOWN.removesuffix("]") + ' and (each[0] != "limit-file" or each[2] in rules.files_in(1))]'),
+    "explain has a line of each limit file": (SHOWN, "if True]"),
 }
 OF_ROOT, OF_CGROUP = 'set(document["controllers"]) <= set(controllers_in(form))', 'set(row.get("enabled", [])) <= set(controllers_in(form))'
 OCCUPIED = "bool(path) and path in cgroups and bool(cgroups[path].enabled)"
@@ -377,41 +384,48 @@ OF_COMMANDS_4 = {
         "controllers = [c for c in rules.ALL_CONTROLLERS if", "controllers = [c for c in rules.CONTROLLERS if"),
     "upgrade writes three controllers of a cgroup": ("enabled = [c for c in rules.ALL_CONTROLLERS if", "enabled = [c for c in rules.CONTROLLERS if"),
 }
-OF_FURTHER_4 = {
+CPU_MAX = '"cpu.max": LimitFile("cpu", TEXT, None, "max 100000", "max 50000", 4),'
+BURST = '"cpu.max.burst": LimitFile("cpu", TEXT, None, "0", "1", 4),'
+DMEM = "\n    ".join(f'"dmem.{end}": LimitFile("dmem", LINES, None, "max", "0", 4),' for end in ("low", "max", "min"))
+OF_LIMIT_FILES_4 = {
     "a value of several words is none": ("all(is_word(word) for word in text.split(\" \"))", "is_word(text)"),
     "a value's words end at the first space": ("all(is_word(word) for word in text.split(\" \"))", "is_word(text.split(\" \")[0])"),
     "words of a value may have more than a space between them": ('word != "" and all', "all"),
     "a value of 3800 bytes is none": ("len(text) <= LONGEST_VALUE", "len(text) < LONGEST_VALUE"),
     "a value may have 3801 bytes": ("len(text) <= LONGEST_VALUE", "len(text) <= LONGEST_VALUE + 1"),
     "a value has bytes past ASCII's printable ones": ("<= 0x7E", "<= 0x7F"),
-    "cgroup.freeze is no limit file": ('    "cgroup.freeze": (None, "0"),\n', ""),
+    "cgroup.freeze is no limit file": ('    "cgroup.freeze": LimitFile(None, TEXT, None, "0", "1", 4),\n', ""),
     "a huge page of 512 MB has no limit files": ('"512MB", ', ""),
     "a huge page of 4 MB has limit files": ('"512MB", ', '"512MB", "4MB", '),
     "what is reserved of huge pages is no limit": ('("max", "rsvd.max")', '("max",)'),
-    "memory.swap.max comes with no controller": ('"memory.swap.max": ("memory",', '"memory.swap.max": (None,'),
-    "cpu.max.burst comes before cpu.max": (
-        '"cpu.max": ("cpu", "max 100000"),\n    "cpu.max.burst": ("cpu", "0"),',
-        '"cpu.max.burst": ("cpu", "0"), "cpu.max": ("cpu", "max 100000"),'),
+    "memory.swap.max comes with no controller": ('"memory.swap.max": LimitFile("memory",', '"memory.swap.max": LimitFile(None,'),
+    "cpu.max.burst comes before cpu.max": (f"{CPU_MAX}\n    {BURST}", f"{BURST}\n    {CPU_MAX}"),
     "what is reserved of huge pages comes behind all else of them": (
         'for size in SIZES for end in ("max", "rsvd.max")', 'for end in ("max", "rsvd.max") for size in SIZES'),
-    "dmem.min comes first of the three": (
-        '"dmem.low": ("dmem", "max"),\n    "dmem.max": ("dmem", "max"),\n    "dmem.min": ("dmem", "max"),',
-        '**{f"dmem.{end}": ("dmem", "max") for end in ("min", "low", "max")},'),
-    "cpu.idle is turned by 0": ('"cpu.idle": "1", ', ""),
-    "cpuset.mems comes with cpu": ('"cpuset.mems": ("cpuset",', '"cpuset.mems": ("cpu",'),
+    "dmem.min comes first of the three": (DMEM, "\n    ".join([DMEM.split("\n    ")[at] for at in (2, 0, 1)])),
+    "cpu.idle is turned by 0": ('"cpu.idle": LimitFile("cpu", TEXT, None, "0", "1"', '"cpu.idle": LimitFile("cpu", TEXT, None, "0", "0"'),
+    "cpuset.mems comes with cpu": ('"cpuset.mems": LimitFile("cpuset",', '"cpuset.mems": LimitFile("cpu",'),
+    "a value that is a text is max or 0": ("        return True\n", "        return value in (MAX, \"0\")\n"),
 }
 # of the texts that are tried, and the device before them
-DEVICE, CUT = "is_device = file in OF_DEVICES and is_word(first)", 'first, _, rest = (value or "").partition(" ")'
-TOLD_LINES = '(value or "").split("\\n")'
-IS_LOOSE = f"loose in {TOLD_LINES}"
+HAVE_DEVICES = '    if LIMIT_FILES[file].form != LINES:\n        return ""\n'
+DEVICE, CUT = "is_device = is_word(first)", 'first, _, rest = (value or "").partition(" ")'
+LINES_THERE = '(value or "").split("\\n")'
+IS_LOOSE = f"loose in {LINES_THERE}"
 TURNED_BY = f"return other if {IS_LOOSE} else loose"
-DEVICE_FILES = '"dmem.low", "dmem.max", "dmem.min", "io.latency", "io.max", "misc.max", "rdma.max"'
 NOT_THERE = 'f"{device} {text}" if device else text for text'
+DEVICE_FILES = [name for name, row in limit_files.LIMIT_FILES.items() if row.form == limit_files.LINES]
+
+
+def row_start(name, form):
+    return f'"{name}": LimitFile("{limit_files.LIMIT_FILES[name].controller}", {form},'
+
+
 OF_DEVICES_4 = {
     "no file has devices": ('return first if is_device else ""', 'return ""'),
-    "every further limit file has devices": (DEVICE, DEVICE.replace("file in OF_DEVICES and ", "")),
-    **{f"{name} has no devices": (DEVICE_FILES, DEVICE_FILES.replace(f'"{name}"', '""')) for name in sorted(further.OF_DEVICES)},
-    "io.weight has devices": (DEVICE_FILES, f'{DEVICE_FILES}, "io.weight"'),
+    "every file whose values are texts has devices": (HAVE_DEVICES, ""),
+    **{f"{name} has no devices": (row_start(name, "LINES"), row_start(name, "TEXT")) for name in DEVICE_FILES},
+    "io.weight has devices": (row_start("io.weight", "TEXT"), row_start("io.weight", "LINES")),
     "a device is one with nothing behind it": (' and rest != ""', ""),
     "a device may have the end of a line in it": (DEVICE, DEVICE.replace("is_word(first)", 'first != ""')),
     "a device ends with a line as well": (CUT, CUT.replace(".partition", '.replace("\\n", " ").partition')),
@@ -421,144 +435,154 @@ OF_DEVICES_4 = {
     "a device is all but the last word": (CUT, CUT.replace(".partition", ".rpartition")),
     "a device of 255 bytes is none": ("len(first) <= LONGEST_DEVICE", "len(first) < LONGEST_DEVICE"),
     "a device may have 256 bytes": ("LONGEST_DEVICE = 255", "LONGEST_DEVICE = 256"),
-    "a device is told of in the text that loosens alone": (TURNED_BY, f'{TURNED_BY.replace("return other", "return ELSE.get(file, chr(48))")}'),
-    "a device is told of in the other text alone": (TURNED_BY, TURNED_BY.replace("else loose", "else FURTHER_FILES[file][1]")),
-    "a value with a device is compared with the text without it": (TURNED_BY, TURNED_BY.replace("loose in", "FURTHER_FILES[file][1] in")),
+    "a device stands in the text that loosens alone": (TURNED_BY, TURNED_BY.replace("return other", "return LIMIT_FILES[file].other")),
+    "a device stands in the other text alone": (TURNED_BY, TURNED_BY.replace("else loose", "else LIMIT_FILES[file].loose")),
+    "a value with a device is compared with the text without it": (TURNED_BY, TURNED_BY.replace("loose in", "LIMIT_FILES[file].loose in")),
     "a value is compared with the text alone too": (
-        TURNED_BY, TURNED_BY.replace(IS_LOOSE, "{loose, FURTHER_FILES[file][1]} & {*%s}" % TOLD_LINES)),
+        TURNED_BY, TURNED_BY.replace(IS_LOOSE, "{loose, LIMIT_FILES[file].loose} & {*%s}" % LINES_THERE)),
     "the whole value is compared with the text": (TURNED_BY, TURNED_BY.replace(IS_LOOSE, "value == loose")),
-    "of several lines the first is compared with the text": (TURNED_BY, TURNED_BY.replace(TOLD_LINES, f"{TOLD_LINES}[:1]")),
-    "of several lines the last is compared with the text": (TURNED_BY, TURNED_BY.replace(TOLD_LINES, f"{TOLD_LINES}[-1:]")),
-    "a line is the text that it has in it": (TURNED_BY, TURNED_BY.replace(TOLD_LINES, '(value or "")')),
+    "of several lines the first is compared with the text": (TURNED_BY, TURNED_BY.replace(LINES_THERE, f"{LINES_THERE}[:1]")),
+    "of several lines the last is compared with the text": (TURNED_BY, TURNED_BY.replace(LINES_THERE, f"{LINES_THERE}[-1:]")),
+    "a line is the text that it has in it": (TURNED_BY, TURNED_BY.replace(LINES_THERE, '(value or "")')),
     "a text stands behind its device without a space": (NOT_THERE, NOT_THERE.replace("{device} {text}", "{device}{text}")),
-    "io.latency is loosened by max": ('("io", "target=max")', '("io", "max")'),
-    "io.max is loosened by max": ('("io", "rbps=max wbps=max riops=max wiops=max")', '("io", "max")'),
-    "rdma.max is loosened by max": ('("rdma", "hca_handle=max hca_object=max")', '("rdma", "max")'),
-    "io.latency is turned by 0": ('"io.latency": "target=1", ', ""),
-    "io.max is turned by 0": ('"io.max": "rbps=2 wbps=2 riops=2 wiops=2",', ""),
-    "rdma.max is turned by 0": (', "rdma.max": "hca_handle=0 hca_object=0",', ","),
+    "io.latency is loosened by max": ('"target=max", "target', '"max", "target'),
+    "io.max is loosened by max": ('"rbps=max wbps=max riops=max wiops=max", "rbps', '"max", "rbps'),
+    "rdma.max is loosened by max": ('"hca_handle=max hca_object=max", "hca', '"max", "hca'),
+    "io.latency is turned by 0": ('"target=1", 4', '"0", 4'),
+    "io.max is turned by 0": ('"rbps=2 wbps=2 riops=2 wiops=2", 4', '"0", 4'),
+    "rdma.max is turned by 0": ('"hca_handle=0 hca_object=0", 4', '"0", 4'),
+    "tries max of each limit file": (TURNED_BY, "return MAX if value != MAX else '0'"),
+    "tries the text that loosens a file that has it": (TURNED_BY, "return LIMIT_FILES[file].loose"),
 }
-# of what a text tells
+# of values that are texts, as a tree text has them
 AS_LINES = "list(map(str, value if isinstance(value, list) else [value]))"
-OF_FURTHER_TOLD_4 = {
+JOINED, IS_ARRAY = 'return "\\n".join(lines_of(value)) if', "return lines if len(lines) > 1 else value"
+OF_VALUES_4 = {
     '5 and "5" are two values': (AS_LINES, AS_LINES.replace("map(str,", 'map(lambda line: line if isinstance(line, str) else f"+{line}",')),
     "an array of one line isn't that line": (
-        'return "\\n".join(lines_of(value))', 'return "\\n".join(lines_of(value)) + "\\n" * (isinstance(value, list) and len(value) == 1)'),
-    "lines of a value are in whatever order": ('return "\\n".join(lines_of(value))', 'return "\\n".join(sorted(lines_of(value)))'),
-    "of several lines of a value the first is kept": ('return "\\n".join(lines_of(value))', "return lines_of(value)[0]"),
-    "of several lines of a value the last is kept": ('return "\\n".join(lines_of(value))', "return lines_of(value)[-1]"),
+        JOINED, JOINED.replace(" if", ' + "\\n" * (isinstance(value, list) and len(value) == 1) if')),
+    "lines of a value are in whatever order": (JOINED, JOINED.replace("lines_of(value)", "sorted(lines_of(value))")),
+    "of several lines of a value the first is kept": (JOINED, "return lines_of(value)[0] if"),
+    "of several lines of a value the last is kept": (JOINED, "return lines_of(value)[-1] if"),
     "no lines are a value": ("return len(lines) > 0 and all(", "return all("),
     "of several lines of a value the first is tested": ("for line in lines)", "for line in lines[:1])"),
-    "a line that a text tells has 3800 bytes at most": ("= 3800, 4095", "= 3800, 3800"),
+    "a line of a text has 3800 bytes at most": ("= 3800, 4095", "= 3800, 3800"),
     "a line of 4095 bytes is none": ("len(text) <= LONGEST_LINE", "len(text) < LONGEST_LINE"),
     "a line may have 4096 bytes": ("len(text) <= LONGEST_LINE", "len(text) <= LONGEST_LINE + 1"),
-    "a line that a text tells is any text": ("len(text) <= LONGEST_LINE and are_words(text)", "1 <= len(text) <= LONGEST_LINE"),
-    "upgrade writes one line as an array": ("return lines if len(lines) > 1 else text", "return lines"),
-    "upgrade writes several lines as a text": ("return lines if len(lines) > 1 else text", "return text"),
+    "a line of a text is any text": ("len(text) <= LONGEST_LINE and are_words(text)", "1 <= len(text) <= LONGEST_LINE"),
+    "upgrade writes one line as an array": (IS_ARRAY, "return lines if is_text(file) else value"),
+    "upgrade writes several lines as a text": (IS_ARRAY, "return value"),
 }
-OF_KEYS, ARRAYS = "return FURTHER_FILES if form == 4 else {}", "number(value) or is_a(value, str) or texts(value)"
-NOWHERE = '    first("no-such-file cgroup", numbered, lambda each: limits'
-TELLS = 'text_told(files[name]["value"])) for name in told if "value" in files[name])'
-NAMEABLE = "*rules.further_at(bare, path)]"
-OF_TEXTS_TOLD_4 = {
-    "texts of any format name further limit files": (OF_KEYS, "return FURTHER_FILES"),
-    "no text names a further limit file": (OF_KEYS, "return {}"),
-    "a value of a further limit file is no array": (ARRAYS, ARRAYS.replace(" or texts(value)", "")),
-    "a value of a further limit file is no number": (ARRAYS, ARRAYS.replace("number(value) or ", "")),
-    "an array may have numbers among its lines": (ARRAYS, ARRAYS.replace("texts(value)", "is_a(value, list)")),
-    "a further limit file of a text is root's": (
-        "entry_of(files.get(name, {}), rules.FILE_MODE)", "entry_of({} if name in told else files.get(name, {}), rules.FILE_MODE)"),
-    "a value that a text leaves out is max": (TELLS, 'text_told(files[name].get("value", rules.MAX))) for name in told)'),
-    "a further limit file of a text is as it is": (TELLS, TELLS.replace('"value" in files[name]', "False")),
-    "a further limit file that a text tells no value of isn't told of": (
-        "told = [name for name in files if name in FURTHER_FILES]", 'told = [name for name in files if name in FURTHER_FILES and "value" in files[name]]'),
-    "cgroup.freeze has a key at the root": (NAMEABLE, '*(rules.further_at(bare, path) or ["cgroup.freeze"])]'),
-    "a text names further limit files wherever it is": ("{*rules.ALL_FILES}", "rules.LIMIT_FILES.keys()"),
-    "a text names cgroup.freeze alone": (NAMEABLE, '*["cgroup.freeze"] * bool(path)]'),
-    "files of the eight are looked for first": (
-        NOWHERE, '    first("no-such-file cgroup", numbered, lambda each: not limits[each[0]] & rules.LIMIT_FILES.keys() '
-                 "<= set(rules.files_at(bare, paths[each[0]])))\n" + NOWHERE),
-    "the entry of a further limit file isn't tested": (
-        '*row.get("files", {}).values()]', '*(table for name, table in row.get("files", {}).items() if name not in FURTHER_FILES)]'),
-    "the value of a further limit file isn't tested": ("return not is_told(value)", "return False"),
-    "a value of a further limit file is tested as one of the eight": ("return not is_told(value)", "return not rules.MAX == value and not number(value)"),
+OF_KEYS, ARRAYS = "for name in files_in(form))", "return number_value(value) or texts(value)"
+STAND, NOWHERE = "files = [rules.files_at(bare, path) for path in paths]", '    first("no-such-file cgroup", numbered, lambda each: named'
+READ, HAS_VALUE, NAMED = "entry_of(name, table, entries[name])", 'if "value" in table else usual.value', "at[path], names - rules.WRITTEN) for"
+IS_TEXT = "name in LIMIT_FILES and is_text(name)"
+OF_TEXTS_NAMED_4 = {
+    "texts of any format name limit files of format 4": (OF_KEYS, "for name in files_in(4))"),
+    "no text names a limit file of format 4": (OF_KEYS, "for name in files_in(1))"),
+    "a value that is a text is no array": (ARRAYS, "return number_value(value)"),
+    "a value that is a text is no number": (ARRAYS, "return is_a(value, str) or texts(value)"),
+    "an array may have numbers among its lines": (ARRAYS, "return number_value(value) or is_a(value, list)"),
+    "a limit file of format 4 of a text is root's": (
+        READ, READ.replace("table,", f'{{key: table[key] for key in table if key == "value"}} if {IS_TEXT} else table,')),
+    "a value that a text leaves out is max": (HAS_VALUE, f'if "value" in table else MAX if {IS_TEXT} else usual.value'),
+    "a value that is a text isn't known": (HAS_VALUE, f'if "value" in table and not is_text(name) else usual.value'),
+    "a limit file that a text names without a value isn't named": (
+        NAMED, 'at[path], frozenset(name for name in names - rules.WRITTEN if "value" in each[1]["files"][name])) for'),
+    "cgroup.freeze has a key at the root": (STAND, STAND.replace("path)", 'path) + ("cgroup.freeze",) * (not path)')),
+    "a text names limit files of format 4 wherever it is": (
+        STAND, STAND.replace("rules.files_at(bare, path)", "tuple(file for file in LIMIT_FILES if is_text(file) or file in rules.files_at(bare, path))")),
+    "a text names cgroup.freeze of them alone": (
+        NOWHERE, '    first("no-such-file cgroup", numbered, lambda each: {*filter(is_text, named[each[0]])} - {"cgroup.freeze"})\n' + NOWHERE),
+    "limit files of format 1 are looked for first": (
+        NOWHERE, '    first("no-such-file cgroup", numbered, lambda each: not {name for name in named[each[0]] if not is_text(name)} '
+                 "<= {*files[each[0]]})\n" + NOWHERE),
+    "the entry of a limit file of format 4 isn't tested": (
+        '*row.get("files", {}).values()]', f'*(table for name, table in row.get("files", {{}}).items() if not ({IS_TEXT}))]'),
+    "a value that is a text isn't tested": ("return not are_lines(value)", "return False"),
+    "a value that is a text is tested as a number": ("return not are_lines(value)", "return not MAX == value and not number(value)"),
 }
-STAND = "controller is None or controller in brought(state, path)"
-BROUGHT = f"FURTHER_FILES.items() if path and ({STAND})]"
-CHMOD = "    return with_cgroup(state, path, replace(old, entries={**old.entries, name: entry}))"
-COME = "**{one: made_by(user, FILE_MODE) for one in came}"
-OF_RULES_FURTHER_4 = {
-    "a further limit file that comes is root's": (COME, ""),
-    "a further limit file that stands is theirs by a control": ("child, enabled - old.enabled)", "child, enabled)"),
-    "cgroup.freeze of a cgroup that is made is root's": ("path, {None, *brought(state, path)})", "path, brought(state, path))"),
+LATER = "LIMIT_FILES[file].since == 4"
+FILES_AT, BY_CONTROLLER = "return standing(brought(state, path), not path)", "row.controller in controllers if"
+STOOD, STAYING = "entries[file] = old.entries.get(file) or", "entries = {name: old.entries[name] for name in STANDING}"
+SET, CHMOD = "path, file, value=value)", "    return with_entry(state, path, name, mode=mode)"
+LIMIT_GUARDS, TRIED_FILES = "for file in files_at(state, top)]", "for file in files_at(state, top):"
+
+
+def some_files(test):
+    """The files that stand at a path, but for those that don't pass a test."""
+    return f"return tuple(file for file in standing(brought(state, path), not path) if {test})"
+
+
+OF_RULES_FILES_4 = {
+    "a limit file of format 4 that comes is root's": (COMES, COMES.replace(MADE, f"Entry() if {LATER} else {MADE}")),
+    "a limit file of format 4 that stands is theirs by a control": (
+        STOOD, f'entries[file] = (None if {LATER} and file not in (*old.named, "cgroup.freeze") else old.entries.get(file)) or'),
+    "cgroup.freeze of a cgroup that is made is root's": (COMES, COMES.replace(MADE, f'Entry() if file == "cgroup.freeze" else {MADE}')),
     "cgroup.freeze of a cgroup that they made is root's behind a control above it": (
-        "if one is None or one in brought(state, path)}", "if one in brought(state, path)}"),
-    "a controller's further limit files of a cgroup that is made are root's": ("path, {None, *brought(state, path)})", "path, {None})"),
-    "what is told of a further limit file outlasts it": (
-        "told = [file for file in told_at(state, path) if file in further_at(state, path)]", "told = told_at(state, path)"),
-    "what is told of a further limit file goes with any control": (
-        "told = [file for file in told_at(state, path) if file in further_at(state, path)]", "told = []"),
-    "the three controllers alone bring further limit files": (
-        BROUGHT, BROUGHT.replace("in brought(state, path)", "in brought(state, path) & {*CONTROLLERS}")),
-    "cgroup.freeze is at the root": (BROUGHT, BROUGHT.replace("path and ", "")),
-    "cgroup.freeze is at the children of the root alone": (BROUGHT, BROUGHT.replace("is None or", "is None and len(path) < 2 or")),
-    "a controller's further limit files are at the root": (
-        BROUGHT, BROUGHT.replace("path and ", "(path or controller) and ").replace("brought(state", "(brought if path else available)(state")),
-    "further limit files are where the root has their controller": (
-        BROUGHT, BROUGHT.replace("brought(state, path)", "(state.controllers if path else ())")),
-    "cgroup.freeze is where a controller is": (
-        BROUGHT, BROUGHT.replace("controller is None or", "controller is None and brought(state, path) or")),
-    "a chmod of a further limit file has no effect": (CHMOD, "    if name in FURTHER_FILES:\n        return state\n" + CHMOD),
-    "a chmod of a further limit file is of all of its controller": (
-        CHMOD, CHMOD.replace("name: entry}", "name: entry}, untold={**old.untold, **{FURTHER_FILES[one][0]: entry for one in [name] "
-                                             "if one in FURTHER_FILES}}")),
-    "a further limit file is set by whoever owns it": (
+        STOOD, 'entries[file] = (Entry() if file == "cgroup.freeze" and {file} & old.entries.keys() - old.named else old.entries.get(file)) or'),
+    "a controller's limit files of format 4 of a cgroup that is made are root's": (
+        COMES, COMES.replace(MADE, f"Entry() if {LATER} and LIMIT_FILES[file].controller and len(old.entries) == len(STANDING) else {MADE}")),
+    "a limit file that was named outlasts its controller": (
+        STAYING, "entries = {name: entry for name, entry in old.entries.items() if name in STANDING or name in old.named and LIMIT_FILES[name].since == 4}"),
+    "what was done to a limit file of format 4 goes with any control": (
+        STOOD, f"entries[file] = (Entry() if {LATER} and file in old.named else old.entries.get(file)) or"),
+    "the three controllers alone bring limit files of format 4": (
+        BY_CONTROLLER, "row.controller in (controllers & {*CONTROLLERS} if row.since == 4 else controllers) if"),
+    "cgroup.freeze is at the root": ("row.at_root or not is_root", "True"),
+    "cgroup.freeze is at the children of the root alone": (FILES_AT, some_files('file != "cgroup.freeze" or len(path) < 2')),
+    "a controller's limit files of format 4 are at the root": (
+        FILES_AT, some_files("path or LIMIT_FILES[file].since == 4 or not LIMIT_FILES[file].controller").replace(
+            "brought(state, path)", "(brought if path else available)(state, path)")),
+    "limit files of format 4 are where the root has their controller": (
+        FILES_AT, "return tuple(file for file in standing(state.controllers, not path) if file in standing(brought(state, path), not path) "
+                  f"or path and {LATER})"),
+    "cgroup.freeze is where a controller is": (FILES_AT, some_files('file != "cgroup.freeze" or brought(state, path)')),
+    "a chmod of a limit file of format 4 has no effect": (
+        CHMOD, f"    if name in LIMIT_FILES and {LATER.replace('file', 'name')}:\n        return state\n" + CHMOD),
+    "a chmod of a limit file of format 4 is of all of its controller": (
+        CHMOD, "    for one in [one for one in files_at(state, path) if LIMIT_FILES[one].since == 4 and one not in state.cgroups[path].named "
+               "and name in LIMIT_FILES and LIMIT_FILES[name][::5] == LIMIT_FILES[one][::5]]:\n"
+               "        state = with_entry(state, path, one, mode=mode)\n" + CHMOD),
+    "a limit file of format 4 is set by whoever owns it": (
         "found += entry_bar(state, user, path, file)",
-        "found += [] if file in FURTHER_FILES and owns(user, entry_of(state, path, file)) else entry_bar(state, user, path, file)"),
-    "a further limit file accepts max and 0 alone": ("        return True\n", "        return value in (MAX, \"0\")\n"),
-    "a further limit file that isn't there isn't written": (
+        f"found += [] if {LATER} and owns(user, state.cgroups[path].entries[file]) else entry_bar(state, user, path, file)"),
+    "a limit file of format 4 that isn't there isn't written": (
         'found.append(f"no-such-file {text_of(path)} {file}")',
-        "found.append(f\"no-{'access' if file in FURTHER_FILES else 'such-file'} {text_of(path)} {file}\")"),
-    "a further limit file is forgotten by the guards": ("for file in ALL_FILES if file in state", "for file in LIMIT_FILES if file in state"),
-    "a further limit file is forgotten by the tries": ("in files_at(state, top) + told_at(state, top):", "in files_at(state, top):"),
-    "a further limit file is tried before the eight": (
-        "in files_at(state, top) + told_at(state, top):", "in told_at(state, top) + files_at(state, top):"),
-    "tries max of each further limit file": ("return other_text(file, value)", "return MAX if value != MAX else '0'"),
-    "tries the text that loosens a file that has it": ("return other_text(file, value)", "return FURTHER_FILES[file][1]"),
-    "the eight alone are limits of a subtree": (
-        "return state.cgroups[top].values, brought",
-        "return {file: value for file, value in state.cgroups[top].values.items() if file in LIMIT_FILES}, brought"),
-    "a set of a file that is as it is is no change": (
-        UNLIKE, "brought(after, top) != limits[1] or any(limits[0].get(file, value) != value for file, value in after.cgroups[top].values.items()):"),
-    "a set of a further limit file is a change whatever it is": (
-        "values={**old.values, file: value}", 'values={**old.values, file: f"{value} " if file in FURTHER_FILES else value}'),
-    "a chmod of a further limit file turns its value": (
-        CHMOD, CHMOD.replace("name: entry}", "name: entry}, values={file: value for file, value in old.values.items() "
-                             "if file != name or file in LIMIT_FILES}")),
+        f"found.append(f\"no-{{'access' if {LATER} else 'such-file'}} {{text_of(path)}} {{file}}\")"),
+    "limit files of format 4 are forgotten by the guards": (LIMIT_GUARDS, "for file in files_at(state, top) if file in files_in(1)]"),
+    "limit files of format 4 are forgotten by the tries": (TRIED_FILES, "for file in [file for file in files_at(state, top) if file in files_in(1)]:"),
+    "limit files of format 4 are tried first": (TRIED_FILES, "for file in sorted(files_at(state, top), key=lambda file: -LIMIT_FILES[file].since):"),
+    "values of limit files of format 1 alone are limits of a subtree": (
+        "return {name: entry.value for name, entry in state", "return {name: entry.value if name in files_in(1) else None for name, entry in state"),
+    "a set of a value that isn't known is no change": (
+        UNLIKE, "limits_of(after, top).keys() != limits.keys() or any(None is not limits[file] != value for file, value in limits_of(after, top).items()):"),
+    "a set of a limit file of format 4 is a change whatever it is": (SET, f'path, file, value=f"{{value}} " if {LATER} else value)'),
+    "a chmod of a limit file of format 4 turns its value": (
+        CHMOD, CHMOD.replace("mode=mode)", f"mode=mode, **{{'value': None for one in LIMIT_FILES if one == name and LIMIT_FILES[one].since == 4}})")),
 }
-OF_COMMANDS_FURTHER_4 = {
-    "lines for any format name further limit files": ("word if form == 4 and word in FURTHER_FILES", "word if word in FURTHER_FILES"),
-    "no line names a further limit file": ("word if form == 4 and word in FURTHER_FILES", "word if form > 4 and word in FURTHER_FILES"),
-    "a chmod names none of the further limit files": ("else limit_word(word, form)\n", "else limit_word(word, 2)\n"),
-    "a value of a further limit file is one word": ("rest, value = [*rest[:2], \" \".join(rest[2:])], text_word", "value = text_word"),
-    "a value of a further limit file is max or a number": (
+OF_COMMANDS_FILES_4 = {
+    "lines for any format name limit files of format 4": ("return word if word in files_in(form)", "return word if word in files_in(4)"),
+    "no line names a limit file of format 4": ("return word if word in files_in(form)", "return word if word in files_in(1)"),
+    "a chmod names none of the limit files of format 4": ("else limit_word(word, form)\n", "else limit_word(word, 2)\n"),
+    "a value that is a text is one word": ("rest, value = [*rest[:2], \" \".join(rest[2:])], text_word", "value = text_word"),
+    "a value that is a text is max or a number": (
         "rest, value = [*rest[:2], \" \".join(rest[2:])], text_word", "value = value_word"),
-    "upgrade leaves a told file out": (
-        '"files": files}', '"files": {name: table for name, table in files.items() if name not in FURTHER_FILES}}'),
-    "upgrade leaves the value of a told file out": (
-        "for name, value in cgroup.values.items():", "for name, value in [each for each in cgroup.values.items() if each[0] not in FURTHER_FILES]:"),
-    "upgrade writes a file of which nothing is told": (
-        '"files": files}', '"files": {"cgroup.freeze": {"uid": 0, "gid": 0, "mode": 0o644}, **files}}'),
+    "upgrade leaves limit files of format 4 out": (
+        "if rules.is_shown(state, path, name)}", "if name not in rules.LIMIT_FILES or rules.LIMIT_FILES[name].since == 1}"),
+    "upgrade leaves values that are texts out": ("{} if entry.value is None else", "{} if entry.value is None or is_text(name) else"),
+    "upgrade writes a file that nothing names": (
+        "if rules.is_shown(state, path, name)}", 'if name == "cgroup.freeze" or rules.is_shown(state, path, name)}'),
 }
 # of each kind the module, and the command without which a program isn't told from what is turned there
-KINDS = [("documents", "may", OF_DOCUMENTS), ("rules", "may", OF_RULES), ("lasting", "settle", OF_LASTING),
+KINDS = [("documents", "may", OF_DOCUMENTS), ("limit_files", "may", OF_LIMIT_FILES), ("rules", "may", OF_RULES), ("lasting", "settle", OF_LASTING),
          ("settled", "audit --settle", OF_SETTLED), ("explained", "explain", OF_EXPLAINED), ("texts", "may", OF_TEXTS),
          ("commands", "may", OF_COMMANDS), ("commands", "advise --settle", OF_SETTLED_ADVICE), ("commands", "explain", OF_EXPLAIN)]
 KINDS_4 = [("controllers", FORMAT_4, OF_CONTROLLERS_4), ("rules", FORMAT_4, OF_RULES_4), ("texts", FORMAT_4, OF_TEXTS_4),
            ("documents", FORMAT_4, OF_DOCUMENTS_4), ("commands", FORMAT_4, OF_COMMANDS_4), ("lasting", "settle", OF_LASTING_4),
-           ("explained", "explain", OF_EXPLAINED_4), ("further", FORMAT_4, OF_FURTHER_4), ("rules", FORMAT_4, OF_RULES_FURTHER_4),
-           ("commands", FORMAT_4, OF_COMMANDS_FURTHER_4), ("further", FORMAT_4, OF_FURTHER_TOLD_4), ("texts", FORMAT_4, OF_TEXTS_TOLD_4),
-           ("further", FORMAT_4, OF_DEVICES_4)]
+           ("explained", "explain", OF_EXPLAINED_4), ("limit_files", FORMAT_4, OF_LIMIT_FILES_4), ("rules", FORMAT_4, OF_RULES_FILES_4),
+           ("commands", FORMAT_4, OF_COMMANDS_FILES_4), ("limit_files", FORMAT_4, OF_VALUES_4), ("texts", FORMAT_4, OF_TEXTS_NAMED_4),
+           ("limit_files", FORMAT_4, OF_DEVICES_4)]
 KINDS += KINDS_4
 MUTANTS = {**{name: (module, *turn) for module, _, turns in KINDS for name, turn in turns.items()}, **row_tables.MUTANTS}
 

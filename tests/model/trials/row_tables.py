@@ -1,11 +1,12 @@
 """Mutants of the second model that the tables of rows.py tell apart in every run, each by the table that is named."""
 
-FURTHER_ORDER = """    "io.latency": ("io", "target=max"),
-    "io.max": ("io", "rbps=max wbps=max riops=max wiops=max"),
+TEXT_ORDER = """    "io.latency": LimitFile("io", LINES, None, "target=max", "target=1", 4),
+    "io.max": LimitFile("io", LINES, None, "rbps=max wbps=max riops=max wiops=max", "rbps=2 wbps=2 riops=2 wiops=2", 4),
 """
-EIGHT_ORDER = """    "memory.low": ("memory", 0, 0, MOST, True),
-    "memory.high": ("memory", MAX, 0, MOST, True),
+NUMBER_ORDER = """    "memory.low": LimitFile("memory", COUNT, 0, MAX, 0, 1),
+    "memory.high": LimitFile("memory", COUNT, MAX, MAX, 0, 1),
 """
+HUGE_PAGES = 'LimitFile("hugetlb", TEXT, None, "max", "0", 4) for size'
 LETS_IN = '{"owner": asked.is_meant(entry.uid), "group": entry.mode & 0o020 and asked.has_members(entry), "others": entry.mode & 0o002}'
 IS_MEANT, OF_GROUP = "return uid != 0 and uid not in self.but", "lists = [uids for other, uids in self.groups if other == gid]"
 MEMBERS = "any(self.is_meant(uid) and uid != entry.uid for uid in uids)"
@@ -33,37 +34,37 @@ OF_ROWS = {
     "a mode of a line may have four digits": ("bounds", "commands", '"[0-7]{3}"', '"[0-7]{3,4}"'),
     "a uid of a command line may be 2^32": ("bounds", "commands", "int(word) > LAST_ID:", "int(word) > LAST_ID + 1:"),
     "a uid of several may be 2^32": ("bounds", "commands", "if max(uid, *gids, 0) > LAST_ID:", "if max(uid, *gids, 0) > LAST_ID + 1:"),
-    "pids.max may be 2^63": ("bounds", "rules", '"pids.max": ("pids", MAX, 0, MOST, True)', '"pids.max": ("pids", MAX, 0, MOST + 1, True)'),
+    "pids.max may be 2^63": ("bounds", "limit_files", '"pids.max": LimitFile("pids", COUNT,', '"pids.max": LimitFile("pids", Number(0, MOST + 1, True),'),
     "memory.low takes no max": (
-        "bounds", "rules", '"memory.low": ("memory", 0, 0, MOST, True)', '"memory.low": ("memory", 0, 0, MOST, False)'),
-    "cpu.weight may be 0": ("bounds", "rules", '"cpu.weight": ("cpu", 100, 1, 10000', '"cpu.weight": ("cpu", 100, 0, 10000'),
+        "bounds", "limit_files", '"memory.low": LimitFile("memory", COUNT,', '"memory.low": LimitFile("memory", Number(0, MOST, False),'),
+    "cpu.weight may be 0": ("bounds", "limit_files", "Number(1, 10000, False)", "Number(0, 10000, False)"),
     "a value of memory.min is set to 0 whatever is said": (
-        "memory.min", "rules", "values={**old.values, file: value}", 'values={**old.values, file: 0 if file == "memory.min" else value}'),
+        "memory.min", "rules", "path, file, value=value)", 'path, file, value=0 if file == "memory.min" else value)'),
     "memory.high is no guarded entry": (
-        "memory.high", "rules", "for file in ALL_FILES if file in state.cgroups[top].entries]",
-        'for file in ALL_FILES if file in state.cgroups[top].entries and file != "memory.high"]'),
+        "memory.high", "rules", "for file in files_at(state, top)]", 'for file in files_at(state, top) if file != "memory.high"]'),
     "nobody is advised of pids.max": (
         "pids.max", "rules", "if reaches(user, state.cgroups[path].entries[name]):\n                let_in",
         'if name != "pids.max" and reaches(user, state.cgroups[path].entries[name]):\n                let_in'),
     "huge pages of 64 KB are loosened by 0": (
-        "hugetlb.64KB.max", "further", '("hugetlb", "max") for size', '("hugetlb", "0" if size == "64KB" else "max") for size'),
+        "hugetlb.64KB.max", "limit_files", HUGE_PAGES, HUGE_PAGES.replace('"max"', '"0" if size == "64KB" else "max"')),
     "memory.zswap.writeback is loosened by 0": (
-        "memory.zswap.writeback", "further", '"memory.zswap.writeback": ("memory", "1")', '"memory.zswap.writeback": ("memory", "0")'),
+        "memory.zswap.writeback", "limit_files", '"memory.zswap.writeback": LimitFile("memory", TEXT, None, "1"',
+        '"memory.zswap.writeback": LimitFile("memory", TEXT, None, "0"'),
     "cpuset.cpus.partition is turned by isolated": (
-        "cpuset.cpus.partition", "further", '"cpuset.cpus.partition": "root"', '"cpuset.cpus.partition": "isolated"'),
-    "cpu.uclamp.max is turned by 0": ("cpu.uclamp.max", "further", '"cpu.uclamp.max": "50", ', ""),
+        "cpuset.cpus.partition", "limit_files", '"member", "root"', '"member", "isolated"'),
+    "cpu.uclamp.max is turned by 0": ("cpu.uclamp.max", "limit_files", '"max", "50"', '"max", "0"'),
     "a name may have a byte 0x7f": ("names", "rules", "0x21 <= ord(letter) <= 0x7E for", "0x21 <= ord(letter) <= 0x7F for"),
     "a name that begins with a dot is none": ("names", "rules", 'name not in (".", "..")', 'not name.startswith(".")'),
-    "a name may be memory.max": ("names", "rules", "PROCS, CONTROL, *LIMIT_FILES}", 'PROCS, CONTROL, *({*LIMIT_FILES} - {"memory.max"})}'),
-    "further limit files are no names": ("names", "rules", "PROCS, CONTROL, *LIMIT_FILES}", "PROCS, CONTROL, *ALL_FILES}"),
+    "a name may be memory.max": ("names", "rules", "PROCS, CONTROL, *files_in(1)}", 'PROCS, CONTROL, *({*files_in(1)} - {"memory.max"})}'),
+    "limit files of format 4 are no names": ("names", "rules", "PROCS, CONTROL, *files_in(1)}", "PROCS, CONTROL, *files_in(4)}"),
     "a name with a backslash is none": ("names", "rules", 'name not in (".", "..")', '"\\\\" not in name'),
-    "memory.high is tried before memory.low": ("two tries", "rules", *swapped(EIGHT_ORDER)),
-    "io.max is tried before io.latency": ("two tries", "further", *swapped(FURTHER_ORDER)),
+    "memory.high is tried before memory.low": ("two tries", "limit_files", *swapped(NUMBER_ORDER)),
+    "io.max is tried before io.latency": ("two tries", "limit_files", *swapped(TEXT_ORDER)),
     "the root's cgroup.max.descendants bars no mkdir": (
-        "at the root", "rules", "if values[DESCENDANTS] != MAX and len(below", "if top and values[DESCENDANTS] != MAX and len(below"),
-    "a text names the eight at the root": (
-        "at the root", "texts", "return [*rules.files_at(bare, path), *rules",
-        "return [*(rules.files_at(bare, path) if path else rules.LIMIT_FILES), *rules"),
+        "at the root", "rules", "if most != MAX and len(below", "if top and most != MAX and len(below"),
+    "a text names the limit files of format 1 at the root": (
+        "at the root", "texts", "files = [rules.files_at(bare, path) for path in paths]",
+        "files = [rules.files_at(bare, path) if path else tuple(files_in(1)) for path in paths]"),
     "upgrade writes the keys of a table in another order": (
         "written", "written", "for key in sorted(table)]", "for key in sorted(table, reverse=True)]"),
     "upgrade writes the files of a cgroup in the order of the page": (
@@ -91,7 +92,8 @@ OF_ROWS = {
     "an ancestor left out": (
         "everybody", "everybody", GUARDED, GUARDED.replace("]", ' if guard != "common-ancestor" or path == top[:-1]]')),
     "the root cgroup's left out": ("everybody", "everybody", GUARDED, GUARDED.replace("]", ' if guard != "common-ancestor" or path]')),
-    "a further limit file lets nobody in": ("everybody", "everybody", GUARDED, GUARDED.replace("]", " if name not in rules.FURTHER_FILES]")),
+    "a limit file of format 4 lets nobody in": (
+        "everybody", "everybody", GUARDED, GUARDED.replace("]", " if name not in rules.LIMIT_FILES or name in rules.files_in(1)]")),
     "the subtree's own directory is asked against everybody": (
         "everybody", "everybody", GUARDED, GUARDED.replace("rules.guarded(state, top)", "[*rules.guarded(state, top), (\"parent-dir\", top, \"dir\")]")),
     "over its limits forgotten": ("everybody", "everybody", OVER_LAST, "return lines"),

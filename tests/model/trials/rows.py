@@ -6,8 +6,8 @@ import random
 
 from second import commands, rules
 from second.controllers import ALL_CONTROLLERS
-from second.further import ELSE, FURTHER_FILES, LONGEST_DEVICE, LONGEST_LINE, LONGEST_VALUE, OF_DEVICES
-from second.rules import LAST_PID, LIMIT_FILES, MAX, MOST
+from second.limit_files import LIMIT_FILES, LINES, LONGEST_DEVICE, LONGEST_LINE, LONGEST_VALUE, MAX, MOST, NUMBER_FILES, TEXT_FILES, is_text
+from second.rules import LAST_PID
 from second.texts import LAST_ID
 from trials import directed, spelling
 from trials.cases import OPS, TREE, Case
@@ -50,31 +50,32 @@ def replayed(tree, lines, subtree=()):
 # Limit files: each with a dozen values, in the hands of five
 
 
-def values_told(file):
-    """The tables of a limit file's entry in which a text tells a value, or none."""
-    if file in FURTHER_FILES:
-        loose, other = FURTHER_FILES[file][1], ELSE.get(file, "0")
+def values_read(file):
+    """The tables of a limit file's entry in which a text has a value, or none."""
+    row = LIMIT_FILES[file]
+    if is_text(file):
+        loose, other = row.loose, row.other
         values = [loose, other, MAX, "0", 5, "5", [loose, other], [other, loose], [loose, loose], f"8:0 {loose}",
                   [f"8:0 {other}", f"8:16 {loose}"],
                   f"{'d' * LONGEST_DEVICE} {loose}", f"{'d' * (LONGEST_DEVICE + 1)} {loose}"]
     else:
-        _, default, least, greatest, takes_max = LIMIT_FILES[file]
-        values = [default, *[MAX] * takes_max, least, least + 1, 2, 99, 100, 101, 4096, greatest // 2, greatest - 1, greatest]
+        least, greatest, takes_max = row.form
+        values = [row.default, *[MAX] * takes_max, least, least + 1, 2, 99, 100, 101, 4096, greatest // 2, greatest - 1, greatest]
     return [{}, *({"value": value} for value in dict((str(each), each) for each in values if not isinstance(each, list)).values()),
             *({"value": value} for value in values if isinstance(value, list))]
 
 
 def texts_set(file):
-    if file not in FURTHER_FILES:
+    if not is_text(file):
         return ["max", "0", "1", "100", str(MOST)]
-    loose, other = FURTHER_FILES[file][1], ELSE.get(file, "0")
-    return [loose, other, MAX, "0", *[f"8:0 {loose}", f"8:0 {other}"] * (file in OF_DEVICES)]
+    row = LIMIT_FILES[file]
+    return [row.loose, row.other, MAX, "0", *[f"8:0 {row.loose}", f"8:0 {row.other}"] * (row.form == LINES)]
 
 
 def limit_file(file):
-    form = 4 if file in FURTHER_FILES else 2
-    for told in values_told(file):
-        tree = text_of(form, {f"/{name}": {"files": {file: {**entry, **told}}} for name, entry in OWNERS.items()})
+    form = 2 if LIMIT_FILES[file].since == 1 else 4
+    for value in values_read(file):
+        tree = text_of(form, {f"/{name}": {"files": {file: {**entry, **value}}} for name, entry in OWNERS.items()})
         for place in PLACES:
             yield Case(["check", *USER, "--subtree", place], tree)
             yield Case(["settle", *USER, "--subtree", place], tree)
@@ -97,7 +98,7 @@ def of_texts():
                             *itertools.product(("mode",), (-1, 0, 0o20, 0o2, 0o200, 0o777, 0o1000, 0o1777, 0o7777))]:
             entry = {name: value}
             yield Case(["upgrade"], text_of(form, {"/a": {key: entry if file is None else {file: entry}}}))
-    for file, value in itertools.product(LIMIT_FILES, (-1, 0, 1, 100, 10000, 10001, MOST, "max", "0", "MAX", "")):
+    for file, value in itertools.product(NUMBER_FILES, (-1, 0, 1, 100, 10000, 10001, MOST, "max", "0", "MAX", "")):
         yield Case(["upgrade"], text_of(2, {"/a": {"files": {file: {"value": value}}}}))
     for pid, uid in [*((pid, 1) for pid in (-1, 0, 1, LAST_PID, LAST_PID + 1, MOST)), *((1, uid) for uid in (-1, 0, LAST_ID, LAST_ID + 1))]:
         yield Case(["upgrade"], text_of(2, processes=[{"pid": pid, "uid": uid, "at": "/"}]))
@@ -108,10 +109,10 @@ def of_texts():
 def of_lines():
     """Each number of an operation line at its bounds, and as it may not be spelled."""
     for form in (2, 4):
-        tree = text_of(form, {"/a": {"files": {file: {"uid": 1000} for file in LIMIT_FILES}}},
+        tree = text_of(form, {"/a": {"files": {file: {"uid": 1000} for file in NUMBER_FILES}}},
                        [{"pid": pid, "uid": 1000, "at": "/"} for pid in (1, LAST_PID)])
-        for file in LIMIT_FILES:
-            greatest = LIMIT_FILES[file][3]
+        for file in NUMBER_FILES:
+            greatest = LIMIT_FILES[file].form.greatest
             numbers = 9999, greatest - 1, greatest, greatest + 1, 2 ** 63 - 1, 2 ** 63, 2 ** 64 - 1
             words = ["max", "0", "1", *map(str, numbers)]
             yield replayed(tree, [f"set /a {file} {word}" for word in words])
@@ -176,7 +177,7 @@ def names():
     for byte in range(256):
         for name in bytes([byte]), b"y" + bytes([byte]), bytes([byte]) + b"y":
             yield replayed(tree, [b"mkdir /a/" + name])
-    words = [*map(chr, range(0x80)), *sorted(rules.RESERVED), *FURTHER_FILES, *directed.NEAR_NAMES, ".", "..", "x.", ".x", "-",
+    words = [*map(chr, range(0x80)), *sorted(rules.RESERVED), *TEXT_FILES, *directed.NEAR_NAMES, ".", "..", "x.", ".x", "-",
              "cgroup.procs2", "dir"]
     for word in words:
         yield Case(["upgrade"], text_of(2, {"/a": {}, f"/a/{word}": {}}))
@@ -204,7 +205,7 @@ def two_tries():
 
 def at_the_root():
     theirs = {"dir": {"uid": 1000}, "files": {name: {"uid": 1000} for name in (rules.PROCS, rules.CONTROL)}}
-    for form, file in itertools.product((2, 4), rules.ALL_FILES):
+    for form, file in itertools.product((2, 4), LIMIT_FILES):
         yield replayed(text_of(form, {"/": theirs}), [f"set / {file} max", f"set / {file} 0", f"chmod / {file} 600"])
         for table in {}, {"uid": 1000}, {"value": "max"}:
             tree = text_of(form, {"/": {"files": {file: table}}, "/a": {}})
@@ -229,7 +230,7 @@ def theirs():
     for sign, name in itertools.product("+-", ALL_CONTROLLERS):
         rest = [each for each in ALL_CONTROLLERS if each != name]
         parent = {"dir": {"uid": 1000}, "enabled": rest if sign == "+" else list(ALL_CONTROLLERS), "files": {rules.CONTROL: {"uid": 1000}}}
-        files = ["cgroup.freeze", *(file for file in rules.ALL_FILES if file not in rules.STANDING and file != "cgroup.freeze")]
+        files = ["cgroup.freeze", *(file for file in LIMIT_FILES if file != "cgroup.freeze")]
         lines = ["mkdir /a/new", f"control /a {sign}{name}"]
         tree = text_of(4, {"/a": parent, "/a/old": {}})
         yield replayed(tree, [*lines, *(f"set {place} {file} {texts_set(file)[0]}" for file in files for place in ("/a/new", "/a/old"))])
@@ -332,7 +333,7 @@ def written():
         yield Case(["upgrade"], text_of(form, {"/": {"enabled": named}, "/b": {"enabled": named}, "/a": {}}, controllers=named))
     processes = [{"pid": pid, "uid": pid, "at": place} for pid, place in ((100, "/a/b"), (9, "/"), (10, "/a-"))]
     yield Case(["upgrade"], text_of(2, {"/a/b": {}, "/a-": {}, "/a": {}}, processes))
-    yield Case(["upgrade", "--tree", TREE], files={TREE: text_of(4, {"/a": {"files": {file: {} for file in FURTHER_FILES}}})})
+    yield Case(["upgrade", "--tree", TREE], files={TREE: text_of(4, {"/a": {"files": {file: {} for file in TEXT_FILES}}})})
 
 
 def bounds():
@@ -340,6 +341,6 @@ def bounds():
         yield from table()
 
 
-TABLES = {**{file: functools.partial(limit_file, file) for file in rules.ALL_FILES}, "bounds": bounds, "names": names, "two tries": two_tries,
+TABLES = {**{file: functools.partial(limit_file, file) for file in LIMIT_FILES}, "bounds": bounds, "names": names, "two tries": two_tries,
           "at the root": at_the_root, "theirs": theirs, "classes": classes, "everybody": everybody, "left out": left_out,
           "lines of subtrees": lines_of_subtrees, "written": written}

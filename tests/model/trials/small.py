@@ -3,8 +3,8 @@ from dataclasses import replace
 
 from second import rules
 from second.controllers import ALL_CONTROLLERS
-from second.further import FURTHER_FILES
-from second.rules import CONTROLLERS, DEPTH, DESCENDANTS, DIR, MAX, Cgroup, Entry, State
+from second.limit_files import LIMIT_FILES, MAX, is_text
+from second.rules import CONTROLLERS, DEPTH, DESCENDANTS, DIR, Cgroup, Entry, State
 
 USERS = [(1000, (5,)), (1001, ())]
 STRANGER = 0
@@ -32,17 +32,21 @@ def in_format_4(rng, state):
     for path, cgroup in sorted(state.cgroups.items()):
         able = [c for c in more if not path or c in cgroups[path[:-1]].enabled and not rules.lives_at(state, path)]
         cgroups[path] = replace(cgroup, enabled=cgroup.enabled | {c for c in able if rng.random() < 0.6})
-    return replace(state, controllers=state.controllers | {*more}, cgroups=cgroups, form=4)
+    wider = replace(state, controllers=state.controllers | {*more}, cgroups=cgroups, form=4)
+    for path, cgroup in cgroups.items():
+        cgroup.entries.update((file, Entry()) for file in rules.files_at(wider, path) if file not in cgroup.entries)
+    return wider
 
 
-def with_told(rng, state):
-    """A state of format 4 in which some further limit files are told of, at times as such that are reached."""
+def with_named(rng, state):
+    """A state of format 4 that names some limit files whose values are texts, at times as such that are reached."""
     cgroups = {}
     for path, cgroup in state.cgroups.items():
-        told = [file for file in rules.further_at(state, path) if path and rng.random() < 0.06]
-        values = {file: rng.choice(["1", MAX, FURTHER_FILES[file][1], f"1 {FURTHER_FILES[file][1]}", "1\n2", "1\n2 3"]) for file in told if rng.random() < 0.6}
-        entries = {file: random_entry(rng, 0.15) for file in told}
-        cgroups[path] = replace(cgroup, entries={**cgroup.entries, **entries}, values={**cgroup.values, **values})
+        named = [file for file in rules.files_at(state, path) if is_text(file) and rng.random() < 0.06]
+        values = {file: rng.choice(["1", MAX, LIMIT_FILES[file].loose, f"1 {LIMIT_FILES[file].loose}", "1\n2", "1\n2 3"])
+                  for file in named if rng.random() < 0.6}
+        entries = {file: replace(random_entry(rng, 0.15), value=values.get(file)) for file in named}
+        cgroups[path] = replace(cgroup, entries={**cgroup.entries, **entries}, named=cgroup.named | {*named})
     return replace(state, cgroups=cgroups)
 
 
@@ -56,7 +60,7 @@ def state_about_room(rng, paths):
     cgroups[above].entries[rules.PROCS] = random_entry(rng, 1)
     state = with_limits(rng, with_processes(rng, controllers, cgroups), rng.choice([0, 0.4]))
     if rng.random() < 0.5:
-        cgroups[above].values[DESCENDANTS] = len(rules.below(state, above))
+        set_value(cgroups[above], DESCENDANTS, len(rules.below(state, above)))
     return state
 
 
@@ -78,7 +82,7 @@ def with_chances(rng, paths, controllers, enabled, chance):
     cgroups = cgroups_of(rng, controllers, enabled, {name: 0 for name in rules.STANDING})
     for path, cgroup in cgroups.items():
         for name in (*rules.STANDING, DESCENDANTS, DEPTH):
-            cgroup.entries[name] = random_entry(rng, chance(path, name), name == DIR)
+            cgroup.entries[name] = replace(random_entry(rng, chance(path, name), name == DIR), value=cgroup.entries[name].value)
     return with_processes(rng, controllers, cgroups, [1, 1, 2, 3])
 
 
@@ -115,9 +119,9 @@ def state_about_full_places(rng, number):
     state = with_chances(rng, paths, memory, enabled, chance)
     for path, cgroup in state.cgroups.items():
         if rng.random() < (0.3 if path in head else 0.9):
-            cgroup.values[DESCENDANTS] = max(0, len(rules.below(state, path)) - rng.choice([0, 0, 0, 1]))
+            set_value(cgroup, DESCENDANTS, max(0, len(rules.below(state, path)) - rng.choice([0, 0, 0, 1])))
         if rng.random() < 0.1:
-            cgroup.values[DEPTH] = rules.depth_below(state, path)
+            set_value(cgroup, DEPTH, rules.depth_below(state, path))
     return state
 
 
@@ -154,7 +158,7 @@ def state_about_nesting(rng, number):
     state = with_chances(rng, paths, memory, enabled, chance)
     for path, cgroup in state.cgroups.items():
         if rng.random() < 0.4:
-            cgroup.values[DESCENDANTS] = max(0, len(rules.below(state, path)) - rng.choice([0, 0, 1, 1, 2]))
+            set_value(cgroup, DESCENDANTS, max(0, len(rules.below(state, path)) - rng.choice([0, 0, 1, 1, 2])))
     return state
 
 
@@ -170,7 +174,7 @@ def state_of_site(rng):
         cgroups[above].entries[name] = random_entry(rng, 1, name == DIR)
     state = with_processes(rng, controllers, cgroups)
     if rng.random() < 0.3:
-        cgroups[above].values[DESCENDANTS] = len(rules.below(state, above))
+        set_value(cgroups[above], DESCENDANTS, len(rules.below(state, above)))
     return state
 
 
@@ -182,7 +186,7 @@ def state_of_two(rng):
     enabled = {path: memory if any(other[:-1] == path for other in paths if other) else frozenset() for path in paths}
     cgroups = cgroups_of(rng, memory, enabled, {name: 0 for name in rules.STANDING})
     for path in (("a", "b"), ("a", "c")):
-        cgroups[path].entries.update((file, Entry()) for file in cgroups[path].values)
+        cgroups[path].entries.update((file, Entry(value=value)) for file, value in cgroups[path].values.items())
     one, other = rng.sample(USERS, 2)
     cgroups[("a",)].entries[rules.PROCS] = Entry(one[0], 0, rng.choice([0o644, 0o444]))
     cgroups[rng.choice([("a", "b"), ("a", "c")])].entries[rng.choice([rules.PROCS, DIR])] = Entry(other[0], 0, 0o644)
@@ -195,11 +199,14 @@ def cgroups_of(rng, controllers, enabled, chances):
     cgroups = {}
     for path, those in enabled.items():
         entries = {name: random_entry(rng, chances[name], name == DIR) for name in rules.STANDING}
-        cgroups[path] = Cgroup(entries, {}, those)
+        cgroups[path] = Cgroup(entries, those)
         for file in rules.files_at(State(controllers, cgroups, {}, frozenset()), path):
-            cgroups[path].entries[file] = random_entry(rng, 0.15)
-            cgroups[path].values[file] = rules.default_of(file)
+            entries[file] = Entry() if is_text(file) else replace(random_entry(rng, 0.15), value=rules.default_of(file))
     return cgroups
+
+
+def set_value(cgroup, file, value):
+    cgroup.entries[file] = replace(cgroup.entries[file], value=value)
 
 
 def with_processes(rng, controllers, cgroups, numbers=(0, 1, 1, 2)):
@@ -230,5 +237,5 @@ def with_limits(rng, state, chance):
     for path, cgroup in state.cgroups.items():
         for file, there in ((DESCENDANTS, len(rules.below(state, path))), (DEPTH, rules.depth_below(state, path))):
             limited = rng.random() < chance
-            cgroup.values[file] = max(0, there + rng.choice([0, 0, 0, 1, 2, -1, -2])) if limited else MAX
+            set_value(cgroup, file, max(0, there + rng.choice([0, 0, 0, 1, 2, -1, -2])) if limited else MAX)
     return state

@@ -4,6 +4,7 @@ from dataclasses import dataclass
 
 from second import commands, rules
 from second.controllers import ALL_CONTROLLERS
+from second.limit_files import LIMIT_FILES, MAX, MOST, NUMBER_FILES, accepts
 from second.rules import text_of
 from trials import small
 
@@ -17,7 +18,7 @@ GIDS = [0, 5, 6, 50, 4294967295, *range(100, 128)]
 PIDS = [1, 7, 10, 11, 12, 99, 4194303, *range(200, 233)]
 FEW_PIDS = PIDS[:7]
 MOST_PATHS, DEEPEST = 60, 12
-NUMBERS = [0, 1, 2, 3, 100, 4096, 10000, rules.MOST]
+NUMBERS = [0, 1, 2, 3, 100, 4096, 10000, MOST]
 
 
 @dataclass
@@ -173,7 +174,7 @@ def enable(rng, tree):
 
 def files_at(tree, path):
     brought = tree.rows[path[:-1]].get("enabled", []) if path else []
-    return [file for file, (controller, *_) in rules.LIMIT_FILES.items() if controller is None or controller in brought]
+    return [file for file in NUMBER_FILES if LIMIT_FILES[file].controller in (None, *brought)]
 
 
 def delegate(rng, tree, user, top):
@@ -282,7 +283,7 @@ def value_of(rng, tree, path, file):
         levels = [len(other) - len(path) for other in tree.rows if rules.inside(other, path)]
         there = len(levels) - 1 if file == rules.DESCENDANTS else max(levels)
         return max(0, there + rng.choice([-1, 0, 0, 1, 1, 2]))
-    return rng.choice([v for v in [*NUMBERS, rules.MAX, 50] if rules.accepts(file, v)])
+    return rng.choice([v for v in [*NUMBERS, MAX, 50] if accepts(file, v)])
 
 
 def add_processes(rng, tree):

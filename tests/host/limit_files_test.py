@@ -1,13 +1,14 @@
-"""Tests of further limit files, such as cpu.max: which of them a text of format 4 tells of, and what is said of them."""
+"""Tests of limit files, and above all of those whose values are texts, such as cpu.max: which of them a text of format 4 names, and what is
+said of them."""
 import os
-import re
 import subprocess
 import unittest
 from dataclasses import replace
 from unittest import mock
 
 from check_test import MARK, HostTest, owned
-from made_up import DELEGATED, TOP, MadeUpTest, path
+from limit_table import rows_of_docs
+from made_up import DELEGATED, MadeUpTest, path
 from plan_test import changed, snapshot_of
 from shown import made
 from zirofen_host.ask import accepted
@@ -20,15 +21,13 @@ from zirofen_host.collect.model import Entry, User
 from zirofen_host.collect.snapshot import note_lines, tree_text
 from zirofen_host.collect.tree import read_tree, tree_text as text_of_tree
 from zirofen_host.fault import Fault, plain
-from zirofen_host.files import CONTROLLERS, FURTHER_FILES, LIMIT_FILES, Kind, kind_of
+from zirofen_host.files import CONTROLLERS, LIMIT_FILES, NUMBER_FILES, TEXT_FILES, Kind, kind_of
 from zirofen_host.judge import check, rules, shell
 from zirofen_host.judge.may import may
 from zirofen_host.options import AskOptions
 from zirofen_host.profile import TEXT_FORMATS
 from zirofen_host.show import steps, view
 
-VALUE = r"\(codes \"[^\"]+\"\)"
-ROW = re.compile(rf"^other_kind \w+ = (?:\w+ \()?\w+ (\d+) \(codes \"([^\"]+)\"\) (?:None|\(Some (\w+)\)) {VALUE} {VALUE}(?:\).*)?$", re.M)
 LONG = "7" * 4095
 # what a kernel has in a file, behind it what a text has
 VALUES = (
@@ -47,37 +46,24 @@ def of_user(*names, uid=1000):
 
 
 class TableTest(unittest.TestCase):
-    def test_they_are_those_of_the_definition(self):
-        with open(f"{TOP}/crates/cg_cgroup/specs/OtherKinds.antt", encoding="utf-8") as text:
-            found = ROW.findall(text.read())
-        self.assertEqual([(int(number), name, by.lower() or None) for number, name, by in found],
-                         [(number, name, limit.controller) for number, (name, limit) in enumerate(FURTHER_FILES.items())])
-        self.assertEqual((len(found), list(FURTHER_FILES)), (43, sorted(FURTHER_FILES)))
-
     def test_they_are_those_of_the_model(self):
-        """What docs/MODEL.md says of each: its name, the controller that brings it, and whether its lines begin with a device."""
-        with open(f"{TOP}/docs/MODEL.md", encoding="utf-8") as text:
-            section = text.read().partition("### Further limit files")[2].partition("## Definitions")[0]
-        found, controller = [], None
-        for names, stands in re.findall(r"^\| (`.*?) \| (.*?) \|", section, re.M):
-            if stands != "the same":
-                controller = stands.split("`")[1] if "`" in stands else None
-            first, _, sizes = names.partition(" where SIZE is ")
-            found += [(name.replace("SIZE", size), controller) for size in re.findall(r"`(\w+)`", sizes) or [""]
-                      for name in re.findall(r"`([^`]+)`", first)]
-        self.assertEqual(found, [(name, limit.controller) for name, limit in FURTHER_FILES.items()])
-        (keyed,) = re.findall(r"^- Each line of (.*?) begins with the name of a device or of a resource", section, re.M)
-        names = [name.replace("*", ".+") for name in re.findall(r"`([^`]+)`", keyed)]
-        devices = [file for name in names for file in FURTHER_FILES if re.fullmatch(name, file)]
-        self.assertEqual(devices, sorted((*(name for name, limit in FURTHER_FILES.items() if limit.is_keyed), "io.latency", "io.max")))
+        """What docs/MODEL.md says of each: its name, the controller that brings it, its form, default and format."""
+        def said(name, limit):
+            known = (*limit.range, limit.usual) if limit.range else (None, None, False, None)
+            return (name, limit.controller, *known, limit.since_format)
+        self.assertEqual([said(*each) for each in LIMIT_FILES.items()],
+                         [(it.name, it.controller, it.least, it.greatest, it.takes_max, it.default, it.since) for it in rows_of_docs()])
+        self.assertEqual((len(LIMIT_FILES), [*LIMIT_FILES]), (51, [*NUMBER_FILES, *sorted(TEXT_FILES)]))
+        devices = sorted((*(name for name, limit in LIMIT_FILES.items() if limit.is_keyed), "io.latency", "io.max"))
+        self.assertEqual(devices, [it.name for it in rows_of_docs() if it.has_devices])
 
     def test_what_others_say_of_them(self):
-        self.assertEqual({kind_of(file) for file in FURTHER_FILES}, {Kind.LIMIT, Kind.ACTS})
-        self.assertEqual([file for file in FURTHER_FILES if kind_of(file) is not Kind.LIMIT], ["cgroup.freeze"])
-        self.assertEqual({limit.controller for limit in FURTHER_FILES.values()} - {None}, set(CONTROLLERS) - {"pids"})
-        self.assertEqual(set(FURTHER_FILES) & set(LIMIT_FILES), set())
-        self.assertEqual({number: each.further for number, each in TEXT_FORMATS.items()}, {2: (), 4: tuple(FURTHER_FILES)})
-        self.assertEqual({GUARD_AT[file].word for file in FURTHER_FILES}, {"limit-file"})
+        self.assertEqual({kind_of(file) for file in TEXT_FILES}, {Kind.LIMIT, Kind.ACTS})
+        self.assertEqual([file for file in TEXT_FILES if kind_of(file) is not Kind.LIMIT], ["cgroup.freeze"])
+        self.assertEqual({limit.controller for limit in TEXT_FILES.values()} - {None}, set(CONTROLLERS) - {"pids"})
+        self.assertEqual(set(TEXT_FILES) & set(NUMBER_FILES), set())
+        self.assertEqual({number: each.text_files for number, each in TEXT_FORMATS.items()}, {2: (), 4: tuple(TEXT_FILES)})
+        self.assertEqual({GUARD_AT[file].word for file in TEXT_FILES}, {"limit-file"})
 
 
 class SnapshotTest(MadeUpTest):
@@ -86,18 +72,18 @@ class SnapshotTest(MadeUpTest):
         self.host.cgroup("/", enabled=" ".join(CONTROLLERS), values={"cgroup.controllers": " ".join(CONTROLLERS)})
 
     def files(self, taken, place="/a"):
-        """The lines of a cgroup's further files."""
+        """The lines of a cgroup's files whose values are texts."""
         (row,) = [each for each in tree_text(taken).split("\n\n") if each.startswith(f"[[cgroup]]\npath = '{place}'\n")]
-        return [line for line in row.split("\n") if line.startswith('"') and line.split('"')[1] in FURTHER_FILES]
+        return [line for line in row.split("\n") if line.startswith('"') and line.split('"')[1] in TEXT_FILES]
 
     def test_each_that_somebody_reaches(self):
-        self.host.cgroup("/a", more=FURTHER_FILES, owners=dict.fromkeys(FURTHER_FILES, 1000))
+        self.host.cgroup("/a", more=TEXT_FILES, owners=dict.fromkeys(TEXT_FILES, 1000))
         taken = self.host.snapshot()
-        self.assertEqual(self.files(taken), [f'"{file}" = {{ uid = 1000 }}' for file in FURTHER_FILES])
+        self.assertEqual(self.files(taken), [f'"{file}" = {{ uid = 1000 }}' for file in TEXT_FILES])
         self.assertEqual(note_lines(taken), [])
         again = read_tree(tree_text(taken))
         self.assertEqual(text_of_tree(again, []), text_of_tree(taken.tree, []))
-        self.assertEqual(again.limit_files(path("/a")), [*LIMIT_FILES, *FURTHER_FILES])
+        self.assertEqual(again.limit_files(path("/a")), [*LIMIT_FILES])
 
     def test_who_reaches_one(self):
         for owner, mode, line in (
@@ -114,9 +100,9 @@ class SnapshotTest(MadeUpTest):
             self.assertEqual([note.kind for note in old.notes], ["controller"])
 
     def test_odd_modes_are_one_note_of_a_cgroup(self):
-        self.host.cgroup("/a", more=FURTHER_FILES, owners=dict.fromkeys(FURTHER_FILES, 1000), modes=dict.fromkeys(FURTHER_FILES, 0o4644))
+        self.host.cgroup("/a", more=TEXT_FILES, owners=dict.fromkeys(TEXT_FILES, 1000), modes=dict.fromkeys(TEXT_FILES, 0o4644))
         self.assertEqual(note_lines(self.host.snapshot()), [
-            "mode: /a: " + "; ".join(f"{file} has mode 0o4644, written as 0o644" for file in FURTHER_FILES)])
+            "mode: /a: " + "; ".join(f"{file} has mode 0o4644, written as 0o644" for file in TEXT_FILES)])
 
     def test_values(self):
         for text, written in VALUES:
@@ -145,7 +131,7 @@ class SnapshotTest(MadeUpTest):
         for number, times in ((4, 1), (2, 0)):
             with mock.patch.object(bounded, "read_file", wraps=bounded.read_file) as read:
                 self.host.snapshot(tree_format=number)
-            asked = [call.args[0] for call in read.call_args_list if call.args[0] in FURTHER_FILES]
+            asked = [call.args[0] for call in read.call_args_list if call.args[0] in TEXT_FILES]
             self.assertEqual(asked, ["cpu.max"] * times)
 
     def test_a_value_that_changes_all_the_time_spoils_nothing(self):
@@ -200,8 +186,8 @@ class SnapshotTest(MadeUpTest):
         for value in ("7", "7777777"):
             self.host.cgroup("/a/b", owners=of_user("cpu.max"), values={"cpu.max": value})
             with self.host.owned():
-                first = walk.walk_over(self.host.mount, further=TEXT_FORMATS[4].further)
-                spent.append((first.bytes.by[1000], walk.walk_over(self.host.mount, before=first, further=("cpu.max",)).bytes.by[1000]))
+                first = walk.walk_over(self.host.mount, text_files=TEXT_FORMATS[4].text_files)
+                spent.append((first.bytes.by[1000], walk.walk_over(self.host.mount, before=first, text_files=("cpu.max",)).bytes.by[1000]))
         (first, second), (again, longer) = spent
         self.assertEqual((first, second - first, longer - again), (again, 2, 8))
 
@@ -412,14 +398,14 @@ class PlanTest(unittest.TestCase):
                        "set /a memory.swap.max 5  6")
         self.assertEqual([row.entry(file) for file in ("cpu.max", "cpu.idle", "cgroup.freeze")],
                          [Entry(0, 0, 0o600), Entry(8, 9, 0o644), Entry(0, 0, 0o666)])
-        self.assertEqual({file: row.values.get(file) for file in row.further},
+        self.assertEqual({file: row.values.get(file) for file in row.text_files},
                          {"cgroup.freeze": None, "cpu.idle": None, "cpu.max": "5 100000", "memory.swap.max": "5 6"})
 
     def test_controllers_take_them(self):
         row = self.row("control / -cpu", "control / +cpu")
-        self.assertEqual((row.further, "cpu.max" in row.values), (["memory.swap.max"], False))
+        self.assertEqual((row.text_files, "cpu.max" in row.values), (["memory.swap.max"], False))
         found = changed("control / -cpu -memory", text=TREE, is_carrying=False)
-        self.assertEqual((found.tree.rows[path("/a")].further, [*found.cgroups[path("/a")].files]),
+        self.assertEqual((found.tree.rows[path("/a")].text_files, [*found.cgroups[path("/a")].files]),
                          ([], ["cgroup.procs", "cgroup.subtree_control", "cgroup.max.descendants", "cgroup.max.depth"]))
 
     def test_what_is_refused(self):
@@ -434,10 +420,10 @@ class PlanTest(unittest.TestCase):
 
     def test_texts_of_format_2_have_none(self):
         old = TREE.partition("[cgroup.files]")[0].replace("format = 4", "format = 2")
-        self.assertEqual(self.row("chown /a cpu.max 7:7", text=old, is_carrying=True).further, [])
+        self.assertEqual(self.row("chown /a cpu.max 7:7", text=old, is_carrying=True).text_files, [])
         with self.assertRaisesRegex(Fault, "has no place for cpu.max"):
             self.row("chown /a cpu.max 7:7", text=old)
-        self.assertEqual(snapshot_of(TREE).tree.rows[path("/a")].further, ["cpu.max", "memory.swap.max"])
+        self.assertEqual(snapshot_of(TREE).tree.rows[path("/a")].text_files, ["cpu.max", "memory.swap.max"])
 
 
 if __name__ == "__main__":

@@ -1,4 +1,4 @@
-"""Tests of what is tried of further limit files; they need no machine, and read what a kernel said before."""
+"""Tests of what is tried of limit files whose values are texts; they need no machine, and read what a kernel said before."""
 import contextlib
 import errno
 import functools
@@ -16,8 +16,8 @@ TOP = os.path.dirname(os.path.dirname(os.path.abspath(__file__)))
 sys.path[:0] = [TOP, os.path.join(TOP, "..", "model")]
 import played
 from second import rules, texts
-from second.further import FURTHER_FILES, other_text
-from trial import advice, asking, classes, comparing, further, machine, making, mutants, script, shown, tally
+from second.limit_files import LIMIT_FILES, TEXT_FILES, other_value
+from trial import advice, asking, classes, comparing, limit_files, machine, making, mutants, script, shown, tally
 
 CONTROLLERS = tuple(played.CONTROLLERS)
 DISC, OTHER = shown.DISCS
@@ -36,9 +36,9 @@ def recorded(kind):
 
 
 def files_of_record():
-    """The further limit files that the recorded kernel has, as far as the cases name them."""
-    return {name for _, _, record in recorded(further.ESCAPES) for state in record.states for cgroup in state.cgroups.values()
-            for name in cgroup.entries if name in FURTHER_FILES}
+    """The limit files that the recorded kernel has, as far as the cases name them."""
+    return {name for _, _, record in recorded(limit_files.ESCAPES) for state in record.states for cgroup in state.cgroups.values()
+            for name in cgroup.named}
 
 
 class ShownTest(unittest.TestCase):
@@ -94,16 +94,16 @@ class FurtherTest(unittest.TestCase):
             yield case, record, comparing.compare(case, said, record)
 
     def test_recorded_run_is_explained(self):
-        kinds = (further.OPERATIONS, further.ESCAPES, further.NEIGHBOURS)
+        kinds = (limit_files.OPERATIONS, limit_files.ESCAPES, limit_files.NEIGHBOURS)
         found = [each for kind in kinds for _, _, compared in self.compared(kind) for each in compared.differences]
         self.assertEqual([each for each in found if not each.kind], [])
         self.assertGreaterEqual({each.kind for each in found}, {"any value", "read back", "file that turns another"})
 
     def test_recorded_escapes_by_each_file_change_it_or_are_refused(self):
         changed, refused, through = {}, set(), set()
-        for case, _, record in recorded(further.ESCAPES):
+        for case, _, record in recorded(limit_files.ESCAPES):
             kind, _, *words = case.steps[-1][1]
-            if kind == "set" and case.subtrees[0] in (advice.TOP, further.PARTITION[0]):
+            if kind == "set" and case.subtrees[0] in (advice.TOP, limit_files.PARTITION[0]):
                 there = comparing.break_of(case, record, case.subtrees[0])
                 through |= set() if record.numbers[-1] else {words[0]}
                 refused |= {words[0]} if record.numbers[-1] else set()
@@ -112,65 +112,66 @@ class FurtherTest(unittest.TestCase):
         files = files_of_record()
         self.assertEqual(refused - through, {"misc.max", "rdma.max"} | refused & {"io.max"} - through)
         for file in files - {"misc.max", "rdma.max", "io.max"}:
-            loose = FURTHER_FILES[file][1]
-            self.assertEqual(changed[file], {loose, other_text(file, loose)}, file)
+            loose = LIMIT_FILES[file].loose
+            self.assertEqual(changed[file], {loose, other_value(file, loose)}, file)
 
     def test_recorded_neighbour_turns_a_partition_that_is_contained(self):
-        for case, _, record in recorded(further.NEIGHBOURS):
+        for case, _, record in recorded(limit_files.NEIGHBOURS):
             (user, step), top = case.steps[0], case.subtrees[0]
             self.assertEqual((rules.answer(case.state, user, top)[0], record.numbers, step[2]), ("contained", [0], "cpuset.cpus"))
             before, after = (state.cgroups[top].values[shown.PARTITION] for state in record.states)
             self.assertEqual((before, after.split(" (")[0]), ("root", "root invalid"))
 
     def test_recorded_contained_subtrees_hold(self):
-        cases = recorded(further.CONTAINED)
+        cases = recorded(limit_files.CONTAINED)
         for case, _, record in cases:
             self.assertTrue(script.is_whole(case, record), record.faults)
             for top in case.subtrees:
                 self.assertEqual((comparing.break_of(case, record, top), comparing.turned_entries(case, record, top)), ("kept", []))
-        self.assertGreater(sum(step[0] == "set" and step[2] in FURTHER_FILES and not number for case, _, record in cases
+        self.assertGreater(sum(step[0] == "set" and step[2] in TEXT_FILES and not number for case, _, record in cases
                                for (_, step), number in zip(case.tries, record.numbers)), 10)
 
     def test_recorded_advice_refuses_the_escape(self):
         def check(_program, text, user, top):
             return rules.answer(texts.tree_of(text.encode()), user, top)[0], []
         with unittest.mock.patch.object(asking, "check", check):
-            for case, _, record in recorded(further.ADVICE):
+            for case, _, record in recorded(limit_files.ADVICE):
                 found = comparing.compare_advice(None, case, record)
                 self.assertEqual((found.faults, found.refused > 0), ([], bool(case.steps)))
 
     def test_wrong_programs_are_found(self):
-        for name, turn in mutants.OF_FURTHER.items():
-            compared = [found for _, _, found in self.compared(further.OPERATIONS, turn)]
+        for name, turn in mutants.OF_LIMIT_FILES.items():
+            compared = [found for _, _, found in self.compared(limit_files.OPERATIONS, turn)]
             self.assertTrue(any(not each.kind for found in compared for each in found.differences), name)
-        broken = [case for case, _, record in recorded(further.ESCAPES) if comparing.break_of(case, record, case.subtrees[0]) != "kept"]
+        broken = [case for case, _, record in recorded(limit_files.ESCAPES) if comparing.break_of(case, record, case.subtrees[0]) != "kept"]
         forgotten = [case for case in broken if mutants.forgets(case.state, case.steps[0][0], case.subtrees[0])]
         self.assertGreater(len(forgotten), 20)
 
     def test_each_wrong_program_is_wrong_at_its_own_step_of_the_made_case(self):
-        case, = further.made_operations(CONTROLLERS)
+        case, = limit_files.made_operations(CONTROLLERS)
         answers, state = [], case.state
         for user, step in case.steps:
             state, refusal = rules.step(state, user, step)
             answers.append(f"refused {refusal}" if refusal else "ok")
-        for name, turn in mutants.OF_FURTHER.items():
+        for name, turn in mutants.OF_LIMIT_FILES.items():
             said = mutants.answers_of(turn, case, answers)
             wrong = [case.steps[at][1] for at, pair in enumerate(zip(said, answers)) if len(set(pair)) > 1]
-            self.assertEqual(wrong, [further.STEPS_OF_FURTHER[name]], name)
+            self.assertEqual(wrong, [limit_files.STEPS_OF_MUTANTS[name]], name)
 
     def test_a_value_or_an_owner_that_turns_by_itself_is_found(self):
-        for file, values, entry in (("cpu.max", {"cpu.max": "7 7"}, None), ("cpu.max", {}, rules.Entry(7))):
-            case, answers, record = recorded(further.OPERATIONS)[0]
+        for file, changes in (("cpu.max", {"value": "7 7"}), ("cpu.max", {"uid": 7})):
+            case, answers, record = recorded(limit_files.OPERATIONS)[0]
             last = record.states[-1]
-            row = last.cgroups[further.CHILD]
-            other = rules.replace(row, values={**row.values, **values}, entries={**row.entries, **({file: entry} if entry else {})})
-            states = [*record.states[:-1], rules.replace(last, cgroups={**last.cgroups, further.CHILD: other})]
+            row = last.cgroups[limit_files.CHILD]
+            other = rules.replace(row, entries={**row.entries, file: rules.replace(row.entries[file], **changes)})
+            states = [*record.states[:-1], rules.replace(last, cgroups={**last.cgroups, limit_files.CHILD: other})]
             found = comparing.compare(case, answers, script.Record([], states, record.numbers))
             self.assertTrue(any(not each.kind for each in found.differences))
-            self.assertEqual(comparing.turned_entries(case, script.Record([], [last, states[-1]]), further.CHILD), [file] if entry else [])
+            self.assertEqual(comparing.turned_entries(case, script.Record([], [last, states[-1]]), limit_files.CHILD), [file] * ("uid" in changes))
 
     def outcome(self, step, said, number, values=(), entries=("cgroup.freeze",)):
-        row = rules.Cgroup({name: rules.Entry(1000) for name in (*rules.STANDING, *entries)}, dict(values), frozenset(["cpu"]))
+        files = {name: rules.Entry(1000, value=dict(values).get(name)) for name in (*rules.STANDING, *entries, *dict(values))}
+        row = rules.Cgroup(files, frozenset(["cpu"]), frozenset(files) - rules.WRITTEN)
         state = rules.State(frozenset(CONTROLLERS), {(): row, ("a",): row}, {7: (1000, ("a",))}, frozenset([7]), 4)
         return classes.kind_of(classes.Outcome(state, (1000, ()), step, said, number, state))
 
@@ -216,24 +217,24 @@ class FurtherTest(unittest.TestCase):
             self.assertEqual(shown.is_turned_elsewhere(file, one, other), is_turned, (one, other))
 
     def test_a_set_that_is_let_through_against_the_rules_is_found(self):
-        row = rules.Cgroup({"cpu.max": rules.Entry()}, {"cpu.max": "max 100000"})
+        row = rules.Cgroup({"cpu.max": rules.Entry(value="max 100000")}, named=frozenset(["cpu.max"]))
         state = rules.State(frozenset(), {("a",): row}, {}, frozenset(), 4)
-        found = comparing.further_differences(1, state, ("set", ("a",), "cpu.max", "junk"), state, state)
+        found = comparing.text_differences(1, state, ("set", ("a",), "cpu.max", "junk"), state, state)
         self.assertEqual([each.kind for each in found], [None])
 
 
 class ScriptTest(unittest.TestCase):
     def case(self):
-        tree = further.wide_tree(CONTROLLERS)
-        tree.entry(advice.TOP, "io.max").update({"uid": 1000, "value": further.LINES})
+        tree = limit_files.wide_tree(CONTROLLERS)
+        tree.entry(advice.TOP, "io.max").update({"uid": 1000, "value": limit_files.LINES})
         tree.entry(advice.TOP, "cpu.idle").update({"value": "1"})
         _, text, state = advice.settled(tree, CONTROLLERS)
-        return making.Case(further.OPERATIONS, text, [((1000, (5,)), ("set", advice.TOP, "cpu.max", "max 5000"))], [advice.TOP], state)
+        return making.Case(limit_files.OPERATIONS, text, [((1000, (5,)), ("set", advice.TOP, "cpu.max", "max 5000"))], [advice.TOP], state)
 
     def test_a_case_watches_what_it_names(self):
         lines = script.lines_of(0, self.case())
         self.assertEqual(lines[1], "watch cpu.idle cpu.max cpu.weight.nice io.max")
-        for line in (*(f"set /above/top io.max {line}" for line in further.LINES), "own /above/top io.max 1000 0 644",
+        for line in (*(f"set /above/top io.max {line}" for line in limit_files.LINES), "own /above/top io.max 1000 0 644",
                      "do set /above/top cpu.max max 5000"):
             self.assertIn(line, lines)
         again = making.Case.of_record(json.loads(json.dumps(self.case().as_record())))
@@ -243,7 +244,7 @@ class ScriptTest(unittest.TestCase):
         words = "- 0:0:755 0:0:644 0:0:644 cpu.weight=0:0:644:5 io.max=7:8:600:259:0%20rbps=2%0A%25 cpuset.cpus=0:0:644:"
         cgroup = script.cgroup_of(words.split(" "))
         self.assertEqual(cgroup.values, {"cpu.weight": 5, "io.max": "259:0 rbps=2\n%"})
-        self.assertEqual((cgroup.entries["io.max"], cgroup.entries["cpuset.cpus"]), (rules.Entry(7, 8, 0o600), rules.Entry()))
+        self.assertEqual((cgroup.entries["io.max"], cgroup.entries["cpuset.cpus"]), (rules.Entry(7, 8, 0o600, "259:0 rbps=2\n%"), rules.Entry()))
 
     def test_a_file_that_the_root_has_there_is_in_no_text(self):
         row = "- 0:0:755 0:0:644 0:0:644 cgroup.max.depth=0:0:644:max cgroup.max.descendants=0:0:644:max"
@@ -262,29 +263,29 @@ class ScriptTest(unittest.TestCase):
         self.assertEqual(counted.failures, 1)
         self.assertIn("no-such-file cgroup 1", said.getvalue())
 
-    def test_the_files_that_a_kernel_has_are_told(self):
+    def test_the_files_that_a_kernel_has_are_known(self):
         said = played.Kernel().run(script.standing_script())
-        self.assertEqual(script.standing_in(said), tuple(file for file in FURTHER_FILES if file in shown.TAKERS))
+        self.assertEqual(script.standing_in(said), tuple(file for file in TEXT_FILES if file in shown.TAKERS))
         self.assertEqual(script.standing_in("controllers \nend\n"), ())
 
 
 class MadeTest(unittest.TestCase):
-    def test_trees_tell_of_what_a_kernel_has(self):
-        files, named = tuple(file for file in shown.TAKERS if file in FURTHER_FILES), set()
+    def test_trees_name_what_a_kernel_has(self):
+        files, named = tuple(file for file in shown.TAKERS if file in TEXT_FILES), set()
         for number in range(60):
-            _, _, state = further.random_tree(random.Random(number), CONTROLLERS, files)
-            named |= {name for cgroup in state.cgroups.values() for name in cgroup.entries if name in FURTHER_FILES}
+            _, _, state = limit_files.random_tree(random.Random(number), CONTROLLERS, files)
+            named |= {name for cgroup in state.cgroups.values() for name in cgroup.named}
         self.assertEqual(named, set(files))
 
-    def test_values_that_trees_tell_are_shown_as_they_are_told(self):
-        for file, told in further.TOLD.items():
-            for text in [line for text in told for line in (text if isinstance(text, list) else [text])]:
+    def test_values_of_trees_are_shown_as_they_are_written(self):
+        for file, values in limit_files.VALUES.items():
+            for text in [line for text in values for line in (text if isinstance(text, list) else [text])]:
                 if file in shown.TAKERS:
                     self.assertEqual(shown.turned_by(file, text, {})[file], text, file)
 
     def test_each_tree_of_a_file_lets_the_user_reach_it_alone(self):
-        files, reached = tuple(file for file in FURTHER_FILES if file in shown.TAKERS), []
-        for tree in further.trees_of_files(CONTROLLERS, files):
+        files, reached = tuple(file for file in TEXT_FILES if file in shown.TAKERS), []
+        for tree in limit_files.trees_of_files(CONTROLLERS, files):
             _, _, state = advice.settled(tree, CONTROLLERS)
             (guard, path, file), = rules.failures(state, tree.user, tree.subtree)
             self.assertEqual((guard, path), ("limit-file", tree.subtree))
@@ -295,10 +296,10 @@ class MadeTest(unittest.TestCase):
 
     def test_a_turn_by_the_second_model_is_as_said(self):
         """With the second model in the places of the program and of a kernel that shows what shown.py says."""
-        files = tuple(file for file in FURTHER_FILES if file in shown.TAKERS)
+        files = tuple(file for file in TEXT_FILES if file in shown.TAKERS)
         patch = unittest.mock.patch.object
         with patch(asking, "report_of", played.report_of), patch(asking, "asked", played.report_of), tempfile.TemporaryDirectory() as room:
-            cases = further.made_operations(CONTROLLERS) + further.of_files(None, CONTROLLERS, files) + further.random_cases(
+            cases = limit_files.made_operations(CONTROLLERS) + limit_files.of_files(None, CONTROLLERS, files) + limit_files.random_cases(
                 "7", 8, None, CONTROLLERS, files)
             records, _ = script.records_of(played.Kernel().run(script.script_of(cases)))
             counted = tally.Tally("6", None, room)
@@ -307,10 +308,10 @@ class MadeTest(unittest.TestCase):
             counted.files = files
             self.assertEqual(counted.failures, 0, os.listdir(room))
             lines = tally.lines_of_files(counted)
-        self.assertIn("| `cpu.max` | `max 100000`, `max 50000` | `max 100000` (as it is) |  |", lines)
-        self.assertIn("| `misc.max` |  |  | `max` (as it is, EINVAL) |", lines)
-        self.assertIn("- Further limit files, mutants of the program: 4 of 4 found.", lines)
-        self.assertGreaterEqual(counted.told.keys(), {*mutants.OF_FURTHER, mutants.FORGETS})
+        self.assertIn("| `cpu.max` | `max 100000`, `max 50000` | `max 100000` (not known) |  |", lines)
+        self.assertIn("| `misc.max` |  |  | `max` (not known, EINVAL) |", lines)
+        self.assertIn("- Limit files whose values are texts, mutants of the program: 4 of 4 found.", lines)
+        self.assertGreaterEqual(counted.told.keys(), {*mutants.OF_LIMIT_FILES, mutants.FORGETS})
 
     def test_the_wide_machine_has_what_the_texts_name(self):
         self.assertEqual((machine.WIDE[:2], sum(word.startswith("nvme") for word in machine.WIDE)), (["-smp", "2"], len(shown.DISCS)))

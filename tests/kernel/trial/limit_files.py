@@ -1,14 +1,15 @@
-"""Cases of the further limit files: operations and escapes of random trees that tell of them, contained subtrees whose users set
-every file that they may, for each file of a kernel the trees in which it alone is reached, and what a neighbour's file turns. They run
+"""Cases of the limit files whose values are texts: operations and escapes of random trees that name them, contained subtrees whose users
+set every file that they may, for each file of a kernel the trees in which it alone is reached, and what a neighbour's file turns. They run
 in the wide machine, and know which of the files the kernel has."""
 import itertools
 import random
 
 from second import rules
-from second.further import FURTHER_FILES
+from second.limit_files import LIMIT_FILES, TEXT_FILES
 from trial import advice, asking, made, making, shown
-from trials import cases, format_4, further as told, trees
+from trials import cases, format_4, limit_files, trees
 
+# the word by which kinds of cases are named on the command line, in what was recorded and in seeds
 KIND, NEIGHBOURS = "further", "further neighbours"
 OPERATIONS, ESCAPES, CONTAINED, ADVICE = (f"{KIND} {kind}" for kind in ("operations", "escapes", "contained", "advice"))
 # how many of a boot's random cases are of each kind
@@ -22,13 +23,13 @@ DISC, OTHER_DISC = shown.DISCS
 OF_DISC = f"{DISC} rbps=max wbps=max riops=max wiops=max"
 LINES = [f"{DISC} rbps=1048576 wbps=max riops=max wiops=max", f"{OTHER_DISC} rbps=max wbps=max riops=max wiops=120"]
 SIZES = ["max", "0", "2097152", "1073741824"]
-# what a kernel shows as it is written, of which trees tell; the first isn't the text that loosens the file
-TOLD = {
+# what a kernel shows as it is written, and trees have as values; the first isn't the text that loosens the file
+VALUES = {
     "cgroup.freeze": ["1", "0"], "cpu.idle": ["1", "0"], "cpu.max": ["50000 100000", "max 100000", "20000 50000"],
     "cpu.max.burst": ["1", "0", "1000"], "cpu.weight.nice": ["5", "-20", "-19", "0"], "cpuset.cpus": ["0", "0-1", "1"],
     "cpuset.cpus.exclusive": ["0", "0-1"], "cpuset.cpus.partition": ["root", "member"], "cpuset.mems": ["0", "0-1"],
     "io.max": [LINES[0], LINES, LINES[:1]], "io.weight": ["default 100", "default 10000", "default 9999"],
-    **{file: ["0", "max", "1073741824"] for file in FURTHER_FILES if file.startswith(("hugetlb.", "memory.swap.", "memory.zswap.max"))},
+    **{file: ["0", "max", "1073741824"] for file in TEXT_FILES if file.startswith(("hugetlb.", "memory.swap.", "memory.zswap.max"))},
     "cpu.uclamp.max": ["50.00", "max"], "cpu.uclamp.min": ["0.00", "max", "12.50"], shown.WRITEBACK: ["0", "1"],
 }
 # what else is written to a file, beside what the program prints of it
@@ -40,21 +41,21 @@ WRITTEN = {"cpu.max": ["max", "30000"], "cpuset.cpus": ["0,1"], "cpuset.mems": [
 def some_text(rng, file):
     """What is set: mostly what a kernel takes, and at times what no kernel does."""
     if rng.random() < ODD:
-        return rng.choice(told.VALUES)
-    texts = [text for text in TOLD.get(file, []) if isinstance(text, str)] + WRITTEN.get(file, [])
+        return rng.choice(limit_files.VALUES)
+    texts = [text for text in VALUES.get(file, []) if isinstance(text, str)] + WRITTEN.get(file, [])
     if file in ("cgroup.freeze", shown.IDLE):
         # a process that is frozen can't be asked to fork
         return "0" if file == "cgroup.freeze" or rng.random() < 0.7 else "1"
-    return rng.choice(texts or [FURTHER_FILES[file][1]])
+    return rng.choice(texts or [LIMIT_FILES[file].loose])
 
 
-def tell(rng, tree, files):
-    """Has a tree's text tell of some of a kernel's files, most often of the subtree's, with values that it shows so."""
+def name_some(rng, tree, files):
+    """Has a tree's text name some of a kernel's files, most often of the subtree's, with values that it shows so."""
     for path in [path for path in tree.rows if path]:
-        able = [file for file in told.files_of(tree, path) if file in files]
+        able = [file for file in limit_files.files_of(tree, path) if file in files]
         if rng.random() < (0.9 if path == tree.subtree else 0.35):
             for file in rng.sample(able, min(len(able), rng.choice([1, 2, 3, 5, len(able)]))):
-                told.tell_one(rng, tree, path, file)
+                limit_files.name_one(rng, tree, path, file)
                 give_value(rng, tree, path, file)
             if rng.random() < 0.5:
                 file = rng.choice(able)
@@ -63,51 +64,51 @@ def tell(rng, tree, files):
 
 
 def give_value(rng, tree, path, file):
-    """A value, or none, which is as it is. What turns `cpu.weight` is told with what that shows then."""
+    """A value, or none, which isn't known. What turns `cpu.weight` is given with what that shows then."""
     table = tree.entry(path, file)
     table.pop("value", None)
-    if file not in TOLD or file == EXCLUSIVE or rng.random() < 0.15:
+    if file not in VALUES or file == EXCLUSIVE or rng.random() < 0.15:
         return
-    table["value"] = rng.choice(TOLD[file]) if file not in ("cgroup.freeze", shown.IDLE, shown.PARTITION) else TOLD[file][1]
+    table["value"] = rng.choice(VALUES[file]) if file not in ("cgroup.freeze", shown.IDLE, shown.PARTITION) else VALUES[file][1]
     if file == shown.NICE:
         tree.entry(path, shown.WEIGHT)["value"] = shown.weights_of({shown.NICE: table["value"]})[0]
 
 
 def random_tree(rng, controllers, files):
-    """A small random tree of format 4 with a subtree, that tells of further limit files, with its text and its state."""
+    """A small random tree of format 4 with a subtree, that names limit files, with its text and its state."""
     while True:
         tree = trees.random_tree(rng)
         format_4.widen(rng, tree)
         if tree.subtree and rng.random() < 0.7:
-            told.make_room(rng, tree)
+            limit_files.make_room(rng, tree)
         keep_controllers(tree, controllers)
         if not tree.subtree or not making.is_small(tree):
             continue
-        tell(rng, tree, files)
+        name_some(rng, tree, files)
         tree, text, state = making.settled(rng, tree, controllers)
         if state:
             return tree, text, state
 
 
 def keep_controllers(tree, controllers):
-    """Before it is told of files: takes from a tree what the kernel doesn't have."""
+    """Before it names files: takes from a tree what the kernel doesn't have."""
     for row in tree.rows.values():
         if "enabled" in row:
             row["enabled"] = [name for name in row["enabled"] if name in controllers]
 
 
 def steps_of(rng, tree, state, users, count, files):
-    """Operations of these users, chosen in the trees that those before them leave in the model: often of further limit files, alone
+    """Operations of these users, chosen in the trees that those before them leave in the model: often of limit files, alone
     or several that belong together."""
     steps, several = [], []
     while len(steps) < count:
         user = several[0][0] if several else rng.choice(users)
         if not several and rng.random() < 0.15:
-            several = [(user, step) for step in told.some_operations(rng, state, user)][:8]
+            several = [(user, step) for step in limit_files.some_operations(rng, state, user)][:8]
         if several:
             step = several.pop(0)[1]
         elif rng.random() < 0.5:
-            step = told.some_operation(rng, state, user)
+            step = limit_files.some_operation(rng, state, user)
         else:
             step = cases.random_operation(rng, tree, state, user)
         step = spoken(rng, making.settled_step(rng, state, step), files)
@@ -117,10 +118,10 @@ def steps_of(rng, tree, state, users, count, files):
 
 
 def spoken(rng, step, files):
-    """A set or a chmod of a further limit file, mostly of one that the kernel has, with a text that it may take."""
-    if step[0] not in ("set", "chmod") or step[2] not in FURTHER_FILES:
+    """A set or a chmod of such a limit file, mostly of one that the kernel has, with a text that it may take."""
+    if step[0] not in ("set", "chmod") or step[2] not in TEXT_FILES:
         return step
-    alike = [file for file in files if FURTHER_FILES[file][0] == FURTHER_FILES[step[2]][0]]
+    alike = [file for file in files if LIMIT_FILES[file].controller == LIMIT_FILES[step[2]].controller]
     file = step[2] if step[2] in files or not alike or rng.random() < 0.1 else rng.choice(alike)
     return (*step[:2], file, step[3] if step[0] == "chmod" else some_text(rng, file))
 
@@ -173,8 +174,8 @@ def trees_of_files(controllers, files):
     that which loosens it, and with that one, where the kernel takes them."""
     ways = itertools.cycle(advice.WAYS)
     for file in files:
-        loose = OF_DISC if file == "io.max" else FURTHER_FILES[file][1]
-        for value in [None, *(text for text in (*TOLD.get(file, [])[:1], loose) if takes(file, text))]:
+        loose = OF_DISC if file == "io.max" else LIMIT_FILES[file].loose
+        for value in [None, *(text for text in (*VALUES.get(file, [])[:1], loose) if takes(file, text))]:
             tree = partition(controllers) if (file, value) == (shown.PARTITION, "root") else wide_tree(controllers)
             table = tree.entry(tree.subtree, file)
             table.update(next(ways))
@@ -212,19 +213,19 @@ def of_files(program, controllers, files):
     return found
 
 
-# Steps by which each mutant of mutants.OF_FURTHER is found
+# Steps by which each mutant of mutants.OF_LIMIT_FILES is found
 OWN, CHILD = ("own",), ("own", "child")
-STEPS_OF_FURTHER = {
-    "lets anyone set a further limit file": ("set", OWN, "cpu.max", "50000 100000"),
-    "lets anyone set the mode of a further limit file": ("chmod", OWN, "io.weight", 0o666),
-    "takes further limit files that a user brings for root's": ("set", CHILD, "cpu.max", "50000 100000"),
+STEPS_OF_MUTANTS = {
+    "lets anyone set a limit file": ("set", OWN, "cpu.max", "50000 100000"),
+    "lets anyone set the mode of a limit file": ("chmod", OWN, "io.weight", 0o666),
+    "takes limit files that a user brings for root's": ("set", CHILD, "cpu.max", "50000 100000"),
 }
 
 
 def made_operations(controllers):
     """The user owns /own, enables `cpu` there, and sets what that brings to its child."""
     tree = made.tree_of(4, controllers, {(): list(controllers)}, [(), OWN, CHILD], [])
-    steps = list(STEPS_OF_FURTHER.values())
+    steps = list(STEPS_OF_MUTANTS.values())
     steps.insert(2, ("control", OWN, (("+", "cpu"),)))
     case = made.case_of(OPERATIONS, random.Random("made"), tree, controllers, steps)
     return [case]
