@@ -15,7 +15,7 @@ from zirofen_host.collect.model import User
 from zirofen_host.judge import check
 from zirofen_host.judge.baseline import Found
 from zirofen_host.judge.severity import Severity
-from zirofen_host.options import WatchOptions
+from zirofen_host.options import EVERYBODY, WatchOptions
 from zirofen_host.collect.snapshot import take
 from zirofen_host.ask.questions import subtrees_by
 from zirofen_host.watch import backs, checks, drain, events, findings, hooks, journal, kernel, known, lanes, loop, messages, numbers
@@ -83,7 +83,7 @@ class KernelTest(unittest.TestCase):
             self.addCleanup(source.close)
             source.watch(b"/")
             (number,) = source.paths
-            with mock.patch.object(kernel.bounded, "read_ready", return_value=watched(-1, LOST) + watched(number, MODIFY, b"file")):
+            with mock.patch.object(source.drain, "take", return_value=watched(-1, LOST) + watched(number, MODIFY, b"file")):
                 found = source.take()
             self.assertEqual(found, kernel.Batch({Event(b"/", b"file", MODIFY, None): 1}, True, {}))
 
@@ -117,17 +117,18 @@ class DrainTest(unittest.TestCase):
         self.assertEqual([self.drain.take(), self.drain.take()], [b"a", b""])
 
     def test_by_a_thread_beside(self):
-        """It reads while nobody takes, keeps so many parts in their order, and tells that there are some."""
+        """It reads while nobody takes, keeps so much in its order, and tells that there are some."""
         self.drain.begin()
         ready = select.poll()
         ready.register(self.drain.fileno(), select.POLLIN)
         self.assertNotEqual(self.drain.fileno(), self.reader)
-        with mock.patch.object(drain, "MOST_PARTS", 3):
+        with mock.patch.object(drain, "MOST", 3):
             for number in range(4):
                 os.write(self.writer, b"%d" % number)
-                self.wait(lambda: len(self.drain.parts) == min(number + 1, 3))
+                self.wait(lambda: self.drain.size == min(number + 1, 3))
             self.assertTrue(ready.poll(10000))
-            self.assertEqual([self.drain.take() for _ in range(3)], [b"0", b"1", b"2"])
+            time.sleep(3 * drain.GATHERING)
+            self.assertEqual(self.drain.take(), b"012")
             self.assertTrue(ready.poll(10000))
             self.assertEqual([self.drain.take(), self.drain.take()], [b"3", b""])
         self.drain.close()
@@ -211,10 +212,10 @@ class LanesTest(unittest.TestCase):
         lane.touch(Event(b"/", b"cgroup.procs", ATTRIB, 8), 1, 2.0, chown)
         lane.touch(Event(b"/a", b"", ATTRIB | IS_FOLDER, 8), 1, 3.0, chown)
         asked = lane.take()
-        self.assertEqual(asked.touched[lanes.near(asked.touched, b"/", "cgroup.procs")], lanes.Touched(ATTRIB, 3, 1.0, 2.0, (chmod, chown)))
+        self.assertEqual(asked.touched[lanes.Touches(asked.touched).near(b"/", "cgroup.procs")], lanes.Touched(ATTRIB, 3, 1.0, 2.0, (chmod, chown)))
         for path, entry, told in ((b"/a", "memory.max", (b"/a", "dir")), (b"/a/b", "memory.max", (b"/a", "dir")),
                                   (b"/b", "dir", (b"/", "cgroup.procs"))):
-            self.assertEqual(lanes.near(asked.touched, path, entry), told)
+            self.assertEqual(lanes.Touches(asked.touched).near(path, entry), told)
         lane.give_back(asked)
         self.assertEqual(lane.touched, asked.touched)
         lane.give_back(asked._replace(touched={(b"/a", "dir"): lanes.Touched(ATTRIB, 1, 4.0, 4.0, (chmod,))}))
@@ -232,7 +233,7 @@ class LanesTest(unittest.TestCase):
                                            ("/a", "cgroup.procs", late.touched, 8), ("docker:a", "memory.max", late.touched, None),
                                            ("/a", "", late.touched, 8), ("/b", "", beside.touched, 9), ("/b", "memory.max", {}, None),
                                            ("/b", "memory.max", beside.touched, None)):
-            found = messages.touched_of(asked, change_at(path, entry), waiting, 3.5, 0.0)
+            found = messages.touched_of(lanes.Touches(asked.touched), change_at(path, entry), lanes.Touches(waiting), 3.5, 0.0)
             self.assertEqual(found and found.doers[0].pid, told)
 
     def test_who_did_the_last_of_it(self):
@@ -243,18 +244,18 @@ class LanesTest(unittest.TestCase):
         asked = lane.take()
         for entry in ("memory.max", ""):
             for began, after, told in ((4.0, 0.0, 7), (6.0, 0.0, 8), (4.0, 2.0, 7), (4.0, 3.0, 8)):
-                found = messages.touched_of(asked, change_at("/a", entry), late.touched, began, after)
+                found = messages.touched_of(lanes.Touches(asked.touched), change_at("/a", entry), lanes.Touches(late.touched), began, after)
                 self.assertEqual(found.doers[0].pid, told)
-        self.assertIsNone(messages.touched_of(asked, change_at("/a", ""), {}, 4.0, 3.0))
+        self.assertIsNone(messages.touched_of(lanes.Touches(asked.touched), change_at("/a", ""), lanes.Touches({}), 4.0, 3.0))
 
     def test_what_opened_something_doesnt_mend_it(self):
         """What was reported once is no cause of the opposite, which a later event is, if one was seen."""
         lane, late, found = lanes.Lane(0, 0.0), lanes.Lane(0, 0.0), findings.Findings(lambda _: None, None)
         lane.touch(Event(b"/a", b"memory.max", ATTRIB, 7), 1, 3.0, Doer(7))
         late.touch(Event(b"/a", b"memory.max", ATTRIB, 8), 1, 5.0, Doer(8))
-        asked = lane.take()
+        asked = lanes.Touches(lane.take().touched)
         for kind, waiting, told in (("new", {}, 7), ("worse", {}, 7), ("mended", {}, None), ("new", {}, 7), ("mended", late.touched, 8)):
-            touched = found.touched(asked, change_at("/a", "memory.max", kind=kind), waiting, 4.0)
+            touched = found.touched(asked, change_at("/a", "memory.max", kind=kind), lanes.Touches(waiting), 4.0)
             self.assertEqual(touched and touched.doers[0].pid, told)
 
     def test_what_no_event_inside_explains(self):
@@ -265,7 +266,7 @@ class LanesTest(unittest.TestCase):
         asked = lane.take()
         for path, what, told in (("/a", "subtree", 7), ("/a", "root-inside", None), ("/", "mount-options", None),
                                  ("/c/d", "root-inside", 8)):
-            found = messages.touched_of(asked, change_at(path, "", what), {}, 4.0, 0.0)
+            found = messages.touched_of(lanes.Touches(asked.touched), change_at(path, "", what), lanes.Touches({}), 4.0, 0.0)
             self.assertEqual(found and found.doers[0].pid, told)
 
     def test_what_was_lost_within_a_minute(self):
@@ -370,7 +371,8 @@ class LanesTest(unittest.TestCase):
         loop.Loop.ask_of_left_out(made, to.host.take(), (1000, 1002))
         self.assertEqual({person: lane.part for person, lane in to.all.items() if lane.part}, {1000: b"/a"})
         self.assertEqual(to.all[1000].touched[b"/a", "cgroup.procs"].doers, (Doer(7),))
-        self.assertEqual(owners.parts_of((1001, 1000), paths, b"/"), {1000: b"/", 1001: b"/a/e"})
+        for persons in ((1001, 1000), (EVERYBODY,)):
+            self.assertEqual(owners.parts_of(persons, paths, b"/"), {1000: b"/", 1001: b"/a/e"})
         self.assertEqual(owners.parts_of((), paths, b"/"), {})
 
     def test_what_is_urgent(self):

@@ -5,12 +5,12 @@ import select
 import threading
 import time
 from collections import deque
-from typing import Deque
+from typing import Deque, List
 
 from zirofen_host.collect import bounded
 
-# bytes of one read, and reads that are kept until they are taken; what comes beyond them stays with the kernel
-PART, MOST_PARTS = 1 << 18, 256
+# bytes of one read, those that are kept until they are taken, and those that are taken at once; what comes beyond stays with the kernel
+PART, MOST, AT_ONCE = 1 << 18, 1 << 26, 1 << 20
 # seconds from one read to the next
 GATHERING = 0.02
 
@@ -21,6 +21,7 @@ class Drain:
     def __init__(self, opened: int) -> None:
         self.opened = opened
         self.parts: Deque[bytes] = deque()
+        self.size = 0
         self.lock = threading.Lock()
         self.woken, self.waker = os.pipe2(os.O_CLOEXEC | os.O_NONBLOCK)
         self.is_beside = self.is_closed = False
@@ -48,21 +49,26 @@ class Drain:
             time.sleep(GATHERING)
 
     def gather(self) -> None:
-        while len(self.parts) < MOST_PARTS:
+        while self.size < MOST:
             part = bounded.read_ready(self.opened, PART)
             if not part:
                 return
             self.parts.append(part)
+            self.size += len(part)
 
     def take(self) -> bytes:
-        """One part of what was read, and of what is there to be read; nothing where there is none."""
+        """Some of what was read, and of what is there to be read; nothing where there is none."""
         with self.lock:
             bounded.read_ready(self.woken, 4096)
-            self.gather()
-            part = self.parts.popleft() if self.parts else b""
+            if not self.parts:
+                self.gather()
+            taken: List[bytes] = []
+            while self.parts and sum(map(len, taken)) < AT_ONCE:
+                taken.append(self.parts.popleft())
+            self.size -= sum(map(len, taken))
             if self.parts and self.is_beside:
                 os.write(self.waker, b"\0")
-            return part
+        return b"".join(taken)
 
     def close(self) -> None:
         with self.lock:

@@ -3,12 +3,14 @@
 A lane has a tenth of a processor, and root's, which is one more, three. What happens is counted for the owner of the folder in which it is,
 found from the mount on: what is root's inside of what somebody holds is theirs.
 """
+import bisect
 import os
 from collections import Counter
 from typing import Callable, Dict, Iterable, List, Mapping, NamedTuple, Optional, Tuple
 
 from zirofen_host.collect.bounded import ChargedUser
-from zirofen_host.profile import ROOT, CgroupPath, is_inside, parent_of
+from zirofen_host.options import EVERYBODY
+from zirofen_host.profile import ROOT, CgroupPath, ancestors, is_inside, parent_of
 from zirofen_host.watch.doers import Doer
 from zirofen_host.watch.kernel import ATTRIB, CREATE, DELETE, IS_FOLDER, MODIFY, Event
 
@@ -71,13 +73,29 @@ def together(one: Touched, other: Touched) -> Touched:
     return Touched(one.mask | other.mask, one.number + other.number, min(one.first, other.first), later.last, doers)
 
 
-def near(touched: Mapping[Place, Touched], path: CgroupPath, entry: str, has_inside: bool = True) -> Optional[Place]:
-    """Where something happened that concerns an entry: itself, else its cgroup, else above, else inside where that may be why."""
-    for wanted in ((path, entry), (path, DIRECTORY)):
-        if wanted in touched:
-            return wanted
-    found = [place for place in touched if is_inside(path, place[0]) or has_inside and is_inside(place[0], path)]
-    return max(found, key=lambda place: (is_inside(path, place[0]), len(place[0]))) if found else None
+class Touches:
+    """What happened to entries, to be looked up for many of them."""
+
+    def __init__(self, touched: Mapping[Place, Touched]) -> None:
+        self.touched = touched
+        self.by_path: Dict[CgroupPath, List[Place]] = {}
+        for place in touched:
+            self.by_path.setdefault(place[0], []).append(place)
+        self.paths = sorted(self.by_path)
+
+    def near(self, path: CgroupPath, entry: str, has_inside: bool = True, after: float = 0.0) -> Optional[Place]:
+        """Where something happened after a time that concerns an entry: itself, else its cgroup, else above, else inside where that may be
+        why."""
+        own = ((place,) for place in ((path, entry), (path, DIRECTORY)) if place in self.touched)
+        around = (self.by_path.get(each, ()) for each in (path, *ancestors(path)))
+        inside = (self.by_path[each] for each in self.inside(path)) if has_inside else ()
+        return next((place for places in (*own, *around, *inside) for place in places if self.touched[place].last > after), None)
+
+    def inside(self, path: CgroupPath) -> List[CgroupPath]:
+        """The paths below one at which something happened, the longest first."""
+        top = b"" if path == ROOT else path
+        begin, end = (bisect.bisect_left(self.paths, CgroupPath(top + mark)) for mark in (b"/", b"0"))
+        return sorted(self.paths[begin:end], key=len, reverse=True)
 
 
 class Owners:
@@ -97,12 +115,12 @@ class Owners:
         return [person for person, number in counts.items() if person != HOST and number >= MANY]
 
     def parts_of(self, persons: Iterable[int], paths: Iterable[CgroupPath], part: CgroupPath) -> Mapping[int, CgroupPath]:
-        """By person the nearest cgroup that has all of theirs in a part."""
+        """By person, or of everybody but root, the nearest cgroup that has all of theirs in a part."""
         wanted = set(persons)
         found: Dict[int, CgroupPath] = {}
         for path in paths if wanted else ():
             person = self.of(path)
-            if person in wanted and is_inside(path, part):
+            if (person in wanted or EVERYBODY in wanted and person != HOST) and is_inside(path, part):
                 found[person] = common(found[person], path) if person in found else path
         return found
 

@@ -261,7 +261,7 @@ class Loop:
         shallow = () if asked.is_whole else self.shallow(lane)
         part = asked.part if self.is_there(asked.part) else self.nearest(asked.part)
         asked = asked._replace(part=part)
-        if lane.person == lanes.HOST and self.has_begun:
+        if lane.person == lanes.HOST and self.has_surveyed:
             self.ask_of_left_out(asked, shallow)
         began = time.monotonic()
         look = functools.partial(checks.look, self.options, part, shallow, write, write is not None and self.outside.is_full)
