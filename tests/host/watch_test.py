@@ -1,6 +1,7 @@
 """Tests of a watch: what events concern, who is asked when, what differs, and where it is told. A kernel's part is played."""
 import argparse
 import os
+import select
 import socket
 import struct
 import tempfile
@@ -14,10 +15,10 @@ from zirofen_host.collect.model import User
 from zirofen_host.judge import check
 from zirofen_host.judge.baseline import Found
 from zirofen_host.judge.severity import Severity
-from zirofen_host.options import WatchOptions
+from zirofen_host.options import EVERYBODY, WatchOptions
 from zirofen_host.collect.snapshot import take
 from zirofen_host.ask.questions import subtrees_by
-from zirofen_host.watch import backs, checks, events, findings, hooks, journal, kernel, known, lanes, loop, messages, numbers
+from zirofen_host.watch import backs, checks, drain, events, findings, hooks, journal, kernel, known, lanes, loop, messages, numbers
 from zirofen_host.watch.doers import Doer, doer_of
 from zirofen_host.watch.kernel import ATTRIB, CREATE, DELETE, IS_FOLDER, LOST, MODIFY, Event
 
@@ -82,7 +83,7 @@ class KernelTest(unittest.TestCase):
             self.addCleanup(source.close)
             source.watch(b"/")
             (number,) = source.paths
-            with mock.patch.object(kernel.bounded, "read_ready", return_value=watched(-1, LOST) + watched(number, MODIFY, b"file")):
+            with mock.patch.object(source.drain, "take", return_value=watched(-1, LOST) + watched(number, MODIFY, b"file")):
                 found = source.take()
             self.assertEqual(found, kernel.Batch({Event(b"/", b"file", MODIFY, None): 1}, True, {}))
 
@@ -102,6 +103,42 @@ class KernelTest(unittest.TestCase):
                     pass
             os.rename(f"{room}/other", f"{room}/passwd")
             self.assertEqual((sorted(watch.has_changed()), watch.has_changed()), ([b"group", b"passwd"], []))
+
+
+class DrainTest(unittest.TestCase):
+    def setUp(self):
+        self.reader, self.writer = os.pipe2(os.O_NONBLOCK)
+        self.drain = drain.Drain(self.reader)
+
+    def test_by_whoever_takes_it(self):
+        self.addCleanup(self.drain.close)
+        self.assertEqual((self.drain.fileno(), self.drain.take()), (self.reader, b""))
+        os.write(self.writer, b"a")
+        self.assertEqual([self.drain.take(), self.drain.take()], [b"a", b""])
+
+    def test_by_a_thread_beside(self):
+        """It reads while nobody takes, keeps so much in its order, and tells that there are some."""
+        self.drain.begin()
+        ready = select.poll()
+        ready.register(self.drain.fileno(), select.POLLIN)
+        self.assertNotEqual(self.drain.fileno(), self.reader)
+        with mock.patch.object(drain, "MOST", 3):
+            for number in range(4):
+                os.write(self.writer, b"%d" % number)
+                self.wait(lambda: self.drain.size == min(number + 1, 3))
+            self.assertTrue(ready.poll(10000))
+            time.sleep(3 * drain.GATHERING)
+            self.assertEqual(self.drain.take(), b"012")
+            self.assertTrue(ready.poll(10000))
+            self.assertEqual([self.drain.take(), self.drain.take()], [b"3", b""])
+        self.drain.close()
+        os.close(self.writer)
+
+    def wait(self, is_so):
+        until = time.monotonic() + 60
+        while not is_so():
+            self.assertLess(time.monotonic(), until)
+            time.sleep(0.01)
 
 
 class ConcernedTest(unittest.TestCase):
@@ -153,6 +190,15 @@ class LanesTest(unittest.TestCase):
         all_lanes.refill(30.0)
         self.assertFalse(mine.is_waiting)
 
+    def test_root_has_more(self):
+        """Three times what others have, and at once, too."""
+        mine, other = lanes.Lane(lanes.HOST, 0.0), lanes.Lane(1000, 0.0)
+        self.assertEqual((mine.left, other.left), (lanes.TIMES_OF_ROOT * lanes.AT_ONCE, lanes.AT_ONCE))
+        for lane, due in ((mine, 10.0), (other, 10.0 * lanes.TIMES_OF_ROOT)):
+            lane.add(b"/a", 0.0)
+            lane.left = -10.0 * lanes.TIMES_OF_ROOT * lanes.SHARE
+            self.assertAlmostEqual(lane.due(), due)
+
     def test_lanes_are_forgotten(self):
         all_lanes = lanes.Lanes(0.0)
         for person in range(1, 100):
@@ -166,10 +212,10 @@ class LanesTest(unittest.TestCase):
         lane.touch(Event(b"/", b"cgroup.procs", ATTRIB, 8), 1, 2.0, chown)
         lane.touch(Event(b"/a", b"", ATTRIB | IS_FOLDER, 8), 1, 3.0, chown)
         asked = lane.take()
-        self.assertEqual(asked.touched[lanes.near(asked.touched, b"/", "cgroup.procs")], lanes.Touched(ATTRIB, 3, 1.0, 2.0, (chmod, chown)))
+        self.assertEqual(asked.touched[lanes.Touches(asked.touched).near(b"/", "cgroup.procs")], lanes.Touched(ATTRIB, 3, 1.0, 2.0, (chmod, chown)))
         for path, entry, told in ((b"/a", "memory.max", (b"/a", "dir")), (b"/a/b", "memory.max", (b"/a", "dir")),
                                   (b"/b", "dir", (b"/", "cgroup.procs"))):
-            self.assertEqual(lanes.near(asked.touched, path, entry), told)
+            self.assertEqual(lanes.Touches(asked.touched).near(path, entry), told)
         lane.give_back(asked)
         self.assertEqual(lane.touched, asked.touched)
         lane.give_back(asked._replace(touched={(b"/a", "dir"): lanes.Touched(ATTRIB, 1, 4.0, 4.0, (chmod,))}))
@@ -187,7 +233,7 @@ class LanesTest(unittest.TestCase):
                                            ("/a", "cgroup.procs", late.touched, 8), ("docker:a", "memory.max", late.touched, None),
                                            ("/a", "", late.touched, 8), ("/b", "", beside.touched, 9), ("/b", "memory.max", {}, None),
                                            ("/b", "memory.max", beside.touched, None)):
-            found = messages.touched_of(asked, change_at(path, entry), waiting, 3.5, 0.0)
+            found = messages.touched_of(lanes.Touches(asked.touched), change_at(path, entry), lanes.Touches(waiting), 3.5, 0.0)
             self.assertEqual(found and found.doers[0].pid, told)
 
     def test_who_did_the_last_of_it(self):
@@ -198,18 +244,18 @@ class LanesTest(unittest.TestCase):
         asked = lane.take()
         for entry in ("memory.max", ""):
             for began, after, told in ((4.0, 0.0, 7), (6.0, 0.0, 8), (4.0, 2.0, 7), (4.0, 3.0, 8)):
-                found = messages.touched_of(asked, change_at("/a", entry), late.touched, began, after)
+                found = messages.touched_of(lanes.Touches(asked.touched), change_at("/a", entry), lanes.Touches(late.touched), began, after)
                 self.assertEqual(found.doers[0].pid, told)
-        self.assertIsNone(messages.touched_of(asked, change_at("/a", ""), {}, 4.0, 3.0))
+        self.assertIsNone(messages.touched_of(lanes.Touches(asked.touched), change_at("/a", ""), lanes.Touches({}), 4.0, 3.0))
 
     def test_what_opened_something_doesnt_mend_it(self):
         """What was reported once is no cause of the opposite, which a later event is, if one was seen."""
         lane, late, found = lanes.Lane(0, 0.0), lanes.Lane(0, 0.0), findings.Findings(lambda _: None, None)
         lane.touch(Event(b"/a", b"memory.max", ATTRIB, 7), 1, 3.0, Doer(7))
         late.touch(Event(b"/a", b"memory.max", ATTRIB, 8), 1, 5.0, Doer(8))
-        asked = lane.take()
+        asked = lanes.Touches(lane.take().touched)
         for kind, waiting, told in (("new", {}, 7), ("worse", {}, 7), ("mended", {}, None), ("new", {}, 7), ("mended", late.touched, 8)):
-            touched = found.touched(asked, change_at("/a", "memory.max", kind=kind), waiting, 4.0)
+            touched = found.touched(asked, change_at("/a", "memory.max", kind=kind), lanes.Touches(waiting), 4.0)
             self.assertEqual(touched and touched.doers[0].pid, told)
 
     def test_what_no_event_inside_explains(self):
@@ -220,7 +266,7 @@ class LanesTest(unittest.TestCase):
         asked = lane.take()
         for path, what, told in (("/a", "subtree", 7), ("/a", "root-inside", None), ("/", "mount-options", None),
                                  ("/c/d", "root-inside", 8)):
-            found = messages.touched_of(asked, change_at(path, "", what), {}, 4.0, 0.0)
+            found = messages.touched_of(lanes.Touches(asked.touched), change_at(path, "", what), lanes.Touches({}), 4.0, 0.0)
             self.assertEqual(found and found.doers[0].pid, told)
 
     def test_what_was_lost_within_a_minute(self):
@@ -248,9 +294,94 @@ class LanesTest(unittest.TestCase):
             to = lanes.Lanes(0.0)
             read = events.Events(source, "/nowhere", to, argparse.Namespace(of=lambda _: 0))
             with mock.patch.object(source, "take", side_effect=batches), mock.patch.object(source, "begin_turn"):
-                self.assertTrue(read.take(1.0))
+                self.assertEqual(read.take(1.0), (False, True))
             self.assertEqual(len(read.unknown), events.MOST_UNKNOWN)
             self.assertEqual([doer.pid for doer in to.host.touched[b"/a", "memory.max"].doers], [8])
+
+    def test_folders_that_went_are_forgotten(self):
+        """Names that are never used again leave nothing; where no more folders are known, what happens elsewhere is lost."""
+        source = kernel.Fanotify.__new__(kernel.Fanotify)
+        source.mount, source.folders, source.handles, source.left, source.until = b"/nowhere", {}, {}, 0, 0.0
+        source.know({b"/": 1, b"/a": 2})
+        handles = [kernel.HANDLE_HEAD + number.to_bytes(8, "little") for number in (1, 2, 3)]
+        read = events.Events(source, "/nowhere", lanes.Lanes(0.0), argparse.Namespace(of=lambda _: 0))
+        for mask, number in ((DELETE, 2), (DELETE | IS_FOLDER, 1)):
+            read.happened(source.event_of((handles[0], b"a", mask, 7)), 1, 1.0)
+            self.assertEqual(len(source.folders), number)
+        unknown = {(handles[2], b"%d" % number, ATTRIB, 9): 1 for number in range(events.MOST_UNKNOWN + 1)}
+        for most, taken in ((1, (True, False)), (2, (False, True))):
+            read.unknown = []
+            with mock.patch.object(kernel, "MOST_FOLDERS", most), mock.patch.object(source, "begin_turn"), mock.patch.object(
+                    source, "take", side_effect=[kernel.Batch({}, False, unknown), kernel.Batch({}, False, {})]):
+                self.assertEqual(read.take(1.0), taken)
+
+    def test_what_is_enough_of_a_flood(self):
+        """Of whoever's entries are many, more are only counted; root's never, nor what lies beside."""
+        to = lanes.Lanes(0.0)
+        read = events.Events(argparse.Namespace(), "/nowhere", to, argparse.Namespace(of=lambda path: 1000 if path == b"/a" else 0))
+        for folder in (b"/a", b"/b"):
+            for number in range(lanes.MOST_TOUCHED):
+                read.happened(Event(folder, b"%d" % number, ATTRIB, 7), 1, 1.0)
+        with mock.patch.object(read, "doer") as looked_up:
+            read.happened(Event(b"/a", b"more", ATTRIB, 7), 3, 1.1)
+            self.assertEqual((looked_up.call_count, to.all[1000].events), (0, lanes.MOST_TOUCHED + 3))
+            self.assertAlmostEqual(to.all[1000].due(), 1.1 + lanes.QUIET)
+            read.happened(Event(b"/b", b"more", ATTRIB, 7), 1, 1.1)
+            self.assertEqual(looked_up.call_count, 1)
+        self.assertTrue(to.all[1000].take().has_made_folders)
+        read.happened(Event(b"/a", b"more", ATTRIB, None), 1, 1.2)
+        self.assertEqual(list(to.all[1000].touched), [(b"/a", "more")])
+
+    def test_what_is_asked_once_more(self):
+        """Where more happens in folders that nobody knows than is kept, checks of persons who made folders before them."""
+        lane, others = lanes.Lane(1000, 0.0), [lanes.Lane(person, 0.0) for person in (1001, lanes.HOST)]
+        for each in (lane, *others):
+            each.add(b"/a", 1.0)
+        for each in (lane, others[1]):
+            each.touch(Event(b"/a", b"made", CREATE | IS_FOLDER, 7), 1, 1.0, None)
+        made = argparse.Namespace(running={each.person: argparse.Namespace(lane=each, asked=each.take()) for each in (lane, *others)})
+        loop.Loop.ask_of_unknown(made, 2.0)
+        self.assertEqual([each.part for each in (lane, *others)], [b"/a", None, None])
+
+    def test_events_come_before_what_a_check_found(self):
+        """Whatever a check found is told with what its events say, also where it is early to read them."""
+        done = []
+        made = argparse.Namespace(
+            poll=mock.Mock(**{"poll.return_value": [(5, 1)]}), running={5: None},
+            events=argparse.Namespace(next_read=1e12), next_word=1e12,
+            take_events=lambda _: done.append("events"), ready=lambda _: done.append("found"),
+            outside=argparse.Namespace(go_on=lambda: None),
+            lanes=argparse.Namespace(refill=lambda _: None), milliseconds=lambda: 0, by_the_clock=lambda _: None,
+            name_who_waits=lambda: None, start_checks=lambda _: None)
+        loop.Loop.turn(made)
+        self.assertEqual(done, ["events", "found"])
+        made.running = {}
+        loop.Loop.turn(made)
+        self.assertEqual(done, ["events", "found", "found"])
+
+    def test_who_is_left_out_is_asked_of_beside(self):
+        """Where root's check reads nothing of what somebody holds, what root did there waits for their own."""
+        to = lanes.Lanes(0.0)
+        uids = {b"/a/b": 1000, b"/a/c": 1000, b"/d": 1000, b"/a/e": 1001}
+        owners = lanes.Owners(lambda path: uids.get(path, 0), lambda uid: uid)
+        paths = (b"/", b"/a", b"/a/b", b"/a/c", b"/a/c/i", b"/a/e", b"/d")
+        made = argparse.Namespace(owners=owners, lanes=to, findings=argparse.Namespace(entries=argparse.Namespace(all=paths)))
+        to.host.touch(Event(b"/a", b"cgroup.procs", ATTRIB, 7), 1, 1.0, Doer(7))
+        to.host.add(b"/a", 1.0)
+        loop.Loop.ask_of_left_out(made, to.host.take(), (1000, 1002))
+        self.assertEqual({person: lane.part for person, lane in to.all.items() if lane.part}, {1000: b"/a"})
+        self.assertEqual(to.all[1000].touched[b"/a", "cgroup.procs"].doers, (Doer(7),))
+        for persons in ((1001, 1000), (EVERYBODY,)):
+            self.assertEqual(owners.parts_of(persons, paths, b"/"), {1000: b"/", 1001: b"/a/e"})
+        self.assertEqual(owners.parts_of((), paths, b"/"), {})
+
+    def test_what_is_urgent(self):
+        """What is asked of whoever changes much comes behind all else."""
+        for person, left, is_urgent in ((lanes.HOST, -5.0, True), (lanes.DEEP, 0.0, True), (1000, lanes.AT_ONCE, True),
+                                        (1000, 1.0, False)):
+            lane = lanes.Lane(person, 0.0)
+            lane.left = left
+            self.assertEqual(lane.is_urgent, is_urgent)
 
     def test_what_is_kept_of_a_flood(self):
         lane = lanes.Lane(1000, 0.0)
@@ -331,6 +462,12 @@ class KnownTest(unittest.TestCase):
         part = WHOLE._replace(since=(known.Asked("/a", frozenset({"/a/b"})),))
         then = {("entry", "/a", "dir"): item("/a"), ("entry", "/a/b", "dir"): item("/a/b")}
         self.assertEqual(self.kinds(then, {("opened", "/a", "x"): item("/a")}, part)[0], [("mended", "/a/b")])
+
+    def test_what_concerns_a_part(self):
+        for asked, concerns in ((("/a", ()), True), (("/a/b/c", ()), True), (("/", ()), True), (("/", ("/a",)), False), (("/d", ()), False),
+                                (("/", ("/a/b/c",)), True)):
+            with self.subTest(asked):
+                self.assertEqual(known.Asked(asked[0], frozenset(asked[1])).concerns("/a/b"), concerns)
 
     def test_rows_of_subtrees_are_told_by_what_they_rest_on(self):
         now = {("entry", "/", "cgroup.procs"): item("/", lets_in=[("subtree", "/a")]), ("subtree", "/a", ""): item("/a"),
@@ -482,6 +619,11 @@ class ChildTest(unittest.TestCase):
                            (lambda: time.sleep(60), checks.Failed("it took longer than 1 seconds, and this is no answer"))):
             child = checks.Child(make, 1)
             self.assertEqual(child.made(), made)
+
+    def test_one_that_is_not_urgent_is_nicer(self):
+        mine = os.getpriority(os.PRIO_PROCESS, 0)
+        for is_urgent, nicer in ((True, mine), (False, min(mine + checks.LATER, 19))):
+            self.assertEqual(checks.Child(lambda: os.getpriority(os.PRIO_PROCESS, 0), 60, is_urgent).made(), nicer)
 
 
 if __name__ == "__main__":

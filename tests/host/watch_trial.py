@@ -32,8 +32,9 @@ from elsewhere_trial import image_of
 
 TOP = "zirofen-trial"
 HOLDER, OTHER, HOSTILE = 61001, 61002, 61003
-# what is made inside of others' is told beside
+# what is made inside of others' is told beside; a fault, or what stands above, names of what it is behind its head
 OTHERS = re.compile(f"/({TOP}-hostile|zirofen-test-)")
+NAMED_BEHIND = re.compile("(fault|above): [^:]*")
 TOLD = re.compile(r" (new|worse|mended|gone): (.*?)(, by pid .*)?$")
 HANDED = ("", "/cgroup.procs", "/cgroup.subtree_control")
 # cgroups of an idle host, of which one in so many is handed over, and the share of a processor that a watch of it may take
@@ -47,7 +48,8 @@ def mount_here():
 
 def head_of(line):
     """What a line is of; others may be named behind it."""
-    return re.split(r" \(|: ", line)[0]
+    named = NAMED_BEHIND.match(line)
+    return named[0] if named else re.split(r" \(|: ", line)[0]
 
 
 def run(*words):
@@ -96,12 +98,20 @@ class Watch:
             except queue.Empty:
                 return None
             if is_it(line):
-                time.sleep(0.05)
-                more = []
-                while not self.lines.empty() and self.lines.queue[0][1].startswith("    "):
-                    more.append(self.lines.get()[1])
-                return when, line, more
+                return when, line, self.behind()
         return None
+
+    def behind(self):
+        """The lines behind one that belong to it; on a busy host they come late."""
+        more, until = [], time.monotonic() + 0.3
+        while time.monotonic() < until:
+            if self.lines.empty():
+                time.sleep(0.01)
+            elif self.lines.queue[0][1].startswith("    "):
+                more.append(self.lines.get()[1])
+            else:
+                break
+        return more
 
     def drain(self):
         while not self.lines.empty():
@@ -266,7 +276,9 @@ def told(watch, pid, name, kinds, within):
     """Whether something that was done is told as that in time, with whom, and says it."""
     def is_it(line):
         found = TOLD.search(line)
-        return found and found[1] in kinds and not OTHERS.search(head_of(found[2]))
+        if not found or found[1] not in kinds:
+            return False
+        return not OTHERS.search(head_of(found[2]))
     began = time.monotonic()
     found = watch.wait(is_it, within)
     if not found:

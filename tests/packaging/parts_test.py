@@ -126,13 +126,13 @@ class InstalledTest(unittest.TestCase):
             self.assertEqual([line for line in text.read().splitlines() if line[:1] != "#"], ["OPTIONS="])
 
     def test_the_watch_is_confined_as_the_check(self):
-        """By the same settings, but for the calls that tell of events."""
+        """By the same settings, but for the calls that tell of events, and that it comes before others."""
         with open(f"{HERE}/systemd/zirofen-watch.service", encoding="ascii") as text:
             filters = [line for line in text.read().splitlines() if line.startswith("SystemCallFilter=")]
         self.assertEqual(filters, ["SystemCallFilter=@system-service", "SystemCallFilter=~@privileged @resources",
-                                   "SystemCallFilter=fanotify_init fanotify_mark open_by_handle_at"])
+                                   "SystemCallFilter=fanotify_init fanotify_mark open_by_handle_at setpriority"])
         check, watch = self.unit(), self.unit("zirofen-watch")
-        others = {"Description", "Type", "EnvironmentFile", "ExecStart", "SuccessExitStatus", "TimeoutStartSec", "SystemCallFilter"}
+        others = {"Description", "Type", "EnvironmentFile", "ExecStart", "SuccessExitStatus", "Nice", "TimeoutStartSec", "SystemCallFilter"}
         self.assertEqual({name: watch.get(name) for name in check if name not in others},
                          {name: value for name, value in check.items() if name not in others})
 

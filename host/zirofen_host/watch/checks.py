@@ -42,6 +42,8 @@ Guarded = Tuple[str, int, int, int]
 ENTRIES = {*CONTROL_FILES, *KINDS}
 # bytes of what a check leaves
 RESULT = 1 << 30
+# by how much a check of whoever changes much is nicer than others
+LATER = 10
 
 
 class Result(NamedTuple):
@@ -133,11 +135,11 @@ def mounts_seen(options: WatchOptions) -> Tuple[object, ...]:
 class Child(Generic[Made]):
     """A process that makes something."""
 
-    def __init__(self, make: Callable[[], Made], seconds: int) -> None:
+    def __init__(self, make: Callable[[], Made], seconds: int, is_urgent: bool = True) -> None:
         self.left = os.memfd_create("zirofen-watch")
         self.pid = os.fork()
         if not self.pid:
-            end_with(self.left, make, seconds)
+            end_with(self.left, make, seconds, 0 if is_urgent else LATER)
         self.opened = os.pidfd_open(self.pid)
         # of a processor, once it has ended
         self.seconds = 0.0
@@ -167,11 +169,13 @@ class Child(Generic[Made]):
         return made
 
 
-def end_with(number: int, make: Callable[[], Made], seconds: int) -> None:
-    """Makes it, leaves it, and ends this process."""
+def end_with(number: int, make: Callable[[], Made], seconds: int, later: int) -> None:
+    """Makes it, by that much later than others, leaves it, and ends this process."""
     status = fault.FAULT
     try:
         gc.disable()
+        with contextlib.suppress(OSError):
+            os.nice(later)
         for each in (signal.SIGUSR1, signal.SIGHUP):
             signal.signal(each, signal.SIG_IGN)
         signal.set_wakeup_fd(-1)

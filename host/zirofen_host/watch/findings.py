@@ -7,7 +7,7 @@ from zirofen_host.profile import CgroupPath, path_of
 from zirofen_host.watch import known, lanes, messages
 from zirofen_host.watch.backs import Entries, backs
 from zirofen_host.watch.checks import Result
-from zirofen_host.watch.lanes import Asked
+from zirofen_host.watch.lanes import Asked, Touches
 from zirofen_host.watch.messages import WATCH, Message
 
 # things that were reported, of which it is known when they were, and seconds within which two times are one
@@ -40,7 +40,7 @@ class Findings:
         self.counts[each.kind] += 1
         self.out(each)
 
-    def touched(self, asked: Asked, change: known.Change, waiting: messages.Waiting, began: float) -> Optional[lanes.Touched]:
+    def touched(self, asked: Touches, change: known.Change, waiting: Touches, began: float) -> Optional[lanes.Touched]:
         """What events say of a change, and keeps when that was: what opened something doesn't mend it, nor the other way round."""
         key, is_open = (change.difference.what, change.path, change.entry), change.kind in known.OPEN
         when, was_open = self.reported.pop(key, (0.0, is_open))
@@ -60,8 +60,9 @@ class Findings:
         kept, more = self.folding.kept(each for each in compared.changes if is_reported or known.is_counted(each))
         by = "it was there at the first check" if is_first else f"it was found by {asked.why or 'a check of what is beside it'}"
         said: Set[lanes.Place] = set()
+        mine, others = Touches(asked.touched), Touches(waiting)
         for change in kept:
-            touched = self.touched(asked, change, waiting, began)
+            touched = self.touched(mine, change, others, began)
             if change.path.startswith("/"):
                 said.add((path_of(change.path), change.entry.split(" ")[0] or lanes.DIRECTORY))
             self.tell(messages.of_change(change, touched, time.time(), by))

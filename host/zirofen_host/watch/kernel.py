@@ -2,17 +2,19 @@
 import contextlib
 import ctypes
 import os
+import struct
 import time
 from typing import Callable, Dict, List, Mapping, NamedTuple, Optional, Tuple, Union
 
 from zirofen_host.collect import bounded
 from zirofen_host.profile import ROOT, CgroupPath
+from zirofen_host.watch.drain import Drain
 
 # both interfaces have the same bits for these
 MODIFY, ATTRIB, CREATE, DELETE = 0x2, 0x4, 0x100, 0x200
 LOST, IS_FOLDER = 0x4000, 0x40000000
 WANTED = MODIFY | ATTRIB | CREATE | DELETE
-# bytes of events that are read at once
+# bytes that are read at once of what happened to files of a folder
 PART = 1 << 18
 # folders that are known by what a kernel calls them, and those that are looked up in one turn, and the seconds for that: whoever makes
 # and removes cgroups all the time has each look wait
@@ -23,8 +25,11 @@ CLOSED_AND_NOT_WAITING = os.O_CLOEXEC | os.O_NONBLOCK
 # fanotify
 CLOEXEC, NONBLOCK, FOLDER_AND_NAME = 0x1, 0x2, 0xC00
 MARK_ADD, MARK_FILE_SYSTEM = 0x1, 0x100
-HEAD, RECORD, HANDLE = 24, 4, 8
-OF_FOLDER_AND_NAME, OF_FOLDER = 2, 3
+HEAD, OF_FOLDER_AND_NAME, OF_FOLDER = 24, 2, 3
+# an event's length, mask and PID, the kind and the length of what follows, and how many bytes the handle in that has
+WHOLE = struct.Struct("<I4xQ4xIBxH8xI")
+# where the handle begins, and what stands there before its own bytes
+HANDLE, HANDLE_SIZE = WHOLE.size - 4, 8
 # how the handle of a cgroup begins: eight bytes of the kind that is kernfs's, which are its inode's number
 HANDLE_HEAD = b"\x08\0\0\0\xfe\0\0\0"
 # inotify
@@ -83,27 +88,23 @@ class Fanotify:
         self.folders: Dict[bytes, CgroupPath] = {}
         self.handles: Dict[CgroupPath, bytes] = {}
         self.left, self.until = 0, 0.0
-        self.top = bounded.open_folder(mount, None, bounded.FOLDER & ~os.O_NOFOLLOW)
-        self.opened = -1
+        opened = call("fanotify_init", CLOEXEC | NONBLOCK | FOLDER_AND_NAME, os.O_RDONLY)
         try:
-            self.opened = call("fanotify_init", CLOEXEC | NONBLOCK | FOLDER_AND_NAME, os.O_RDONLY)
             marks = ctypes.c_uint64(WANTED | IS_FOLDER)
-            call("fanotify_mark", self.opened, MARK_ADD | MARK_FILE_SYSTEM, marks, AT_FDCWD, os.fsencode(mount))
+            call("fanotify_mark", opened, MARK_ADD | MARK_FILE_SYSTEM, marks, AT_FDCWD, os.fsencode(mount))
+            self.top = bounded.open_folder(mount, None, bounded.FOLDER & ~os.O_NOFOLLOW)
         except OSError:
-            self.close()
+            os.close(opened)
             raise
-
-    def fileno(self) -> int:
-        return self.opened
+        self.drain = Drain(opened)
 
     def close(self) -> None:
-        for number in (self.opened, self.top):
-            if number >= 0:
-                os.close(number)
+        self.drain.close()
+        os.close(self.top)
 
     def take(self) -> Batch:
         """What is there to be read now, at most one part of it."""
-        counts, is_lost = records_of(bounded.read_ready(self.opened, PART))
+        counts, is_lost = records_of(self.drain.take())
         events: Dict[Event, int] = {}
         unknown: Records = {}
         for record, count in counts.items():
@@ -141,7 +142,7 @@ class Fanotify:
 
     def keep(self, path: CgroupPath, handle: bytes) -> None:
         self.forget(path)
-        if len(self.folders) < MOST_FOLDERS:
+        if not self.is_full:
             self.folders[handle], self.handles[path] = path, handle
 
     def looked_up(self, handle: bytes) -> Optional[CgroupPath]:
@@ -169,23 +170,30 @@ class Fanotify:
         """Knows no more of a folder that went."""
         self.folders.pop(self.handles.pop(path, b""), None)
 
+    def went(self, path: CgroupPath) -> None:
+        """The same, as an event says; one of the same name that came behind it is looked up."""
+        self.forget(path)
+
+    @property
+    def is_full(self) -> bool:
+        """Whether no more folders are known."""
+        return len(self.folders) >= MOST_FOLDERS
+
 
 def records_of(data: bytes) -> Tuple[Records, bool]:
     """The events of what fanotify wrote, and whether others were lost."""
     counts: Records = {}
-    place, is_lost = 0, False
-    while place + HEAD <= len(data):
-        length = number_at(data, place, 4)
+    place, is_lost, end_of_all = 0, False, len(data)
+    data += bytes(WHOLE.size)
+    while place + HEAD <= end_of_all:
+        length, mask, pid, kind, info, size = WHOLE.unpack_from(data, place)
         if length < HEAD:
             break
-        mask, pid = number_at(data, place + 8, 8), number_at(data, place + 20, 4)
         is_lost |= bool(mask & LOST)
-        at = place + HEAD
-        if at + RECORD + HANDLE + 8 <= place + length and data[at] in (OF_FOLDER_AND_NAME, OF_FOLDER):
-            begin = at + RECORD + HANDLE
-            end = begin + 8 + number_at(data, begin, 4)
-            name = data[end:at + number_at(data, at + 2, 2)].partition(b"\0")[0] if data[at] == OF_FOLDER_AND_NAME else b""
-            key = data[begin:end], name, mask & (WANTED | IS_FOLDER), pid
+        if length >= HANDLE + HANDLE_SIZE and kind in (OF_FOLDER_AND_NAME, OF_FOLDER):
+            end = place + HANDLE + HANDLE_SIZE + size
+            name = data[end:place + HEAD + info].partition(b"\0")[0] if kind == OF_FOLDER_AND_NAME else b""
+            key = data[place + HANDLE:end], name, mask & (WANTED | IS_FOLDER), pid
             counts[key] = counts.get(key, 0) + 1
         place += length
     return counts, is_lost
@@ -194,20 +202,20 @@ def records_of(data: bytes) -> Tuple[Records, bool]:
 class Inotify:
     """Events of folders that are watched one by one, without who did it."""
     has_pids = False
+    # what happens in a folder that isn't watched is no event
+    is_full = False
 
     def __init__(self, mount: str) -> None:
         self.mount = os.fsencode(mount).rstrip(b"/")
         self.opened = call("inotify_init1", CLOSED_AND_NOT_WAITING)
+        self.drain = Drain(self.opened)
         self.paths: Dict[int, CgroupPath] = {}
         self.watches: Dict[CgroupPath, int] = {}
         # not every folder could be watched
         self.is_short = False
 
-    def fileno(self) -> int:
-        return self.opened
-
     def close(self) -> None:
-        os.close(self.opened)
+        self.drain.close()
 
     def full(self, path: CgroupPath) -> bytes:
         return self.mount if path == ROOT else self.mount + path
@@ -230,8 +238,11 @@ class Inotify:
         """Knows no more of a folder that went; a kernel takes its watch away."""
         self.paths.pop(self.watches.pop(path, -1), None)
 
+    def went(self, path: CgroupPath) -> None:
+        """Nothing: a kernel says that a watch ended, in its turn."""
+
     def take(self) -> Batch:
-        data = bounded.read_ready(self.opened, PART)
+        data = self.drain.take()
         counts: Dict[Event, int] = {}
         place, is_lost = 0, False
         while place + WATCH_HEAD <= len(data):

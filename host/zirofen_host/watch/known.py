@@ -39,6 +39,10 @@ class Asked(NamedTuple):
     def has(self, path: str) -> bool:
         return is_inside(path, self.path) and not any(is_inside(path, top) for top in self.without)
 
+    def concerns(self, path: str) -> bool:
+        """Whether it may have anything of a cgroup and what is inside."""
+        return self.has(path) or is_inside(self.path, path)
+
 
 class Part(NamedTuple):
     """What was asked again, and the cgroups that stand there; and what was asked once more since then, by checks that ended before."""

@@ -1,21 +1,24 @@
 """From whose events they are to the checks that they start: each person who owns folders has a lane of their own.
 
-A lane has a tenth of a processor, and root's is one more. What happens is counted for the owner of the folder in which it is, found from
-the mount on: what is root's inside of what somebody holds is theirs.
+A lane has a tenth of a processor, and root's, which is one more, three. What happens is counted for the owner of the folder in which it is,
+found from the mount on: what is root's inside of what somebody holds is theirs.
 """
+import bisect
 import os
 from collections import Counter
 from typing import Callable, Dict, Iterable, List, Mapping, NamedTuple, Optional, Tuple
 
 from zirofen_host.collect.bounded import ChargedUser
-from zirofen_host.profile import ROOT, CgroupPath, is_inside, parent_of
+from zirofen_host.options import EVERYBODY
+from zirofen_host.profile import ROOT, CgroupPath, ancestors, is_inside, parent_of
 from zirofen_host.watch.doers import Doer
 from zirofen_host.watch.kernel import ATTRIB, CREATE, DELETE, IS_FOLDER, MODIFY, Event
 
 # seconds without an event after which a burst is one, and after which one that goes on is asked of
 QUIET, LONGEST_BURST = 0.2, 1.0
-# the part of a processor for one lane, and the seconds of it that may be spent at once
-SHARE, AT_ONCE = 0.1, 6.0
+# the part of a processor for one lane, and the seconds of it that may be spent at once; and how many times that is root's: beside whoever
+# makes and removes cgroups all the time each look takes longer
+SHARE, AT_ONCE, TIMES_OF_ROOT = 0.1, 6.0, 3
 # entries of a lane that are known by who changed them, and processes of one
 MOST_TOUCHED, MOST_DOERS = 512, 4
 # files that matter when they are written: which limit files there are, what of limits makes a subtree too large, and of which type it is
@@ -70,13 +73,29 @@ def together(one: Touched, other: Touched) -> Touched:
     return Touched(one.mask | other.mask, one.number + other.number, min(one.first, other.first), later.last, doers)
 
 
-def near(touched: Mapping[Place, Touched], path: CgroupPath, entry: str, has_inside: bool = True) -> Optional[Place]:
-    """Where something happened that concerns an entry: itself, else its cgroup, else above, else inside where that may be why."""
-    for wanted in ((path, entry), (path, DIRECTORY)):
-        if wanted in touched:
-            return wanted
-    found = [place for place in touched if is_inside(path, place[0]) or has_inside and is_inside(place[0], path)]
-    return max(found, key=lambda place: (is_inside(path, place[0]), len(place[0]))) if found else None
+class Touches:
+    """What happened to entries, to be looked up for many of them."""
+
+    def __init__(self, touched: Mapping[Place, Touched]) -> None:
+        self.touched = touched
+        self.by_path: Dict[CgroupPath, List[Place]] = {}
+        for place in touched:
+            self.by_path.setdefault(place[0], []).append(place)
+        self.paths = sorted(self.by_path)
+
+    def near(self, path: CgroupPath, entry: str, has_inside: bool = True, after: float = 0.0) -> Optional[Place]:
+        """Where something happened after a time that concerns an entry: itself, else its cgroup, else above, else inside where that may be
+        why."""
+        own = ((place,) for place in ((path, entry), (path, DIRECTORY)) if place in self.touched)
+        around = (self.by_path.get(each, ()) for each in (path, *ancestors(path)))
+        inside = (self.by_path[each] for each in self.inside(path)) if has_inside else ()
+        return next((place for places in (*own, *around, *inside) for place in places if self.touched[place].last > after), None)
+
+    def inside(self, path: CgroupPath) -> List[CgroupPath]:
+        """The paths below one at which something happened, the longest first."""
+        top = b"" if path == ROOT else path
+        begin, end = (bisect.bisect_left(self.paths, CgroupPath(top + mark)) for mark in (b"/", b"0"))
+        return sorted(self.paths[begin:end], key=len, reverse=True)
 
 
 class Owners:
@@ -95,6 +114,16 @@ class Owners:
         counts = Counter(map(self.of, paths))
         return [person for person, number in counts.items() if person != HOST and number >= MANY]
 
+    def parts_of(self, persons: Iterable[int], paths: Iterable[CgroupPath], part: CgroupPath) -> Mapping[int, CgroupPath]:
+        """By person, or of everybody but root, the nearest cgroup that has all of theirs in a part."""
+        wanted = set(persons)
+        found: Dict[int, CgroupPath] = {}
+        for path in paths if wanted else ():
+            person = self.of(path)
+            if (person in wanted or EVERYBODY in wanted and person != HOST) and is_inside(path, part):
+                found[person] = common(found[person], path) if person in found else path
+        return found
+
     def of(self, path: CgroupPath) -> int:
         """The last on the way to a folder who isn't root."""
         if path not in self.known:
@@ -109,7 +138,9 @@ class Lane:
 
     def __init__(self, person: int, now: float) -> None:
         self.person = person
-        self.left, self.since = AT_ONCE, now
+        times = TIMES_OF_ROOT if person == HOST else 1
+        self.share, self.at_once = times * SHARE, times * AT_ONCE
+        self.left, self.since = self.at_once, now
         self.part: Optional[CgroupPath] = None
         self.is_whole, self.why = False, ""
         self.first, self.last = now, now
@@ -118,7 +149,7 @@ class Lane:
         self.is_running = False
 
     def refill(self, now: float) -> None:
-        self.left = min(AT_ONCE, self.left + SHARE * (now - self.since))
+        self.left = min(self.at_once, self.left + self.share * (now - self.since))
         self.since = now
 
     def spend(self, seconds: float) -> None:
@@ -129,10 +160,25 @@ class Lane:
         """Whether more happens than is asked of."""
         return self.left < 0
 
+    @property
+    def is_urgent(self) -> bool:
+        """Whether what is asked of it comes before what is asked of whoever changes much."""
+        return self.person <= HOST or self.left > self.at_once / 2
+
     def add(self, part: CgroupPath, now: float) -> None:
         if self.part is None:
             self.first = now
         self.part = part if self.part is None else common(self.part, part)
+        self.last = now
+
+    def has_enough(self, folder: CgroupPath) -> bool:
+        """Whether nothing more is kept of what happens in a person's folder: it is asked of anyway, and who did what there is known of
+        enough entries."""
+        return self.person > HOST and len(self.touched) >= MOST_TOUCHED and self.part is not None and is_inside(folder, self.part)
+
+    def go_on(self, count: int, now: float) -> None:
+        """Has what waits already wait for the end of a burst."""
+        self.events += count
         self.last = now
 
     def ask_whole(self, now: float, why: str, is_whole: bool = True) -> None:
@@ -165,7 +211,7 @@ class Lane:
         if self.part is None or self.is_running:
             return None
         quiet = min(self.last + QUIET, self.first + LONGEST_BURST)
-        return quiet if self.left >= 0 else max(quiet, self.since - self.left / SHARE)
+        return quiet if self.left >= 0 else max(quiet, self.since - self.left / self.share)
 
     def take(self) -> "Asked":
         """What is to be asked now; what comes from here on waits for the next time."""
@@ -183,6 +229,12 @@ class Asked(NamedTuple):
     why: str
     first: float
     touched: Dict[Place, Touched]
+
+    @property
+    def has_made_folders(self) -> bool:
+        """Whether folders were made before it, as far as that is kept."""
+        is_full = len(self.touched) >= MOST_TOUCHED
+        return is_full or any(each.mask & CREATE and place[1] == DIRECTORY for place, each in self.touched.items())
 
 
 class Lanes:
@@ -210,7 +262,7 @@ class Lanes:
         """Gives each their share, and forgets whoever has all of it and nothing that waits."""
         for person, lane in list(self.all.items()):
             lane.refill(now)
-            if person > HOST and lane.part is None and not lane.is_running and lane.left >= AT_ONCE:
+            if person > HOST and lane.part is None and not lane.is_running and lane.left >= lane.at_once:
                 del self.all[person]
 
     def shallow(self, person: int) -> Tuple[int, ...]:

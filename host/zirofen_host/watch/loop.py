@@ -121,6 +121,7 @@ class Loop:
 
     def run(self) -> None:
         """Watches until a signal ends it."""
+        self.source.drain.begin()
         self.source.watch(ROOT)
         self.begin_with(self.lanes.host, False)
         while not self.is_ending:
@@ -134,11 +135,14 @@ class Loop:
 
     def turn(self) -> None:
         """Waits for what comes next, and does it."""
-        for opened, happened in self.poll.poll(self.milliseconds()):
+        ready = [opened for opened, _ in self.poll.poll(self.milliseconds())]
+        now = time.monotonic()
+        # what a check found is told with what its events say, so these come first
+        if now >= self.events.next_read or any(opened in self.running for opened in ready):
+            self.take_events(now)
+        for opened in ready:
             self.ready(opened)
         now = time.monotonic()
-        if now >= self.events.next_read and self.events.take(now):
-            self.events_were_lost()
         self.by_the_clock(now)
         self.lanes.refill(now)
         self.name_who_waits()
@@ -165,9 +169,9 @@ class Loop:
             return
         self.is_listening = is_listening
         if is_listening:
-            self.poll.register(self.source.fileno(), select.POLLIN)
+            self.poll.register(self.source.drain.fileno(), select.POLLIN)
         else:
-            self.poll.unregister(self.source.fileno())
+            self.poll.unregister(self.source.drain.fileno())
 
     def ready(self, opened: int) -> None:
         if opened == self.woken.fileno():
@@ -193,6 +197,20 @@ class Loop:
             self.ask_whole("mounts changed")
 
     # what is asked
+
+    def take_events(self, now: float) -> None:
+        taken = self.events.take(now)
+        if taken.is_lost:
+            self.events_were_lost()
+        if taken.is_short:
+            self.ask_of_unknown(now)
+
+    def ask_of_unknown(self, now: float) -> None:
+        """Has those asked once more who made folders before a check of theirs that goes on: it may have read a folder before what happened
+        in it. Whatever else isn't known was made since, and waits to be asked of with the folder that it was made in."""
+        for run in self.running.values():
+            if run.lane.person > lanes.HOST and run.asked.has_made_folders:
+                run.lane.add(run.asked.part, now)
 
     def events_were_lost(self) -> None:
         """Has all of it asked again, at most once in a minute: what is lost within one, at its end."""
@@ -224,8 +242,8 @@ class Loop:
 
     def name_who_waits(self) -> None:
         for person in self.lanes.newly_waiting():
-            whose = f"uid {person} changes" if person else "root changes"
-            self.say(LIMIT, f"{whose} more than is asked of at once: answers about what they hold wait for a tenth of a processor")
+            whose, part = (f"uid {person} changes", "a tenth") if person else ("root changes", "three tenths")
+            self.say(LIMIT, f"{whose} more than is asked of at once: answers about what they hold wait for {part} of a processor")
 
     def start_checks(self, now: float) -> None:
         """Starts each check that is due."""
@@ -239,13 +257,15 @@ class Loop:
             self.start(lane)
 
     def start(self, lane: Lane, write: Optional[Write] = None) -> None:
-        asked = lane.take()
+        is_urgent, asked = lane.is_urgent, lane.take()
         shallow = () if asked.is_whole else self.shallow(lane)
         part = asked.part if self.is_there(asked.part) else self.nearest(asked.part)
         asked = asked._replace(part=part)
+        if lane.person == lanes.HOST and self.has_surveyed:
+            self.ask_of_left_out(asked, shallow)
         began = time.monotonic()
         look = functools.partial(checks.look, self.options, part, shallow, write, write is not None and self.outside.is_full)
-        child: "Child[Result]" = Child(look, self.options.seconds or SECONDS)
+        child: "Child[Result]" = Child(look, self.options.seconds or SECONDS, is_urgent)
         self.running[child.fileno()] = Running(child, asked, lane, write is not None, began)
         self.poll.register(child.fileno(), select.POLLIN)
 
@@ -256,6 +276,14 @@ class Loop:
             return (EVERYBODY,)
         many = self.owners.many(self.findings.entries.all) if lane.person == lanes.HOST else ()
         return sorted({*self.lanes.shallow(lane.person), *many})
+
+    def ask_of_left_out(self, asked: Asked, persons: Sequence[int]) -> None:
+        """Has those inside of whose nothing is read asked of in their own lanes: what root changed may concern what they hold."""
+        now = time.monotonic()
+        for person, part in self.owners.parts_of(persons, self.findings.entries.all, asked.part).items():
+            lane = self.lanes.of(person, now)
+            lane.give_back(asked)
+            lane.add(part, now)
 
     def is_there(self, path: CgroupPath) -> bool:
         return path == ROOT or os.path.isdir(os.fsencode(self.options.mount) + path)
@@ -274,12 +302,15 @@ class Loop:
         self.poll.unregister(opened)
         made = run.child.made()
         run.lane.is_running = False
-        run.lane.spend(0.0 if run.lane.person == lanes.DEEP else run.child.seconds)
+        # nobody changed anything for the first
+        run.lane.spend(run.child.seconds if self.has_surveyed and run.lane.person != lanes.DEEP else 0.0)
         if isinstance(made, Failed):
             self.failed(run, made)
             return
         self.last_check = time.time()
-        made = made._replace(part=made.part._replace(since=tuple(asked for began, asked in self.done if began > run.began)))
+        # each once: a check that took long has many behind it
+        since = dict.fromkeys(asked for began, asked in self.done if began > run.began and asked.concerns(made.part.path))
+        made = made._replace(part=made.part._replace(since=tuple(since)))
         oldest = min((each.began for each in self.running.values()), default=time.monotonic())
         self.done = [(began, asked) for began, asked in (*self.done, (run.began, made.part.asked)) if began > oldest]
         self.metrics = made.metrics or self.metrics

@@ -9,7 +9,7 @@ from zirofen_host.profile import path_of
 from zirofen_host.show.lines import difference_lines
 from zirofen_host.watch.doers import Doer
 from zirofen_host.watch.known import NEW, WORSE, Change, is_counted
-from zirofen_host.watch.lanes import DIRECTORY, Asked, Place, Touched, near
+from zirofen_host.watch.lanes import DIRECTORY, Place, Touched, Touches
 
 # what happened to entries that wait to be asked of
 Waiting = Mapping[Place, Touched]
@@ -102,20 +102,20 @@ class Folding:
         return kept, more
 
 
-def touched_of(asked: Asked, change: Change, waiting: Waiting, began: float, after: float) -> Optional[Touched]:
+def touched_of(asked: Touches, change: Change, waiting: Touches, began: float, after: float) -> Optional[Touched]:
     """What events say of where something differs, of those after a time: those that it was asked of by, else one that waits to be asked
     of, which a check that was on its way has found: of that very entry, since before the check began, or the only one after that time."""
     if not change.path.startswith("/"):
         return None
     place = path_of(change.path), change.entry.split(" ")[0] if change.entry else DIRECTORY
     has_inside = change.difference.what not in OF_PROCESSES
-    mine, others = ({at: each for at, each in some.items() if each.last > after} for some in (asked.touched, waiting))
-    here, there = near(mine, *place, has_inside), near(others, *place, has_inside)
+    mine, others = asked.touched, waiting.touched
+    here, there = asked.near(*place, has_inside, after), waiting.near(*place, has_inside, after)
     if there is None:
         return mine[here] if here else None
     # a subtree's row rests on entries of its cgroup
     is_of_it = there == place or not change.entry and there[0] == place[0]
     if here is None:
-        return others[there] if is_of_it or near(asked.touched, *place, has_inside) else None
+        return others[there] if is_of_it or asked.near(*place, has_inside) else None
     is_nearer = is_of_it and here[0] != place[0] or there == place != here
     return others[there] if is_nearer or there == here and others[there].first <= began else mine[here]
