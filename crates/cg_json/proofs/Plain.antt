@@ -100,7 +100,7 @@ list_plain value n (x ∷ xs) every =
     let first = every x in
     record {
       exact = both (has_float (value x)) (has_float (each_value value xs)) first.exact rest.exact;
-      within = omega (arith, first.within, rest.within)
+      within = omega (arith, first.within, rest.within);
     }
 
 -- one list behind another
@@ -112,7 +112,7 @@ lists_plain value other n (x ∷ xs) ys every all =
     let first = every x in
     record {
       exact = both (has_float (value x)) (has_float (array (items_of (map value xs ++ map other ys)))) first.exact rest.exact;
-      within = omega (arith, first.within, rest.within)
+      within = omega (arith, first.within, rest.within);
     }
 
 limit_plain : (limit : Limit) (n : ℕ) → IsPlain (limit_value limit) n

@@ -1,5 +1,5 @@
 -- The same of the objects of advice.
-use Rattle.std.proofs.Common.{◌≡◌, ℕ, List, [], ◌∷◌, ◌++◌, length, take, codes, true, false, ◌&&◌, ◌==◌, refl}
+use Rattle.std.proofs.Common.{ℕ, List, [], ◌∷◌, ◌++◌, take, codes}
 use Rattle.std.specs.Prelude.{option_to_list}
 use Rattle.std.specs.List.{filter}
 use Rattle.cg_cgroup.specs.Paths.{Names, path_text}
@@ -15,10 +15,9 @@ use Rattle.cg_advice.specs.AdviceLines.{class_name}
 use Rattle.cg_advice.specs.Ways.{has_way}
 use Rattle.cg_advice.specs.declared.pair.Stand.{Stand}
 use Rattle.cg_advice.specs.declared.ways.Ways.{Ways}
-use Rattle.serde_json.specs.Data.{string, object, Members, no_members}
-use Rattle.cg_json.specs.Answers.{contained_members}
+use Rattle.serde_json.specs.Data.{string, Members, no_members}
 use Rattle.cg_json.specs.Entries.{put_owner, at_guard, entry_members, classes_value, mend_members, mend_value, changes_by, changes_value}
-use Rattle.cg_json.specs.Advice.{stand_value, over_value, fails_value, failing_members, advice_value}
+use Rattle.cg_json.specs.Advice.{stand_value, over_value, fails_value, failing_members}
 use Rattle.cg_json.specs.declared.over.Over.{Over}
 use Rattle.cg_json.proofs.Plain.{IsPlain, ArePlain, put_plain, text_plain, text_more, number_more, none_plain, object_plain, list_plain, entry_plain, set_plain, chmod_plain, lists_plain}
 
@@ -46,13 +45,16 @@ changes_plain subtree mends =
 
 classes_plain : (ways : Ways) → IsPlain (classes_value ways) 2
 classes_plain ways =
-    list_plain (λ class. string (class_name class)) 1 (filter (has_way ways) (Owner ∷ Group ∷ Others ∷ [])) (λ class. text_plain (class_name class) 1)
+    list_plain (λ class. string (class_name class)) 1 (filter (has_way ways) (Owner ∷ Group ∷ Others ∷ []))
+    (λ class. text_plain (class_name class) 1)
 
 stand_plain : (stand : Stand) → IsPlain (stand_value stand) 3
 stand_plain stand =
     let mends = changes_by stand.ways stand.at in
-    let classes = put_plain (codes "classes") (classes_value stand.ways) _ 2 (classes_plain stand.ways) (at_plain stand.subtree.now stand.at 2) in
-    object_plain _ 2 (put_plain (codes "changes") (changes_value stand.subtree.now mends) _ 2 (changes_plain stand.subtree.now mends) classes)
+    let entry = at_plain stand.subtree.now stand.at 2 in
+    let classes = put_plain (codes "classes") (classes_value stand.ways) _ 2 (classes_plain stand.ways) entry in
+    let changes = changes_plain stand.subtree.now mends in
+    object_plain _ 2 (put_plain (codes "changes") (changes_value stand.subtree.now mends) _ 2 changes classes)
 
 over_plain : (over : Over) → IsPlain (over_value over) 3
 over_plain over =
@@ -67,15 +69,3 @@ pub failing_plain : (stands : List Stand) (overs : List Over) → ArePlain (fail
 failing_plain stands overs =
     put_plain (codes "fails") (fails_value stands overs) _ 4 (fails_plain stands overs)
     (text_more (codes "answer") (codes "fails") no_members 4 (none_plain 4))
-
-pub none_fails : (stands : List Stand) (overs : List Over) → ((length stands == 0) && (length overs == 0)) ≡ true
-    → object contained_members ≡ advice_value stands overs
-none_fails [] [] p = refl
-none_fails [] (over ∷ overs) p = let never : ⊥ = cc in absurd never
-none_fails (stand ∷ stands) overs p = let never : ⊥ = cc in absurd never
-
-pub some_fail : (stands : List Stand) (overs : List Over) → ((length stands == 0) && (length overs == 0)) ≡ false
-    → object (failing_members stands overs) ≡ advice_value stands overs
-some_fail [] [] p = let never : ⊥ = cc in absurd never
-some_fail [] (over ∷ overs) p = refl
-some_fail (stand ∷ stands) overs p = refl

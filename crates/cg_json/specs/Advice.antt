@@ -1,6 +1,6 @@
 -- Answers as JSON: nobody has to believe it.
 -- The JSON object of the advice. Own.
-use Rattle.std.specs.Prelude.{List, [], ◌∷◌, ◌++◌, map, option_to_list, codes}
+use Rattle.std.specs.Prelude.{Bool, ◌&&◌, ◌==◌, cond, List, ◌++◌, length, map, option_to_list, codes}
 use Rattle.cg_cgroup.specs.Paths.{path_text}
 use Rattle.cg_model.specs.GuardNames.{guard_name}
 use Rattle.cg_model.specs.declared.guard.Guard.TheVariants.{AlreadyOver}
@@ -30,8 +30,9 @@ fails_value stands overs = array (items_of (map stand_value stands ++ map over_v
 abbrev pub failing_members : List Stand → List Over → Members
 failing_members stands overs = put (codes "fails") (fails_value stands overs) (put_text (codes "answer") (codes "fails") no_members)
 
+abbrev pub has_none : List Stand → List Over → Bool
+has_none stands overs = (length stands == 0) && (length overs == 0)
+
 -- contained where nothing is to be changed, else all that fails
 abbrev pub advice_value : List Stand → List Over → Data
-advice_value [] [] = object contained_members
-advice_value [] (over ∷ overs) = object (failing_members [] (over ∷ overs))
-advice_value (stand ∷ stands) overs = object (failing_members (stand ∷ stands) overs)
+advice_value stands overs = cond (has_none stands overs) (object contained_members) (object (failing_members stands overs))

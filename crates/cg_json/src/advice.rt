@@ -1,7 +1,7 @@
 //! The object of the advice.
 ghost use Rattle.std.specs.Prelude.{◌≡◌, ◌++◌, map, IfOk, OnOk};
 ghost use Rattle.serde_json.specs.View.{view, members_view};
-ghost use Rattle.cg_json.specs.Advice.{stand_value, over_value, fails_value, failing_members, advice_value};
+ghost use Rattle.cg_json.specs.Advice.{stand_value, over_value, fails_value, failing_members, has_none, advice_value};
 ghost use Rattle.cg_json.specs.Lines.{IsLineOf};
 
 use crate::audit::contained_json;
@@ -28,11 +28,18 @@ pub fn advice_json(
 ) -> Result<Vec<u8>, NoMemory>
     ensures { IfOk result (λ text. IsLineOf (advice_value stands.now overs.now) text.items) }
 {
-    if stands.is_empty() && overs.is_empty() {
+    if has_none(stands, overs) {
         return contained_json(alloc);
     }
     let members = failing_members(alloc, stands, overs)?;
     line_of(alloc, members)
+}
+
+/// Whether nothing is to be changed.
+fn has_none(stands: &[Stand<'_>], overs: &[Over<'_>]) -> bool
+    ensures { result ≡ has_none stands.now overs.now }
+{
+    stands.is_empty() && overs.is_empty()
 }
 
 fn failing_members(
@@ -49,11 +56,7 @@ fn failing_members(
 }
 
 /// A list of what fails.
-fn fails_value(
-    alloc: Global,
-    stands: &[Stand<'_>],
-    overs: &[Over<'_>],
-) -> Result<Value, AllocError>
+fn fails_value(alloc: Global, stands: &[Stand<'_>], overs: &[Over<'_>]) -> Result<Value, AllocError>
     ensures { IfOk result (λ value. view value ≡ fails_value stands.now overs.now) }
 {
     let mut list = Vec::new(alloc);
@@ -62,11 +65,7 @@ fn fails_value(
     Ok(Value::from(list))
 }
 
-fn push_stands(
-    list: &mut Vec<Value>,
-    alloc: Global,
-    stands: &[Stand<'_>],
-) -> Result<(), AllocError>
+fn push_stands(list: &mut Vec<Value>, alloc: Global, stands: &[Stand<'_>]) -> Result<(), AllocError>
     ensures { OnOk result (map view list.new.items ≡ map view list.old.items ++ map stand_value stands.now) }
 {
     for stand in stands {

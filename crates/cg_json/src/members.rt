@@ -8,11 +8,7 @@ use serde_json::{Map, Value, put};
 use std::alloc::{AllocError, Global};
 
 /// An object with one member, which is a text.
-pub fn text_alone(
-    alloc: Global,
-    name: &str,
-    text: &str,
-) -> Result<Map<String, Value>, AllocError>
+pub fn text_alone(alloc: Global, name: &str, text: &str) -> Result<Map<String, Value>, AllocError>
     ensures { IfOk result (λ members. members_view members.entries ≡ put_text name.now text.now no_members) }
 {
     let mut members = Map::new(alloc);

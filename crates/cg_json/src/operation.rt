@@ -174,11 +174,7 @@ fn set_other_members(
     Ok(members)
 }
 
-fn fork_members(
-    alloc: Global,
-    parent: Pid,
-    child: Pid,
-) -> Result<Map<String, Value>, AllocError>
+fn fork_members(alloc: Global, parent: Pid, child: Pid) -> Result<Map<String, Value>, AllocError>
     ensures { IfOk result (λ members. members_view members.entries ≡ op_members (Fork parent child)) }
 {
     let mut members = of_process(alloc, "fork", parent)?;
