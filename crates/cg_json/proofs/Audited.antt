@@ -21,5 +21,5 @@ named_by_places users subtrees all place at found user subtree is shown user_is 
     ap (λ (who : Identity). pair_value (record { user = who; subtree = subtree; found = found }))
     (user_is ∙ other_default users place user (record { uid = 0; gids = [] }) within.0)
     ∙ ap (λ (path : Names). pair_value (record { user = listed_user users place; subtree = path; found = found }))
-    (subtree_is ∙ other_default subtrees at subtree [] within.1.0)
+    (subtree_is ∙ other_default subtrees at subtree [] within.1)
     ∙ ap (audit_value users subtrees) (sym is)
