@@ -14,7 +14,8 @@ other_default (x ∷ xs) zero d e within = refl
 other_default (x ∷ xs) (suc i) d e within = other_default xs i d e (omega (arith, within))
 
 pub named_by_places : (users : List Identity) (subtrees : List Names) (all : AllAnswer) (place at : ℕ) (found : Answer)
-    (user : Identity) (subtree : Names) → all ≡ Pair place at found → IsPairShown users subtrees all → user ≡ get_or users place user → subtree ≡ get_or subtrees at subtree
+    (user : Identity) (subtree : Names) → all ≡ Pair place at found → IsPairShown users subtrees all
+    → user ≡ get_or users place user → subtree ≡ get_or subtrees at subtree
     → pair_value (record { user = user; subtree = subtree; found = found }) ≡ audit_value users subtrees all
 named_by_places users subtrees all place at found user subtree is shown user_is subtree_is =
     let within = subst (IsPairShown users subtrees) is shown in

@@ -18,7 +18,7 @@ use Rattle.cg_model.specs.declared.operation.Op.TheVariants.{Move, Control, Mkdi
 use Rattle.cg_model.specs.declared.answer.Answer.{Answer}
 use Rattle.cg_model.specs.declared.answer.Answer.TheVariants.{Contained, Escapes, Unsettled}
 use Rattle.cg_lines.specs.OperationLines.{change_word, mode_word}
-use Rattle.serde_json.specs.Data.{Data, string, number, array, object, unsigned, item, Members, no_members, member, put, depth, members_depth}
+use Rattle.serde_json.specs.Data.{Data, string, number, array, object, unsigned, Members, no_members, member, put, depth, members_depth}
 use Rattle.serde_json.specs.Read.{max_depth}
 use Rattle.serde_json.specs.View.{items_of}
 use Rattle.serde_json.specs.Written.{has_float, members_have_float}

@@ -6,7 +6,6 @@ use Rattle.cg_cgroup.specs.Paths.{Names, path_text}
 use Rattle.cg_cgroup.specs.Files.{entry_text}
 use Rattle.cg_model.specs.GuardNames.{guard_name}
 use Rattle.cg_model.specs.declared.guard.GuardedEntry.{GuardedEntry}
-use Rattle.cg_model.specs.declared.mend.Class.{Class}
 use Rattle.cg_model.specs.declared.mend.Class.TheVariants.{Owner, Group, Others}
 use Rattle.cg_model.specs.declared.mend.Mend.{Mend}
 use Rattle.cg_model.specs.declared.mend.Mend.TheVariants.{Chown, Chmod, Set}

@@ -1,6 +1,6 @@
 -- Answers as JSON: nobody has to believe it.
 -- The JSON object of a verdict, with the words of its line. Own.
-use Rattle.std.specs.Prelude.{List, codes}
+use Rattle.std.specs.Prelude.{codes}
 use Rattle.cg_model.specs.declared.verdict.Clause.{Clause}
 use Rattle.cg_model.specs.declared.verdict.Clause.TheVariants.{Gone, Crossed, Limits, Descendants, Depth}
 use Rattle.cg_model.specs.declared.verdict.Verdict.{Verdict}
