@@ -1,5 +1,5 @@
 -- The entrances of a subtree: those of the doors above it, the nearest first, and then all others.
-use Rattle.std.proofs.Common.{◌≡◌, ℕ, zero, suc, ◌+◌, ◌-◌, ◌<◌, ◌≤◌, Bool, true, false, cond, List, [], ◌∷◌, ◌++◌, map, length, take, drop, get_or, filter, Option, Some, None, refl, sym, ap, ◌∙◌, append_assoc, append-nil, take-suc, arith, lt-ltb, le-ltb}
+use Rattle.std.proofs.Common.{◌≡◌, ℕ, zero, suc, ◌+◌, ◌-◌, ◌<◌, ◌≤◌, Bool, true, false, cond, List, [], ◌∷◌, ◌++◌, map, length, take, drop, get_or, filter, Option, Some, None, refl, sym, ap, subst, ◌∙◌, append_assoc, append-nil, take-suc, arith, lt-ltb, le-ltb}
 use Rattle.std.specs.Prelude.{nat_lt, option_and_then, slice_get}
 use Rattle.std.specs.List.{flat_map, AllByRecursion}
 use Rattle.std.specs.Option.{option_map}
@@ -83,6 +83,12 @@ module _ (st : State) (asked : Everybody) where
     pub door-below : (len place d : ℕ) → place < length (doors st asked path len) → get_or (doors st asked path len) place d < len
     door-below len place d within =
         All-from_recursion (λ n. n < len) (doors st asked path len) (all_below len) place d within
+
+    pub door-at : (len : ℕ) (lens : List ℕ) (place n : ℕ) → lens ≡ doors st asked path len → place < length lens
+        → n ≡ get_or lens place n → n < len
+    door-at len lens place n are within is =
+        subst (λ m. m < len) (sym (is ∙ ap (λ xs. get_or xs place n) are))
+        (door-below len place n (subst (λ xs. place < length xs) are within))
 
     none_beyond : (bound : ℕ) (len : ℕ) → len ≤ bound
         → filter (λ n. nat_lt n bound) (doors st asked path len) ≡ doors st asked path len

@@ -163,8 +163,8 @@ fn enter_doors<'a, H: Hierarchy>(
         ++ flat_map (entrance_of (H.state tree.now) (everybody_of asked.now) subtree.now) (ancestors (length subtree.now))) }
 {
     for turn in 0..above.len() {
-        let len = above[above.len() - 1 - turn];
-        enter_door(found, tree, asked, subtree, top, len)?;
+        let at = above.len() - 1 - turn;
+        enter_door(found, tree, asked, subtree, top, above[at])?;
     }
     Ok(())
 }
@@ -202,7 +202,8 @@ fn enter_others<'a, H: Hierarchy>(
     ensures { OnOk result (map entrance_spot found.new.items ≡ map entrance_spot found.old.items
         ++ flat_map (entrance_of (H.state tree.now) (everybody_of asked.now) subtree.now) (drop (length subtree.now) (guarded_entries subtree.now))) }
 {
-    for place in subtree.depth()..guarded_count(subtree) {
+    let depth = subtree.depth();
+    for place in depth..guarded_count(subtree) {
         enter(found, tree, asked, subtree, top, place)?;
     }
     Ok(())

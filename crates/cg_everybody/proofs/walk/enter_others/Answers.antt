@@ -7,6 +7,14 @@ use Rattle.cg_everybody.specs.Entrances.{entrance_at, entrance_of, entrance_spot
 use Rattle.cg_everybody.proofs.Entering.{place-next}
 use Rattle.cg_everybody.proofs.walk.enter_others.Goals as goal
 
+pub loop-place-init : goal.loop-place-init
+loop-place-init g c =
+    let st = g.H.Hierarchy.state c.args.tree.now in
+    let asked = everybody_of c.args.asked.now in
+    let subtree = c.args.subtree.now in
+    ap (λ n. map entrance_spot c.args.found.now.items ++ flat_map (entrance_of st asked subtree) (drop n (guarded_entries subtree)))
+    c.depth-depth.ensures.depth
+
 pub loop-place-preserved : goal.loop-place-preserved
 loop-place-preserved g c =
     let st = g.H.Hierarchy.state c.args.tree.now in
