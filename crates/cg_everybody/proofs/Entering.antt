@@ -4,7 +4,7 @@ use Rattle.std.specs.Prelude.{nat_lt, option_and_then, slice_get}
 use Rattle.std.specs.List.{flat_map, AllByRecursion}
 use Rattle.std.specs.Option.{option_map}
 use Rattle.std.proofs.lemmas.Bool.{ltb-true, ltb-false}
-use Rattle.std.proofs.lemmas.List.{take-take, drop-append-add}
+use Rattle.std.proofs.lemmas.List.{take-take}
 use Rattle.std.proofs.lemmas.List.Concat.{flat_map-append}
 use Rattle.std.proofs.lemmas.List.Elements.{filter-append, All-from_recursion}
 use Rattle.cg_cgroup.specs.Paths.{Names, common, same_name}
@@ -45,6 +45,10 @@ backwards-last each xs turn d within =
     ap (λ n. backwards each (take n xs)) one ∙ ap (backwards each) (take-suc xs place d (omega (arith, within)))
     ∙ backwards-more each (take place xs) (get_or xs place d)
     ∙ ap (λ n. each (get_or xs place d) ++ backwards each (take n xs)) (sym next)
+
+drop-front : {A : Type 0} (xs ys : List A) → drop (length xs) (xs ++ ys) ≡ ys
+drop-front [] ys = refl
+drop-front (x ∷ xs) ys = drop-front xs ys
 
 pub common-short : (p q : Names) → length (common p q) ≤ length p
 common-short [] q = omega arith
@@ -131,16 +135,18 @@ module _ (st : State) (asked : Everybody) where
         → backwards (λ n. entrance_of st asked path (ancestor n)) (doors st asked path len)
         ≡ flat_map (entrance_of st asked path) (ancestors len)
     doors-entered zero = refl
-    doors-entered (suc len) = by_door (is_door st asked path len) refl
+    doors-entered (suc len) = by_door (doors-entered len) (is_door st asked path len) refl
       where
-        by_door : (b : Bool) → is_door st asked path len ≡ b
+        by_door : backwards (λ n. entrance_of st asked path (ancestor n)) (doors st asked path len)
+            ≡ flat_map (entrance_of st asked path) (ancestors len)
+            → (b : Bool) → is_door st asked path len ≡ b
             → backwards (λ n. entrance_of st asked path (ancestor n)) (doors st asked path len ++ cond b (len ∷ []) [])
             ≡ entrance_of st asked path (ancestor len) ++ flat_map (entrance_of st asked path) (ancestors len)
-        by_door true is =
+        by_door before true is =
             backwards-more (λ n. entrance_of st asked path (ancestor n)) (doors st asked path len) len
-            ∙ ap (λ rest. entrance_of st asked path (ancestor len) ++ rest) (doors-entered len)
-        by_door false is =
-            ap (backwards (λ n. entrance_of st asked path (ancestor n))) (append-nil (doors st asked path len)) ∙ doors-entered len
+            ∙ ap (λ rest. entrance_of st asked path (ancestor len) ++ rest) before
+        by_door before false is =
+            ap (backwards (λ n. entrance_of st asked path (ancestor n))) (append-nil (doors st asked path len)) ∙ before
             ∙ ap (λ front. front ++ flat_map (entrance_of st asked path) (ancestors len))
             (sym (closed len (guarded_entry st path (ancestor len)) is))
 
@@ -190,7 +196,7 @@ module _ (st : State) (asked : Everybody) where
         walk_turn st subtree (entered_by asked subtree) (guarded_entries subtree) place
         (option_and_then (standing st subtree) (slice_get (guarded_entries subtree) place)) refl
 
-    others : List Guarded
+    abbrev others : List Guarded
     others = limit_files (length subtree) ++ parent_control subtree ∷ parent_dir subtree ∷ []
 
     parts : guarded_entries subtree ≡ ancestors (length subtree) ++ others
@@ -198,9 +204,9 @@ module _ (st : State) (asked : Everybody) where
 
     behind : drop (length subtree) (guarded_entries subtree) ≡ others
     behind =
-        let deep : length subtree ≡ length (ancestors (length subtree)) + 0 = omega (arith, length-ancestors (length subtree)) in
-        ap (drop (length subtree)) parts ∙ ap (λ n. drop n (ancestors (length subtree) ++ others)) deep
-        ∙ drop-append-add (ancestors (length subtree)) others 0
+        ap (drop (length subtree)) parts
+        ∙ ap (λ n. drop n (ancestors (length subtree) ++ others)) (sym (length-ancestors (length subtree)))
+        ∙ drop-front (ancestors (length subtree)) others
 
     pub all-entered : entrances st asked subtree
         ≡ flat_map (entrance_of st asked subtree) (ancestors (length subtree))

@@ -6,7 +6,7 @@ ghost use Rattle.cg_cgroup.specs.Paths.{same_path};
 ghost use Rattle.cg_model.specs.Guards.{IsSubtree};
 ghost use Rattle.cg_model.specs.Once.{once};
 ghost use Rattle.cg_advice.specs.AdviceLines.{over_lines};
-ghost use Rattle.cg_everybody.specs.Advice.{ways_into, same_spot, spot_lines, everybody_advice};
+ghost use Rattle.cg_everybody.specs.Advice.{handed_back, ways_into, same_spot, spot_lines, everybody_advice};
 ghost use Rattle.cg_everybody.specs.Entrances.{entrances, entrance_spot};
 ghost use Rattle.cg_everybody.specs.Everybody.{everybody_of};
 
@@ -98,18 +98,33 @@ fn key_of(alloc: Global, each: &Entrance<'_>) -> Result<(Path, &'static str), No
 fn ways_into(asked: &Asked<'_>, entry: &Entry) -> Ways
     ensures { result ≡ ways_into (everybody_of asked.now) entry.now }
 {
+    let given = handed_back(asked, entry);
     let owner = asked.opens_to(entry, Class::Owner);
-    let given = Entry {
-        uid: if owner { 0 } else { entry.uid },
-        gid: entry.gid,
-        mode: entry.mode,
-    };
+    let group = asked.opens_to(entry, Class::Group);
+    let others = asked.opens_to(entry, Class::Others);
+    let inside = asked.opens_to(&given, Class::Group);
+    let outside = asked.opens_to(&given, Class::Others);
     Ways {
         owner,
-        group: asked.opens_to(entry, Class::Group),
-        others: asked.opens_to(entry, Class::Others),
-        inside: asked.opens_to(&given, Class::Group),
-        outside: asked.opens_to(&given, Class::Others),
+        group,
+        others,
+        inside,
+        outside,
+    }
+}
+
+/// An entry, which is root's in place of an owner who is let in.
+fn handed_back(asked: &Asked<'_>, entry: &Entry) -> Entry
+    ensures { result ≡ handed_back (everybody_of asked.now) entry.now }
+{
+    if asked.opens_to(entry, Class::Owner) {
+        Entry {
+            uid: 0,
+            gid: entry.gid,
+            mode: entry.mode,
+        }
+    } else {
+        *entry
     }
 }
 

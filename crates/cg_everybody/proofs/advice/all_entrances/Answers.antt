@@ -16,7 +16,7 @@ loop-subtree-init g c = (
 pub loop-subtree-preserved : goal.loop-subtree-preserved
 loop-subtree-preserved g c =
     let each = entrances (g.H.Hierarchy.state c.args.tree.now) (everybody_of c.args.asked.now) in
-    let subtree = c.subtree-item.result.now in (
+    let subtree = c.subtree-item.result in (
       c.in_ok-next.ensures.found ∙ ap (λ l. l ++ each subtree) c.loop-subtree.invariant.0
           ∙ sym (flat_more each (take c.loop-subtree.subtree-index c.args.subtrees.now) subtree)
           ∙ ap (flat_map each)
