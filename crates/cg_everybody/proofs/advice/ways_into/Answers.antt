@@ -8,6 +8,10 @@ returns c = λ i. record {
   owner = c.opens_to-owner.ensures i;
   group = c.opens_to-group.ensures i;
   others = c.opens_to-others.ensures i;
-  inside = (c.opens_to-inside.ensures ∙ ap (λ entry. opens_to (everybody_of c.args.asked.now) entry Group) c.handed_back-given.ensures) i;
-  outside = (c.opens_to-outside.ensures ∙ ap (λ entry. opens_to (everybody_of c.args.asked.now) entry Others) c.handed_back-given.ensures) i;
+  inside =
+      (c.opens_to-inside.ensures
+      ∙ ap (λ entry. opens_to (everybody_of c.args.asked.now) entry Group) c.handed_back-given.ensures) i;
+  outside =
+      (c.opens_to-outside.ensures
+      ∙ ap (λ entry. opens_to (everybody_of c.args.asked.now) entry Others) c.handed_back-given.ensures) i;
 }

@@ -24,7 +24,8 @@ enter_door-requires-clause-above g c =
 
 pub loop-turn-preserved : goal.loop-turn-preserved
 loop-turn-preserved g c =
-    let each : ℕ → List Spot = λ len. entrance_of (g.H.Hierarchy.state c.args.tree.now) (everybody_of c.args.asked.now) c.args.subtree.now (ancestor len) in
+    let each : ℕ → List Spot =
+    λ len. entrance_of (g.H.Hierarchy.state c.args.tree.now) (everybody_of c.args.asked.now) c.args.subtree.now (ancestor len) in
     let above = c.args.above.now in
     let turn = c.loop-turn.turn in
     let found = map entrance_spot c.loop-turn.found.items in
