@@ -21,6 +21,7 @@ use cg_cli::pairs::PairIds;
 use cg_cli::replay::{replay_bytes, replay_from};
 use cg_cli::settle::settle_bytes;
 use cg_cli::upgrade::upgrade_bytes;
+use cg_everybody::asked::{Asked as Everybody, Members};
 use cg_faults::fault::{CliFault, fault_text};
 use std::alloc::Global;
 
@@ -111,7 +112,16 @@ impl Call<'_> {
         match self {
             Call::May(user, pid, to) => may_bytes(alloc, tree, *user, *pid, to, &mut None, out),
             Call::Named(asked, named) => named.ask(alloc, *asked, tree, out),
-            Call::Everybody(subtrees) => everybody_bytes(alloc, tree, subtrees.as_slice(), out),
+            Call::Everybody(subtrees) => {
+                let left_out = Everybody {
+                    but: &[4000],
+                    groups: &[Members {
+                        gid: 50,
+                        uids: &[4001],
+                    }],
+                };
+                everybody_bytes(alloc, tree, &left_out, subtrees.as_slice(), out)
+            }
             Call::AdvisePairs(pairs) => advise_pairs_bytes(alloc, tree, pairs.as_slice(), out),
             Call::AuditPairs(pairs) => audit_pairs_bytes(alloc, tree, pairs.as_slice(), out),
             Call::ExplainPairs(pairs) => explain_pairs_bytes(alloc, tree, pairs.as_slice(), out),
