@@ -7,7 +7,7 @@ from unittest import mock
 from check_test import HostTest, owned
 from zirofen_host import files
 from zirofen_host.collect import bounded
-from zirofen_host.files import CONTROL_FILES, TEXT_FILES, LIMITS, NUMBER_FILES, USUAL_LIST, Form, Kind, Texts, kind_of
+from zirofen_host.files import CONTROL_FILES, TEXT_FILES, LIMITS, NUMBER_FILES, USUAL_LIST, Form, Kind, kind_of
 
 REAL_MOUNT = "/sys/fs/cgroup"
 
@@ -19,11 +19,11 @@ class TableTest(unittest.TestCase):
         self.assertEqual(set(files.KINDS.values()), set(Kind))
 
     def test_which_texts_tell_of_limits(self):
-        by_texts = {each: [limit.name for limit in LIMITS if limit.texts is each] for each in Texts}
-        self.assertEqual(by_texts[Texts.ALWAYS], list(NUMBER_FILES))
-        self.assertEqual(by_texts[Texts.FURTHER], sorted(by_texts[Texts.FURTHER]))
-        self.assertEqual({files.in_tables(name) for name in TEXT_FILES}, set(by_texts[Texts.FURTHER]))
-        never = {limit.name for limit in LIMITS if limit.kind is Kind.LIMIT and limit.texts is Texts.NEVER}
+        by_format = {each: [limit.name for limit in LIMITS if limit.since_format == each] for each in (1, 4, None)}
+        self.assertEqual(by_format[1], list(NUMBER_FILES))
+        self.assertEqual(by_format[4], sorted(by_format[4]))
+        self.assertEqual({files.in_tables(name) for name in TEXT_FILES}, {*by_format[4]})
+        never = {limit.name for limit in LIMITS if limit.kind is Kind.LIMIT and limit.since_format is None}
         self.assertEqual(never, {"io.cost.model", "io.cost.qos"})
 
     def test_settings_bring_values(self):
