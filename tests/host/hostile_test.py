@@ -29,7 +29,7 @@ OLDEST = (3, 9)
 # modules that it has
 MODULES = set("abc argparse atexit base64 bisect collections concurrent contextlib ctypes dataclasses datetime difflib enum errno "
               "functools gc grp hashlib html importlib itertools json operator os pickle pwd re resource select shlex shutil signal "
-              "socket stat string subprocess sys tempfile textwrap time types typing unicodedata urllib xml".split())
+              "socket stat string struct subprocess sys tempfile textwrap threading time types typing unicodedata urllib xml".split())
 # what reads a text takes one of these
 READERS = {"tomllib", "tomli"}
 # what came later, by its name
