@@ -186,7 +186,8 @@ def main(words):
     if words[-1] == "--help":
         if words[0] == "advise" and not can("advise") or words[0] == "explain" and not can("explain"):
             return fault("fault: usage")
-        known = {"audit": "".join(f"  --{name}  x\n" for name in ("all", "pairs", "settle", "everybody", "subtrees") if can(WITH.get(name, name))),
+        of_audit = [name for name in ("all", "pairs", "settle", "everybody", "subtrees") if can(WITH.get(name, name))]
+        known = {"audit": "".join(f"  --{name}  x\n" for name in of_audit),
                  "advise": "  --pairs <FILE>  x\n", "explain": "  --subtree <PATH>  x\n"}
         print("Options:\n  --tree <FILE>\n" + known.get(words[0], ""))
         return 0

@@ -212,7 +212,8 @@ class LanesTest(unittest.TestCase):
         lane.touch(Event(b"/", b"cgroup.procs", ATTRIB, 8), 1, 2.0, chown)
         lane.touch(Event(b"/a", b"", ATTRIB | IS_FOLDER, 8), 1, 3.0, chown)
         asked = lane.take()
-        self.assertEqual(asked.touched[lanes.Touches(asked.touched).near(b"/", "cgroup.procs")], lanes.Touched(ATTRIB, 3, 1.0, 2.0, (chmod, chown)))
+        near = lanes.Touches(asked.touched).near(b"/", "cgroup.procs")
+        self.assertEqual(asked.touched[near], lanes.Touched(ATTRIB, 3, 1.0, 2.0, (chmod, chown)))
         for path, entry, told in ((b"/a", "memory.max", (b"/a", "dir")), (b"/a/b", "memory.max", (b"/a", "dir")),
                                   (b"/b", "dir", (b"/", "cgroup.procs"))):
             self.assertEqual(lanes.Touches(asked.touched).near(path, entry), told)
