@@ -23,7 +23,8 @@ WRITES = {"os.write", "os.rename", "os.replace", "os.link", "os.symlink", "os.un
           "os.chmod", "os.fchmod", "os.chown", "os.fchown", "os.truncate", "shutil.rmtree", "shutil.move", "tempfile.mkstemp",
           "tempfile.mkdtemp", "tempfile.TemporaryDirectory", "tempfile.NamedTemporaryFile", "tempfile.TemporaryFile"}
 # what a function writes that is no file
-NO_WRITES = {("ending", "end"): "a line on standard error", ("watch.drain", "run"): "a pipe of its own", ("watch.drain", "take"): "the same"}
+NO_WRITES = {("ending", "end"): "a line on standard error", ("watch.drain", "run"): "a pipe of its own",
+             ("watch.drain", "take"): "the same"}
 # of what is opened to be written, or was, links of root's on the way to it are read
 READ_TO_WRITE = {("opened_folder", "os.readlink"), ("open_back", "os.readlink")}
 
