@@ -56,8 +56,9 @@ class RunTest(Called):
                          "- Operations: 7 cases", "- Contained: 32 cases", "- Settled, escapes: 2 lists",
                          "- Settled, contained: 2 pairs", "- Wrong programs: 15 of 15 noticed by 51 cases",
                          "- Controllers: cpuset, cpu, io, memory, hugetlb, pids, rdma, misc.",
-                         "- Of format 4: operations ", "one controller 16", "- Limit files whose values are texts: the kernel has 23 of the 43",
-                         "- Further limit files, operations: 2 cases", "- Unexplained: 0."):
+                         "- Of format 4: operations ", "one controller 16",
+                         "- Limit files whose values are texts: the kernel has 23 of the 43",
+                         "- Limit files whose values are texts, operations: 2 cases", "- Unexplained: 0."):
                 self.assertIn(part, report)
             self.assertTrue(all(name in report.replace("\n  ", " ") for name in tally.WRONG))
 

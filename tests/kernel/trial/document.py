@@ -50,11 +50,11 @@ RULES = (
      "cpu.weight A read-write single value file which exists on non-root cgroups. The default is", "64fb137d251267a9"),
     ("| `memory.min`", "Memory",
      "memory.min A read-write single value file which exists on non-root cgroups. The default is", "32318a644e6b28b8"),
-    ("| `memory.low`", "Memory",
+    ("| `memory.min`, `memory.low`", "Memory",
      "memory.low A read-write single value file which exists on non-root cgroups. The default is", "44ad439053848ca6"),
     ("| `memory.high`", "Memory",
      "memory.high A read-write single value file which exists on non-root cgroups. The default is", "1d8261d7f78b29c1"),
-    ("| `memory.max`", "Memory",
+    ("| `memory.high`, `memory.max`", "Memory",
      "memory.max A read-write single value file which exists on non-root cgroups. The default is", "3ee864defeec0c60"),
     ("| `pids.max`", "PID", "pids.max A read-write single value file which exists on non-root cgroups. The default is", "177c5022ee94afd9"),
 )
