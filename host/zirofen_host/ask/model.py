@@ -85,7 +85,7 @@ class Abilities:
     has_explain: bool = False
     # whether `audit` takes lines of pairs
     has_pairs: bool = False
-    # whether it asks everybody
+    # whether it asks everybody, of subtrees that a file names
     has_everybody: bool = False
 
 
