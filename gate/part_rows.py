@@ -61,6 +61,13 @@ def of_object(words, *reads, packages=()):
     return Part("objects", words, (words.split()[0], *linked, *reads), packages, needs_toolchain=True)
 
 
+def of_library(words, *reads, packages=(), is_fresh=False):
+    """A test of the library for C, beside the program."""
+    beside = ("examples", "include", "runtime", "tools/linked_library.py", "crates/library/src/version.rt")
+    return Part("library", f"tests/library/calls.py PROGRAM LIBRARY --part {words}", ("tests/library", LIBRARY, *beside, *WRAPPER, *reads),
+                (*COMPILER, *packages), is_fresh)
+
+
 def of_model(words, *reads, **more):
     return of_program(f"tests/model/{words}", PROGRAM, "gate/kept.py", "tests/model/second", "tests/model/trials", *reads, **more)
 
@@ -95,6 +102,8 @@ def host_tests():
 
 # with what Debian's package of no version stands for
 COMPILER = ("gcc", "gcc-[0-9]*", "cpp-[0-9]*", "binutils*", "libc6-dev")
+# what sees a byte beside a block, and a block that isn't freed
+MEMORY_TOOLS = ("libgcc-[0-9]*-dev", "libasan*", "libubsan*", "valgrind", "pkgconf", "pkgconf-bin")
 # what looks at the machine itself, which no row can name
 OF_THE_MACHINE = ("real_mount_test.py", "refusals_test.py")
 # of the machine: a file that is named whole is read where it is
@@ -109,6 +118,8 @@ DEVICES = ("tests/program/case.py", "tests/program/device_rows.py", "tests/progr
 MAKERS = ("lintian", "groff", "mandoc", "man-db", "fish", "zsh", "ansible-core", "python3-pip", "python3-setuptools", "python3-wheel", "pkgconf", "pkgconf-bin")
 PARTS = [
     Part("released", "tools/released", ("tools/released", *WRAPPER)),
+    Part("released", "tools/released --library", ("tools/released", "tools/library_folder.py", "tools/linked_library.py", "tools/program.py", "tools/linked.py",
+                                                  "gate/kit.py", "gate/crates.py", "crates.txt", "crates/*/src", "include", "runtime", "release/library")),
     Part("promises", "tools/promises", ("tools", "gate", "crates.txt", "crates", "docs/*.md", "host/zirofen_host")),
     of_toolchain("gate/laid_out", "crates", "crates.txt"),
     Part("plant", "gate/plant --compare", ("gate", "crates", "crates.txt", "HANDLES")),
@@ -128,6 +139,9 @@ PARTS = [
                "tests/model/trials", "examples", "host/zirofen_host", SOURCES, "crates.txt", "gate/crates.py", packages=EMULATOR),
     of_object("tests/program/devices.py PROGRAM OBJECT", PROGRAM, OBJECT, *DEVICES),
     of_object("tests/program/devices.py PROGRAM OTHER_OBJECT --emulated", PROGRAM, OTHER_OBJECT, *DEVICES, packages=EMULATOR),
+    of_library("made wrong", "tests/unit_tests", "tests/python", "python", "docs/PROGRAMS.md", "host", *USERS, packages=MEMORY_TOOLS),
+    of_library("answers words help migrations", "tests/program/*.py"),
+    of_library("random --cases 300", *MODEL, "gate/kept.py", is_fresh=True),
     of_model("run PROGRAM --seed 51 --cases 7500 --blind --table --kept"),
     of_model("run PROGRAM --cases 1000", is_fresh=True),
     of_model("rows PROGRAM"),

@@ -1,5 +1,5 @@
-"""The library for C in a folder of this checkout: below it a folder for each kind of processor, with libzirofen.so.0 and libzirofen.a, and a
-MANIFEST: its version, the toolchain that proved and built it, the sum of the sources that decide its bytes, and that of each file."""
+"""The library for C in a folder of this checkout: below it a folder for each kind of processor, with libzirofen.so.0 and libzirofen.a,
+and a MANIFEST: its version, the toolchain that proved and built it, the sum of the sources that decide its bytes, and that of each file."""
 import contextlib, os, shutil, subprocess, sys, tempfile
 
 sys.dont_write_bytecode = True
@@ -10,7 +10,8 @@ from linked_library import MACHINES, TOP
 # by the word of a MANIFEST
 FILES = {"shared": linked_library.SHARED, "static": linked_library.ARCHIVE}
 # beside the crates
-LINKING = ("include/zirofen.h", "runtime/library.c", "runtime/library.map", "runtime/include/stddef.h", "tools/linked.py", "tools/linked_library.py")
+LINKING = ("include/zirofen.h", "runtime/library.c", "runtime/library.map", "runtime/include/stddef.h", "tools/linked.py",
+           "tools/linked_library.py")
 ARCHIVES = f"{TOP}/crates/c_library/out"
 
 
