@@ -1,12 +1,14 @@
 """The public functions of the crates, what `rt plant` said of each, and what has to be said of those that it says nothing of.
 
 A function counts where it is `pub`, or a method of a public trait or of an impl of a trait, and has a body: a law has none. Crates
-of tests don't count. It is looked at where an edit changes it or where one of the wrong bodies that were planted in it was judged.
+of tests don't count. It is looked at where an edit changes it, where one of the wrong bodies that were planted in it was judged and
+rests on what is there now (rests.py), or where a reason says why no contract can tell. That the tactics met a limit is no reason.
 """
-import collections, fnmatch, hashlib, json, os, re
+import collections, fnmatch, os, re
 
 import crates
 from edited import FUNCTION, Crate, module_of, text_of
+from rests import Rests
 
 RECORD, REASONS = "gate/plants.txt", "gate/plant_reasons.txt"
 SOURCES = ("src", "specs", "proofs")
@@ -17,18 +19,21 @@ OF_FUNCTIONS = ("untested", "no-ensures")
 OWNER = re.compile(r"(pub )?trait (?P<declared>\w+)|impl(?:<.*?>)? (?:(?P<trait>.+) for )?&?(?P<type>\w+)")
 ROW = re.compile(r"(?P<kind>[a-z-]+) +(?P<file>src/\S+\.rt):(?P<line>\d+) .*?(?:\(\)|: \{ ?(?P<body>.*?) ?\}(?:  \(.*\))?)")
 LAST = re.compile(r"plants crate=\w+ planted-in=\d+ (?P<counts>.*)")
-HEAD = re.compile(r"(?P<crate>\w+): sources (?P<sources>\w+) by (?P<kit>.+)")
-TOLD = re.compile(r"  (?P<path>\S.*): (?P<counts>.+)")
+HEAD = re.compile(r"(?P<crate>\w+): by (?P<kit>.+)")
+TOLD = re.compile(r"  (?P<path>\S.*): over (?P<sum>\w+): (?P<counts>.+)")
 BODY = re.compile(r"    \{ (?P<body>.*) \}")
 REASON = re.compile(r"(?P<path>\S.*?)(?: \{ (?P<body>.*) \})?: (?P<why>.+)")
 
 Row = collections.namedtuple("Row", "kind file line body")
-# what was said of a function: how many plants of each kind, and the bodies that prove
-Told = collections.namedtuple("Told", "counts proves")
-Planted = collections.namedtuple("Planted", "sources kit functions")
-# a crate as it is: the paths of its public functions, and of those that an edit changes
-Now = collections.namedtuple("Now", "sources paths edited")
+# what was said of a function: the sum of what that rests on, how many plants of each kind, and the bodies that prove
+Told = collections.namedtuple("Told", "sum counts proves")
+Planted = collections.namedtuple("Planted", "kit functions")
+# a crate as it is: the sum of what results rest on, by the path of each public function, and the paths of those that an edit changes
+Now = collections.namedtuple("Now", "sums edited")
 Reason = collections.namedtuple("Reason", "path body why")
+# how a public function is looked at, or why it isn't
+LOOKED_AT, LEFT = ("an edit", "plants", "a reason"), ("the limits of tactics", "plants of other sources", "nothing")
+LIMITS = "the tactics meet a limit"
 
 
 # The sources
@@ -41,12 +46,6 @@ def counted(top):
 def files_of(folder, part):
     found = (f"{at}/{name}" for at, _, names in os.walk(f"{folder}/{part}") for name in names)
     return sorted(os.path.relpath(it, folder) for it in found)
-
-
-def sum_of_sources(top, name, uses):
-    folder = f"{top}/crates/{name}"
-    files = [(path, text_of(f"{folder}/{path}")) for part in SOURCES for path in files_of(folder, part)]
-    return hashlib.sha256(json.dumps([sorted(uses), files]).encode()).hexdigest()
 
 
 def read_functions(crate):
@@ -76,14 +75,14 @@ def name_of(owner):
 
 def now_of(top):
     """Returns the crates as they are, by name, of those that have public functions."""
-    found = {}
-    for name, uses in counted(top).items():
-        crate = Crate(f"{top}/crates/{name}", {*uses})
-        paths = [it["path"] for it in read_functions(crate) if it["counts"]]
+    read = {name: Crate(f"{top}/crates/{name}", {*uses}) for name, uses in counted(top).items()}
+    rests, found = Rests(top, {name: read_functions(it) for name, it in read.items()}), {}
+    for name, crate in read.items():
+        sums = {it["path"]: rests.sum_of(name, it) for it in crate.functions if it["counts"]}
         crate.read_edits()
         edited = {it["path"] for edit in crate.edits if not edit.verdict for it in edit.functions()}
-        if paths:
-            found[name] = Now(sum_of_sources(top, name, uses), paths, edited)
+        if sums:
+            found[name] = Now(sums, edited)
     return found
 
 
@@ -105,15 +104,15 @@ def rows_of(said):
     return rows
 
 
-def told_of(functions, rows):
-    """Returns what the rows say of each function that counts, by its path."""
+def told_of(functions, rows, sums):
+    """Returns what the rows say of each function of which `sums` has what that rests on, by its path."""
     at = {(it["file"], it["line"]): it for it in functions}
-    found = {it["path"]: Told(collections.Counter(), []) for it in functions if it["counts"]}
+    found = {path: Told(sum_of, collections.Counter(), []) for path, sum_of in sums.items()}
     for row in rows:
         function = at.get((row.file, row.line))
         if not function:
             raise ValueError(f"rt plant names a function at {row.file}:{row.line}, where there is none")
-        if function["counts"]:
+        if function["path"] in found:
             found[function["path"]].counts[row.kind] += 1
             found[function["path"]].proves.extend([row.body] if row.kind == "proves" else [])
     return found
@@ -122,13 +121,13 @@ def told_of(functions, rows):
 # The record
 
 def written(record):
-    """Returns the record's text: of each crate its sum, and each function with its counts and with the bodies that prove."""
+    """Returns the record's text: of each crate the toolchain, and each function with its sum, its counts and the bodies that prove."""
     lines = []
     for name, it in sorted(record.items()):
-        lines.append(f"{name}: sources {it.sources} by {it.kit}")
+        lines.append(f"{name}: by {it.kit}")
         for path, told in sorted(it.functions.items()):
             counts = [f"{kind} {told.counts[kind]}" for kind in (*KINDS, *OF_FUNCTIONS) if told.counts[kind]]
-            lines.append(f"  {path}: {', '.join(counts) or 'nothing'}")
+            lines.append(f"  {path}: over {told.sum}: {', '.join(counts) or 'nothing'}")
             lines += [f"    {{ {body} }}" for body in sorted(told.proves)]
     return "".join(f"{it}\n" for it in lines)
 
@@ -140,11 +139,11 @@ def read(text):
         head, function, body = (it.fullmatch(line) for it in (HEAD, TOLD, BODY))
         if head:
             functions, told = {}, None
-            record[head["crate"]] = Planted(head["sources"], head["kit"], functions)
+            record[head["crate"]] = Planted(head["kit"], functions)
         elif body and told:
             told.proves.append(body["body"])
         elif function and functions is not None:
-            told = functions[function["path"]] = Told(counts_of(function["counts"]), [])
+            told = functions[function["path"]] = Told(function["sum"], counts_of(function["counts"]), [])
         else:
             raise ValueError(f"{RECORD} has a line that is none of a record: {line}")
     return record
@@ -168,9 +167,37 @@ def reasons_of(text):
 
 # The comparison
 
+def told_in(record):
+    return {path: it for planted in record.values() for path, it in planted.functions.items()}
+
+
 def older(now, record):
-    """Returns the crates whose sources aren't those of the record."""
-    return [name for name, it in now.items() if name not in record or record[name].sources != it.sources]
+    """Returns the functions of each crate that no plant of these sources was tried in and no edit changes, by the crate."""
+    told = told_in(record)
+    found = {name: [path for path, it in crate.sums.items() if path not in crate.edited and not is_recent(told.get(path), it)]
+             for name, crate in now.items()}
+    return {name: paths for name, paths in found.items() if paths}
+
+
+def is_recent(told, sum_of):
+    return bool(told) and told.sum == sum_of
+
+
+def ways_of(now, record, reasons):
+    """Returns how each public function is looked at, or why it isn't, by its path."""
+    told, whys = told_in(record), {it.path: it.why for it in reasons if it.body is None}
+    return {path: way_of(path in it.edited, told.get(path), sum_of, whys.get(path, ""))
+            for it in now.values() for path, sum_of in it.sums.items()}
+
+
+def way_of(is_edited, told, sum_of, why):
+    if is_edited:
+        return "an edit"
+    if is_recent(told, sum_of) and is_judged(told):
+        return "plants"
+    if why:
+        return "the limits of tactics" if LIMITS in why else "a reason"
+    return "plants of other sources" if is_judged(told) else "nothing"
 
 
 def is_judged(told):
@@ -182,21 +209,20 @@ def accepts(reason, path, body):
 
 
 def faults_of(now, record, reasons):
-    """Returns how many things were looked at, and what is wrong, in words. Of crates that are older than the record's none is."""
-    told = {path: it for planted in record.values() for path, it in planted.functions.items()}
+    """Returns how many things were looked at, and what is wrong, in words. A plant of other sources shows nothing."""
+    told, sums = told_in(record), {path: it for crate in now.values() for path, it in crate.sums.items()}
     edited = {path for it in now.values() for path in it.edited}
-    recent = {*now} - {*older(now, record)}
-    paths = [path for name in sorted(recent) for path in now[name].paths]
-    proving = [(path, body) for path, it in told.items() for body in it.proves]
+    recent = [path for path, it in sums.items() if is_recent(told.get(path), it)]
     named = {it.path for it in reasons if it.body is None}
-    faults = [f"{it} has neither an edit nor a plant that was judged, and no reason" for it in paths
-              if it not in edited and not is_judged(told.get(it)) and it not in named]
-    let_through = [it for it in proving if it[0].partition("::")[0] in recent]
+    faults = [f"{it} has neither an edit nor a plant that was judged, and no reason" for it in recent
+              if it not in edited and not is_judged(told[it]) and it not in named]
+    let_through = [(path, body) for path in recent for body in told[path].proves]
     faults += [f"{path} can be {{ {body} }}, which is not accepted" for path, body in let_through
                if not any(accepts(it, path, body) for it in reasons)]
+    proving = [(path, body) for path, it in told.items() for body in it.proves]
     for it in reasons:
-        faults += wrong_with(it, {path for crate in now.values() for path in crate.paths}, edited, told, proving)
-    return len(paths) + len(let_through) + len(reasons), faults
+        faults += wrong_with(it, sums, edited, {path: told[path] for path in recent}, proving)
+    return len(recent) + len(let_through) + len(reasons), faults
 
 
 def wrong_with(reason, paths, edited, told, proving):

@@ -71,7 +71,7 @@ rm "out/zirofen-${1##*/}.o"
 
 def write(path, text, executable=False):
     os.makedirs(os.path.dirname(path), exist_ok=True)
-    with open(path, "w", encoding="ascii") as out:
+    with open(path, "w", encoding="utf-8") as out:
         out.write(text)
     if executable:
         os.chmod(path, 0o755)

@@ -84,8 +84,13 @@ esac
 """
 
 
-def told(bodies=(), **counts):
-    return Told(collections.Counter({kind.replace("_", "-"): count for kind, count in counts.items()}), list(bodies))
+LOOKED_AT = "plant: {} of {} public functions are looked at, at these sources: {} by an edit, {} by plants, {} by a reason"
+LEFT = ("plant: {} of {} public functions aren't, at these sources: {} with the limits of tactics, {} with plants of other sources,"
+        " {} with nothing")
+
+
+def told(bodies=(), over="1", **counts):
+    return Told(over, collections.Counter({kind.replace("_", "-"): count for kind, count in counts.items()}), list(bodies))
 
 
 class FunctionsTest(unittest.TestCase):
@@ -103,9 +108,6 @@ class FunctionsTest(unittest.TestCase):
         with open(f"{self.top}/crates/{path}", "w", encoding="utf-8") as out:
             out.write(text)
 
-    def sum_of_toy(self, uses=("arrayvec",)):
-        return planted.sum_of_sources(self.top, "toy", uses)
-
     def test_public_functions_that_have_a_body_count(self):
         functions = planted.read_functions(Crate(f"{self.top}/crates/toy", set()))
         self.assertEqual(sorted(it["path"] for it in functions if it["counts"]), PUBLIC)
@@ -118,49 +120,52 @@ class FunctionsTest(unittest.TestCase):
         self.write("toy/must-fail/gone.edit", "file: src/door.rt\nold: nothing\nnew: else\n")
         self.assertEqual(planted.now_of(self.top)["toy"].edited, {"toy::door::Door::new"})
 
-    def test_the_sum_is_of_sources_and_of_the_libraries(self):
-        before = self.sum_of_toy()
-        self.write("toy/must-fail/a.edit", "file: src/door.rt\n")
-        self.assertEqual(self.sum_of_toy(), before)
-        self.assertNotEqual(self.sum_of_toy(["toml"]), before)
-        self.write("toy/proofs/Some.antt", "some : true\n")
-        self.assertNotEqual(self.sum_of_toy(), before)
-
     def test_what_is_said_of_each_function(self):
         functions = planted.read_functions(Crate(f"{self.top}/crates/toy", set()))
-        found = planted.told_of(functions, planted.rows_of(SAID))
+        new, turned, is_open = "toy::door::Door::new", "toy::door::<Door as From<Option<T>>>::from", "toy::door::Opens::is_open"
+        found = planted.told_of(functions, planted.rows_of(SAID), {new: "1", turned: "2", is_open: "3"})
         self.assertEqual(found, {
-            "toy::door::Door::new": told(["Door { times: 0 }"], proves=1, refused=1, not_judged=1, not_source=1),
-            "toy::door::<Door as From<Option<T>>>::from": told(same=1, untested=1),
-            "toy::door::Opens::is_open": told(),
+            new: told(["Door { times: 0 }"], proves=1, refused=1, not_judged=1, not_source=1),
+            turned: told(over="2", same=1, untested=1),
+            is_open: told(over="3"),
         })
+        self.assertEqual([*planted.told_of(functions, planted.rows_of(SAID), {turned: "2"})], [turned])
 
     def test_a_row_of_no_function_is_an_error(self):
         with self.assertRaisesRegex(ValueError, "src/door.rt:23, where there is none"):
-            planted.told_of(planted.read_functions(Crate(f"{self.top}/crates/toy", set())), [Row("same", "src/door.rt", 23, "0")])
+            planted.told_of(planted.read_functions(Crate(f"{self.top}/crates/toy", set())), [Row("same", "src/door.rt", 23, "0")], {})
 
 
     def call(self, *words, **environment):
         """Runs gate/plant on these crates, with a toolchain that only plays its part."""
         shutil.copytree(f"{TOP}/gate", f"{self.top}/gate", ignore=lambda _, names: {it for it in names if it.startswith("plant_")})
+        write(f"{self.top}/tools/believed.py", planted.text_of(f"{TOP}/tools/believed.py"))
         for path, text in {"HANDLES": "", "tools/rt": TOOL, "said": SAID, "gate/plant_reasons.txt": "", "gate/plants.txt": ""}.items():
             self.write(f"../{path}", text)
         os.chmod(f"{self.top}/tools/rt", 0o755)
-        played = {"PATH": f"{self.top}/tools:{os.environ['PATH']}", "TOY": f"{self.top}/crates/toy", "SAID": f"{self.top}/said"}
-        return subprocess.run([f"{self.top}/gate/plant", *words], env={**os.environ, **played, **environment}, text=True,
-                              capture_output=True)
+        self.environment = {"PATH": f"{self.top}/tools:{os.environ['PATH']}", "TOY": f"{self.top}/crates/toy", "SAID": f"{self.top}/said"}
+        self.environment = {**os.environ, **self.environment, **environment}
+        return subprocess.run([f"{self.top}/gate/plant", *words], env=self.environment, text=True, capture_output=True)
 
     def test_a_run_writes_the_record_and_compares(self):
         ended = self.call("--said", self.top, "toy")
         self.assertEqual((ended.stdout.splitlines(), ended.returncode), ([
-            "plant: toy is recorded, after 0 minutes",
+            "plant: toy is recorded, 3 functions after 0 minutes",
             "plant: FAILED: toy::door::Opens::is_open has neither an edit nor a plant that was judged, and no reason",
             "plant: FAILED: toy::door::Door::new can be { Door { times: 0 } }, which is not accepted",
+            LOOKED_AT.format(2, 3, 0, 2, 0), LEFT.format(1, 3, 0, 0, 1),
             "2 passed, 2 failed",
         ], 1))
         record = planted.read(planted.text_of(f"{self.top}/gate/plants.txt"))
-        self.assertEqual((record["toy"].sources, record["toy"].kit), (self.sum_of_toy(), "some-kit logic 1"))
+        now = planted.now_of(self.top)["toy"]
+        self.assertEqual((record["toy"].kit, {path: it.sum for path, it in record["toy"].functions.items()}), ("some-kit logic 1", now.sums))
         self.assertEqual(planted.text_of(f"{self.top}/toy.txt"), SAID)
+        # what is recorded of these sources isn't tried again, and a function that changed is, alone
+        again = subprocess.run([f"{self.top}/gate/plant"], text=True, capture_output=True, env=self.environment)
+        self.assertNotIn("is recorded", again.stdout)
+        self.write("toy/src/door.rt", DOOR.replace("ensures { result.times ≡ times }", "ensures { result.times ≤ times }"))
+        again = subprocess.run([f"{self.top}/gate/plant"], text=True, capture_output=True, env=self.environment)
+        self.assertIn("plant: toy is recorded, 2 functions after 0 minutes", again.stdout)
 
     def test_a_crate_that_is_not_proved_is_not_recorded(self):
         ended = self.call(UNPROVED="1")
@@ -171,7 +176,7 @@ class FunctionsTest(unittest.TestCase):
     def test_comparing_plants_nothing(self):
         ended = self.call("--compare", UNPROVED="1")
         self.assertEqual((ended.stdout.splitlines(), ended.returncode),
-                         (["plant: toy has other sources than gate/plants.txt: gate/plant toy", "0 passed, 0 failed"], 0))
+                         ([LOOKED_AT.format(0, 3, 0, 0, 0), LEFT.format(3, 3, 0, 0, 3), "0 passed, 0 failed"], 0))
 
     def test_a_crate_that_is_not_there(self):
         self.assertEqual(self.call("laws").returncode, 2)
@@ -198,26 +203,26 @@ class SaidTest(unittest.TestCase):
 
 class RecordTest(unittest.TestCase):
     def test_what_is_written_is_read(self):
-        functions = {"toy::new": told(["Err(NoMemory)", "match x { A => { 0 } }"], proves=2, not_source=1), "toy::<A as B<C>>::f": told(),
+        functions = {"toy::new": told(["Err(NoMemory)", "match x { A => { 0 } }"], proves=2, not_source=1), "toy::<A as B<C>>::f": told(over="2f"),
                      "toy::get": told(untested=1, refused=3)}
-        record = {"toy": Planted("0a", "some-kit logic 1", functions), "low": Planted("0b", "some-kit logic 1", {})}
+        record = {"toy": Planted("some-kit logic 1", functions), "low": Planted("some-kit logic 1", {})}
         self.assertEqual(planted.read(planted.written(record)), record)
 
     def test_its_text(self):
-        record = {"toy": Planted("0a", "kit 1", {"toy::f": told(["0"], proves=1, refused=2), "toy::e": told()})}
+        record = {"toy": Planted("kit 1", {"toy::f": told(["0"], over="0a", proves=1, refused=2), "toy::e": told()})}
         self.assertEqual(planted.written(record),
-                         "toy: sources 0a by kit 1\n  toy::e: nothing\n  toy::f: proves 1, refused 2\n    { 0 }\n")
+                         "toy: by kit 1\n  toy::e: over 1: nothing\n  toy::f: over 0a: proves 1, refused 2\n    { 0 }\n")
 
     def test_a_line_of_none(self):
-        for text in ("toy\n", "  toy::f: refused 1\n", "toy: sources 0a by kit 1\n    { 0 }\n"):
+        for text in ("toy\n", "  toy::f: over 1: refused 1\n", "toy: by kit 1\n    { 0 }\n", "toy: by kit 1\n  toy::f: refused 1\n"):
             with self.subTest(text), self.assertRaisesRegex(ValueError, "none of a record"):
                 planted.read(text)
 
 
 class ComparisonTest(unittest.TestCase):
-    def faults(self, functions, reasons="", sources="1", edited=(), paths=("toy::f",)):
-        now = {"toy": Now(sources, [*paths], {*edited})}
-        return planted.faults_of(now, {"toy": Planted("1", "kit 1", functions)}, planted.reasons_of(reasons))
+    def faults(self, functions, reasons="", edited=(), paths=("toy::f",)):
+        now = {"toy": Now({it: "1" for it in paths}, {*edited})}
+        return planted.faults_of(now, {"toy": Planted("kit 1", functions)}, planted.reasons_of(reasons))
 
     def test_a_plant_that_was_judged_or_an_edit_or_a_reason_will_do(self):
         for kind in ("refused", "same"):
@@ -226,9 +231,9 @@ class ComparisonTest(unittest.TestCase):
         self.assertEqual(self.faults({"toy::f": told(elsewhere=1, untested=1)}, "toy::f: it writes for people\n"), (2, []))
 
     def test_a_function_that_nothing_is_said_of(self):
-        for functions in ({"toy::f": told(elsewhere=1, not_judged=2)}, {}):
-            self.assertEqual(self.faults(functions),
-                             (1, ["toy::f has neither an edit nor a plant that was judged, and no reason"]))
+        self.assertEqual(self.faults({"toy::f": told(elsewhere=1, not_judged=2)}),
+                         (1, ["toy::f has neither an edit nor a plant that was judged, and no reason"]))
+        self.assertEqual(self.faults({}), (0, []))
 
     def test_a_body_that_proves(self):
         proving = {"toy::f": told(["Err(NoMemory)", "0"], proves=2)}
@@ -246,13 +251,23 @@ class ComparisonTest(unittest.TestCase):
                          ["toy::f has a reason, and also an edit or a plant that was judged"])
         self.assertEqual(self.faults(refused, "toy::f { 0 }: none\n")[1], ["toy::f { 0 } is accepted, and no such plant proves"])
 
-    def test_a_crate_with_other_sources_is_older_and_fails_nothing(self):
-        functions = {"toy::f": told(["0"], proves=1)}
-        self.assertEqual(self.faults(functions, sources="2", paths=["toy::f", "toy::g"]), (0, []))
-        now = {"toy": Now("2", ["toy::f"], set()), "low": Now("1", ["low::f"], set())}
-        record = {"low": Planted("1", "kit 1", {})}
-        self.assertEqual(planted.older(now, record), ["toy"])
-        self.assertEqual(planted.older(now, record | {"toy": Planted("1", "kit 1", {})}), ["toy"])
+    def test_a_plant_of_other_sources_shows_nothing_and_fails_nothing(self):
+        functions = {"toy::f": told(["0"], over="2", proves=1), "toy::h": told(refused=1), "toy::i": told(over="2", not_judged=1)}
+        self.assertEqual(self.faults(functions, paths=["toy::f", "toy::g", "toy::h", "toy::i"]), (1, []))
+        now = {"toy": Now({"toy::f": "1", "toy::g": "1", "toy::h": "1"}, {"toy::g"}), "low": Now({"low::f": "1"}, set())}
+        record = {"toy": Planted("kit 1", functions), "low": Planted("kit 1", {"low::f": told(not_judged=1)})}
+        self.assertEqual(planted.older(now, record), {"toy": ["toy::f"]})
+        self.assertEqual(planted.older(now, {}), {"toy": ["toy::f", "toy::h"], "low": ["low::f"]})
+
+    def test_how_functions_are_looked_at(self):
+        now = {"toy": Now({f"toy::{it}": "1" for it in "abcdefg"}, {"toy::a"})}
+        functions = {"toy::a": told(over="2", refused=1), "toy::b": told(same=1), "toy::c": told(not_judged=1), "toy::d": told(not_judged=1),
+                     "toy::e": told(over="2", refused=1), "toy::f": told(over="2", not_source=1)}
+        reasons = planted.reasons_of("toy::c: a device says it\ntoy::d: an equation; the tactics meet a limit at each plant\n")
+        ways = planted.ways_of(now, {"toy": Planted("kit 1", functions)}, reasons)
+        self.assertEqual(ways, dict(zip(now["toy"].sums, ("an edit", "plants", "a reason", "the limits of tactics", "plants of other sources",
+                                                          "nothing", "nothing"))))
+        self.assertEqual({*ways.values()}, {*planted.LOOKED_AT, *planted.LEFT})
 
     def test_reasons_are_read(self):
         read = planted.reasons_of("# a comment\n\na::<B as C<D>>::f { match x { A => 0 } }: so: it is\na::f: it { may }: be\n")
