@@ -122,7 +122,7 @@ PARTS = [
                                                   "gate/kit.py", "gate/crates.py", "crates.txt", "crates/*/src", "include", "runtime", "release/library")),
     Part("promises", "tools/promises", ("tools", "gate", "crates.txt", "crates", "docs/*.md", "host/zirofen_host")),
     of_toolchain("gate/laid_out", "crates", "crates.txt"),
-    Part("plant", "gate/plant --compare", ("gate", "crates", "crates.txt", "HANDLES")),
+    Part("plant", "gate/plant --compare", ("gate", "tools/believed.py", "crates", "crates.txt", "HANDLES")),
     of_toolchain("gate/tests", "HANDLES", *(f"{CRATE}{it}" for it in ("test_calls", "test_layers", "test_plans"))),
     of_toolchain("gate/tests --unproved", "HANDLES", *(f"{CRATE}{it}" for it in ("test_calls", "test_layers"))),
     of_toolchain("gate/trials", "HANDLES", f"{CRATE}trials", "tests/program/trial_rows.py", "tests/program/of_one.py", "examples"),
