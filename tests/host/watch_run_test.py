@@ -15,7 +15,7 @@ from check_test import HostTest, owned
 from made_up import COMMAND
 
 # seconds that something may take on a machine with much to do
-LONG = 60
+LONG = 600
 
 
 @unittest.skipUnless(os.geteuid() == 0, "owners of plain files are set by root alone")
