@@ -99,7 +99,7 @@ class Tests:
             with tempfile.NamedTemporaryFile(dir=self.room) as file:
                 file.write(other.encode())
                 file.flush()
-                named = [file.name if it in ("OPS", "PAIRS") else it for it in words]
+                named = [file.name if it in ("OPS", "PAIRS", "SUBTREES") else it for it in words]
                 by_program = subprocess.run([self.program, *named], input=tree, capture_output=True)
                 ended = subprocess.run([*before, caller, *how, file.name, *named], input=tree, capture_output=True, env=LEAKS_ELSEWHERE)
             expected = by_program.stderr if by_program.returncode == 3 else by_program.stdout
