@@ -1,0 +1,4 @@
+pub mod Plain
+pub mod PlainAdvice
+pub mod Audited
+pub mod Pushed

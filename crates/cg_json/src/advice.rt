@@ -1,0 +1,112 @@
+//! The object of the advice.
+ghost use Rattle.std.specs.Prelude.{◌≡◌, ◌++◌, map, IfOk, OnOk};
+ghost use Rattle.serde_json.specs.View.{view, members_view};
+ghost use Rattle.cg_json.specs.Advice.{stand_value, over_value, fails_value, failing_members, has_none, advice_value};
+ghost use Rattle.cg_json.specs.Lines.{IsLineOf};
+
+use crate::audit::contained_json;
+use crate::entry::{at_guard, changes_value, classes_value, entry_members, push_mend};
+use crate::line::line_of;
+use crate::members::text_alone;
+use crate::over::Over;
+use cg_advice::pair::Stand;
+use cg_cgroup::memory::NoMemory;
+use cg_model::guard::Guard;
+use serde_json::{Map, Value, put};
+use std::alloc::{AllocError, Global};
+
+/// The advice as JSON, on a line: the object of `contained` where nothing is to be changed; else `fails`, with an object for each entry
+/// that lets somebody in and for each subtree that is over its limits, in order, and what mends it. What is written reads as that
+/// object.
+///
+/// # Errors
+/// `NoMemory` where an allocation was refused.
+pub fn advice_json(
+    alloc: Global,
+    stands: &[Stand<'_>],
+    overs: &[Over<'_>],
+) -> Result<Vec<u8>, NoMemory>
+    ensures { IfOk result (λ text. IsLineOf (advice_value stands.now overs.now) text.items) }
+{
+    if has_none(stands, overs) {
+        return contained_json(alloc);
+    }
+    let members = failing_members(alloc, stands, overs)?;
+    line_of(alloc, members)
+}
+
+/// Whether nothing is to be changed.
+fn has_none(stands: &[Stand<'_>], overs: &[Over<'_>]) -> bool
+    ensures { result ≡ has_none stands.now overs.now }
+{
+    stands.is_empty() && overs.is_empty()
+}
+
+fn failing_members(
+    alloc: Global,
+    stands: &[Stand<'_>],
+    overs: &[Over<'_>],
+) -> Result<Map<String, Value>, AllocError>
+    ensures { IfOk result (λ members. members_view members.entries ≡ failing_members stands.now overs.now) }
+{
+    let fails = fails_value(alloc, stands, overs)?;
+    let mut members = text_alone(alloc, "answer", "fails")?;
+    put(&mut members, alloc, "fails", fails)?;
+    Ok(members)
+}
+
+/// A list of what fails.
+fn fails_value(alloc: Global, stands: &[Stand<'_>], overs: &[Over<'_>]) -> Result<Value, AllocError>
+    ensures { IfOk result (λ value. view value ≡ fails_value stands.now overs.now) }
+{
+    let mut list = Vec::new(alloc);
+    push_stands(&mut list, alloc, stands)?;
+    push_overs(&mut list, alloc, overs)?;
+    Ok(Value::from(list))
+}
+
+fn push_stands(list: &mut Vec<Value>, alloc: Global, stands: &[Stand<'_>]) -> Result<(), AllocError>
+    ensures { OnOk result (map view list.new.items ≡ map view list.old.items ++ map stand_value stands.now) }
+{
+    for stand in stands {
+        let value = stand_value(alloc, stand)?;
+        list.push(value)?;
+    }
+    Ok(())
+}
+
+/// The object of an entry: by which classes users get in, and what mends it for all of them.
+fn stand_value(alloc: Global, stand: &Stand<'_>) -> Result<Value, AllocError>
+    ensures { IfOk result (λ value. view value ≡ stand_value stand.now) }
+{
+    let mut members = entry_members(alloc, stand.subtree, &stand.at)?;
+    let classes = classes_value(alloc, stand.ways)?;
+    put(&mut members, alloc, "classes", classes)?;
+    let changes = changes_value(alloc, stand.subtree, &stand.at, stand.ways)?;
+    put(&mut members, alloc, "changes", changes)?;
+    Ok(Value::from(members))
+}
+
+fn push_overs(list: &mut Vec<Value>, alloc: Global, overs: &[Over<'_>]) -> Result<(), AllocError>
+    ensures { OnOk result (map view list.new.items ≡ map view list.old.items ++ map over_value overs.now) }
+{
+    for over in overs {
+        let value = over_value(alloc, over)?;
+        list.push(value)?;
+    }
+    Ok(())
+}
+
+/// The object of a subtree that is over its limits, and of the limits that are to be raised.
+fn over_value(alloc: Global, over: &Over<'_>) -> Result<Value, AllocError>
+    ensures { IfOk result (λ value. view value ≡ over_value over.now) }
+{
+    let subtree = over.subtree;
+    let mut changes = Vec::new(alloc);
+    push_mend(&mut changes, alloc, subtree, over.descendants)?;
+    push_mend(&mut changes, alloc, subtree, over.depth)?;
+    let place = subtree.prefix(subtree.depth());
+    let mut members = at_guard(alloc, Guard::AlreadyOver.name(), place)?;
+    put(&mut members, alloc, "changes", Value::from(changes))?;
+    Ok(Value::from(members))
+}
