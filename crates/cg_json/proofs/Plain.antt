@@ -36,7 +36,7 @@ pub record ArePlain (members : Members) (deep : ℕ) : Type 0 where
   pub exact : members_have_float members ≡ false
   pub within : members_depth members ≤ deep
 
-both : (a b : Bool) → a ≡ false → b ≡ false → (a || b) ≡ false
+pub both : (a b : Bool) → a ≡ false → b ≡ false → (a || b) ≡ false
 both false b p q = q
 both true b p q = p
 
@@ -115,7 +115,7 @@ lists_plain value other n (x ∷ xs) ys every all =
       within = omega (arith, first.within, rest.within);
     }
 
-limit_plain : (limit : Limit) (n : ℕ) → IsPlain (limit_value limit) n
+pub limit_plain : (limit : Limit) (n : ℕ) → IsPlain (limit_value limit) n
 limit_plain Max n = text_plain _ n
 limit_plain (At value) n = number_plain value n
 
@@ -171,7 +171,7 @@ limit_file_plain AlreadyOver ms n p = p
 answer_word_plain : (word : List ℕ) (n : ℕ) → ArePlain (put_text (codes "answer") word no_members) n
 answer_word_plain word n = text_more (codes "answer") word no_members n (none_plain n)
 
-failed_plain : (subtree : Names) (failed : Failed) → ArePlain (failed_members subtree failed) 3
+pub failed_plain : (subtree : Names) (failed : Failed) → ArePlain (failed_members subtree failed) 3
 failed_plain subtree failed =
     let at_guard = text_more (codes "guard") (guard_name failed.guard) _ 3 (answer_word_plain (codes "unsettled") 3) in
     limit_file_plain failed.guard _ 3 (text_more (codes "path") (path_text (take failed.len subtree)) _ 3 at_guard)

@@ -24,10 +24,10 @@ use Rattle.cg_json.proofs.Plain.{IsPlain, ArePlain, put_plain, text_plain, text_
 owner_more : (uid gid : ℕ) (ms : Members) (n : ℕ) → ArePlain ms n → ArePlain (put_owner uid gid ms) n
 owner_more uid gid ms n p = number_more (codes "gid") gid _ n (number_more (codes "uid") uid ms n p)
 
-guard_plain : (guard place : List ℕ) (n : ℕ) → ArePlain (at_guard guard place) n
+pub guard_plain : (guard place : List ℕ) (n : ℕ) → ArePlain (at_guard guard place) n
 guard_plain guard place n = text_more (codes "path") place _ n (text_more (codes "guard") guard no_members n (none_plain n))
 
-at_plain : (subtree : Names) (at : GuardedEntry) (n : ℕ) → ArePlain (entry_members subtree at) n
+pub at_plain : (subtree : Names) (at : GuardedEntry) (n : ℕ) → ArePlain (entry_members subtree at) n
 at_plain subtree at n =
     let guard = guard_plain (guard_name at.guard) (path_text (take at.len subtree)) n in
     let entry = text_more (codes "entry") (entry_text at.name) _ n guard in

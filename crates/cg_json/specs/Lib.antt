@@ -7,3 +7,4 @@ pub mod Entries
 pub mod Overs
 pub mod Advice
 pub mod Verdicts
+pub mod Outcomes

@@ -55,7 +55,7 @@ fn escape_members(alloc: Global, ops: &[Op]) -> Result<Map<String, Value>, Alloc
 }
 
 /// The guard that fails, the cgroup at which it does, and the limit file, where it is one's.
-fn failed_members(
+pub fn failed_members(
     alloc: Global,
     subtree: &Path,
     failed: &Failed,

@@ -69,7 +69,7 @@ pub fn pair_json(
 }
 
 /// The members of a user and a subtree.
-fn put_pair(
+pub fn put_pair(
     members: &mut Map<String, Value>,
     alloc: Global,
     user: &User,

@@ -4,9 +4,10 @@
 pub mod advice;
 pub mod answer;
 pub mod audit;
-mod entry;
-mod line;
-mod members;
-mod operation;
+pub mod entry;
+pub mod line;
+pub mod members;
+pub mod operation;
+pub mod outcome;
 pub mod over;
 pub mod verdict;

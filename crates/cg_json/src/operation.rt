@@ -151,7 +151,7 @@ pub fn set_members(
 }
 
 /// A number, or `max`.
-fn limit_value(alloc: Global, limit: Limit) -> Result<Value, AllocError>
+pub fn limit_value(alloc: Global, limit: Limit) -> Result<Value, AllocError>
     ensures { IfOk result (λ value. view value ≡ limit_value limit) }
 {
     match limit {

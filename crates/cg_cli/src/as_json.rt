@@ -1,0 +1,3 @@
+//! Reports as JSON.
+pub mod audit;
+pub mod check;
