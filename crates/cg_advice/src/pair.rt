@@ -1,10 +1,11 @@
 //! Users and subtrees that are to be contained against them, and who gets in.
-ghost use Rattle.cg_advice.specs.AdviceLines.{IsShown};
+ghost use Rattle.cg_advice.specs.AdviceLines.{IsShown, IsOverShown};
 
 use crate::ways::Ways;
 use cg_cgroup::path::Path;
 use cg_cgroup::user::User;
 use cg_model::guard::GuardedEntry;
+use cg_model::mend::Mend;
 
 /// A user, and a subtree that is to be contained against them.
 #[derive(Clone, Copy)]
@@ -28,4 +29,13 @@ pub struct Stand<'a> {
     pub at: GuardedEntry,
     pub ways: Ways,
     ghost shown: { IsShown subtree.now at },
+}
+
+/// A subtree that is over its limits, and the limits that are to be raised.
+#[derive(Clone, Copy)]
+pub struct Over<'a> {
+    pub subtree: &'a Path,
+    pub descendants: Option<Mend>,
+    pub depth: Option<Mend>,
+    ghost shown: { IsOverShown subtree.now descendants depth },
 }

@@ -59,7 +59,7 @@ pub fn advice_lines<H: Hierarchy>(
 }
 
 /// Whether no guard of its subtree fails for the user of any pair.
-fn are_guarded<H: Hierarchy>(tree: &H, pairs: &[Pair<'_>]) -> bool
+pub(crate) fn are_guarded<H: Hierarchy>(tree: &H, pairs: &[Pair<'_>]) -> bool
     requires { All (λ pair. IsSubtree (H.state tree.now) pair.subtree.now) pairs.now }
     ensures { result ≡ list_all (is_pair_guarded (H.state tree.now)) (map pair_of pairs.now) }
 {
@@ -186,7 +186,7 @@ pub fn over_line(alloc: Global, subtree: &Path) -> Result<String, AllocError>
 }
 
 /// A limit of the subtree raised to what is there, where that doesn't fit.
-fn raised(subtree: &Path, file: LimitFile, fits: bool, there: u64) -> Option<Mend>
+pub(crate) fn raised(subtree: &Path, file: LimitFile, fits: bool, there: u64) -> Option<Mend>
     ensures mend { option_to_list result ≡ unless fits (Set (length subtree.now) file (At there)) }
     ensures within { IfSome result (λ mend. len_of mend ≤ length subtree.now) }
 {

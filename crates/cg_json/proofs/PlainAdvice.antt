@@ -1,6 +1,5 @@
 -- The same of the objects of advice.
-use Rattle.std.proofs.Common.{ℕ, List, [], ◌∷◌, ◌++◌, take, codes}
-use Rattle.std.specs.Prelude.{option_to_list}
+use Rattle.std.proofs.Common.{ℕ, List, [], ◌∷◌, take, codes}
 use Rattle.std.specs.List.{filter}
 use Rattle.cg_cgroup.specs.Paths.{Names, path_text}
 use Rattle.cg_cgroup.specs.Files.{entry_text}
@@ -13,12 +12,11 @@ use Rattle.cg_model.specs.declared.mend.Mend.TheVariants.{Chown, Chmod, Set}
 use Rattle.cg_lines.specs.OperationLines.{mode_word}
 use Rattle.cg_advice.specs.AdviceLines.{class_name}
 use Rattle.cg_advice.specs.Ways.{has_way}
-use Rattle.cg_advice.specs.declared.pair.Stand.{Stand}
+use Rattle.cg_advice.specs.Found.{Let, Raised}
 use Rattle.cg_advice.specs.declared.ways.Ways.{Ways}
 use Rattle.serde_json.specs.Data.{string, Members, no_members}
 use Rattle.cg_json.specs.Entries.{put_owner, at_guard, entry_members, classes_value, mend_members, mend_value, changes_by, changes_value}
 use Rattle.cg_json.specs.Advice.{stand_value, over_value, fails_value, failing_members}
-use Rattle.cg_json.specs.declared.over.Over.{Over}
 use Rattle.cg_json.proofs.Plain.{IsPlain, ArePlain, put_plain, text_plain, text_more, number_more, none_plain, object_plain, list_plain, entry_plain, set_plain, chmod_plain, lists_plain}
 
 owner_more : (uid gid : ℕ) (ms : Members) (n : ℕ) → ArePlain ms n → ArePlain (put_owner uid gid ms) n
@@ -48,24 +46,22 @@ classes_plain ways =
     list_plain (λ class. string (class_name class)) 1 (filter (has_way ways) (Owner ∷ Group ∷ Others ∷ []))
     (λ class. text_plain (class_name class) 1)
 
-stand_plain : (stand : Stand) → IsPlain (stand_value stand) 3
-stand_plain stand =
-    let mends = changes_by stand.ways stand.at in
-    let entry = at_plain stand.subtree.now stand.at 2 in
-    let classes = put_plain (codes "classes") (classes_value stand.ways) _ 2 (classes_plain stand.ways) entry in
-    let changes = changes_plain stand.subtree.now mends in
-    object_plain _ 2 (put_plain (codes "changes") (changes_value stand.subtree.now mends) _ 2 changes classes)
+stand_plain : (stand : Let) → IsPlain (stand_value stand) 3
+stand_plain (subtree, at, ways) =
+    let mends = changes_by ways at in
+    let entry = at_plain subtree at 2 in
+    let classes = put_plain (codes "classes") (classes_value ways) _ 2 (classes_plain ways) entry in
+    object_plain _ 2 (put_plain (codes "changes") (changes_value subtree mends) _ 2 (changes_plain subtree mends) classes)
 
-over_plain : (over : Over) → IsPlain (over_value over) 3
-over_plain over =
-    let mends = option_to_list over.descendants ++ option_to_list over.depth in
-    object_plain _ 2 (put_plain (codes "changes") (changes_value over.subtree.now mends) _ 2 (changes_plain over.subtree.now mends)
-    (guard_plain (guard_name AlreadyOver) (path_text over.subtree.now) 2))
+over_plain : (over : Raised) → IsPlain (over_value over) 3
+over_plain (subtree, mends) =
+    object_plain _ 2 (put_plain (codes "changes") (changes_value subtree mends) _ 2 (changes_plain subtree mends)
+    (guard_plain (guard_name AlreadyOver) (path_text subtree) 2))
 
-fails_plain : (stands : List Stand) (overs : List Over) → IsPlain (fails_value stands overs) 4
+fails_plain : (stands : List Let) (overs : List Raised) → IsPlain (fails_value stands overs) 4
 fails_plain stands overs = lists_plain stand_value over_value 3 stands overs stand_plain over_plain
 
-pub failing_plain : (stands : List Stand) (overs : List Over) → ArePlain (failing_members stands overs) 4
+pub failing_plain : (stands : List Let) (overs : List Raised) → ArePlain (failing_members stands overs) 4
 failing_plain stands overs =
     put_plain (codes "fails") (fails_value stands overs) _ 4 (fails_plain stands overs)
     (text_more (codes "answer") (codes "fails") no_members 4 (none_plain 4))

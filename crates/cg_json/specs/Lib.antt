@@ -4,7 +4,6 @@ pub mod Operations
 pub mod Answers
 pub mod Audits
 pub mod Entries
-pub mod Overs
 pub mod Advice
 pub mod Verdicts
 pub mod Outcomes

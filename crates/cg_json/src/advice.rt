@@ -1,45 +1,33 @@
 //! The object of the advice.
 ghost use Rattle.std.specs.Prelude.{◌≡◌, ◌++◌, map, IfOk, OnOk};
 ghost use Rattle.serde_json.specs.View.{view, members_view};
-ghost use Rattle.cg_json.specs.Advice.{stand_value, over_value, fails_value, failing_members, has_none, advice_value};
+ghost use Rattle.cg_advice.specs.Found.{stand_let, over_raised};
+ghost use Rattle.cg_json.specs.Advice.{stand_value, over_value, fails_value, failing_members, failing_value};
 ghost use Rattle.cg_json.specs.Lines.{IsLineOf};
 
-use crate::audit::contained_json;
 use crate::entry::{at_guard, changes_value, classes_value, entry_members, push_mend};
 use crate::line::line_of;
 use crate::members::text_alone;
-use crate::over::Over;
-use cg_advice::pair::Stand;
+use cg_advice::pair::{Over, Stand};
 use cg_cgroup::memory::NoMemory;
 use cg_model::guard::Guard;
 use serde_json::{Map, Value, put};
 use std::alloc::{AllocError, Global};
 
-/// The advice as JSON, on a line: the object of `contained` where nothing is to be changed; else `fails`, with an object for each entry
-/// that lets somebody in and for each subtree that is over its limits, in order, and what mends it. What is written reads as that
-/// object.
+/// What is to be changed as JSON, on a line: `fails`, with an object for each entry that lets somebody in and for each subtree that is
+/// over its limits, in order, and what mends it. What is written reads as that object.
 ///
 /// # Errors
 /// `NoMemory` where an allocation was refused.
-pub fn advice_json(
+pub fn failing_json(
     alloc: Global,
     stands: &[Stand<'_>],
     overs: &[Over<'_>],
 ) -> Result<Vec<u8>, NoMemory>
-    ensures { IfOk result (λ text. IsLineOf (advice_value stands.now overs.now) text.items) }
+    ensures { IfOk result (λ text. IsLineOf (failing_value (map stand_let stands.now) (map over_raised overs.now)) text.items) }
 {
-    if has_none(stands, overs) {
-        return contained_json(alloc);
-    }
     let members = failing_members(alloc, stands, overs)?;
     line_of(alloc, members)
-}
-
-/// Whether nothing is to be changed.
-fn has_none(stands: &[Stand<'_>], overs: &[Over<'_>]) -> bool
-    ensures { result ≡ has_none stands.now overs.now }
-{
-    stands.is_empty() && overs.is_empty()
 }
 
 fn failing_members(
@@ -47,7 +35,7 @@ fn failing_members(
     stands: &[Stand<'_>],
     overs: &[Over<'_>],
 ) -> Result<Map<String, Value>, AllocError>
-    ensures { IfOk result (λ members. members_view members.entries ≡ failing_members stands.now overs.now) }
+    ensures { IfOk result (λ members. members_view members.entries ≡ failing_members (map stand_let stands.now) (map over_raised overs.now)) }
 {
     let fails = fails_value(alloc, stands, overs)?;
     let mut members = text_alone(alloc, "answer", "fails")?;
@@ -57,7 +45,7 @@ fn failing_members(
 
 /// A list of what fails.
 fn fails_value(alloc: Global, stands: &[Stand<'_>], overs: &[Over<'_>]) -> Result<Value, AllocError>
-    ensures { IfOk result (λ value. view value ≡ fails_value stands.now overs.now) }
+    ensures { IfOk result (λ value. view value ≡ fails_value (map stand_let stands.now) (map over_raised overs.now)) }
 {
     let mut list = Vec::new(alloc);
     push_stands(&mut list, alloc, stands)?;
@@ -66,7 +54,7 @@ fn fails_value(alloc: Global, stands: &[Stand<'_>], overs: &[Over<'_>]) -> Resul
 }
 
 fn push_stands(list: &mut Vec<Value>, alloc: Global, stands: &[Stand<'_>]) -> Result<(), AllocError>
-    ensures { OnOk result (map view list.new.items ≡ map view list.old.items ++ map stand_value stands.now) }
+    ensures { OnOk result (map view list.new.items ≡ map view list.old.items ++ map (λ stand. stand_value (stand_let stand)) stands.now) }
 {
     for stand in stands {
         let value = stand_value(alloc, stand)?;
@@ -77,7 +65,7 @@ fn push_stands(list: &mut Vec<Value>, alloc: Global, stands: &[Stand<'_>]) -> Re
 
 /// The object of an entry: by which classes users get in, and what mends it for all of them.
 fn stand_value(alloc: Global, stand: &Stand<'_>) -> Result<Value, AllocError>
-    ensures { IfOk result (λ value. view value ≡ stand_value stand.now) }
+    ensures { IfOk result (λ value. view value ≡ stand_value (stand_let stand.now)) }
 {
     let mut members = entry_members(alloc, stand.subtree, &stand.at)?;
     let classes = classes_value(alloc, stand.ways)?;
@@ -88,7 +76,7 @@ fn stand_value(alloc: Global, stand: &Stand<'_>) -> Result<Value, AllocError>
 }
 
 fn push_overs(list: &mut Vec<Value>, alloc: Global, overs: &[Over<'_>]) -> Result<(), AllocError>
-    ensures { OnOk result (map view list.new.items ≡ map view list.old.items ++ map over_value overs.now) }
+    ensures { OnOk result (map view list.new.items ≡ map view list.old.items ++ map (λ over. over_value (over_raised over)) overs.now) }
 {
     for over in overs {
         let value = over_value(alloc, over)?;
@@ -99,7 +87,7 @@ fn push_overs(list: &mut Vec<Value>, alloc: Global, overs: &[Over<'_>]) -> Resul
 
 /// The object of a subtree that is over its limits, and of the limits that are to be raised.
 fn over_value(alloc: Global, over: &Over<'_>) -> Result<Value, AllocError>
-    ensures { IfOk result (λ value. view value ≡ over_value over.now) }
+    ensures { IfOk result (λ value. view value ≡ over_value (over_raised over.now)) }
 {
     let subtree = over.subtree;
     let mut changes = Vec::new(alloc);

@@ -9,5 +9,4 @@ pub mod line;
 pub mod members;
 pub mod operation;
 pub mod outcome;
-pub mod over;
 pub mod verdict;
