@@ -36,7 +36,7 @@ pub struct Found<'a> {
 ///
 /// # Errors
 /// `NoMemory` where an allocation was refused.
-pub fn found<'a, H: Hierarchy>(
+pub fn advice<'a, H: Hierarchy>(
     alloc: Global,
     tree: &H,
     pairs: &[Pair<'a>],

@@ -1,27 +1,32 @@
 -- What is said as JSON, by what was answered.
-use Rattle.std.proofs.Common.{◌≡◌, ◌≢◌, ℕ, true, List, [], Option, Some, None, Result, Ok, Err, IsErrAnd, refl, sym, ap, subst, inl, inr}
+use Rattle.std.specs.List.{flat_map, list_all}
+use Rattle.std.proofs.Common.{◌≡◌, ◌≢◌, ℕ, Bool, true, false, cond, List, [], Option, Some, None, Result, Ok, Err, IsErrAnd, refl, sym, ap, subst, inl, inr}
 use Rattle.cg_cgroup.specs.Paths.{Names}
 use Rattle.cg_cgroup.specs.Identity.{Identity}
 use Rattle.cg_model.specs.States.{State}
 use Rattle.cg_model.specs.Answers.{answer}
 use Rattle.cg_model.specs.Clauses.{first}
+use Rattle.cg_model.specs.Mends.{Pair}
 use Rattle.cg_model.specs.Checks.{subtree_faults, unless_fault, checked, all_checked}
 use Rattle.cg_model.specs.declared.answer.Answer.{Answer}
 use Rattle.cg_model.specs.declared.answer.AllAnswer.{AllAnswer}
 use Rattle.cg_model.specs.declared.fault.CheckFault.{CheckFault}
 use Rattle.cg_model.specs.declared.fault.CheckFault.TheVariants.{RootSubtree, NoSuchSubtree, NoMemory as CheckNoMemory}
+use Rattle.cg_advice.specs.AdviceLines.{is_pair_guarded, pairs_lines, advice_lines}
+use Rattle.cg_advice.specs.Found.{parts_of, advice_parts}
 use Rattle.cg_check.specs.Checks.{takes_memory, all_take_memory, Gives}
 use Rattle.cg_json.specs.Answers.{answer_value}
 use Rattle.cg_json.specs.Audits.{audit_value}
 use Rattle.cg_faults.specs.Faults.{lifted_check}
 use Rattle.cg_faults.specs.declared.fault.CliFault.{CliFault}
 use Rattle.cg_faults.specs.declared.fault.CliFault.TheVariants.{NoMemory}
-use Rattle.cg_cli.specs.AsJson.{SaysValue, AnswersAsJson, PairsAsJson}
+use Rattle.cg_cli.specs.AsJson.{SaysValue, AnswersAsJson, PairsAsJson, SaysParts, parts_status, AdviceAsJson}
 use Rattle.cg_cli.specs.Audits.{audit_status}
 use Rattle.cg_cli.specs.Containment.{in_call, answer_status}
 use Rattle.cg_cli.specs.Reports.{Report, Reports, fault_report, takes_memory as report_takes_memory}
 use Rattle.cg_cli.specs.Settled.{IsSettledFault}
 use Rattle.cg_cli.specs.Settling.{SaysOn}
+use Rattle.cg_cli.proofs.AdviseReports.{all_guarded}
 use Rattle.cg_cli.proofs.ReportLaws.{handed_on}
 use Rattle.std.proofs.KnownBytes.{Keeps-refl}
 
@@ -94,3 +99,29 @@ said_fault Says fault says known result handed = (
   says,
   handed_on (Reports (fault_report (lifted_check fault)) known known) (lifted_check fault) result handed (fault_reports fault known),
 )
+
+-- ---- advice
+
+module _ (st : State) (subtrees : List Names) (pairs : List Pair) where
+  pub advice_answered : first (flat_map (subtree_faults st) subtrees) ≡ None → (said : Report) → SaysParts (advice_parts st pairs) said
+      → AdviceAsJson st subtrees pairs said
+  advice_answered none said says =
+      inl (subst (λ fault. SaysOn (in_call (unless_fault fault (advice_parts st pairs))) SaysParts said) (sym none) says)
+
+  pub advice_faulted : (fault : CheckFault) → first (flat_map (subtree_faults st) subtrees) ≡ Some fault
+      → AdviceAsJson st subtrees pairs (fault_report (lifted_check fault))
+  advice_faulted fault is =
+      inl (subst (λ found. SaysOn (in_call (unless_fault found (advice_parts st pairs))) SaysParts (fault_report (lifted_check fault)))
+      (sym is) refl)
+
+-- where no guard fails
+pub no_parts : (st : State) (pairs : List Pair) → None ≡ advice_lines st pairs → None ≡ advice_parts st pairs
+no_parts st pairs none = sym (ap (λ guarded. cond guarded None (Some (parts_of st pairs))) (all_guarded st pairs none))
+
+pub no_lines : (st : State) (pairs : List Pair) → parts_status (advice_parts st pairs) ≡ 0 → None ≡ advice_lines st pairs
+no_lines st pairs = by_test (list_all (is_pair_guarded st) pairs)
+  where
+    by_test : (guarded : Bool) → parts_status (cond guarded None (Some (parts_of st pairs))) ≡ 0
+        → None ≡ cond guarded None (Some (pairs_lines st pairs))
+    by_test true zero = refl
+    by_test false zero = let never : ⊥ = cc in absurd never

@@ -7,7 +7,7 @@ use Rattle.cg_advice.specs.Found.{stand_let, let_gathered, over_raised, raised_o
 use Rattle.cg_advice.specs.Ways.{pair_of, entering}
 use Rattle.cg_advice.specs.Thinned.{table_path}
 use Rattle.cg_advice.proofs.Founding.{all_found}
-use Rattle.cg_advice.proofs.found.found.Goals as goal
+use Rattle.cg_advice.proofs.found.advice.Goals as goal
 
 pub returns : goal.returns
 returns g c =
