@@ -1,7 +1,6 @@
 -- The lines of the advice. Own.
 use Rattle.std.specs.Prelude.{ℕ, ◌≤◌, Bool, ◌&&◌, cond, List, [], ◌∷◌, ◌++◌, length, take, Option, Some, None, codes}
 use Rattle.std.specs.List.{flat_map, join_with_byte, list_all}
-use Rattle.std.specs.Option.{ForSome}
 use Rattle.std.specs.Fmt.{decimal}
 use Rattle.cg_cgroup.specs.Paths.{Names, path_text}
 use Rattle.cg_cgroup.specs.Identity.{Identity}
@@ -86,8 +85,3 @@ abbrev pub len_of : Mend → ℕ
 len_of (Chown len name uid gid) = len
 len_of (Chmod len name mode) = len
 len_of (Set len file value) = len
-
--- what the changes of a subtree's limits need: cgroups of its path
-abbrev pub IsOverShown : Names → Option Mend → Option Mend → Type 0
-IsOverShown subtree descendants depth =
-    ForSome descendants (λ mend. len_of mend ≤ length subtree) × ForSome depth (λ mend. len_of mend ≤ length subtree)

@@ -1,19 +1,34 @@
 -- What is to be changed, as it is told apart from its lines. Own.
-use Rattle.std.specs.Prelude.{◌&&◌, cond, List, [], ◌∷◌, ◌++◌, map, Option, Some, None, take, option_to_list}
-use Rattle.std.specs.List.{flat_map, list_all}
+use Rattle.std.specs.Prelude.{◌&&◌, not, cond, List, [], ◌∷◌, ◌++◌, map, Option, Some, None, take, option_to_list}
+use Rattle.std.specs.List.{flat_map, list_any, list_all}
 use Rattle.cg_cgroup.specs.Paths.{Names}
+use Rattle.cg_cgroup.specs.Identity.{Identity}
+use Rattle.cg_cgroup.specs.Users.{in_group}
 use Rattle.cg_cgroup.specs.Files.{entry_text}
+use Rattle.cg_cgroup.specs.declared.user.Entry.{Entry}
 use Rattle.cg_model.specs.States.{State}
 use Rattle.cg_model.specs.Limits.{fits_descendants, fits_depth}
+use Rattle.cg_model.specs.Mended.{is_by}
 use Rattle.cg_model.specs.Mends.{Pair, Entrant, entrants, users_with, met, subtrees_of, limit_mends}
 use Rattle.cg_model.specs.declared.guard.GuardedEntry.{GuardedEntry}
+use Rattle.cg_model.specs.declared.mend.Class.TheVariants.{Owner, Group, Others}
 use Rattle.cg_model.specs.declared.mend.Mend.{Mend}
 use Rattle.cg_advice.specs.AdviceLines.{is_pair_guarded}
-use Rattle.cg_advice.specs.Ways.{ways_at, ways_by}
+use Rattle.cg_advice.specs.Ways.{ways_at}
 use Rattle.cg_advice.specs.declared.ways.Ways.{Ways}
 use Rattle.cg_advice.specs.declared.pair.Stand.{Stand}
 use Rattle.cg_advice.specs.declared.pair.Over.{Over}
 use Rattle.cg_advice.specs.declared.found.Found.{Found}
+
+-- by what users get in at an entry
+abbrev pub ways_by : List Identity → Entry → Ways
+ways_by users entry = record {
+  owner = list_any (λ user. is_by Owner entry user) users;
+  group = list_any (λ user. is_by Group entry user) users;
+  others = list_any (λ user. is_by Others entry user) users;
+  inside = list_any (λ user. in_group user entry.gid) users;
+  outside = list_any (λ user. not (in_group user entry.gid)) users;
+}
 
 -- an entry of a subtree that lets users in, and by what
 abbrev pub Let : Type 0

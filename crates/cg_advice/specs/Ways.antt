@@ -84,16 +84,6 @@ key_cmp key other = ordering_then (path_cmp key.0 other.0) (slice_cmp nat_cmp ke
 abbrev pub is_keyed : Key → Entering → Bool
 is_keyed key each = same_path (take each.at.len each.subtree) key.0 && same_name (entry_text each.at.name) key.1.now
 
--- those of users at an entry
-abbrev pub ways_by : List Identity → Entry → Ways
-ways_by users entry = record {
-  owner = list_any (λ user. is_by Owner entry user) users;
-  group = list_any (λ user. is_by Group entry user) users;
-  others = list_any (λ user. is_by Others entry user) users;
-  inside = list_any (λ user. in_group user entry.gid) users;
-  outside = list_any (λ user. not (in_group user entry.gid)) users;
-}
-
 -- by what all those who get in do
 abbrev pub ways_among : List Entering → Ways
 ways_among all = record {

@@ -1,5 +1,6 @@
 //! Users and subtrees that are to be contained against them, and who gets in.
-ghost use Rattle.cg_advice.specs.AdviceLines.{IsShown, IsOverShown};
+ghost use Rattle.cg_advice.specs.AdviceLines.{IsShown};
+ghost use Rattle.cg_advice.specs.Overs.{IsOverShown};
 
 use crate::ways::Ways;
 use cg_cgroup::path::Path;
