@@ -1,10 +1,13 @@
 -- What is to be changed, as it is told apart from its lines. Own.
-use Rattle.std.specs.Prelude.{◌&&◌, not, cond, List, [], ◌∷◌, ◌++◌, map, Option, Some, None, take, option_to_list}
+use Rattle.std.specs.Prelude.{ℕ, ◌&&◌, not, cond, List, [], ◌∷◌, ◌++◌, map, Option, Some, None, length, take}
 use Rattle.std.specs.List.{flat_map, list_any, list_all}
 use Rattle.cg_cgroup.specs.Paths.{Names}
 use Rattle.cg_cgroup.specs.Identity.{Identity}
 use Rattle.cg_cgroup.specs.Users.{in_group}
 use Rattle.cg_cgroup.specs.Files.{entry_text}
+use Rattle.cg_cgroup.specs.declared.files.Limit.TheVariants.{At}
+use Rattle.cg_cgroup.specs.declared.files.LimitFile.{LimitFile}
+use Rattle.cg_cgroup.specs.declared.files.LimitFile.TheVariants.{MaxDescendants, MaxDepth}
 use Rattle.cg_cgroup.specs.declared.user.Entry.{Entry}
 use Rattle.cg_model.specs.States.{State}
 use Rattle.cg_model.specs.Limits.{fits_descendants, fits_depth}
@@ -13,6 +16,7 @@ use Rattle.cg_model.specs.Mends.{Pair, Entrant, entrants, users_with, met, subtr
 use Rattle.cg_model.specs.declared.guard.GuardedEntry.{GuardedEntry}
 use Rattle.cg_model.specs.declared.mend.Class.TheVariants.{Owner, Group, Others}
 use Rattle.cg_model.specs.declared.mend.Mend.{Mend}
+use Rattle.cg_model.specs.declared.mend.Mend.TheVariants.{Set}
 use Rattle.cg_advice.specs.AdviceLines.{is_pair_guarded}
 use Rattle.cg_advice.specs.Ways.{ways_at}
 use Rattle.cg_advice.specs.declared.ways.Ways.{Ways}
@@ -50,8 +54,13 @@ let_gathered all each =
 abbrev pub Raised : Type 0
 Raised = Names × List Mend
 
+abbrev pub raised_to : Names → LimitFile → Option ℕ → List Mend
+raised_to subtree file None = []
+raised_to subtree file (Some there) = Set (length subtree) file (At there) ∷ []
+
 abbrev pub over_raised : Over → Raised
-over_raised over = (over.subtree.now, option_to_list over.descendants ++ option_to_list over.depth)
+over_raised over =
+    let subtree = over.subtree.now in (subtree, raised_to subtree MaxDescendants over.descendants ++ raised_to subtree MaxDepth over.depth)
 
 abbrev pub raised_of : State → Names → List Raised
 raised_of st subtree = cond (fits_descendants st subtree && fits_depth st subtree) [] ((subtree, limit_mends st subtree) ∷ [])

@@ -3,4 +3,3 @@ pub mod Advised
 pub mod Ways
 pub mod Thinned
 pub mod Found
-pub mod Overs

@@ -1,5 +1,5 @@
 //! What lets users in and what is over its limits, with what mends it, before it is written.
-ghost use Rattle.std.specs.Prelude.{◌≡◌, ◌++◌, true, [], ◌∷◌, map, IfOk, OnOk};
+ghost use Rattle.std.specs.Prelude.{◌≡◌, ◌++◌, true, [], ◌∷◌, map, cond, Some, None, option_to_list, IfOk, OnOk};
 ghost use Rattle.std.specs.List.{All, flat_map};
 ghost use Rattle.std.specs.Option.{option_map};
 ghost use Rattle.cg_cgroup.specs.Paths.{same_path};
@@ -15,9 +15,8 @@ use crate::entrants::entrants;
 use crate::gathered::{Gathered, key_of};
 use crate::pair::{Entrant, Over, Pair, Stand};
 use crate::table::Table;
-use crate::text::{are_guarded, raised};
+use crate::text::are_guarded;
 use crate::ways::Ways;
-use cg_cgroup::files::LimitFile;
 use cg_cgroup::memory::NoMemory;
 use cg_cgroup::path::Path;
 use cg_guards::failed::{fits_depth, fits_descendants, is_over};
@@ -104,23 +103,19 @@ fn overs_of<'a, H: Hierarchy>(
     for table in tables {
         let is_new = seen.insert(table.subtree)?;
         if is_new {
-            push_over(&mut overs, tree, table.subtree)?;
+            push_over(&mut overs, over_of(tree, table.subtree))?;
         }
     }
     Ok(overs)
 }
 
-/// The subtree behind others, where it is over its limits.
-fn push_over<'a, H: Hierarchy>(
-    overs: &mut Vec<Over<'a>>,
-    tree: &H,
-    subtree: &'a Path,
-) -> Result<(), NoMemory>
+/// The subtree, where it is over its limits.
+fn over_of<'a, H: Hierarchy>(tree: &H, subtree: &'a Path) -> Option<Over<'a>>
     requires { has_row (H.state tree.now) subtree.now ≡ true }
-    ensures { OnOk result (map over_raised overs.new.items ≡ map over_raised overs.old.items ++ raised_of (H.state tree.now) subtree.now) }
+    ensures { map over_raised (option_to_list result) ≡ raised_of (H.state tree.now) subtree.now }
 {
     if !is_over(tree, subtree) {
-        return Ok(());
+        return None;
     }
     let len = subtree.depth();
     let Some(cgroup) = tree.get(subtree, len) else {
@@ -128,14 +123,30 @@ fn push_over<'a, H: Hierarchy>(
     };
     let fits = fits_descendants(tree, subtree, cgroup);
     let count = tree.count_below(subtree, len);
-    let descendants = raised(subtree, LimitFile::MaxDescendants, fits, count);
+    let descendants = excess(fits, count);
     let fits = fits_depth(tree, subtree, cgroup);
     let levels = tree.depth_below(subtree, len);
-    let depth = raised(subtree, LimitFile::MaxDepth, fits, levels);
-    overs.push(Over {
+    let depth = excess(fits, levels);
+    Some(Over {
         subtree,
         descendants,
         depth,
-    })?;
+    })
+}
+
+/// How many there are, where that doesn't fit.
+fn excess(fits: bool, there: u64) -> Option<u64>
+    ensures { result ≡ cond fits None (Some there) }
+{
+    if fits { None } else { Some(there) }
+}
+
+/// One that is over its limits, where there is one, behind others.
+fn push_over<'a>(overs: &mut Vec<Over<'a>>, over: Option<Over<'a>>) -> Result<(), NoMemory>
+    ensures { OnOk result (map over_raised overs.new.items ≡ map over_raised overs.old.items ++ map over_raised (option_to_list over.entry)) }
+{
+    if let Some(over) = over {
+        overs.push(over)?;
+    }
     Ok(())
 }

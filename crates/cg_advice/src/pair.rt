@@ -1,12 +1,10 @@
 //! Users and subtrees that are to be contained against them, and who gets in.
 ghost use Rattle.cg_advice.specs.AdviceLines.{IsShown};
-ghost use Rattle.cg_advice.specs.Overs.{IsOverShown};
 
 use crate::ways::Ways;
 use cg_cgroup::path::Path;
 use cg_cgroup::user::User;
 use cg_model::guard::GuardedEntry;
-use cg_model::mend::Mend;
 
 /// A user, and a subtree that is to be contained against them.
 #[derive(Clone, Copy)]
@@ -32,11 +30,10 @@ pub struct Stand<'a> {
     ghost shown: { IsShown subtree.now at },
 }
 
-/// A subtree that is over its limits, and the limits that are to be raised.
+/// A subtree that is over its limits: how many cgroups and how many levels are below it, where that is more than its limit.
 #[derive(Clone, Copy)]
 pub struct Over<'a> {
     pub subtree: &'a Path,
-    pub descendants: Option<Mend>,
-    pub depth: Option<Mend>,
-    ghost shown: { IsOverShown subtree.now descendants depth },
+    pub descendants: Option<u64>,
+    pub depth: Option<u64>,
 }

@@ -186,7 +186,7 @@ pub fn over_line(alloc: Global, subtree: &Path) -> Result<String, AllocError>
 }
 
 /// A limit of the subtree raised to what is there, where that doesn't fit.
-pub(crate) fn raised(subtree: &Path, file: LimitFile, fits: bool, there: u64) -> Option<Mend>
+fn raised(subtree: &Path, file: LimitFile, fits: bool, there: u64) -> Option<Mend>
     ensures mend { option_to_list result ≡ unless fits (Set (length subtree.now) file (At there)) }
     ensures within { IfSome result (λ mend. len_of mend ≤ length subtree.now) }
 {

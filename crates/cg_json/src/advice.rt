@@ -1,7 +1,8 @@
 //! The object of the advice.
 ghost use Rattle.std.specs.Prelude.{◌≡◌, ◌++◌, map, IfOk, OnOk};
 ghost use Rattle.serde_json.specs.View.{view, members_view};
-ghost use Rattle.cg_advice.specs.Found.{stand_let, over_raised};
+ghost use Rattle.cg_advice.specs.Found.{stand_let, raised_to, over_raised};
+ghost use Rattle.cg_json.specs.Entries.{mend_value};
 ghost use Rattle.cg_json.specs.Advice.{stand_value, over_value, fails_value, failing_members, failing_value};
 ghost use Rattle.cg_json.specs.Lines.{IsLineOf};
 
@@ -9,8 +10,11 @@ use crate::entry::{at_guard, changes_value, classes_value, entry_members, push_m
 use crate::line::line_of;
 use crate::members::text_alone;
 use cg_advice::pair::{Over, Stand};
+use cg_cgroup::files::{Limit, LimitFile};
 use cg_cgroup::memory::NoMemory;
+use cg_cgroup::path::Path;
 use cg_model::guard::Guard;
+use cg_model::mend::Mend;
 use serde_json::{Map, Value, put};
 use std::alloc::{AllocError, Global};
 
@@ -91,10 +95,39 @@ fn over_value(alloc: Global, over: &Over<'_>) -> Result<Value, AllocError>
 {
     let subtree = over.subtree;
     let mut changes = Vec::new(alloc);
-    push_mend(&mut changes, alloc, subtree, over.descendants)?;
-    push_mend(&mut changes, alloc, subtree, over.depth)?;
+    push_raised(
+        &mut changes,
+        alloc,
+        subtree,
+        LimitFile::MaxDescendants,
+        over.descendants,
+    )?;
+    let depth = over.depth;
+    push_raised(&mut changes, alloc, subtree, LimitFile::MaxDepth, depth)?;
     let place = subtree.prefix(subtree.depth());
     let mut members = at_guard(alloc, Guard::AlreadyOver.name(), place)?;
     put(&mut members, alloc, "changes", Value::from(changes))?;
     Ok(Value::from(members))
+}
+
+/// The object of a limit that is raised to what is there, where that doesn't fit, behind others.
+fn push_raised(
+    list: &mut Vec<Value>,
+    alloc: Global,
+    subtree: &Path,
+    file: LimitFile,
+    there: Option<u64>,
+) -> Result<(), AllocError>
+    ensures { OnOk result (map view list.new.items
+        ≡ map view list.old.items ++ map (mend_value subtree.now) (raised_to subtree.now file there)) }
+{
+    let Some(there) = there else {
+        return Ok(());
+    };
+    let mend = Mend::Set {
+        len: subtree.depth(),
+        file,
+        value: Limit::At(there),
+    };
+    push_mend(list, alloc, subtree, Some(mend))
 }

@@ -1,4 +1,4 @@
-use Rattle.std.proofs.Common.{Bor, [], ap, sym, subst, refl, ◌∙◌, map, take, take_all}
+use Rattle.std.proofs.Common.{Bor, [], ◌++◌, ap, sym, subst, refl, ◌∙◌, map, take, take_all}
 use Rattle.std.specs.List.{flat_map}
 use Rattle.std.specs.Ordering.{is_eq}
 use Rattle.std.specs.BTreeSet.{contains}
@@ -24,7 +24,8 @@ loop-table-preserved g c =
           written_first raised same_path meets (map over_raised c.loop-table.overs.items) [] front (contains cmp c.loop-table.seen)
           (contains cmp c.insert.new.self) (λ q. is_eq (cmp key q)) key.now key c.in_ok-is_new.is_new c.loop-table.invariant
           (λ q. tied_paths key.now q.now) (λ other. refl) c.in_ok-is_new.ensures.updates.0 c.in_ok-is_new.ensures.added w.if-is_new.true
-          (map over_raised c.if-is_new.overs.items) (ap (λ v. map over_raised v.items) w.overs-is ∙ w.in_ok-push_over.ensures)
+          (map over_raised c.if-is_new.overs.items) (ap (λ v. map over_raised v.items) w.overs-is ∙ w.in_ok-push_over.ensures
+          ∙ ap (λ more. map over_raised c.loop-table.overs.items ++ more) w.over_of.ensures)
       | else-is_new w ↦
           written_again raised same_path meets (map over_raised c.loop-table.overs.items) [] front (contains cmp c.loop-table.seen)
           (contains cmp c.insert.new.self) (λ q. is_eq (cmp key q)) key.now key c.in_ok-is_new.is_new c.loop-table.invariant

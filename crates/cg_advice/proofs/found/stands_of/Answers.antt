@@ -1,9 +1,9 @@
-use Rattle.std.proofs.Common.{[], ◌∷◌, ap, sym, subst, ◌∙◌, ◌++◌, map, take, take_all}
+use Rattle.std.proofs.Common.{List, [], ◌∷◌, ap, sym, subst, ◌∙◌, ◌++◌, map, take, take_all}
 use Rattle.std.specs.Ordering.{is_eq}
 use Rattle.std.specs.BTreeSet.{contains}
 use Rattle.cg_model.specs.Once.{once}
-use Rattle.cg_model.specs.Mends.{same_place}
-use Rattle.cg_advice.specs.Found.{stand_let, let_gathered}
+use Rattle.cg_model.specs.Mends.{Entrant as Entering, same_place}
+use Rattle.cg_advice.specs.Found.{Let, stand_let, let_gathered}
 use Rattle.cg_advice.specs.Ways.{entering, key_cmp, is_keyed}
 use Rattle.cg_advice.proofs.Gathering.{one_more, IsKeyOf, tied, keyed_same_place, ways_of_key, AreWritten, written_first, written_again}
 use Rattle.cg_advice.proofs.Founding.{one_each}
@@ -13,7 +13,7 @@ use Rattle.cg_advice.proofs.found.stands_of.Goals.{then-is_new+in_ok-push_stand,
 pub loop-each-preserved : goal.loop-each-preserved
 loop-each-preserved c =
     let all = map entering c.args.entrants.now in
-    let one = λ each. let_gathered all each ∷ [] in
+    let one : Entering → List Let = λ each. let_gathered all each ∷ [] in
     let front = map entering (take c.loop-each.each-index c.args.entrants.now) in
     let x = entering c.each-item.result in
     let key = c.in_ok-key.key in
