@@ -86,15 +86,16 @@ second_plain subtree false asked = each_plain (asked_value subtree) 1 (asked_pla
 counts_plain : (subtree : Names) (counts : Option Counts) → AllArePlain 1 (counted_values subtree counts)
 counts_plain subtree None = tt
 counts_plain subtree (Some counts) =
-    (counted_plain subtree MaxDescendants counts.descendants, counted_plain subtree MaxDepth counts.depth, tt)
+    (counted_plain subtree MaxDescendants counts.descendants, (counted_plain subtree MaxDepth counts.depth, tt))
 
 guards_plain : (st : State) (user : Identity) (subtree : Names) → IsPlain (guards_value st user subtree) 2
 guards_plain st user subtree =
-    all_plain 1 _ (All-append _ (map (told_value subtree) (first_row st user subtree)) (second_values st user subtree ++ limits_values st subtree)
-    (each_plain (told_value subtree) 1 (told_plain subtree) (first_row st user subtree))
-    (All-append _ (second_values st user subtree) (limits_values st subtree)
-    (second_plain subtree (is_guarded st subtree user) (second_row_asked st (user ∷ []) subtree))
-    (counts_plain subtree (option_map (counts_of st subtree) (row_at st subtree)))))
+    let first = map (told_value subtree) (first_row st user subtree) in
+    let second = second_values st user subtree in
+    all_plain 1 ((first ++ second) ++ limits_values st subtree) (All-append _ (first ++ second) (limits_values st subtree)
+    (All-append _ first second (each_plain (told_value subtree) 1 (told_plain subtree) (first_row st user subtree))
+    (second_plain subtree (is_guarded st subtree user) (second_row_asked st (user ∷ []) subtree)))
+    (counts_plain subtree (option_map (counts_of st subtree) (row_at st subtree))))
 
 deeper : (value : Data) (n m : ℕ) → n ≤ m → IsPlain value n → IsPlain value m
 deeper value n m more p = record { exact = p.exact; within = omega (arith, more, p.within) }
