@@ -42,7 +42,8 @@ all_found st pairs found tables lets raised met_all are over =
     λ i. (all_lets i, all_raised i)
 
 -- a subtree that is over its limits
-pub excess_raised : (subtree : Names) (file : LimitFile) (fits : Bool) (there : ℕ) (excess : Option ℕ) → excess ≡ cond fits None (Some there)
+pub excess_raised : (subtree : Names) (file : LimitFile) (fits : Bool) (there : ℕ) (excess : Option ℕ)
+    → excess ≡ cond fits None (Some there)
     → raised_to subtree file excess ≡ unless fits (Set (length subtree) file (At there))
 excess_raised subtree file fits there excess is = ap (raised_to subtree file) is ∙ by_test fits
   where
@@ -50,7 +51,8 @@ excess_raised subtree file fits there excess is = ap (raised_to subtree file) is
     by_test true = refl
     by_test false = refl
 
-pub over_is : (st : State) (subtree : Names) (descendants depth : List Mend) → not (fits_descendants st subtree && fits_depth st subtree) ≡ true
+pub over_is : (st : State) (subtree : Names) (descendants depth : List Mend)
+    → not (fits_descendants st subtree && fits_depth st subtree) ≡ true
     → descendants ≡ descendants_of st subtree → depth ≡ depth_of st subtree
     → ◌≡◌ {A = List Raised} ((subtree, descendants ++ depth) ∷ []) (raised_of st subtree)
 over_is st subtree descendants depth is_over d h =

@@ -143,7 +143,8 @@ fn excess(fits: bool, there: u64) -> Option<u64>
 
 /// One that is over its limits, where there is one, behind others.
 fn push_over<'a>(overs: &mut Vec<Over<'a>>, over: Option<Over<'a>>) -> Result<(), NoMemory>
-    ensures { OnOk result (map over_raised overs.new.items ≡ map over_raised overs.old.items ++ map over_raised (option_to_list over.entry)) }
+    ensures { OnOk result (map over_raised overs.new.items
+        ≡ map over_raised overs.old.items ++ map over_raised (option_to_list over.entry)) }
 {
     if let Some(over) = over {
         overs.push(over)?;

@@ -17,7 +17,8 @@ contained_value = object contained_members
 -- a user with all their groups, and a subtree
 abbrev pub put_pair : Identity → Names → Members → Members
 put_pair user subtree members =
-    put_text (codes "subtree") (path_text subtree) (put (codes "gids") (numbers_value user.gids) (put_number (codes "uid") user.uid members))
+    put_text (codes "subtree") (path_text subtree)
+    (put (codes "gids") (numbers_value user.gids) (put_number (codes "uid") user.uid members))
 
 abbrev pub pair_value : Listed → Data
 pair_value pair = object (put_pair pair.user pair.subtree (answer_members pair.subtree pair.found))

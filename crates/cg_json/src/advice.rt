@@ -39,7 +39,8 @@ fn failing_members(
     stands: &[Stand<'_>],
     overs: &[Over<'_>],
 ) -> Result<Map<String, Value>, AllocError>
-    ensures { IfOk result (λ members. members_view members.entries ≡ failing_members (map stand_let stands.now) (map over_raised overs.now)) }
+    ensures { IfOk result (λ members. members_view members.entries
+        ≡ failing_members (map stand_let stands.now) (map over_raised overs.now)) }
 {
     let fails = fails_value(alloc, stands, overs)?;
     let mut members = text_alone(alloc, "answer", "fails")?;

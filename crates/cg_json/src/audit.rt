@@ -61,7 +61,8 @@ pub fn pair_json(
     answer: &Answer,
 ) -> Result<Vec<u8>, NoMemory>
     requires { IsShown subtree.now answer.now }
-    ensures { IfOk result (λ text. IsLineOf (pair_value (record { user = user.now; subtree = subtree.now; found = answer.now })) text.items) }
+    ensures { IfOk result (λ text.
+        IsLineOf (pair_value (record { user = user.now; subtree = subtree.now; found = answer.now })) text.items) }
 {
     let mut members = answer_members(alloc, subtree, answer)?;
     put_pair(&mut members, alloc, user, subtree)?;

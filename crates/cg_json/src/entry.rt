@@ -73,7 +73,8 @@ fn push_class(
     ways: Ways,
     class: Class,
 ) -> Result<(), AllocError>
-    ensures { OnOk result (map view list.new.items ≡ map view list.old.items ++ cond (has_way ways class) (string (class_name class) ∷ []) []) }
+    ensures { OnOk result (map view list.new.items
+        ≡ map view list.old.items ++ cond (has_way ways class) (string (class_name class) ∷ []) []) }
 {
     if ways.has(class) {
         let word = Value::try_from_str(alloc, class_name(class))?;

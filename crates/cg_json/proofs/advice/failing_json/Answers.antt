@@ -9,7 +9,8 @@ use Rattle.cg_json.proofs.advice.failing_json.Goals as goal
 
 pub line_of-requires-clause-exact : goal.line_of-requires-clause-exact
 line_of-requires-clause-exact c =
-    subst (λ ms. members_have_float ms ≡ false) (sym c.in_ok-members.ensures) (failing_plain (map stand_let c.args.stands.now) (map over_raised c.args.overs.now)).exact
+    subst (λ ms. members_have_float ms ≡ false) (sym c.in_ok-members.ensures)
+    (failing_plain (map stand_let c.args.stands.now) (map over_raised c.args.overs.now)).exact
 
 pub line_of-requires-clause-within : goal.line_of-requires-clause-within
 line_of-requires-clause-within c =
