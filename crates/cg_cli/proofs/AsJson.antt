@@ -31,12 +31,14 @@ use Rattle.cg_cli.proofs.ReportLaws.{handed_on}
 use Rattle.std.proofs.KnownBytes.{Keeps-refl}
 
 -- a report whatever happens
-pub unmade_takes : (says : Report → Type 0) → (says (fault_report NoMemory)) → (said : Report) × says said × (report_takes_memory said.ending ≡ true)
+pub unmade_takes : (says : Report → Type 0) → says (fault_report NoMemory)
+    → (said : Report) × says said × (report_takes_memory said.ending ≡ true)
 unmade_takes says is = (fault_report NoMemory, is, refl)
 
 module _ (follows : State → Identity → Names → Answer → Answer → Type 0) (st : State) (user : Identity) (subtree : Names) where
   abbrev SaysFrom : Answer → Report → Type 0
-  SaysFrom given said = (found : Answer) × follows st user subtree given found × SaysValue (answer_value subtree found) (answer_status found) said
+  SaysFrom given said =
+      (found : Answer) × follows st user subtree given found × SaysValue (answer_value subtree found) (answer_status found) said
 
   -- an answer
   pub answered : (given found : Answer) → checked st user subtree ≡ Ok given → follows st user subtree given found → (said : Report)
@@ -58,7 +60,8 @@ module _ (follows : State → Identity → Names → Answer → Answer → Type 
 
   pub settled_fault : (fault : CheckFault) → IsSettledFault st subtree fault
       → AnswersAsJson follows st user subtree (fault_report (lifted_check fault))
-  settled_fault fault (inl memory) = subst (λ (f : CheckFault). AnswersAsJson follows st user subtree (fault_report (lifted_check f))) (sym memory) (inr refl)
+  settled_fault fault (inl memory) =
+      subst (λ (f : CheckFault). AnswersAsJson follows st user subtree (fault_report (lifted_check f))) (sym memory) (inr refl)
   settled_fault fault (inr is) = faulted fault (ap (λ found. unless_fault found (answer st user subtree)) is)
 
   pub settled : (found : Answer) → first (subtree_faults st subtree) ≡ None → follows st user subtree (answer st user subtree) found

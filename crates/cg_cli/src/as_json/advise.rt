@@ -89,7 +89,8 @@ fn advised<H: Hierarchy + Drop>(
     subtrees: &[Path],
 ) -> Result<(Vec<u8>, u8), CheckFault>
     ensures said { MatchResult result
-        (λ said. AdviceAsJson (H.state tree.now) subtrees.now (all_pairs users.now subtrees.now) (record { text = said.0.items; ending = Ok said.1 }))
+        (λ said. AdviceAsJson (H.state tree.now) subtrees.now (all_pairs users.now subtrees.now)
+        (record { text = said.0.items; ending = Ok said.1 }))
         (λ fault. AdviceAsJson (H.state tree.now) subtrees.now (all_pairs users.now subtrees.now) (fault_report (lifted_check fault))) }
     ensures contained { IfOk result (λ said. said.1 ≡ 0 → users.now ≢ []
         → AreContained (H.state tree.now) users.now subtrees.now) }
@@ -103,7 +104,7 @@ fn advised<H: Hierarchy + Drop>(
     }
 }
 
-/// The same of subtrees without a fault. Where no guard fails that is asked once of each subtree, for all users.
+/// The same of subtrees without a fault.
 fn advice_said<H: Hierarchy>(
     alloc: Global,
     tree: &H,
@@ -114,14 +115,27 @@ fn advice_said<H: Hierarchy>(
     ensures { IfOk result (λ said. SaysParts (advice_parts (H.state tree.now) (all_pairs users.now subtrees.now))
         (record { text = said.0.items; ending = Ok said.1 })) }
 {
+    let parts = advice_of(alloc, tree, users, subtrees)?;
+    parts_said(alloc, parts)
+}
+
+/// What is to be changed for every user with every subtree. Where no guard fails that is asked once of each subtree, for all users.
+fn advice_of<'a, H: Hierarchy>(
+    alloc: Global,
+    tree: &H,
+    users: &'a [User],
+    subtrees: &'a [Path],
+) -> Result<Option<Found<'a>>, NoMemory>
+    requires { first (flat_map (subtree_faults (H.state tree.now)) subtrees.now) ≡ None }
+    ensures { IfOk result (λ found. option_map found_parts found ≡ advice_parts (H.state tree.now) (all_pairs users.now subtrees.now)) }
+{
     let identities = Identities::of(alloc, users)?;
     let left = from_first_unguarded(tree, users, Some(&identities), subtrees);
     if left.is_empty() {
-        return parts_said(alloc, None);
+        return Ok(None);
     }
     let pairs = all_pairs(alloc, users, subtrees)?;
-    let parts = advice(alloc, tree, pairs.as_slice())?;
-    parts_said(alloc, parts)
+    advice(alloc, tree, pairs.as_slice())
 }
 
 /// What is said of what was found, and the status.

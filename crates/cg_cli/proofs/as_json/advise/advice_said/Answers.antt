@@ -1,10 +1,11 @@
-use Rattle.std.proofs.Common.{ap, sym, ◌∙◌, map}
-use Rattle.std.proofs.lemmas.Bool.{eqb-true}
-use Rattle.cg_advice.specs.Ways.{pair_of}
-use Rattle.cg_cli.proofs.AdviseReports.{pairs_there}
+use Rattle.std.proofs.Common.{List, Option, Ok, subst}
+use Rattle.std.specs.Prelude.{IfOk}
+use Rattle.cg_advice.specs.Found.{Let, Raised}
+use Rattle.cg_cli.specs.AsJson.{SaysParts}
 use Rattle.cg_cli.proofs.as_json.advise.advice_said.Goals as goal
 
-pub advice-requires : goal.advice-requires
-advice-requires g c =
-    pairs_there (g.H.Hierarchy.state c.args.tree.now) c.args.subtrees.now c.requires c.args.users.now c.as_slice.result.now
-    (ap (map pair_of) c.as_slice.ensures.value ∙ c.in_ok-pairs.ensures)
+pub returns : goal.returns
+returns g c =
+    subst (λ (parts : Option (List Let × List Raised)).
+    IfOk c.parts_said.result (λ said. SaysParts parts (record { text = said.0.items; ending = Ok said.1 })))
+    c.in_ok-parts.ensures c.parts_said.ensures
