@@ -6,7 +6,8 @@ use Rattle.cg_cli.proofs.as_json.advise.ChangesNamedQuestion.answer.Goals as goa
 
 pub returns-in_err-said : goal.returns-in_err-said
 returns-in_err-said g c = (
-  said_fault (AdviceAsJson (g.H.Hierarchy.state c.args.tree.now) c.args.subtrees.now (all_pairs c.args.users.now c.args.subtrees.now)) c.in_err-said.field-0.0 c.in_err-said.ensures.said
+  said_fault (AdviceAsJson (g.H.Hierarchy.state c.args.tree.now) c.args.subtrees.now (all_pairs c.args.users.now c.args.subtrees.now))
+      c.in_err-said.field-0.0 c.in_err-said.ensures.said
       (g.W.Write.contents c.args.out.now) c.from_residual.result c.from_residual.ensures.1,
   λ none. absurd (no_status c.from_residual.result _ c.from_residual.ensures.1 0 none),
 )
