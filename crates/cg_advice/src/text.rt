@@ -83,27 +83,31 @@ fn push_entries(alloc: Global, text: &mut Vec<u8>, entrants: &[Entrant<'_>]) -> 
         let ways = gathered.at(&key);
         let is_new = seen.insert(key)?;
         if is_new {
-            push_lines(alloc, text, each, ways)?;
+            push_lines(alloc, text, each.pair.subtree, &each.at, ways)?;
         }
     }
     Ok(())
 }
 
-/// The lines of an entry, by what users get in there.
-fn push_lines(
+/// The lines of an entry, by what users get in there, behind a text.
+///
+/// # Errors
+/// `NoMemory` where an allocation was refused.
+pub fn push_lines(
     alloc: Global,
     text: &mut Vec<u8>,
-    each: &Entrant<'_>,
+    subtree: &Path,
+    at: &GuardedEntry,
     ways: Ways,
 ) -> Result<(), NoMemory>
-    ensures { OnOk result (text.new.items ≡ text.old.items ++ lines_by ways each.now.pair.subtree.now each.now.at) }
+    requires { IsShown subtree.now at.now }
+    ensures { OnOk result (text.new.items ≡ text.old.items ++ lines_by ways subtree.now at.now) }
 {
-    let subtree = each.pair.subtree;
-    push_class(alloc, text, each, ways, Class::Owner)?;
-    push_class(alloc, text, each, ways, Class::Group)?;
-    push_class(alloc, text, each, ways, Class::Others)?;
-    push_mend(alloc, text, subtree, chown_of(ways, &each.at))?;
-    push_mend(alloc, text, subtree, chmod_of(ways, &each.at))?;
+    push_class(alloc, text, subtree, at, ways, Class::Owner)?;
+    push_class(alloc, text, subtree, at, ways, Class::Group)?;
+    push_class(alloc, text, subtree, at, ways, Class::Others)?;
+    push_mend(alloc, text, subtree, chown_of(ways, at))?;
+    push_mend(alloc, text, subtree, chmod_of(ways, at))?;
     Ok(())
 }
 
@@ -111,15 +115,16 @@ fn push_lines(
 fn push_class(
     alloc: Global,
     text: &mut Vec<u8>,
-    each: &Entrant<'_>,
+    subtree: &Path,
+    at: &GuardedEntry,
     ways: Ways,
     class: Class,
 ) -> Result<(), NoMemory>
-    ensures { OnOk result (text.new.items ≡ text.old.items
-        ++ cond (has_way ways class) (fails_line each.now.pair.subtree.now each.now.at class) []) }
+    requires { IsShown subtree.now at.now }
+    ensures { OnOk result (text.new.items ≡ text.old.items ++ cond (has_way ways class) (fails_line subtree.now at.now class) []) }
 {
     if ways.has(class) {
-        let line = fails_line(alloc, each.pair.subtree, &each.at, class)?.into_bytes();
+        let line = fails_line(alloc, subtree, at, class)?.into_bytes();
         text.extend_from_slice(line.as_slice())?;
     }
     Ok(())
@@ -146,8 +151,11 @@ fn push_all_limits<H: Hierarchy>(
     Ok(())
 }
 
-/// The lines of the limits of the subtree, where it is over one.
-fn push_limits<H: Hierarchy>(
+/// The lines of the limits of the subtree, where it is over one, behind a text.
+///
+/// # Errors
+/// `NoMemory` where an allocation was refused.
+pub fn push_limits<H: Hierarchy>(
     alloc: Global,
     text: &mut Vec<u8>,
     tree: &H,

@@ -1,3 +1,6 @@
 pub mod Held
 mod Walked
 mod Listing
+mod Entering
+mod AdviceWritten
+mod AdviceLaws
