@@ -27,13 +27,13 @@ use Rattle.cg_everybody.proofs.Held.{shut, fit, holds, none_found}
 all-not_same : (P : Names → Type 0) (x : Names) (zs : List Names) → P x → AllByRecursion P (filter (λ y. not (same_path x y)) zs)
     → AllByRecursion P zs
 all-not_same P x [] first all = tt
-all-not_same P x (z ∷ zs) first =
+all-not_same P x (z ∷ zs) first all =
     elim (same_path x z) as (λ b. same_path x z ≡ b
     → AllByRecursion P (cond (not b) (z ∷ filter (λ y. not (same_path x y)) zs) (filter (λ y. not (same_path x y)) zs))
     → AllByRecursion P (z ∷ zs)) [
       | true ↦ λ is all. (subst P (same_path-is x z is) first, all-not_same P x zs first all)
       | false ↦ λ is all. (all.0, all-not_same P x zs first all.1)
-    ] refl
+    ] refl all
 
 all-of_once : (P : Names → Type 0) (xs : List Names) → AllByRecursion P (once same_path xs) → AllByRecursion P xs
 all-of_once P [] all = tt

@@ -51,7 +51,7 @@ module _ {A B : Type 0} (f : A → List B) (some : (x : A) → f x ≢ []) where
   first_out true x xs none = absurd (some x (no_parts (f x) (flat_map f xs) none).0)
   first_out false x xs none = (refl, none)
 
-none_of_three : (a b c : Bool) → a ≡ false → b ≡ false → c ≡ false → (a || (b || c)) ≡ false
+pub none_of_three : (a b c : Bool) → a ≡ false → b ≡ false → c ≡ false → (a || (b || c)) ≡ false
 none_of_three a b c first second third = ap (λ x. x || (b || c)) first ∙ ap (λ y. y || c) second ∙ third
 
 three_apart : (a b c : Bool) → (a || (b || c)) ≡ false → (a ≡ false) × (b ≡ false) × (c ≡ false)

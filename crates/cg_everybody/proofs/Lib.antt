@@ -4,3 +4,5 @@ mod Listing
 mod Entering
 mod AdviceWritten
 mod AdviceLaws
+mod Changing
+mod Changed
