@@ -203,9 +203,9 @@ CarriesOut-Keeps (request.Settle check) files given old mid new result h k =
 CarriesOut-Keeps (request.Audit audit) files given old mid new result h k =
     OnTree-Keeps (source files (name_of audit.tree) given) (AuditSays audit old mid result) (AuditSays audit old new result) old mid new
     result (λ tree said. AuditSays-Keeps audit old mid new result tree said k) h k
-CarriesOut-Keeps (request.AuditEverybody asked) files given old mid new result h k =
+CarriesOut-Keeps (request.Everybody asked) files given old mid new result h k =
     ReportsOnTree-Keeps (source files (name_of asked.tree) given) (everybody_asked asked) old mid new result h k
-CarriesOut-Keeps (request.AuditSubtrees asked) files given old mid new result h k =
+CarriesOut-Keeps (request.Subtrees asked) files given old mid new result h k =
     OnBothTexts-Keeps subtrees_read (EverybodyOn (whom asked.everyone)) _ _ old mid new result
     (λ subtrees tree said kept. Reports-Keeps (everybody_report (whom asked.everyone) tree subtrees) old mid new result said kept) h k
 CarriesOut-Keeps (request.Explain explain) files given old mid new result h k =

@@ -178,7 +178,7 @@ module _ (files : Files) (given old new : Option (List ℕ)) where
       by_flag true says = all_of read reading (all_report read users subtrees) refl says
   audit_carried audit settle (inr it) = not_unread old new 0 it
 
-  everybody_carried : (asked : Everybody) → CarriesOut (request.AuditEverybody asked) files given old new (Ok 0)
+  everybody_carried : (asked : Everybody) → CarriesOut (request.Everybody asked) files given old new (Ok 0)
       → (text : List ℕ) × WasRead files (name_of asked.tree) given text
       × AreHeldAgainstEverybody text (whom asked.everyone) (map (λ subtree. subtree.now) asked.subtrees.items)
   everybody_carried asked (inl (text, is_tree, (read, reading, reports))) = by_reading read reading reports
@@ -203,7 +203,7 @@ module _ (files : Files) (given old new : Option (List ℕ)) where
       × WasRead files (other_file asked.sources) given named × AreLinesOf named subtrees
       × AreHeldAgainstEverybody text (whom asked.everyone) subtrees
 
-  lines_carried : (asked : Subtrees) → CarriesOut (request.AuditSubtrees asked) files given old new (Ok 0) → AreHeldByLines asked
+  lines_carried : (asked : Subtrees) → CarriesOut (request.Subtrees asked) files given old new (Ok 0) → AreHeldByLines asked
   lines_carried asked (inl (text, named, is_tree, are_named, (inl (read, reading, said)))) =
       by_lines (subtrees_read named) refl read reading said
     where
@@ -279,12 +279,12 @@ none-audit : ◌≡◌ {A = Option (List ℕ)} None (Some (codes "audit")) → �
 none-audit is = cc
 
 -- what is said of all requests of `audit` is said of them
-of_audit : (P : Request → Type 0) → ((audit : Audit) → P (request.Audit audit)) → ((asked : Everybody) → P (request.AuditEverybody asked))
-    → ((asked : Subtrees) → P (request.AuditSubtrees asked)) → ((pairs : Pairs) → P (request.AuditPairs pairs)) → (asked : Request)
+of_audit : (P : Request → Type 0) → ((audit : Audit) → P (request.Audit audit)) → ((asked : Everybody) → P (request.Everybody asked))
+    → ((asked : Subtrees) → P (request.Subtrees asked)) → ((pairs : Pairs) → P (request.AuditPairs pairs)) → (asked : Request)
     → command_of asked ≡ Some (codes "audit") → P asked
 of_audit P one everybody lines each (request.Audit audit) is = one audit
-of_audit P one everybody lines each (request.AuditEverybody asked) is = everybody asked
-of_audit P one everybody lines each (request.AuditSubtrees asked) is = lines asked
+of_audit P one everybody lines each (request.Everybody asked) is = everybody asked
+of_audit P one everybody lines each (request.Subtrees asked) is = lines asked
 of_audit P one everybody lines each (request.AuditPairs pairs) is = each pairs
 of_audit P one everybody lines each (request.Help help) is = absurd (none-audit is)
 of_audit P one everybody lines each (request.May may) is = absurd (may-audit is)
@@ -371,8 +371,8 @@ module _ (words : List (List ℕ)) (files : Files) (given old said : Option (Lis
       by_request (request.May may) is holds done = absurd (may-check is)
       by_request (request.Settle check) is holds done = absurd (settle-check is)
       by_request (request.Audit audit) is holds done = absurd (audit-check is)
-      by_request (request.AuditEverybody asked) is holds done = absurd (audit-check is)
-      by_request (request.AuditSubtrees asked) is holds done = absurd (audit-check is)
+      by_request (request.Everybody asked) is holds done = absurd (audit-check is)
+      by_request (request.Subtrees asked) is holds done = absurd (audit-check is)
       by_request (request.AuditPairs pairs) is holds done = absurd (audit-check is)
       by_request (request.Explain explain) is holds done = absurd (explain-check is)
       by_request (request.ExplainPairs pairs) is holds done = absurd (explain-check is)
@@ -389,7 +389,7 @@ module _ (words : List (List ℕ)) (files : Files) (given old said : Option (Lis
       → (text : List ℕ) × WasRead files tree given text × AreContainedIn text (map of_ids users) subtrees)
       by_audit by_everybody by_lines (λ pairs holds done. absurd (holds.some_pairs asks.3.3)) leads.0 of.0 of.1 carried
     where
-      by_lines : (asked : Subtrees) → IsOfSubtrees asks.0 asked → CarriesOut (request.AuditSubtrees asked) files given old said (Ok 0)
+      by_lines : (asked : Subtrees) → IsOfSubtrees asks.0 asked → CarriesOut (request.Subtrees asked) files given old said (Ok 0)
           → (text : List ℕ) × WasRead files tree given text × AreContainedIn text (map of_ids users) subtrees
       by_lines asked holds done =
           let means = lines_carried files given old said asked done in
@@ -417,7 +417,7 @@ module _ (words : List (List ℕ)) (files : Files) (given old said : Option (Lis
                 (map (λ subtree. subtree.now) audit.subtrees.items)) of_users means.2),
           )
 
-      by_everybody : (asked : Everybody) → IsEverybody asks.0 asked → CarriesOut (request.AuditEverybody asked) files given old said (Ok 0)
+      by_everybody : (asked : Everybody) → IsEverybody asks.0 asked → CarriesOut (request.Everybody asked) files given old said (Ok 0)
           → (text : List ℕ) × WasRead files tree given text × AreContainedIn text (map of_ids users) subtrees
       by_everybody asked holds done =
           let means = everybody_carried files given old said asked done in
@@ -441,7 +441,7 @@ module _ (words : List (List ℕ)) (files : Files) (given old said : Option (Lis
       (λ audit holds done. absurd (holds.not_everybody asks.3.2)) by_everybody by_lines
       (λ pairs holds done. absurd (holds.not_everybody asks.3.2)) leads.0 of.0 of.1 carried
     where
-      by_lines : (asked : Subtrees) → IsOfSubtrees asks.0 asked → CarriesOut (request.AuditSubtrees asked) files given old said (Ok 0)
+      by_lines : (asked : Subtrees) → IsOfSubtrees asks.0 asked → CarriesOut (request.Subtrees asked) files given old said (Ok 0)
           → (text : List ℕ) × WasRead files tree given text × AreHeldAgainstEverybody text who subtrees
       by_lines asked holds done =
           let means = lines_carried files given old said asked done in
@@ -453,7 +453,7 @@ module _ (words : List (List ℕ)) (files : Files) (given old said : Option (Lis
                 (sym holds.no_subtree ∙ asks.3.1) (held_of_none means.0 (whom asked.everyone) means.2 means.6)),
           )
 
-      by_everybody : (asked : Everybody) → IsEverybody asks.0 asked → CarriesOut (request.AuditEverybody asked) files given old said (Ok 0)
+      by_everybody : (asked : Everybody) → IsEverybody asks.0 asked → CarriesOut (request.Everybody asked) files given old said (Ok 0)
           → (text : List ℕ) × WasRead files tree given text × AreHeldAgainstEverybody text who subtrees
       by_everybody asked holds done =
           let means = everybody_carried files given old said asked done in
@@ -477,7 +477,7 @@ module _ (words : List (List ℕ)) (files : Files) (given old said : Option (Lis
       (λ audit holds done. absurd (holds.not_everybody asks.3.3)) (λ asked holds done. absurd (asks.3.2 holds.no_subtrees)) by_lines
       (λ pairs holds done. absurd (holds.not_everybody asks.3.3)) leads.0 of.0 of.1 carried
     where
-      by_lines : (asked : Subtrees) → IsOfSubtrees asks.0 asked → CarriesOut (request.AuditSubtrees asked) files given old said (Ok 0)
+      by_lines : (asked : Subtrees) → IsOfSubtrees asks.0 asked → CarriesOut (request.Subtrees asked) files given old said (Ok 0)
           → LinesMean tree lines who
       by_lines asked holds done =
           let means = lines_carried files given old said asked done in (

@@ -195,9 +195,9 @@ CarriesOut (request.Settle check) files given old new result =
     SettlesOnTree (source files (name_of check.tree) given) check old new result
 CarriesOut (request.Audit audit) files given old new result =
     OnTree (source files (name_of audit.tree) given) (AuditSays audit old new result) old new result
-CarriesOut (request.AuditEverybody asked) files given old new result =
+CarriesOut (request.Everybody asked) files given old new result =
     ReportsOnTree (source files (name_of asked.tree) given) (everybody_asked asked) old new result
-CarriesOut (request.AuditSubtrees asked) files given old new result =
+CarriesOut (request.Subtrees asked) files given old new result =
     OnBothTexts subtrees_read (EverybodyOn (whom asked.everyone)) (source files (tree_file asked.sources) given)
     (source files (other_file asked.sources) given) old new result
 CarriesOut (request.Explain explain) files given old new result =

@@ -242,7 +242,7 @@ module _ (files : Files) (given old new : Option (List ℕ)) (status : ℕ) wher
         )
 
     pub everybody_ended : (asked : Everybody) (subtrees : List Names)
-        → CarriesOut (request.AuditEverybody asked) files given old new (Ok status)
+        → CarriesOut (request.Everybody asked) files given old new (Ok status)
         → source files (name_of asked.tree) given ≡ Some text → IsTextOf st text
         → paths_read (map (λ subtree. subtree.now) asked.subtrees.items) ≡ Ok subtrees
         → Reports (everybody_asked asked (Ok st)) old new (Ok status)
@@ -259,7 +259,7 @@ module _ (files : Files) (given old new : Option (List ℕ)) (status : ℕ) wher
           all_contained st (whom asked.everyone) words subtrees status of_paths report.0 of_text.says.formed,
         )
 
-    pub subtrees_ended : (asked : Subtrees) (lines : List ℕ) → CarriesOut (request.AuditSubtrees asked) files given old new (Ok status)
+    pub subtrees_ended : (asked : Subtrees) (lines : List ℕ) → CarriesOut (request.Subtrees asked) files given old new (Ok status)
         → source files (tree_file asked.sources) given ≡ Some text → source files (other_file asked.sources) given ≡ Some lines
         → IsTextOf st text → length lines ≤ 16777216
         → (named : List (List ℕ)) × (subtrees_read lines ≡ Ok named) × AreLinesOf lines named

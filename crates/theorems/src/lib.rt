@@ -298,14 +298,14 @@ pub fn the_program()
         × (status ≡ 0 → (users : List Identity) (subtrees : List Names) → users_read (map ids_of audit.users.items) ≡ Ok users
         → paths_read (map (λ subtree. subtree.now) audit.subtrees.items) ≡ Ok subtrees → users ≢ [] → AreContained st users subtrees) }
     ensures audit_everybody { (asked : Everybody) (files : Files) (given old new : Option (List ℕ)) (status : ℕ) (text : List ℕ) (st : State) (subtrees : List Names)
-        → CarriesOut (request.AuditEverybody asked) files given old new (Ok status)
+        → CarriesOut (request.Everybody asked) files given old new (Ok status)
         → source files (name_of asked.tree) given ≡ Some text → IsTextOf st text
         → paths_read (map (λ subtree. subtree.now) asked.subtrees.items) ≡ Ok subtrees
         → Reports (everybody_asked asked (Ok st)) old new (Ok status)
         × ((status ≡ 0) ↔ All (GuardsHoldForEverybody st (whom asked.everyone)) subtrees)
         × (status ≡ 0 → (users : List Identity) → AllByRecursion (IsAsked (whom asked.everyone)) users → users ≢ [] → AreContained st users subtrees) }
     ensures audit_subtrees { (asked : Subtrees) (files : Files) (given old new : Option (List ℕ)) (status : ℕ) (text lines : List ℕ) (st : State)
-        → CarriesOut (request.AuditSubtrees asked) files given old new (Ok status)
+        → CarriesOut (request.Subtrees asked) files given old new (Ok status)
         → source files (tree_file asked.sources) given ≡ Some text → source files (other_file asked.sources) given ≡ Some lines
         → IsTextOf st text → length lines ≤ 16777216
         → (named : List (List ℕ)) × (subtrees_read lines ≡ Ok named) × AreLinesOf lines named

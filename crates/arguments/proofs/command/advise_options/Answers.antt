@@ -1,6 +1,6 @@
 use Rattle.std.proofs.lemmas.Result.{IfOk-weaker}
 use Rattle.arguments.proofs.CommandLaws.{option_added}
-use Rattle.arguments.proofs.command.advise_command.Goals as goal
+use Rattle.arguments.proofs.command.advise_options.Goals as goal
 
 pub returns : goal.returns
 returns c =
