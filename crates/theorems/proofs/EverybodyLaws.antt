@@ -1,4 +1,4 @@
--- What the status of an audit against everybody says of the subtrees.
+-- What the status of an answer on everybody says of the subtrees.
 use Rattle.std.proofs.Common.{◌≡◌, ◌≢◌, ℕ, List, [], ◌∷◌, None, Result, Ok, refl, ap, sym, ◌∙◌}
 use Rattle.std.specs.Prelude.{◌↔◌}
 use Rattle.std.specs.List.{All, AllByRecursion, Contains, flat_map}
@@ -22,15 +22,17 @@ use Rattle.cg_cli.specs.Audits.{paths_read}
 use Rattle.cg_cli.specs.Containment.{in_call}
 use Rattle.cg_cli.specs.Everybody.{found_report, everybody_found, everybody_said, everybody_report}
 use Rattle.cg_cli.specs.Reports.{report_on}
+use Rattle.cg_cli.specs.declared.everybody.Wanted.{Wanted}
 use Rattle.cg_cli.proofs.AuditOnce.{all_once}
 use Rattle.cg_escapes.proofs.EscapeReplays.{report_ok, found_is, unfaulted}
 use Rattle.cg_faults.specs.declared.fault.CliFault.{CliFault}
 use Rattle.theorems.proofs.StatusLaws.{all_there}
 
-status_of : (whom : Everybody) (lines : List ℕ) (status : ℕ) → (found_report whom lines).ending ≡ Ok status
-    → (status ≡ 0) ↔ (lines ≡ [])
-status_of whom [] status is = ((λ zero. refl), (λ none. let same : status ≡ 0 = cc in same))
-status_of whom (byte ∷ bytes) status is = ((λ zero. let never : ⊥ = cc in absurd never), (λ none. let never : ⊥ = cc in absurd never))
+status_of : (wanted : Wanted) (whom : Everybody) (st : State) (subtrees : List Names) (lines : List ℕ) (status : ℕ)
+    → (found_report wanted whom st subtrees lines).ending ≡ Ok status → (status ≡ 0) ↔ (lines ≡ [])
+status_of wanted whom st subtrees [] status is = ((λ zero. refl), (λ none. let same : status ≡ 0 = cc in same))
+status_of wanted whom st subtrees (byte ∷ bytes) status is =
+    ((λ zero. let never : ⊥ = cc in absurd never), (λ none. let never : ⊥ = cc in absurd never))
 
 -- where all guards hold for everybody all is contained against whomever it is asked about
 against_all : (st : State) (whom : Everybody) (subtrees : List Names) → (subtrees ≢ [] → IsWellFormed st) → All (IsSubtree st) subtrees
@@ -41,21 +43,20 @@ against_all st whom subtrees formed subs hold users real some =
     (λ user among k d within. hold k d within user (All-contains (IsAsked whom) users user (All-from_recursion (IsAsked whom) users
     real) among)) some
 
-module _ (st : State) (whom : Everybody) (words : List (List ℕ)) (subtrees : List Names) (status : ℕ) (of_paths : paths_read words ≡ Ok
-    subtrees)
-    (is : (everybody_report whom (Ok st) words).ending ≡ Ok status) where
+module _ (st : State) (wanted : Wanted) (whom : Everybody) (words : List (List ℕ)) (subtrees : List Names) (status : ℕ)
+    (of_paths : paths_read words ≡ Ok subtrees) (is : (everybody_report wanted whom (Ok st) words).ending ≡ Ok status) where
   abbrev asked : List Names
   asked = once same_path subtrees
 
-  said : (everybody_said whom st asked).ending ≡ Ok status
+  said : (everybody_said wanted whom st asked).ending ≡ Ok status
   said =
-      ap (λ (found : Result (List Names) CliFault). (report_on found (λ subtrees. everybody_said whom st (once same_path subtrees))).ending)
+      ap (λ (found : Result (List Names) CliFault). (report_on found (λ subtrees. everybody_said wanted whom st (once same_path subtrees))).ending)
       (sym of_paths) ∙ is
 
   found : (lines : List ℕ) × (first (flat_map (subtree_faults st) asked) ≡ None) × (everybody_lines st whom asked ≡ lines)
-      × ((found_report whom lines).ending ≡ Ok status)
+      × ((found_report wanted whom st asked lines).ending ≡ Ok status)
   found =
-      let one = report_ok (in_call (everybody_found st whom asked)) (found_report whom) status said in
+      let one = report_ok (in_call (everybody_found st whom asked)) (found_report wanted whom st asked) status said in
       let stated =
       unfaulted (first (flat_map (subtree_faults st) asked)) (everybody_lines st whom asked) one.0
       (found_is (everybody_found st whom asked) one.0 one.1) in
@@ -66,7 +67,7 @@ module _ (st : State) (whom : Everybody) (words : List (List ℕ)) (subtrees : L
 
   pub all_hold : (status ≡ 0) ↔ All (GuardsHoldForEverybody st whom) subtrees
   all_hold =
-      let of_status = status_of whom found.0 status found.3 in (
+      let of_status = status_of wanted whom st asked found.0 status found.3 in (
         λ zero.
             all_once same_path same_path-is (GuardsHoldForEverybody st whom) subtrees
             (All-from_recursion (GuardsHoldForEverybody st whom) asked (each_holds st whom asked (found.2 ∙ of_status.0 zero))),

@@ -89,7 +89,7 @@ ghost use Rattle.arguments.specs.declared.request.Request.{Request};
 ghost use Rattle.arguments.specs.declared.request.Request.TheVariants as request;
 ghost use Rattle.commands.specs.PairLines.{pairs_read, AsksSomething};
 ghost use Rattle.commands.specs.SubtreeLines.{subtrees_read, AreLinesOf};
-ghost use Rattle.commands.specs.Requests.{Files, source, name_of, may_said, check_said, whom, everybody_asked, CarriesOut};
+ghost use Rattle.commands.specs.Requests.{Files, source, name_of, may_said, check_said, whom, wanted_of, everybody_asked, CarriesOut};
 ghost use Rattle.commands.specs.Runs.{LeadsTo, RunsTo};
 ghost use Rattle.commands.specs.declared.fault.Fault.{Fault};
 ghost use Rattle.streams.specs.declared.write.WriteFailed.{WriteFailed};
@@ -297,19 +297,19 @@ pub fn the_program()
         → ReportsPairs (all_report (Ok st) (map ids_of audit.users.items) (map (λ subtree. subtree.now) audit.subtrees.items)) old new (Ok status)
         × (status ≡ 0 → (users : List Identity) (subtrees : List Names) → users_read (map ids_of audit.users.items) ≡ Ok users
         → paths_read (map (λ subtree. subtree.now) audit.subtrees.items) ≡ Ok subtrees → users ≢ [] → AreContained st users subtrees) }
-    ensures audit_everybody { (asked : Everybody) (files : Files) (given old new : Option (List ℕ)) (status : ℕ) (text : List ℕ) (st : State) (subtrees : List Names)
+    ensures everybody { (asked : Everybody) (files : Files) (given old new : Option (List ℕ)) (status : ℕ) (text : List ℕ) (st : State) (subtrees : List Names)
         → CarriesOut (request.Everybody asked) files given old new (Ok status)
         → source files (name_of asked.tree) given ≡ Some text → IsTextOf st text
         → paths_read (map (λ subtree. subtree.now) asked.subtrees.items) ≡ Ok subtrees
         → Reports (everybody_asked asked (Ok st)) old new (Ok status)
         × ((status ≡ 0) ↔ All (GuardsHoldForEverybody st (whom asked.everyone)) subtrees)
         × (status ≡ 0 → (users : List Identity) → AllByRecursion (IsAsked (whom asked.everyone)) users → users ≢ [] → AreContained st users subtrees) }
-    ensures audit_subtrees { (asked : Subtrees) (files : Files) (given old new : Option (List ℕ)) (status : ℕ) (text lines : List ℕ) (st : State)
+    ensures subtrees { (asked : Subtrees) (files : Files) (given old new : Option (List ℕ)) (status : ℕ) (text lines : List ℕ) (st : State)
         → CarriesOut (request.Subtrees asked) files given old new (Ok status)
         → source files (tree_file asked.sources) given ≡ Some text → source files (other_file asked.sources) given ≡ Some lines
         → IsTextOf st text → length lines ≤ 16777216
         → (named : List (List ℕ)) × (subtrees_read lines ≡ Ok named) × AreLinesOf lines named
-        × Reports (everybody_report (whom asked.everyone) (Ok st) named) old new (Ok status)
+        × Reports (everybody_report (wanted_of asked.wanted) (whom asked.everyone) (Ok st) named) old new (Ok status)
         × ((subtrees : List Names) → paths_read named ≡ Ok subtrees
         → ((status ≡ 0) ↔ All (GuardsHoldForEverybody st (whom asked.everyone)) subtrees)
         × (status ≡ 0 → (users : List Identity) → AllByRecursion (IsAsked (whom asked.everyone)) users → users ≢ [] → AreContained st users subtrees)) }
