@@ -4,5 +4,5 @@ mod Listing
 mod Entering
 mod AdviceWritten
 mod AdviceLaws
-mod Changing
-mod Changed
+pub mod Changing
+pub mod Changed
