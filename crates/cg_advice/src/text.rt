@@ -11,7 +11,8 @@ ghost use Rattle.cg_model.specs.Clauses.{unless};
 ghost use Rattle.cg_model.specs.Mends.{same_place};
 ghost use Rattle.cg_model.specs.declared.mend.Mend.TheVariants.{Set};
 ghost use Rattle.cg_advice.specs.AdviceLines.{owner_word, mend_line, mend_lines, fails_line, over_line, over_lines, is_pair_guarded, advice_lines, IsShown, len_of};
-ghost use Rattle.cg_advice.specs.Ways.{pair_of, entering, has_way, lines_by, gathered_lines};
+ghost use Rattle.cg_advice.specs.WayLines.{has_way, lines_by};
+ghost use Rattle.cg_advice.specs.Ways.{pair_of, entering, gathered_lines};
 ghost use Rattle.cg_advice.specs.Thinned.{table_path};
 ghost use Rattle.cg_cgroup.specs.Paths.{same_path};
 

@@ -14,12 +14,11 @@ use Rattle.cg_model.proofs.ClauseLaws.{no_parts, none_each, each_none}
 use Rattle.cg_model.proofs.Lists.{all-flat_map, all-each, all-both}
 use Rattle.cg_model.proofs.OnceLaws.{all-once}
 use Rattle.cg_advice.specs.AdviceLines.{fails_line, over_line, over_lines, mend_lines}
-use Rattle.cg_advice.specs.Thinned.{Spot}
-use Rattle.cg_advice.specs.Ways.{chown_by, chmod_by}
+use Rattle.cg_advice.specs.WayLines.{Spot, chown_by, chmod_by}
 use Rattle.machine_everybody.specs.Everybody.{Everybody, lets_anybody_in}
 use Rattle.cg_everybody.specs.Advice.{ways_into, same_spot, spots_met, spot_lines, everybody_advice}
-use Rattle.cg_everybody.specs.Entrances.{entered_by, entrance_of, entrances, class_lines}
-use Rattle.cg_everybody.specs.Everybody.{classes_in, entrance_lines, excess_lines, found_lines, GuardsHoldForEverybody}
+use Rattle.cg_everybody.specs.Everybody.{entered_by, entrance_of, entrances, classes_in, entrance_lines, excess_lines, found_lines, GuardsHoldForEverybody}
+use Rattle.cg_everybody.specs.Entrances.{class_lines}
 use Rattle.cg_everybody.proofs.Entering.{entrances-lines}
 use Rattle.cg_everybody.proofs.Held.{shut, fit, holds, none_found}
 

@@ -1,6 +1,6 @@
 -- The lines of the advice, in which an entry stands once.
 use Rattle.std.proofs.Common.{Bool, []}
-use Rattle.cg_advice.specs.Thinned.{Spot}
+use Rattle.cg_advice.specs.WayLines.{Spot}
 use Rattle.cg_advice.specs.Ways.{Key, is_keyed}
 use Rattle.cg_model.specs.Mends.{Entrant as Entering}
 

@@ -31,15 +31,13 @@ use Rattle.cg_model.proofs.Lists.{all-append, all-both, all-each}
 use Rattle.cg_model.proofs.OnceLaws.{all-once}
 use Rattle.cg_model.proofs.StateCounts.{count_below-same_paths, depth_below-same_paths}
 use Rattle.cg_advice.specs.AdviceLines.{fails_line, over_line}
-use Rattle.cg_advice.specs.Thinned.{Spot}
-use Rattle.cg_advice.specs.Ways.{chown_by, chmod_by}
+use Rattle.cg_advice.specs.WayLines.{Spot, chown_by, chmod_by}
 use Rattle.cg_advice.proofs.Advising.{paths_of-made, enabled_at-made, told_text-made, rest-made, either_true, each-any, all_filtered, fits-raised, CanBeMade, IsMakeable, formed-made, all_flat, makeable, entry_mode, limits_makeable}
 use Rattle.cg_advice.proofs.Running.{map_same, through-append, run_one, run, run-limits, entry_at-made, all-unless}
 use Rattle.cg_advice.proofs.Taken.{group_kept, bits-le, group_shut, others_shut, group_stays, others_stays, nobodys, not_reaching, not_writing}
 use Rattle.machine_everybody.specs.Everybody.{Everybody, is_left_out, has_members, lets_anybody_in}
 use Rattle.cg_everybody.specs.Advice.{handed_back, ways_into, is_spot_at, same_spot, spots_met, spot_changes, everybody_changes, everybody_advised, taken_back, lets_in_at, is_asked_of, IsAdvisedToEverybody, advised_but, advised_but_limits}
-use Rattle.cg_everybody.specs.Entrances.{entered_by, entrance_of, entrances}
-use Rattle.cg_everybody.specs.Everybody.{opens_to, classes_in, entrance_lines, excess_lines, GuardsHoldForEverybody}
+use Rattle.cg_everybody.specs.Everybody.{entered_by, entrance_of, entrances, opens_to, classes_in, entrance_lines, excess_lines, GuardsHoldForEverybody}
 use Rattle.cg_everybody.proofs.Changing.{leaves-all, IsSpotThere, entrances-there, entry_at-taken, value_at-taken, value_at-but_limits}
 use Rattle.cg_everybody.proofs.Held.{none_of_three, no_lines, holds}
 

@@ -19,8 +19,8 @@ use Rattle.cg_model.specs.declared.guard.GuardedEntry.{GuardedEntry}
 use Rattle.cg_guards.proofs.TableWalk.{length-ancestors, ancestor_at, walk_turn, drop_all}
 use Rattle.cg_advice.specs.AdviceLines.{fails_line}
 use Rattle.machine_everybody.specs.Everybody.{Everybody, lets_anybody_in}
-use Rattle.cg_everybody.specs.Everybody.{classes_in, entrance_lines}
-use Rattle.cg_everybody.specs.Entrances.{entered_by, entrance_of, entrance_at, entrances, class_lines, opens, is_door, doors}
+use Rattle.cg_everybody.specs.Everybody.{classes_in, entrance_lines, entered_by, entrance_of, entrances}
+use Rattle.cg_everybody.specs.Entrances.{entrance_at, class_lines, opens, is_door, doors}
 use Rattle.cg_everybody.proofs.Held.{no_lines}
 
 -- the last first

@@ -1,4 +1,3 @@
--- No theorem is about it yet: nobody has to believe it.
 -- What to change so that nobody is let in who is asked about, and the tree with the changes made. Own.
 use Rattle.std.specs.Prelude.{◌≡◌, ℕ, Bool, ◌&&◌, not, cond, List, [], ◌∷◌, ◌++◌, filter, take}
 use Rattle.std.specs.List.{flat_map, list_any}
@@ -17,12 +16,10 @@ use Rattle.cg_model.specs.States.{State, entry_at, value_at, told_text, paths_of
 use Rattle.cg_model.specs.WellFormed.{enabled_at}
 use Rattle.cg_model.specs.declared.mend.Class.TheVariants.{Owner, Group, Others}
 use Rattle.cg_advice.specs.AdviceLines.{over_lines}
-use Rattle.cg_advice.specs.Thinned.{Spot}
-use Rattle.cg_advice.specs.Ways.{chown_by, chmod_by, lines_by}
+use Rattle.cg_advice.specs.WayLines.{Spot, chown_by, chmod_by, lines_by}
 use Rattle.cg_advice.specs.declared.ways.Ways.{Ways}
 use Rattle.machine_everybody.specs.Everybody.{Everybody}
-use Rattle.cg_everybody.specs.Entrances.{entrances}
-use Rattle.cg_everybody.specs.Everybody.{opens_to}
+use Rattle.cg_everybody.specs.Everybody.{entrances, opens_to}
 
 -- root's, where its owner is let in: they may then be of another class of it
 abbrev pub handed_back : Everybody → Entry → Entry

@@ -10,28 +10,16 @@ use Rattle.cg_model.specs.Guards.{Guarded, ancestor, guarded_entries, guarded_en
 use Rattle.cg_model.specs.States.{State}
 use Rattle.cg_model.specs.declared.guard.GuardedEntry.{GuardedEntry}
 use Rattle.cg_advice.specs.AdviceLines.{fails_line}
-use Rattle.cg_advice.specs.Thinned.{Spot}
+use Rattle.cg_advice.specs.WayLines.{Spot}
 use Rattle.machine_everybody.specs.Everybody.{Everybody, lets_anybody_in}
-use Rattle.cg_everybody.specs.Everybody.{classes_in}
+use Rattle.cg_everybody.specs.Everybody.{entered_by, classes_in}
 use Rattle.cg_everybody.specs.declared.entrance.Entrance.{Entrance}
 use Rattle.cg_everybody.specs.declared.walk.Walk.{Walk}
-
--- an entry of a subtree, where it lets somebody in
-abbrev pub entered_by : Everybody → Names → GuardedEntry → List Spot
-entered_by asked subtree at = cond (lets_anybody_in asked at.entry) ((subtree, at) ∷ []) []
-
--- a guarded one, where it is there
-abbrev pub entrance_of : State → Everybody → Names → Guarded → List Spot
-entrance_of st asked subtree guarded = present (standing st subtree guarded) (entered_by asked subtree)
 
 -- that of a place in the order of the guards
 abbrev pub entrance_at : State → Everybody → Names → ℕ → List Spot
 entrance_at st asked subtree place =
     present (option_and_then (standing st subtree) (slice_get (guarded_entries subtree) place)) (entered_by asked subtree)
-
--- in the order of the guards
-abbrev pub entrances : State → Everybody → Names → List Spot
-entrances st asked subtree = flat_map (entrance_of st asked subtree) (guarded_entries subtree)
 
 abbrev pub entrance_spot : Entrance → Spot
 entrance_spot each = (each.subtree.now, each.at)

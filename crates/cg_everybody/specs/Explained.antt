@@ -1,4 +1,3 @@
--- No theorem is about it yet: nobody has to believe it.
 -- Whom each guarded entry of a subtree lets in, and what its limits count. Own.
 use Rattle.std.specs.Prelude.{ℕ, cond, List, [], ◌++◌}
 use Rattle.std.specs.List.{flat_map}

@@ -7,8 +7,8 @@ ghost use Rattle.cg_model.specs.Guards.{IsSubtree};
 ghost use Rattle.cg_model.specs.Once.{once};
 ghost use Rattle.cg_advice.specs.AdviceLines.{over_lines};
 ghost use Rattle.cg_everybody.specs.Advice.{handed_back, ways_into, same_spot, spot_lines, everybody_advice};
-ghost use Rattle.cg_everybody.specs.Entrances.{entrances, entrance_spot};
-ghost use Rattle.cg_everybody.specs.Everybody.{everybody_of};
+ghost use Rattle.cg_everybody.specs.Everybody.{entrances, everybody_of};
+ghost use Rattle.cg_everybody.specs.Entrances.{entrance_spot};
 
 use crate::asked::Asked;
 use crate::entrance::Entrance;

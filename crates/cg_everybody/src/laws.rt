@@ -9,7 +9,7 @@ ghost use Rattle.cg_model.specs.Guards.{Guarded, GuardsHold, standing};
 ghost use Rattle.cg_model.specs.Limits.{fits_descendants, fits_depth};
 ghost use Rattle.cg_model.specs.States.{State};
 ghost use Rattle.cg_model.specs.WellFormed.{IsWellFormed};
-ghost use Rattle.cg_advice.specs.Thinned.{Spot};
+ghost use Rattle.cg_advice.specs.WayLines.{Spot};
 ghost use Rattle.machine_everybody.specs.Everybody.{Everybody, IsAsked};
 ghost use Rattle.cg_everybody.specs.Advice.{everybody_advice, everybody_advised, advised_but, advised_but_limits, IsAdvisedToEverybody};
 ghost use Rattle.cg_everybody.specs.Everybody.{entrance_lines, excess_lines, everybody_lines, GuardsHoldForEverybody, IsInNoClassIn};

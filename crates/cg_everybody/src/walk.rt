@@ -7,8 +7,8 @@ ghost use Rattle.cg_model.specs.States.{State};
 ghost use Rattle.cg_guards.specs.Standing.{IsTop};
 ghost use Rattle.cg_advice.specs.AdviceLines.{IsShown};
 ghost use Rattle.machine_everybody.specs.Everybody.{Everybody, lets_anybody_in};
-ghost use Rattle.cg_everybody.specs.Everybody.{everybody_of};
-ghost use Rattle.cg_everybody.specs.Entrances.{entrance_at, entrance_of, entrances, entrance_spot, is_door, doors, IsWalked};
+ghost use Rattle.cg_everybody.specs.Everybody.{everybody_of, entrance_of, entrances};
+ghost use Rattle.cg_everybody.specs.Entrances.{entrance_at, entrance_spot, is_door, doors, IsWalked};
 
 use crate::asked::Asked;
 use crate::entrance::Entrance;

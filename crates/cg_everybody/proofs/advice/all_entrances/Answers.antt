@@ -1,8 +1,8 @@
 use Rattle.std.proofs.Common.{◌∙◌, ◌++◌, ap, map, subst, sym, take}
 use Rattle.std.specs.List.{flat_map}
 use Rattle.cg_advice.proofs.Gathering.{flat_more}
-use Rattle.cg_everybody.specs.Everybody.{everybody_of}
-use Rattle.cg_everybody.specs.Entrances.{entrances, entrance_spot, AreDoorsAbove}
+use Rattle.cg_everybody.specs.Everybody.{everybody_of, entrances}
+use Rattle.cg_everybody.specs.Entrances.{entrance_spot, AreDoorsAbove}
 use Rattle.cg_everybody.proofs.Walked.{taken_more}
 use Rattle.cg_everybody.proofs.advice.all_entrances.Goals as goal
 

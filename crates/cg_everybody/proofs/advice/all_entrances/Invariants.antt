@@ -1,7 +1,7 @@
 use Rattle.std.proofs.Common.{◌≡◌, map, take}
 use Rattle.std.specs.List.{flat_map}
-use Rattle.cg_everybody.specs.Everybody.{everybody_of}
-use Rattle.cg_everybody.specs.Entrances.{entrances, entrance_spot, IsWalked}
+use Rattle.cg_everybody.specs.Everybody.{everybody_of, entrances}
+use Rattle.cg_everybody.specs.Entrances.{entrance_spot, IsWalked}
 use Rattle.cg_everybody.proofs.advice.all_entrances.Given as goal
 
 abbrev pub invariant-loop-subtree : goal.invariant-loop-subtree

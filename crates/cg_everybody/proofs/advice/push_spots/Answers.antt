@@ -3,7 +3,8 @@ use Rattle.std.specs.List.{flat_map}
 use Rattle.std.specs.Ordering.{is_eq}
 use Rattle.std.specs.BTreeSet.{contains}
 use Rattle.cg_model.specs.Once.{once}
-use Rattle.cg_advice.specs.Ways.{key_cmp, lines_by}
+use Rattle.cg_advice.specs.WayLines.{lines_by}
+use Rattle.cg_advice.specs.Ways.{key_cmp}
 use Rattle.cg_advice.proofs.Gathering.{one_more, IsKeyOf, tied, keyed_same_place, AreWritten, written_first, written_again}
 use Rattle.cg_everybody.specs.Advice.{same_spot, spot_lines}
 use Rattle.cg_everybody.specs.Entrances.{entrance_spot}

@@ -1,7 +1,7 @@
 use Rattle.std.proofs.Common.{◌∙◌, ◌++◌, ap, map}
 use Rattle.std.specs.List.{flat_map}
-use Rattle.cg_everybody.specs.Everybody.{everybody_of}
-use Rattle.cg_everybody.specs.Entrances.{class_lines, entrances, entrance_spot}
+use Rattle.cg_everybody.specs.Everybody.{everybody_of, entrances}
+use Rattle.cg_everybody.specs.Entrances.{class_lines, entrance_spot}
 use Rattle.cg_everybody.proofs.Entering.{entrances-lines}
 use Rattle.cg_everybody.proofs.lines.guards_lines.Goals as goal
 

@@ -1,7 +1,7 @@
 use Rattle.std.proofs.Common.{◌∙◌, ◌++◌, ap, sym, map, append-nil}
 use Rattle.cg_model.specs.Clauses.{present}
-use Rattle.cg_everybody.specs.Everybody.{everybody_of}
-use Rattle.cg_everybody.specs.Entrances.{entered_by, entrance_spot}
+use Rattle.cg_everybody.specs.Everybody.{everybody_of, entered_by}
+use Rattle.cg_everybody.specs.Entrances.{entrance_spot}
 use Rattle.cg_everybody.proofs.walk.enter.Goals as goal
 
 pub returns-in_default : goal.returns-in_default

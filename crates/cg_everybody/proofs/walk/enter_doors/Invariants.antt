@@ -1,8 +1,8 @@
 use Rattle.std.proofs.Common.{◌≡◌, ◌++◌, ◌-◌, map, take, length}
 use Rattle.std.specs.List.{flat_map}
 use Rattle.cg_model.specs.Guards.{ancestor, ancestors}
-use Rattle.cg_everybody.specs.Everybody.{everybody_of}
-use Rattle.cg_everybody.specs.Entrances.{entrance_of, entrance_spot}
+use Rattle.cg_everybody.specs.Everybody.{everybody_of, entrance_of}
+use Rattle.cg_everybody.specs.Entrances.{entrance_spot}
 use Rattle.cg_everybody.proofs.Entering.{backwards}
 use Rattle.cg_everybody.proofs.walk.enter_doors.Given as goal
 

@@ -2,8 +2,8 @@ use Rattle.std.proofs.Common.{◌≡◌, ◌∙◌, ◌++◌, ◌+◌, ap, sym, 
 use Rattle.std.specs.List.{flat_map}
 use Rattle.cg_guards.proofs.TableWalk.{drop_all}
 use Rattle.cg_model.specs.Guards.{guarded_entries}
-use Rattle.cg_everybody.specs.Everybody.{everybody_of}
-use Rattle.cg_everybody.specs.Entrances.{entrance_at, entrance_of, entrance_spot}
+use Rattle.cg_everybody.specs.Everybody.{everybody_of, entrance_of}
+use Rattle.cg_everybody.specs.Entrances.{entrance_at, entrance_spot}
 use Rattle.cg_everybody.proofs.Entering.{place-next}
 use Rattle.cg_everybody.proofs.walk.enter_others.Goals as goal
 

@@ -1,8 +1,8 @@
 use Rattle.std.proofs.Common.{ap, sym, ◌∙◌, ◌++◌, map, length, drop, append_assoc}
 use Rattle.std.specs.List.{flat_map}
 use Rattle.cg_model.specs.Guards.{ancestors, guarded_entries}
-use Rattle.cg_everybody.specs.Everybody.{everybody_of}
-use Rattle.cg_everybody.specs.Entrances.{entrance_of, entrance_spot}
+use Rattle.cg_everybody.specs.Everybody.{everybody_of, entrance_of}
+use Rattle.cg_everybody.specs.Entrances.{entrance_spot}
 use Rattle.cg_everybody.proofs.Entering.{all-entered}
 use Rattle.cg_everybody.proofs.walk.Walk.next.Goals as goal
 
