@@ -376,7 +376,8 @@ formed-made_one subtree (Chown len name uid gid) st can = formed-with_owner st (
 formed-made_one subtree (Chmod len name mode) st can = formed-with_mode st (take len subtree) name mode can
 formed-made_one subtree (Set len file value) st can = formed-with_value st (take len subtree) file value can
 
-pub formed-made : (changes : List Change) (st : State) → AllByRecursion IsMakeable changes → IsWellFormed st → IsWellFormed (made changes st)
+pub formed-made : (changes : List Change) (st : State) → AllByRecursion IsMakeable changes → IsWellFormed st
+    → IsWellFormed (made changes st)
 formed-made [] st can formed = formed
 formed-made (change ∷ changes) st can formed =
     formed-made changes (made_one change.0 change.1 st) can.1 (formed-made_one change.0 change.1 st can.0 formed)

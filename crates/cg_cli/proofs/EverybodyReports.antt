@@ -34,13 +34,15 @@ module _ (wanted : Wanted) (asked : Everybody) where
   once_takes st users subtrees = everybody_takes st (once same_path subtrees)
 
   said_of_kept : (tree : Reading) (texts : List (List ℕ)) (users : List Identity) (subtrees : List Names) (st : State)
-      → IsKeptOnce (named_read [] texts tree) users subtrees st → everybody_report wanted asked tree texts ≡ everybody_said wanted asked st subtrees
+      → IsKeptOnce (named_read [] texts tree) users subtrees st
+      → everybody_report wanted asked tree texts ≡ everybody_said wanted asked st subtrees
   said_of_kept tree texts users subtrees st kept =
       said_of_read once_said once_takes tree [] texts kept.all_users kept.all_subtrees st kept.is
       ∙ (λ i. everybody_said wanted asked st (sym kept.of_subtrees i))
 
   pub everybody_is_said : (tree : Reading) (texts : List (List ℕ)) (old new : Option (List ℕ)) (result : Result ℕ CliFault)
-      → NamedReports (AnswersEverybody wanted asked) tree [] texts old new result → Reports (everybody_report wanted asked tree texts) old new result
+      → NamedReports (AnswersEverybody wanted asked) tree [] texts old new result
+      → Reports (everybody_report wanted asked tree texts) old new result
   everybody_is_said tree texts =
       by_reading (AnswersEverybody wanted asked) tree [] texts (Reports (everybody_report wanted asked tree texts))
       (λ fault met known. fault_said once_said once_takes tree [] texts fault met known (Err fault) refl)

@@ -207,7 +207,8 @@ CarriesOut-Keeps (request.Everybody asked) files given old mid new result h k =
     ReportsOnTree-Keeps (source files (name_of asked.tree) given) (everybody_asked asked) old mid new result h k
 CarriesOut-Keeps (request.Subtrees asked) files given old mid new result h k =
     OnBothTexts-Keeps subtrees_read (EverybodyOn (wanted_of asked.wanted) (whom asked.everyone)) _ _ old mid new result
-    (λ subtrees tree said kept. Reports-Keeps (everybody_report (wanted_of asked.wanted) (whom asked.everyone) tree subtrees) old mid new result said kept) h k
+    (λ subtrees tree said kept. Reports-Keeps (everybody_report (wanted_of asked.wanted) (whom asked.everyone) tree subtrees) old mid new
+    result said kept) h k
 CarriesOut-Keeps (request.Explain explain) files given old mid new result h k =
     OnTree-Keeps (source files (name_of explain.tree) given) (ExplainSays explain old mid result) (ExplainSays explain old new result) old
     mid new result (λ tree said. ExplainSays-Keeps explain old mid new result tree said k) h k

@@ -69,7 +69,8 @@ pub held_against_everybody : (text : List ℕ) (tree : Reading) (wanted : Wanted
     → IsReading text tree → (everybody_report wanted asked tree words).ending ≡ Ok 0 → AreHeldAgainstEverybody text asked words
 held_against_everybody text tree wanted asked words reading is =
     let paths =
-    report_ok (paths_read words) (λ subtrees. report_on (tree_read tree) (λ st. everybody_said wanted asked st (once same_path subtrees))) 0 is in
+    report_ok (paths_read words)
+    (λ subtrees. report_on (tree_read tree) (λ st. everybody_said wanted asked st (once same_path subtrees))) 0 is in
     let subtrees = once same_path paths.0 in
     let state = report_ok (tree_read tree) (λ st. everybody_said wanted asked st subtrees) 0 paths.2 in
     let st = state.0 in

@@ -58,7 +58,8 @@ module _ (st : State) (wanted : Wanted) (whom : Everybody) (words : List (List �
 
   said : (everybody_said wanted whom st asked).ending ≡ Ok status
   said =
-      ap (λ (found : Result (List Names) CliFault). (report_on found (λ subtrees. everybody_said wanted whom st (once same_path subtrees))).ending)
+      ap (λ (found : Result (List Names) CliFault).
+      (report_on found (λ subtrees. everybody_said wanted whom st (once same_path subtrees))).ending)
       (sym of_paths) ∙ is
 
   found : (lines : List ℕ) × (first (flat_map (subtree_faults st) asked) ≡ None) × (everybody_lines st whom asked ≡ lines)

@@ -7,8 +7,8 @@ use Rattle.commands.proofs.on_subtrees.answered.Goals as goal
 
 pub returns-in-Err : goal.returns-in-Err
 returns-in-Err g c =
-    fault_said subtrees_read (EverybodyOn (wanted_of c.args.wanted) (whom c.args.everyone.now)) c.args.tree.now c.args.text.now c.in-Err.fault
-    c.in-Err.ensures.read c.in-Err.ensures.subtrees
+    fault_said subtrees_read (EverybodyOn (wanted_of c.args.wanted) (whom c.args.everyone.now)) c.args.tree.now c.args.text.now
+    c.in-Err.fault c.in-Err.ensures.read c.in-Err.ensures.subtrees
     (g.W.Write.contents c.args.out.now)
 
 pub returns-in-Ok : goal.returns-in-Ok
