@@ -103,10 +103,8 @@ def made(state, line):
         return state
     new = copy.deepcopy(state)
     cgroup = new.cgroups[rules.path_of(path)]
-    if kind == "set":
-        cgroup.values[name] = int(value[0])
-        return new
-    turned = dict(zip(("uid", "gid"), map(int, value[0].split(":")))) if kind == "chown" else {"mode": int(value[0], 8)}
+    turned = (dict(zip(("uid", "gid"), map(int, value[0].split(":")))) if kind == "chown" else
+              {"mode": int(value[0], 8)} if kind == "chmod" else {"value": int(value[0])})
     cgroup.entries[name] = replace(cgroup.entries[name], **turned)
     return new
 
