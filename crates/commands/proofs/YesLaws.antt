@@ -36,6 +36,7 @@ use Rattle.arguments.specs.declared.request.Subtrees.{Subtrees}
 use Rattle.arguments.specs.declared.request.Request.{Request}
 use Rattle.arguments.specs.declared.request.Request.TheVariants as request
 use Rattle.arguments.proofs.MadeLaws.{named_as}
+use Rattle.arguments.proofs.WantedLaws.{of_wanted}
 use Rattle.machine_everybody.specs.Everybody.{Everybody as Whom}
 use Rattle.machine_answers.specs.Contained.{of_ids, IsContainedIn, AreContainedIn, AreHeldAgainstEverybody}
 use Rattle.machine_answers.proofs.MachineLaws.{contained_in}
@@ -287,53 +288,6 @@ wanted-check : (wanted : Asked) → ◌≡◌ {A = Option (List ℕ)} (Some (wan
 wanted-check asked_for.Audit is = audit-check is
 wanted-check asked_for.Advise is = advise-check is
 wanted-check asked_for.Explain is = explain-check is
-
--- what three commands are asked is what no other is
-none-wanted : (wanted : Asked) → ◌≡◌ {A = Option (List ℕ)} None (Some (wanted_command wanted)) → ⊥
-none-wanted wanted is = cc
-
-may-wanted : (wanted : Asked) → ◌≡◌ {A = Option (List ℕ)} (Some (codes "may")) (Some (wanted_command wanted)) → ⊥
-may-wanted asked_for.Audit is = may-audit is
-may-wanted asked_for.Advise is = cc
-may-wanted asked_for.Explain is = cc
-
-check-wanted : (wanted : Asked) → ◌≡◌ {A = Option (List ℕ)} (Some (codes "check")) (Some (wanted_command wanted)) → ⊥
-check-wanted wanted is = wanted-check wanted (sym is)
-
-settle-wanted : (wanted : Asked) → ◌≡◌ {A = Option (List ℕ)} (Some (codes "settle")) (Some (wanted_command wanted)) → ⊥
-settle-wanted asked_for.Audit is = settle-audit is
-settle-wanted asked_for.Advise is = cc
-settle-wanted asked_for.Explain is = cc
-
-replay-wanted : (wanted : Asked) → ◌≡◌ {A = Option (List ℕ)} (Some (codes "replay")) (Some (wanted_command wanted)) → ⊥
-replay-wanted asked_for.Audit is = replay-audit is
-replay-wanted asked_for.Advise is = cc
-replay-wanted asked_for.Explain is = cc
-
-upgrade-wanted : (wanted : Asked) → ◌≡◌ {A = Option (List ℕ)} (Some (codes "upgrade")) (Some (wanted_command wanted)) → ⊥
-upgrade-wanted asked_for.Audit is = upgrade-audit is
-upgrade-wanted asked_for.Advise is = cc
-upgrade-wanted asked_for.Explain is = cc
-
--- where everybody is asked about, they are asked of subtrees that the words name, or that a text does
-of_wanted : (found : Found) → first_value found (codes "everybody") ≡ Some (codes "true") → (P : Request → Type 0)
-    → ((asked : Everybody) → IsEverybody found asked → P (request.Everybody asked))
-    → ((asked : Subtrees) → IsOfSubtrees found asked → P (request.Subtrees asked)) → (wanted : Asked) (asked : Request)
-    → command_of asked ≡ Some (wanted_command wanted) → Holds found asked → P asked
-of_wanted found said P everybody lines wanted (request.Everybody asked) is holds = everybody asked holds
-of_wanted found said P everybody lines wanted (request.Subtrees asked) is holds = lines asked holds
-of_wanted found said P everybody lines wanted (request.Audit audit) is holds = absurd (holds.not_everybody said)
-of_wanted found said P everybody lines wanted (request.AuditPairs pairs) is holds = absurd (holds.not_everybody said)
-of_wanted found said P everybody lines wanted (request.Explain explain) is holds = absurd (holds.not_everybody said)
-of_wanted found said P everybody lines wanted (request.ExplainPairs pairs) is holds = absurd (holds.not_everybody said)
-of_wanted found said P everybody lines wanted (request.Advise advise) is holds = absurd (holds.not_everybody said)
-of_wanted found said P everybody lines wanted (request.AdvisePairs pairs) is holds = absurd (holds.not_everybody said)
-of_wanted found said P everybody lines wanted (request.Help help) is holds = absurd (none-wanted wanted is)
-of_wanted found said P everybody lines wanted (request.May may) is holds = absurd (may-wanted wanted is)
-of_wanted found said P everybody lines wanted (request.Check check) is holds = absurd (check-wanted wanted is)
-of_wanted found said P everybody lines wanted (request.Settle check) is holds = absurd (settle-wanted wanted is)
-of_wanted found said P everybody lines wanted (request.Replay replay) is holds = absurd (replay-wanted wanted is)
-of_wanted found said P everybody lines wanted (request.Upgrade upgrade) is holds = absurd (upgrade-wanted wanted is)
 
 -- what is said of all requests of `audit` is said of them
 of_audit : (P : Request → Type 0) → ((audit : Audit) → P (request.Audit audit)) → ((asked : Everybody) → P (request.Everybody asked))
