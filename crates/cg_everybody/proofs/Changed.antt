@@ -175,10 +175,10 @@ module _ (st : State) (asked : Everybody) (subtrees : List Names) where
 
   -- ---- nobody is let in who wasn't
 
-  kept_out : (other : Identity) (failed : Failed) (given : Bool) (here : Option Entry) → IsUser other
+  kept_out : (other : Identity) (failed : Failed) (any : Bool) (here : Option Entry) → IsUser other
       → present here (λ e. unless (not (reaches other e)) failed) ≡ []
-      → present (option_map (λ entry. cond given (taken_back asked entry) entry) here) (λ e. unless (not (reaches other e)) failed) ≡ []
-  kept_out other failed given None is_user off = refl
+      → present (option_map (λ entry. cond any (taken_back asked entry) entry) here) (λ e. unless (not (reaches other e)) failed) ≡ []
+  kept_out other failed any None is_user off = refl
   kept_out other failed true (Some entry) is_user off =
       ap (λ b. unless (not b) failed)
       (less_taken asked entry other is_user

@@ -88,11 +88,11 @@ module _ (st : State) (asked : Everybody) where
     door-below len place d within =
         All-from_recursion (λ n. n < len) (doors st asked path len) (all_below len) place d within
 
-    pub door-at : (len : ℕ) (lens : List ℕ) (place n : ℕ) → lens ≡ doors st asked path len → place < length lens
-        → n ≡ get_or lens place n → n < len
-    door-at len lens place n are within is =
-        subst (λ m. m < len) (sym (is ∙ ap (λ xs. get_or xs place n) are))
-        (door-below len place n (subst (λ xs. place < length xs) are within))
+    pub door-at : (len : ℕ) (lens : List ℕ) (place d : ℕ) → lens ≡ doors st asked path len → place < length lens
+        → get_or lens place d < len
+    door-at len lens place d are within =
+        subst (λ (xs : List ℕ). get_or xs place d < len) (sym are)
+        (door-below len place d (subst (λ (xs : List ℕ). place < length xs) are within))
 
     none_beyond : (bound : ℕ) (len : ℕ) → len ≤ bound
         → filter (λ n. nat_lt n bound) (doors st asked path len) ≡ doors st asked path len

@@ -15,6 +15,7 @@ loop-subtree-preserved g c =
     let lines = over_lines (g.H.Hierarchy.state c.args.tree.now) in
     let front = take c.loop-subtree.subtree-index c.args.subtrees.now in
     let subtree = c.subtree-item.result in
+    let key : Bor Names = record { ref_ptr = (0, 0); now = subtree } in
     let cmp = λ (a b : Bor Names). path_cmp a.now b.now in
     let meets = λ (key : Bor Names) (path : Names). same_path path key.now in
     subst (λ l. AreWritten lines same_path meets c.if-is_new.text.items c.args.text.now.items l (contains cmp c.insert.new.self))
@@ -22,12 +23,12 @@ loop-subtree-preserved g c =
     (elim c.if-is_new.branch [
       | then-is_new+in_ok-push_limits w ↦
           written_first lines same_path meets c.loop-subtree.text.items c.args.text.now.items front (contains cmp c.loop-subtree.seen)
-          (contains cmp c.insert.new.self) _ subtree _ c.in_ok-is_new.is_new c.loop-subtree.invariant
+          (contains cmp c.insert.new.self) (λ q. is_eq (cmp key q)) subtree key c.in_ok-is_new.is_new c.loop-subtree.invariant
           (λ q. tied_paths subtree q.now) (λ other. refl) c.in_ok-is_new.ensures.updates.0 c.in_ok-is_new.ensures.added w.if-is_new.true
           c.if-is_new.text.items (ap (λ v. v.items) w.text-is ∙ w.in_ok-push_limits.ensures)
       | else-is_new w ↦
           written_again lines same_path meets c.loop-subtree.text.items c.args.text.now.items front (contains cmp c.loop-subtree.seen)
-          (contains cmp c.insert.new.self) _ subtree _ c.in_ok-is_new.is_new c.loop-subtree.invariant
+          (contains cmp c.insert.new.self) (λ q. is_eq (cmp key q)) subtree key c.in_ok-is_new.is_new c.loop-subtree.invariant
           (λ q. tied_paths subtree q.now) (λ other. refl) c.in_ok-is_new.ensures.updates.0 c.in_ok-is_new.ensures.added w.if-is_new.false
           c.if-is_new.text.items (ap (λ v. v.items) w.text-is)
     ])

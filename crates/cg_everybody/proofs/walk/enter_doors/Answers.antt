@@ -1,4 +1,4 @@
-use Rattle.std.proofs.Common.{◌≡◌, ℕ, List, ◌∙◌, ◌++◌, ◌-◌, ◌+◌, ◌<◌, ap, sym, map, take, take_all, length, arith, append_assoc, append-nil}
+use Rattle.std.proofs.Common.{◌≡◌, ℕ, List, ◌∙◌, ◌++◌, ◌-◌, ◌+◌, ◌<◌, ap, sym, get_or, map, take, take_all, length, arith, append_assoc, append-nil}
 use Rattle.cg_model.specs.Guards.{ancestor, ancestors}
 use Rattle.cg_advice.specs.WayLines.{Spot}
 use Rattle.cg_everybody.specs.Everybody.{everybody_of, entrance_of}
@@ -19,8 +19,7 @@ loop-turn-init g c =
 pub enter_door-requires-clause-above : goal.enter_door-requires-clause-above
 enter_door-requires-clause-above g c =
     door-at (g.H.Hierarchy.state c.args.tree.now) (everybody_of c.args.asked.now) c.args.subtree.now (length c.args.subtree.now)
-    c.args.above.now (length c.args.above.now - 1 - c.loop-turn.turn) c.enter_door-arg-1.result c.requires.above
-    (omega (arith, c.loop-turn-test.true)) c.enter_door-arg-1.is
+    c.args.above.now (length c.args.above.now - 1 - c.loop-turn.turn) 0 c.requires.above (omega (arith, c.loop-turn-test.true))
 
 pub loop-turn-preserved : goal.loop-turn-preserved
 loop-turn-preserved g c =
@@ -31,10 +30,8 @@ loop-turn-preserved g c =
     let found = map entrance_spot c.loop-turn.found.items in
     let rest = backwards each (take (length above - (turn + 1)) above) in
     ap (λ l. l ++ rest) c.in_ok-enter_door.ensures
-    ∙ append_assoc found (each c.enter_door-arg-1.result) rest
-    ∙ ap (λ l. found ++ l)
-    (ap (λ len. each len ++ rest) c.enter_door-arg-1.is
-    ∙ sym (backwards-last each above turn c.enter_door-arg-1.result c.loop-turn-test.true))
+    ∙ append_assoc found (each (get_or above (length above - 1 - turn) 0)) rest
+    ∙ ap (λ l. found ++ l) (sym (backwards-last each above turn 0 c.loop-turn-test.true))
     ∙ c.loop-turn.invariant
 
 pub returns : goal.returns
