@@ -314,9 +314,7 @@ fn advise_command<'a>(alloc: Global) -> Result<Command<'a>, AllocError>
 
 /// A command that may be asked of everybody, too.
 fn with_everybody<'a>(alloc: Global, command: Command<'a>) -> Result<Command<'a>, AllocError>
-    ghost shape: { Shape }
-    requires { IsCommand shape command }
-    ensures { IfOk result (IsCommand (with_everybody shape)) }
+    ensures { IfOk result (λ new. (shape : Shape) → IsCommand shape command.entry → IsCommand (with_everybody shape) new) }
 {
     command
         .arg(everybody_argument(alloc))?

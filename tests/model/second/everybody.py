@@ -82,7 +82,7 @@ def changes_of(entry, where, asked):
 def told_of(state, top, asked):
     """All lines of a subtree below the one that names it: whom each guarded entry lets in, and its limits."""
     lines = []
-    for guard, path, name in rules.guarded(state, top):
+    for guard, path, name in (each for each in rules.guarded(state, top) if rules.is_shown(state, *each[1:])):
         entry, where = state.cgroups[path].entries[name], f"{text_of(path)} {name}"
         held = f"holds {guard} {where} {entry.uid}:{entry.gid} {entry.mode:03o}"
         lines += rules.class_lines(guard, where, entry, classes_of(entry, asked)) or [held]
