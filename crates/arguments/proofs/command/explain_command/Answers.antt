@@ -5,4 +5,5 @@ use Rattle.arguments.proofs.command.explain_command.Goals as goal
 
 pub returns : goal.returns
 returns c =
-    IfOk-weaker c.with_everybody.result _ _ (λ new added. added (pairs_command (codes "explain")) c.in_ok-pairs_command.ensures) c.with_everybody.ensures
+    IfOk-weaker c.with_everybody.result _ _ (λ new added. added (pairs_command (codes "explain")) c.in_ok-pairs_command.ensures)
+    c.with_everybody.ensures
