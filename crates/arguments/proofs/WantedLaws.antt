@@ -27,19 +27,19 @@ check-wanted command.Advise is = cc
 check-wanted command.Explain is = cc
 
 settle-wanted : (wanted : Wanted) → ◌≡◌ {A = Option (List ℕ)} (Some (codes "settle")) (Some (wanted_command wanted)) → ⊥
-settle-wanted command.Audit is = cc
-settle-wanted command.Advise is = cc
-settle-wanted command.Explain is = cc
+settle-wanted command.Audit is = true≢false (ap (λ (o : Option (List ℕ)). nat_eq (get_or (unwrap_or o []) 0 0) 115) is)
+settle-wanted command.Advise is = true≢false (ap (λ (o : Option (List ℕ)). nat_eq (get_or (unwrap_or o []) 0 0) 115) is)
+settle-wanted command.Explain is = true≢false (ap (λ (o : Option (List ℕ)). nat_eq (get_or (unwrap_or o []) 0 0) 115) is)
 
 replay-wanted : (wanted : Wanted) → ◌≡◌ {A = Option (List ℕ)} (Some (codes "replay")) (Some (wanted_command wanted)) → ⊥
-replay-wanted command.Audit is = cc
-replay-wanted command.Advise is = cc
-replay-wanted command.Explain is = cc
+replay-wanted command.Audit is = true≢false (ap (λ (o : Option (List ℕ)). nat_eq (get_or (unwrap_or o []) 0 0) 114) is)
+replay-wanted command.Advise is = true≢false (ap (λ (o : Option (List ℕ)). nat_eq (get_or (unwrap_or o []) 0 0) 114) is)
+replay-wanted command.Explain is = true≢false (ap (λ (o : Option (List ℕ)). nat_eq (get_or (unwrap_or o []) 0 0) 114) is)
 
 upgrade-wanted : (wanted : Wanted) → ◌≡◌ {A = Option (List ℕ)} (Some (codes "upgrade")) (Some (wanted_command wanted)) → ⊥
-upgrade-wanted command.Audit is = cc
-upgrade-wanted command.Advise is = cc
-upgrade-wanted command.Explain is = cc
+upgrade-wanted command.Audit is = true≢false (ap (λ (o : Option (List ℕ)). nat_eq (get_or (unwrap_or o []) 0 0) 117) is)
+upgrade-wanted command.Advise is = true≢false (ap (λ (o : Option (List ℕ)). nat_eq (get_or (unwrap_or o []) 0 0) 117) is)
+upgrade-wanted command.Explain is = true≢false (ap (λ (o : Option (List ℕ)). nat_eq (get_or (unwrap_or o []) 0 0) 117) is)
 
 -- where everybody is asked about, they are asked of subtrees that the words name, or that a text does
 pub of_wanted : (found : Found) → first_value found (codes "everybody") ≡ Some (codes "true") → (P : Request → Type 0)
