@@ -2,7 +2,11 @@
 
 A refusal is left out where its test is one that always passes, and a guard where its test is one that none fails.
 """
-import collections, re
+import collections, hashlib, json, re
+
+import crates
+import planted
+from edited import text_of
 
 CRATE = "machine"
 FILE = "specs/Machines.antt"
@@ -46,6 +50,13 @@ GUARDS = (
     LeftOut("guard_fits", "  pub fits : Fits machine subtree\n", "  pub fits : Machine\n", {"kept-start", "again-all"}),
 )
 ALL = REFUSALS + GUARDS
+
+
+def sum_of_sources(top):
+    """Returns the sum of all that decides the crate's own proofs, and of the names of what it uses."""
+    folder = f"{top}/crates/{CRATE}"
+    files = [(path, text_of(f"{folder}/{path}")) for part in planted.SOURCES for path in planted.files_of(folder, part)]
+    return hashlib.sha256(json.dumps([sorted(crates.read(top)[CRATE]), files]).encode()).hexdigest()
 
 
 def without(text, it):

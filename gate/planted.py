@@ -4,7 +4,7 @@ A function counts where it is `pub`, or a method of a public trait or of an impl
 of tests don't count. It is looked at where an edit changes it, where one of the wrong bodies that were planted in it was judged and
 rests on what is there now (rests.py), or where a reason says why no contract can tell. That the tactics met a limit is no reason.
 """
-import collections, fnmatch, hashlib, json, os, re
+import collections, fnmatch, os, re
 
 import crates
 from edited import FUNCTION, Crate, module_of, text_of
@@ -46,13 +46,6 @@ def counted(top):
 def files_of(folder, part):
     found = (f"{at}/{name}" for at, _, names in os.walk(f"{folder}/{part}") for name in names)
     return sorted(os.path.relpath(it, folder) for it in found)
-
-
-def sum_of_sources(top, name, uses):
-    """Returns the sum of all that decides a crate's own proofs, and of the names of what it uses."""
-    folder = f"{top}/crates/{name}"
-    files = [(path, text_of(f"{folder}/{path}")) for part in SOURCES for path in files_of(folder, part)]
-    return hashlib.sha256(json.dumps([sorted(uses), files]).encode()).hexdigest()
 
 
 def read_functions(crate):

@@ -1,8 +1,8 @@
-"""What the result of a wrong body rests on: the text of its function, the contracts of what that calls, and all that these state.
+"""What the result of a wrong body rests on: the text of its function, the contracts of what that names, and all that these state.
 
-A call is known by its last name: of a name that several functions have, those of the crate and of the libraries below it all count,
-which can make a result older than it is, and never newer. Comments count nowhere. What a proof cites isn't looked at: a lemma more may
-prove a body that was refused.
+A function is known by its last name, also where it is handed on and not called: of a name that several have, those of the crate and of the
+libraries below it all count. Comments count nowhere. Not looked at are what an operator or a `?` calls, of a type's model all but its value,
+and what a proof cites: a lemma more may prove a body that was refused.
 """
 import functools, hashlib, json, os, re, sys
 
@@ -11,7 +11,7 @@ import crates
 sys.path.append(os.path.join(os.path.dirname(os.path.dirname(os.path.abspath(__file__))), "tools"))
 from believed import WORD, Definition, World, closure
 
-CALLED = re.compile(r"(?<![\w'])([a-z_]\w*)(?:::<[^()]*>)?(?=\()")
+NAME = re.compile(r"(?<![\w'])[a-z_]\w*")
 COMMENT = re.compile(r"^\s*//.*\n?|\s+//.*$", re.M)
 
 
@@ -32,7 +32,7 @@ class Rests:
         own = self.text(crate, function, "first", "last")
         body = self.text(crate, function, "body", "last")
         heads, reached = set(), set(self.reached(crate, function["file"], own))
-        for name in {*CALLED.findall(body)}:
+        for name in {*NAME.findall(body)}:
             for at in self.below(crate):
                 for it in self.named.get((at, name), ()):
                     head = self.text(at, it, "first", "body")

@@ -1,9 +1,7 @@
 """Tests of what gate/refusals leaves out of the definitions of crates/machine, and of its record."""
 import unittest
 
-import crates
 import left_out
-import planted
 from checkout import TOP
 from edited import text_of
 from left_out import LeftOut
@@ -44,8 +42,7 @@ class Record(unittest.TestCase):
 
     def test_is_of_these_sources_and_of_all_that_is_left_out(self):
         total, told = left_out.read(text_of(f"{TOP}/{left_out.RECORD}"))
-        uses = crates.read(TOP)[left_out.CRATE]
-        self.assertEqual(total, planted.sum_of_sources(TOP, left_out.CRATE, uses), "the crate has changed since: run gate/refusals")
+        self.assertEqual(total, left_out.sum_of_sources(TOP), "the crate has changed since: run gate/refusals")
         self.assertEqual([*told], [it.name for it in left_out.ALL])
         for it in left_out.ALL:
             self.assertIsNone(left_out.fault_of(it, told[it.name]))

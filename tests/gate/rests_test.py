@@ -69,6 +69,10 @@ class RestsTest(unittest.TestCase):
             with self.subTest(old):
                 self.assertNotEqual(self.sum(file, old, new), before)
 
+    def test_it_rests_on_what_is_handed_on(self):
+        self.texts["toy/src/lib.rt"] = TOY.replace("next(next(0))", "Some(1).map(next)")
+        self.assertNotEqual(self.sum("low/src/lib.rt", "result ≡ more number", "result ≡ number"), self.sum())
+
     def test_it_rests_on_nothing_else(self):
         before = self.sum()
         for file, old, new in (("low/src/lib.rt", "number + 1", "1 + number"), ("low/src/lib.rt", "result ≡ number", "number ≡ result"),
