@@ -10,7 +10,7 @@ MOST_IN_A_CHECK = 32
 IN_ONE_FUNCTION, BESIDE, IN_A_COPY = 1, 2, 3
 # how a line of an edit begins: the kit's words, and comments to it
 WORDS = ("file", "old", "new", "# goal", "# breaks")
-FUNCTION = re.compile(r"( *)(?:pub(?:\([\w ]+\))? )?(?:const |unsafe )*fn (\w+)")
+FUNCTION = re.compile(r'( *)(?:pub(?:\([\w ]+\))? )?(?:const |unsafe |extern "C" )*fn (\w+)')
 BLOCK = re.compile(r"impl(?:<.*?>)? (?:(?:\w+::)*(?P<trait>\w+)(?:<.*>)? for )?(?P<type>\w+).*")
 
 
@@ -158,9 +158,11 @@ class Edit:
 
 
 class Crate:
-    def __init__(self, folder, uses):
+    def __init__(self, folder, uses, is_static=False):
         self.name, self.folder, self.uses, self.below = os.path.basename(folder), folder, uses, {*uses}
         self.is_library = os.path.isfile(f"{self.folder}/src/lib.rt")
+        # a program and a static library leave nothing that a proof is made over
+        self.leaves_library = self.is_library and not is_static
         self.edits, self.functions = [], []
 
     def read_edits(self):
@@ -170,7 +172,7 @@ class Crate:
 
     def read_functions(self, rlib):
         """Finds the functions in the text, under the names that the kit keeps of a library for linking."""
-        known = kit.names_of_functions(rlib) if self.is_library else {}
+        known = kit.names_of_functions(rlib) if self.leaves_library else {}
         for at, _, files in os.walk(f"{self.folder}/src"):
             for file in files:
                 self.functions += self.functions_in(os.path.relpath(f"{at}/{file}", self.folder), known)
@@ -264,7 +266,8 @@ def can_be_applied(edits):
 
 def crates_of(top, wanted):
     """Returns the crates of crates.txt whose edits are wanted, and those below them, by name."""
-    found = {name: Crate(f"{top}/crates/{name}", {*uses}) for name, uses in crates.read(top).items()}
+    static = crates.static_libraries(top)
+    found = {name: Crate(f"{top}/crates/{name}", {*uses}, name in static) for name, uses in crates.read(top).items()}
     for it in found.values():
         it.below = it.uses.union(*(found[name].below for name in it.uses if name in found))
     for name in wanted or found:

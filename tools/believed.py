@@ -143,7 +143,7 @@ class Code(File):
 
     def contract(self, name, owner, clauses):
         """Returns the contract of a function, or some clauses of it, with the types of what these speak of."""
-        for head in re.finditer(rf"^ *(?:pub(?:\([\w ]+\))? )?(?:const |unsafe )*fn {name}\b", self.text, re.M):
+        for head in re.finditer(rf'^ *(?:pub(?:\([\w ]+\))? )?(?:const |unsafe |extern "C" )*fn {name}\b', self.text, re.M):
             around = [it[0] for it in BLOCK.finditer(self.text, 0, head.start())][-1:] if head[0][0] == " " else []
             if bool(owner) == bool(around) and all(re.search(rf"\b{owner}\b", it) for it in around):
                 end = END.search(self.text, head.end())

@@ -11,7 +11,7 @@ from edited import Crate, module_of, text_of
 NAME = re.compile(r"`([\w:]+)`")
 CLAIM = re.compile(r"`([\w:]+)`: (`\w+`(?:(?:, | and )`\w+`)*)")
 EDIT = re.compile(r"`([a-z0-9_*]+)`")
-HEAD = re.compile(r" *(?:pub(?:\([\w ]+\))? )?(?:const |unsafe )*fn ")
+HEAD = re.compile(r' *(?:pub(?:\([\w ]+\))? )?(?:const |unsafe |extern "C" )*fn ')
 BODY = re.compile(r" *\{\}?$|.*[{;]$")
 OWNER = re.compile(r"(?:pub )?trait (\w+)|impl(?:<.*?>)? (?:(?:\w+::)*(\w+)(?:<.*?>)? for )?&?(\w+)")
 PRIVATE = re.compile(r"^(?:pub\([\w ]+\) )?(?:struct|enum|trait) (\w+)", re.M)

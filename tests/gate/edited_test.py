@@ -4,7 +4,7 @@ import tempfile
 import unittest
 
 from checkout import write
-from edited import Crate, groups_of
+from edited import Crate, crates_of, groups_of
 
 
 class GroupsTest(unittest.TestCase):
@@ -33,6 +33,22 @@ class GroupsTest(unittest.TestCase):
 
     def test_no_edits(self):
         self.assertEqual(groups_of([]), [])
+
+
+class CratesTest(unittest.TestCase):
+    def test_nothing_is_tried_over_a_static_library(self):
+        """Nor over a program: neither leaves a list of its functions."""
+        with tempfile.TemporaryDirectory() as top:
+            write(f"{top}/crates.txt", "low:\nexported staticlib: low\nprogram: low\n")
+            for path in ("low/src/lib.rt", "exported/src/lib.rt", "program/src/main.rt"):
+                write(f"{top}/crates/{path}", "pub fn one() -> u32 {\n    1\n}\n")
+                write(f"{top}/crates/{path.partition('/')[0]}/must-fail/two.edit", f"file: {path.partition('/')[2]}\nold:     1\nnew:     2\n")
+            found = crates_of(top, [])
+            leaves = {name: (it.is_library, it.leaves_library) for name, it in found.items()}
+            self.assertEqual(leaves, {"low": (True, True), "exported": (True, False), "program": (False, False)})
+            found["exported"].read_functions(None)
+            [two] = found["exported"].edits
+            self.assertEqual(([it["name"] for it in two.functions()], two.part(), two.is_in_bodies()), (["one"], "one", False))
 
 
 if __name__ == "__main__":

@@ -15,7 +15,7 @@ def loaded():
 
 
 EDITS = loaded()
-LIBRARY, PROGRAM = types.SimpleNamespace(is_library=True), types.SimpleNamespace(is_library=False)
+LIBRARY, PROGRAM = types.SimpleNamespace(leaves_library=True), types.SimpleNamespace(leaves_library=False)
 
 
 def edit(*names, part=None):

@@ -50,7 +50,9 @@ MADE = [("delegation", "", ["check", *ONE]), ("delegation-limit-writable", "", [
         ("delegation", "exit 11\nmkdri /c0/a\n", ["replay", "--uid", "1000", "--ops", "OPS"]), ("delegation", "", ["chek"]),
         ("delegation", "", ["check", "--uid", "0", "--subtree", "/c0"]), ("delegation", "", ["check", "--help"]),
         ("delegation", "pair 1000 /c0\n", ["audit", "--pairs", "PAIRS"]),
-        ("delegation", "/c0\n/c1\n", ["audit", "--everybody", "--subtrees", "SUBTREES"])]
+        ("delegation", "/c0\n/c1\n", ["audit", "--everybody", "--subtrees", "SUBTREES"]),
+        ("delegation-ancestor-owned", "/c0\n/c1\n", ["advise", "--everybody", "--subtrees", "SUBTREES"]),
+        ("delegation", "", ["explain", "--everybody", "--subtree", "/c0"])]
 
 
 def tree_of(name):

@@ -195,13 +195,24 @@ def everybody(_):
                 "delegation-ancestor-owned": [f"common-ancestor / cgroup.procs 1000:0 446 {name}" for name in ("owner", "others")],
                 "delegation-ancestor-writable": ["common-ancestor / cgroup.procs 0:0 646 others"],
                 "delegation-parent-directory": ["parent-dir / dir 1000:0 755 owner"]}.items()}}
+    changes = {"delegation-second-user": ["chown /c0 memory.max 0:0"], "delegation-over-limit": ["set /c0 cgroup.max.descendants 2"],
+               "delegation-ancestor-group": ["chmod / cgroup.procs 644"],
+               "delegation-ancestor-owned": ["chown / cgroup.procs 0:0", "chmod / cgroup.procs 444"],
+               "delegation-ancestor-writable": ["chmod / cgroup.procs 644"], "delegation-parent-directory": ["chown / dir 0:0"]}
     for name, fails in told.items():
         for words in both, other:
             lines = [line for top in dict.fromkeys(words[1::2]) if top in fails
                      for line in (f"subtree {top}", *(f"fails {each}" for each in fails[top]))]
             yield Case(["audit", "--everybody", *tree(name), *words], 1, lines)
+            yield Case(["advise", "--everybody", *tree(name), *words], 1, [*(f"fails {each}" for each in fails["/c0"]), *changes[name]])
     for name in "delegation", "delegation-at-limit", "delegation-process-at-top":
-        yield Case(["audit", *tree(name), *other, "--everybody"], 0, ["contained"])
+        for command in "audit", "advise":
+            yield Case([command, *tree(name), *other, "--everybody"], 0, ["contained"])
+    held = ["subtree /c0", *TOLD[1:-1]]
+    yield Case(["explain", "--everybody", *both[:2]], 0, held)
+    yield Case(["explain", "--everybody", *both[:2], *both[:2], "--but", "7"], 0, [*held, "but 7"])
+    writable = ["fails common-ancestor / cgroup.procs 0:0 646 others" if line.startswith("holds common-ancestor") else line for line in held]
+    yield Case(["explain", "--everybody", *tree("delegation-ancestor-writable"), *both[:2]], 1, writable)
     owned, group = "fails common-ancestor / cgroup.procs 1000:0 446", "fails common-ancestor / cgroup.procs 0:50 664 group"
     for name, words, status, lines in (
             ("delegation", ["--but", "1000"], 0, ["contained", "but 1000"]),
@@ -212,19 +223,25 @@ def everybody(_):
             ("delegation-ancestor-group", ["--group", "50=", "--group", "50=7"], 1, ["subtree /c0", group, "group 50=", "group 50=7"]),
             ("delegation-ancestor-group", ["--group", "51=7"], 1, ["subtree /c0", group, "group 51=7"])):
         yield Case(["audit", "--everybody", *tree(name), *both[:2], *words], status, lines)
-    for beside in ["--uid", "1000"], ["--all"], ["--settle"], ["--pairs", "-"], ["--everybody"], ["--gid", "5"], ["--group", "5"], ["--but", "x"]:
-        yield fault("usage", "audit", "--everybody", *both, *beside)
-    yield from (fault("usage", "audit", *asked("1000", "/c0"), *words) for words in (["--but", "5"], ["--group", "5="]))
-    yield fault("usage", "audit", "--everybody")
-    yield fault("usage", "audit", "--everybody=true", *both)
-    for command in "check", "settle", "explain", "advise":
+        last = [line for line in lines if line.split()[0] in ("but", "group")]
+        change = {"delegation-ancestor-owned": "chmod / cgroup.procs 444", "delegation-ancestor-group": "chmod / cgroup.procs 644"}
+        advised = lines if status == 0 else [*lines[1:len(lines) - len(last)], change[name], *last]
+        yield Case(["advise", "--everybody", *tree(name), *both[:2], *words], status, advised)
+    for command in "audit", "advise", "explain":
+        for beside in (["--uid", "1000"], ["--all"], ["--settle"], ["--pairs", "-"], ["--everybody"], ["--gid", "5"], ["--group", "5"],
+                       ["--but", "x"]):
+            yield fault("usage", command, "--everybody", *both, *beside)
+        yield from (fault("usage", command, *asked("1000", "/c0"), *words) for words in (["--but", "5"], ["--group", "5="]))
+        yield fault("usage", command, "--everybody")
+        yield fault("usage", command, "--everybody=true", *both)
+        yield fault("subtree missing", command, "--everybody", "--subtree", "/zz", "--subtree", "/")
+        yield fault("subtree root", command, "--everybody", *both, "--subtree", "/", "--subtree", "/zz")
+        yield fault("path", command, "--everybody", *tree("fault-no-parent"), "--subtree", "c0")
+        yield fault("tree no-parent cgroup 2", command, "--everybody", *tree("fault-no-parent"), "--subtree", "/zz")
+        yield fault("read", command, "--everybody", *tree("none"), "--subtree", "c0")
+        yield Case([command, "--everybody", *both], 3, fault="fault: write", output="/dev/full")
+    for command in "check", "settle":
         yield fault("usage", command, "--everybody", *both[:2])
-    yield fault("subtree missing", "audit", "--everybody", "--subtree", "/zz", "--subtree", "/")
-    yield fault("subtree root", "audit", "--everybody", *both, "--subtree", "/", "--subtree", "/zz")
-    yield fault("path", "audit", "--everybody", *tree("fault-no-parent"), "--subtree", "c0")
-    yield fault("tree no-parent cgroup 2", "audit", "--everybody", *tree("fault-no-parent"), "--subtree", "/zz")
-    yield fault("read", "audit", "--everybody", *tree("none"), "--subtree", "c0")
-    yield Case(["audit", "--everybody", *both], 3, fault="fault: write", output="/dev/full")
 
 
 def named_by_lines(_):
@@ -235,7 +252,11 @@ def named_by_lines(_):
         yield Case([*asks, *tree("delegation-second-user")], status, lines, given=text)
     both = [line for top in ("/c1", "/c0") for line in (f"subtree {top}", "fails parent-dir / dir 1000:0 755 owner")]
     yield Case([*asks, *tree("delegation-parent-directory")], 1, both, given=b"/c1\n/c0\n/c1\n")
-    yield Case(["audit", "--subtrees", PIPE, "--everybody"], 0, ["contained"], piped=b"/c0\n/c1\n")
+    for command in "audit", "advise":
+        yield Case([command, "--subtrees", PIPE, "--everybody"], 0, ["contained"], piped=b"/c0\n/c1\n")
+    yield Case(["advise", *asks[1:], *tree("delegation-parent-directory")], 1, ["fails parent-dir / dir 1000:0 755 owner", "chown / dir 0:0"],
+               given=b"/c1\n/c0\n/c1\n")
+    yield Case(["explain", *asks[1:], *tree("delegation")], 0, ["subtree /c0", *TOLD[1:-1]], given=b"/c0\n/c0\n")
     file = os.devnull
     for text, said in ((b"", "line 1 cut"), (b"/c0", "line 1 cut"), (b"/c0\n/c1", "line 2 cut"), (b"\n", "line 1 bad-word"),
                        (b"/c0\n\n", "line 2 bad-word"), (b"/c0\nc1\n", "line 2 bad-word"), (b"/c0\r\n", "line 1 bad-word"),
@@ -243,8 +264,9 @@ def named_by_lines(_):
         yield Case([*asks, *tree("delegation")], 3, fault=f"fault: {said}", given=text)
     yield Case([*asks, *tree("fault-no-parent")], 3, fault="fault: line 1 bad-word", given=b"c0\n")
     yield Case([*asks, *tree("fault-no-parent")], 3, fault="fault: tree no-parent cgroup 2", given=b"/zz\n")
-    for beside in ["--subtree", "/c0"], ["--uid", "1000"], ["--all"], ["--settle"], ["--pairs", file], ["--subtrees", file], ["--gid", "5"]:
-        yield fault("usage", "audit", "--everybody", "--subtrees", file, *beside)
+    for command in "audit", "advise", "explain":
+        for beside in ["--subtree", "/c0"], ["--uid", "1000"], ["--all"], ["--settle"], ["--pairs", file], ["--subtrees", file], ["--gid", "5"]:
+            yield fault("usage", command, "--everybody", "--subtrees", file, *beside)
     yield from (fault("usage", *words) for words in (asks, ["audit", "--subtrees", file], ["audit", "--subtrees", file, *asked("1000", "/c0")],
                                                      ["explain", "--subtrees", file, *asked("1000", "/c0")]))
     yield fault("read", "audit", "--everybody", "--subtrees", f"{EXAMPLES}/none.subtrees")

@@ -475,7 +475,8 @@ def subtrees():
         yield Row(SUBTREES, "line 2 bad-word", ["the line is", form, why], input=f"/c0\n{line}\n")
     yield Row(SUBTREES, "line 1 cut", ["the line is ''", form], input="")
     yield Row(SUBTREES, "line 2 cut", ["the line is '/c1'", form], input="/c0\n/c1")
-    yield Row(SUBTREES[:-2], "usage", ["audit takes --everybody in place of users"])
+    for command in "audit", "advise", "explain":
+        yield Row([command, *SUBTREES[1:-2]], "usage", ["audit, advise and explain take --everybody in place of users"])
     yield Row(["audit", "--everybody", "--subtrees", "NONE"], "read", ["NONE: "])
 
 

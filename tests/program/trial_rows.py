@@ -163,6 +163,11 @@ def byte_trials():
     yield "everybody_bytes", DELEGATION, ["everybody", "/c0", "/c1"], f"contained\n{LEFT_OUT}status 0\n"
     yield ("everybody_bytes", SECOND_USER, ["everybody", "/c1", "/c0", "/c0"],
            f"subtree /c0\nfails limit-file /c0 memory.max 1001:0 644 owner\n{LEFT_OUT}status 1\n")
+    yield "everybody_bytes", DELEGATION, ["advise_everybody", "/c0", "/c1"], f"contained\n{LEFT_OUT}status 0\n"
+    yield ("everybody_bytes", ANCESTOR_OWNED, ["advise_everybody", "/c1", "/c0"],
+           "fails common-ancestor / cgroup.procs 1000:0 446 owner\nfails common-ancestor / cgroup.procs 1000:0 446 others\n"
+           f"chown / cgroup.procs 0:0\nchmod / cgroup.procs 444\n{LEFT_OUT}status 1\n")
+    yield "everybody_bytes", DELEGATION, ["explain_everybody", "/c0"], "subtree /c0\nholds common-ancestor / cgroup.procs 0:0 644"
     yield "advise_bytes", DELEGATION, ["advise", "1000", "/c0"], "contained\nstatus 0\n"
     yield ("advise_bytes", ANCESTOR_OWNED, ["advise", "1000", "/c0"],
            "fails common-ancestor / cgroup.procs 1000:0 446 owner\nchown / cgroup.procs 0:0\nchmod / cgroup.procs 444\nstatus 1\n")

@@ -240,8 +240,9 @@ def asked_of_users(tree):
     yield Asked(["audit", "--all", *listed, *subtrees], "")
     yield Asked(["audit", "--settle", *listed, *subtrees], "")
     yield Asked(["audit", "--settle", "--all", *listed, *subtrees], "")
-    yield Asked(["audit", "--everybody", *subtrees], "")
-    yield Asked(["audit", "--everybody", "--subtrees", OPS], "".join(f"{path}\n" for path in subtrees[1::2]))
+    for command in ("audit", "advise", "explain"):
+        yield Asked([command, "--everybody", *subtrees], "")
+        yield Asked([command, "--everybody", "--subtrees", OPS], "".join(f"{path}\n" for path in subtrees[1::2]))
     yield Asked(["explain", *listed, *subtrees], "")
 
 

@@ -88,6 +88,31 @@ def with_equals(words):
     return found
 
 
+def everybody(command):
+    """What a command that may be asked of everybody takes, and what it doesn't."""
+    asks = [command, "--everybody"]
+    yield [*asks, "--subtree", "/c0", "--subtree", "/c1"], False
+    yield [command, "--subtree", "/c0", "--everybody"], False
+    yield from (([*asks, "--subtree", "/c0", *words], wrong) for wrong, all_words in (
+        (False, (["--but", "5"], ["--but=5", "--but", "0"], ["--group", "5="], ["--group=5=6,7", "--group", "5=8"])),
+        (True, (["--but"], ["--but", "x"], ["--but", "-1"], ["--group"], ["--group", "5"], ["--group", "=5"], ["--group", "5=6,"])))
+        for words in all_words)
+    yield from (([command, "--uid", "1000", "--subtree", "/c0", *words], True) for words in (["--but", "5"], ["--group", "5="]))
+    lines = [*asks, "--subtrees"]
+    yield [*lines, "-", "--tree", DELEGATION], False
+    yield [*lines, os.devnull], False
+    yield from ((words, True) for words in (
+        lines, [*lines, "-"], [*lines, "-", "--tree", "-"], [command, "--subtrees", os.devnull], [*lines, "--all"],
+        *([*lines, os.devnull, *more] for more in (
+            ["--subtree", "/c0"], ["--uid", "1000"], ["--all"], ["--settle"], ["--pairs", os.devnull], ["--subtrees", os.devnull])),
+        [command, "--uid", "1000", "--subtree", "/c0", "--subtrees", os.devnull], [command, "--pairs", os.devnull, "--subtrees", os.devnull]))
+    yield from ((words, True) for words in (
+        asks, [command, "--everybody=true", "--subtree", "/c0"], [command, "--everybody=", "--subtree", "/c0"], [*asks, "/c0"],
+        *([*asks, "--subtree", "/c0", *more] for more in (
+            ["--uid", "1000"], ["--gid", "5"], ["--all"], ["--settle"], ["--everybody"], ["--pairs", os.devnull])),
+        [*asks, "--uid", "1000"], [*asks, "--pairs", os.devnull], [*asks, "--subtree"], [*asks, "--subtree", "--all"]))
+
+
 def spelled():
     """Each command line with whether it is usage."""
     for number, pid in NUMBERS:
@@ -123,29 +148,9 @@ def spelled():
     yield ["audit", "--settle", "--uid", "1000", "--uid", "1001", "--subtree", "/c0"], False
     yield ["audit", "--all", "--settle", "--uid", "1000", "--subtree", "/c0"], False
     yield ["audit", "--settle=true", "--uid", "1000", "--subtree", "/c0"], True
-    everybody = ["audit", "--everybody"]
-    yield [*everybody, "--subtree", "/c0", "--subtree", "/c1"], False
-    yield ["audit", "--subtree", "/c0", "--everybody"], False
-    yield from (([*everybody, "--subtree", "/c0", *words], wrong) for wrong, all_words in (
-        (False, (["--but", "5"], ["--but=5", "--but", "0"], ["--group", "5="], ["--group=5=6,7", "--group", "5=8"])),
-        (True, (["--but"], ["--but", "x"], ["--but", "-1"], ["--group"], ["--group", "5"], ["--group", "=5"], ["--group", "5=6,"])))
-        for words in all_words)
-    yield from ((["audit", "--uid", "1000", "--subtree", "/c0", *words], True) for words in (["--but", "5"], ["--group", "5="]))
-    lines = [*everybody, "--subtrees"]
-    yield [*lines, "-", "--tree", DELEGATION], False
-    yield [*lines, os.devnull], False
-    yield from ((words, True) for words in (
-        lines, [*lines, "-"], [*lines, "-", "--tree", "-"], ["audit", "--subtrees", os.devnull], [*lines, "--all"],
-        *([*lines, os.devnull, *more] for more in (
-            ["--subtree", "/c0"], ["--uid", "1000"], ["--all"], ["--settle"], ["--pairs", os.devnull], ["--subtrees", os.devnull])),
-        ["audit", "--uid", "1000", "--subtree", "/c0", "--subtrees", os.devnull], ["audit", "--pairs", os.devnull, "--subtrees", os.devnull],
-        ["explain", "--subtrees", os.devnull], ["advise", "--subtrees", os.devnull]))
-    yield from ((words, True) for words in (
-        everybody, ["audit", "--everybody=true", "--subtree", "/c0"], ["audit", "--everybody=", "--subtree", "/c0"], [*everybody, "/c0"],
-        *([*everybody, "--subtree", "/c0", *more] for more in (
-            ["--uid", "1000"], ["--gid", "5"], ["--all"], ["--settle"], ["--everybody"], ["--pairs", os.devnull])),
-        [*everybody, "--uid", "1000"], [*everybody, "--pairs", os.devnull], [*everybody, "--subtree"], [*everybody, "--subtree", "--all"],
-        ["explain", "--everybody", "--subtree", "/c0"], ["advise", "--everybody", "--subtree", "/c0"], ["may", "--everybody"]))
+    for command in "audit", "advise", "explain":
+        yield from everybody(command)
+    yield ["may", "--everybody"], True
     yield ["advise", "--settle", "--uid", "1000", "--uid", "1001", "--subtree", "/c0"], False
     yield ["advise", "--settle=true", "--uid", "1000", "--subtree", "/c0"], True
     yield from ((words, True) for words in (

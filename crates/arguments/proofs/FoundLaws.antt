@@ -107,7 +107,7 @@ module _ (f g : Found) (same : rows_of f ≡ rows_of g) where
     not_everybody = λ said. h.not_everybody (first_same (codes "everybody") ∙ said);
     all_meant = none_left_out h.all_meant;
   }
-  holds_same (request.AuditEverybody asked) h = record {
+  holds_same (request.Everybody asked) h = record {
     tree = h.tree ∙ file_same (codes "tree");
     subtrees = sym (words_same (codes "subtree")) ∙ h.subtrees;
     everybody = sym (first_same (codes "everybody")) ∙ h.everybody;
@@ -115,11 +115,12 @@ module _ (f g : Found) (same : rows_of f ≡ rows_of g) where
     some_subtree = λ none. h.some_subtree (words_same (codes "subtree") ∙ none);
     no_subtrees = sym (first_same (codes "subtrees")) ∙ h.no_subtrees;
     no_user = sym (words_same (codes "uid")) ∙ h.no_user;
+    no_group = sym (words_same (codes "gid")) ∙ h.no_group;
     no_pairs = sym (first_same (codes "pairs")) ∙ h.no_pairs;
     no_all = λ said. h.no_all (first_same (codes "all") ∙ said);
     no_settle = λ said. h.no_settle (first_same (codes "settle") ∙ said);
   }
-  holds_same (request.AuditSubtrees asked) h = record {
+  holds_same (request.Subtrees asked) h = record {
     tree = h.tree ∙ file_same (codes "tree");
     subtrees = h.subtrees ∙ file_same (codes "subtrees");
     everybody = sym (first_same (codes "everybody")) ∙ h.everybody;
@@ -127,6 +128,7 @@ module _ (f g : Found) (same : rows_of f ≡ rows_of g) where
     some_subtrees = λ none. h.some_subtrees (first_same (codes "subtrees") ∙ none);
     no_subtree = sym (words_same (codes "subtree")) ∙ h.no_subtree;
     no_user = sym (words_same (codes "uid")) ∙ h.no_user;
+    no_group = sym (words_same (codes "gid")) ∙ h.no_group;
     no_pairs = sym (first_same (codes "pairs")) ∙ h.no_pairs;
     no_all = λ said. h.no_all (first_same (codes "all") ∙ said);
     no_settle = λ said. h.no_settle (first_same (codes "settle") ∙ said);
@@ -139,6 +141,9 @@ module _ (f g : Found) (same : rows_of f ≡ rows_of g) where
     some_user = λ none. h.some_user (words_same (codes "uid") ∙ none);
     some_subtree = λ none. h.some_subtree (words_same (codes "subtree") ∙ none);
     no_pairs = sym (first_same (codes "pairs")) ∙ h.no_pairs;
+    no_subtrees = sym (first_same (codes "subtrees")) ∙ h.no_subtrees;
+    not_everybody = λ said. h.not_everybody (first_same (codes "everybody") ∙ said);
+    all_meant = none_left_out h.all_meant;
   }
   holds_same (request.ExplainPairs pairs) h = pairs_same pairs h
   holds_same (request.Advise advise) h = record {
@@ -148,6 +153,9 @@ module _ (f g : Found) (same : rows_of f ≡ rows_of g) where
     some_user = λ none. h.some_user (words_same (codes "uid") ∙ none);
     some_subtree = λ none. h.some_subtree (words_same (codes "subtree") ∙ none);
     no_pairs = sym (first_same (codes "pairs")) ∙ h.no_pairs;
+    no_subtrees = sym (first_same (codes "subtrees")) ∙ h.no_subtrees;
+    not_everybody = λ said. h.not_everybody (first_same (codes "everybody") ∙ said);
+    all_meant = none_left_out h.all_meant;
     settle = ((λ said. h.settle.0 (text_same (codes "settle") ∙ said)), (λ said. h.settle.1 (text_same (codes "settle") ∙ said)));
   }
   holds_same (request.AdvisePairs pairs) h = pairs_same pairs h

@@ -4,3 +4,4 @@ mod GivenLaws
 pub mod MadeLaws
 pub mod UserWordLaws
 mod WordLaws
+pub mod WantedLaws

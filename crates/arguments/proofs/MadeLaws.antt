@@ -38,8 +38,8 @@ module _ (words : List Text) (name : Text) (found : Found) (fits : fault_of comm
   named_as (request.Check check) h = by_command _ (request.Check check) refl h
   named_as (request.Settle check) h = by_command _ (request.Settle check) refl h
   named_as (request.Audit audit) h = by_command _ (request.Audit audit) refl h
-  named_as (request.AuditEverybody asked) h = by_command _ (request.AuditEverybody asked) refl h
-  named_as (request.AuditSubtrees asked) h = by_command _ (request.AuditSubtrees asked) refl h
+  named_as (request.Everybody asked) h = by_command _ (request.Everybody asked) refl h
+  named_as (request.Subtrees asked) h = by_command _ (request.Subtrees asked) refl h
   named_as (request.AuditPairs pairs) h = by_command _ (request.AuditPairs pairs) refl h
   named_as (request.Explain explain) h = by_command _ (request.Explain explain) refl h
   named_as (request.ExplainPairs pairs) h = by_command _ (request.ExplainPairs pairs) refl h

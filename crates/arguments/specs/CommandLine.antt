@@ -46,12 +46,24 @@ pairs_command name = command_with name
     (word_option (codes "tree") ∷ repeated (word_option (codes "uid")) ∷ repeated (word_option (codes "subtree"))
     ∷ word_option (codes "pairs") ∷ [])
 
-abbrev pub audit_command : Shape
-audit_command = record (pairs_command (codes "audit")) {
-  rules = (pairs_command (codes "audit")).rules
-      ++ flag (codes "all") ∷ flag (codes "settle") ∷ flag (codes "everybody") ∷ word_option (codes "subtrees")
-      ∷ repeated (number_option (codes "but")) ∷ repeated (word_option (codes "group")) ∷ [];
+-- everybody in place of users
+abbrev pub of_everybody : List Rule
+of_everybody = flag (codes "everybody") ∷ word_option (codes "subtrees") ∷ repeated (number_option (codes "but"))
+    ∷ repeated (word_option (codes "group")) ∷ []
+
+abbrev pub audit_options : Shape
+audit_options = record (pairs_command (codes "audit")) {
+  rules = (pairs_command (codes "audit")).rules ++ flag (codes "all") ∷ flag (codes "settle") ∷ [];
 }
+
+abbrev pub with_everybody : Shape → Shape
+with_everybody command = record command { rules = command.rules ++ of_everybody }
+
+abbrev pub audit_command : Shape
+audit_command = with_everybody audit_options
+
+abbrev pub explain_command : Shape
+explain_command = with_everybody (pairs_command (codes "explain"))
 
 -- by users and subtrees, or by pairs of them
 abbrev pub advise_named : Shape
@@ -59,8 +71,11 @@ advise_named = command_with (codes "advise")
     (word_option (codes "tree") ∷ repeated (word_option (codes "uid")) ∷ repeated (number_option (codes "gid"))
     ∷ repeated (word_option (codes "subtree")) ∷ [])
 
+abbrev pub advise_options : Shape
+advise_options = record advise_named { rules = advise_named.rules ++ word_option (codes "pairs") ∷ flag (codes "settle") ∷ [] }
+
 abbrev pub advise_command : Shape
-advise_command = record advise_named { rules = advise_named.rules ++ word_option (codes "pairs") ∷ flag (codes "settle") ∷ [] }
+advise_command = with_everybody advise_options
 
 abbrev pub replay_command : Shape
 replay_command = command_with (codes "replay") (of_user ++ needed (word_option (codes "ops")) ∷ word_option (codes "subtree") ∷ [])
@@ -82,5 +97,5 @@ with_judgements = record {
 -- and with those that say why or what to do, and those that go over a text
 abbrev pub command_line : App
 command_line = record with_judgements {
-  subs = with_judgements.subs ++ pairs_command (codes "explain") ∷ advise_command ∷ replay_command ∷ upgrade_command ∷ [];
+  subs = with_judgements.subs ++ explain_command ∷ advise_command ∷ replay_command ∷ upgrade_command ∷ [];
 }

@@ -11,6 +11,8 @@ use Rattle.arguments.specs.declared.named_pair.NamedPair.{NamedPair}
 use Rattle.arguments.specs.declared.named_user.NamedUser.{NamedUser}
 use Rattle.arguments.specs.declared.everyone.Everyone.{Everyone}
 use Rattle.arguments.specs.declared.everyone.ListedGroup.{ListedGroup}
+use Rattle.arguments.specs.declared.everyone.Wanted.{Wanted}
+use Rattle.arguments.specs.declared.everyone.Wanted.TheVariants as wanted
 use Rattle.arguments.specs.declared.request.May.{May}
 use Rattle.arguments.specs.declared.request.Check.{Check}
 use Rattle.arguments.specs.declared.request.Audit.{Audit}
@@ -140,7 +142,7 @@ pub record IsAudit (found : Found) (audit : Audit) : Type 0 where
   pub not_everybody : first_value found (codes "everybody") ≢ Some (codes "true")
   pub all_meant : NoneIsLeftOut found
 
--- of everybody, and of no user, of one subtree at least and no text of subtrees, and neither of every pair nor looked at further
+-- of everybody, and of no user or group, of one subtree at least and no text of subtrees, and neither of every pair nor looked at further
 pub record IsEverybody (found : Found) (asked : Everybody) : Type 0 where
   pub tree : option_map (λ file. file.now) asked.tree ≡ file_at found (codes "tree")
   pub subtrees : words_at found (codes "subtree") ≡ map (λ subtree. subtree.now) asked.subtrees.items
@@ -149,6 +151,7 @@ pub record IsEverybody (found : Found) (asked : Everybody) : Type 0 where
   pub some_subtree : words_at found (codes "subtree") ≢ []
   pub no_subtrees : first_value found (codes "subtrees") ≡ None
   pub no_user : words_at found (codes "uid") ≡ []
+  pub no_group : words_at found (codes "gid") ≡ []
   pub no_pairs : first_value found (codes "pairs") ≡ None
   pub no_all : first_value found (codes "all") ≢ Some (codes "true")
   pub no_settle : first_value found (codes "settle") ≢ Some (codes "true")
@@ -162,6 +165,7 @@ pub record IsOfSubtrees (found : Found) (asked : Subtrees) : Type 0 where
   pub some_subtrees : first_value found (codes "subtrees") ≢ None
   pub no_subtree : words_at found (codes "subtree") ≡ []
   pub no_user : words_at found (codes "uid") ≡ []
+  pub no_group : words_at found (codes "gid") ≡ []
   pub no_pairs : first_value found (codes "pairs") ≡ None
   pub no_all : first_value found (codes "all") ≢ Some (codes "true")
   pub no_settle : first_value found (codes "settle") ≢ Some (codes "true")
@@ -173,15 +177,21 @@ pub record IsExplain (found : Found) (explain : Explain) : Type 0 where
   pub some_user : words_at found (codes "uid") ≢ []
   pub some_subtree : words_at found (codes "subtree") ≢ []
   pub no_pairs : first_value found (codes "pairs") ≡ None
+  pub no_subtrees : first_value found (codes "subtrees") ≡ None
+  pub not_everybody : first_value found (codes "everybody") ≢ Some (codes "true")
+  pub all_meant : NoneIsLeftOut found
 
 pub record IsAdvise (found : Found) (advise : Advise) : Type 0 where
   pub tree : option_map (λ file. file.now) advise.tree ≡ file_at found (codes "tree")
   pub users : advised_given found ≡ Some (map ids_of advise.users.items)
   pub subtrees : words_at found (codes "subtree") ≡ map (λ subtree. subtree.now) advise.subtrees.items
-  -- and there is one of each, and no text of pairs
+  -- and there is one of each, no text of pairs or subtrees, and it isn't of everybody
   pub some_user : words_at found (codes "uid") ≢ []
   pub some_subtree : words_at found (codes "subtree") ≢ []
   pub no_pairs : first_value found (codes "pairs") ≡ None
+  pub no_subtrees : first_value found (codes "subtrees") ≡ None
+  pub not_everybody : first_value found (codes "everybody") ≢ Some (codes "true")
+  pub all_meant : NoneIsLeftOut found
   pub settle : IsFlag (one_text found (codes "settle")) advise.settle
 
 -- of the pairs that a text names, and of nobody else, and it isn't looked further
@@ -206,14 +216,19 @@ pub record IsReplay (found : Found) (replay : Replay) : Type 0 where
 pub record IsUpgrade (found : Found) (upgrade : Upgrade) : Type 0 where
   pub tree : option_map (λ file. file.now) upgrade.tree ≡ file_at found (codes "tree")
 
+abbrev pub wanted_command : Wanted → List ℕ
+wanted_command wanted.Audit = codes "audit"
+wanted_command wanted.Advise = codes "advise"
+wanted_command wanted.Explain = codes "explain"
+
 abbrev pub command_of : Request → Option (List ℕ)
 command_of (request.Help text) = None
 command_of (request.May may) = Some (codes "may")
 command_of (request.Check check) = Some (codes "check")
 command_of (request.Settle check) = Some (codes "settle")
 command_of (request.Audit audit) = Some (codes "audit")
-command_of (request.AuditEverybody asked) = Some (codes "audit")
-command_of (request.AuditSubtrees asked) = Some (codes "audit")
+command_of (request.Everybody asked) = Some (wanted_command asked.wanted)
+command_of (request.Subtrees asked) = Some (wanted_command asked.wanted)
 command_of (request.AuditPairs pairs) = Some (codes "audit")
 command_of (request.Explain explain) = Some (codes "explain")
 command_of (request.ExplainPairs pairs) = Some (codes "explain")
@@ -228,8 +243,8 @@ Holds found (request.May may) = IsMay found may
 Holds found (request.Check check) = IsCheck found check
 Holds found (request.Settle check) = IsCheck found check
 Holds found (request.Audit audit) = IsAudit found audit
-Holds found (request.AuditEverybody asked) = IsEverybody found asked
-Holds found (request.AuditSubtrees asked) = IsOfSubtrees found asked
+Holds found (request.Everybody asked) = IsEverybody found asked
+Holds found (request.Subtrees asked) = IsOfSubtrees found asked
 Holds found (request.AuditPairs pairs) = IsOfPairs found pairs
 Holds found (request.Explain explain) = IsExplain found explain
 Holds found (request.ExplainPairs pairs) = IsOfPairs found pairs

@@ -9,7 +9,7 @@ use Rattle.clap.specs.declared.error.kind.ErrorKind.{ErrorKind}
 use Rattle.clap.specs.declared.error.kind.ErrorKind.TheVariants.{DisplayHelp, DisplayVersion}
 use Rattle.clap.specs.declared.parser.matches.Found.{Found}
 use Rattle.arguments.specs.CommandLine.{command_line}
-use Rattle.arguments.specs.Given.{IsMay, IsCheck, IsAudit, IsEverybody, IsExplain, IsAdvise, IsOfPairs, IsOfSubtrees, IsReplay, IsUpgrade}
+use Rattle.arguments.specs.Given.{IsMay, IsCheck, IsAudit, IsEverybody, IsExplain, IsAdvise, IsOfPairs, IsOfSubtrees, IsReplay, IsUpgrade, wanted_command}
 use Rattle.arguments.specs.declared.request.Request.{Request}
 use Rattle.arguments.specs.declared.request.Request.TheVariants as request
 
@@ -29,8 +29,8 @@ Makes words (request.May may) = NamesCommand words (codes "may") (λ found. IsMa
 Makes words (request.Check check) = NamesCommand words (codes "check") (λ found. IsCheck found check)
 Makes words (request.Settle check) = NamesCommand words (codes "settle") (λ found. IsCheck found check)
 Makes words (request.Audit audit) = NamesCommand words (codes "audit") (λ found. IsAudit found audit)
-Makes words (request.AuditEverybody asked) = NamesCommand words (codes "audit") (λ found. IsEverybody found asked)
-Makes words (request.AuditSubtrees asked) = NamesCommand words (codes "audit") (λ found. IsOfSubtrees found asked)
+Makes words (request.Everybody asked) = NamesCommand words (wanted_command asked.wanted) (λ found. IsEverybody found asked)
+Makes words (request.Subtrees asked) = NamesCommand words (wanted_command asked.wanted) (λ found. IsOfSubtrees found asked)
 Makes words (request.AuditPairs pairs) = NamesCommand words (codes "audit") (λ found. IsOfPairs found pairs)
 Makes words (request.Explain explain) = NamesCommand words (codes "explain") (λ found. IsExplain found explain)
 Makes words (request.ExplainPairs pairs) = NamesCommand words (codes "explain") (λ found. IsOfPairs found pairs)

@@ -2,7 +2,8 @@
 ghost use Rattle.std.specs.Prelude.{◌≡◌, [], ◌∷◌, IfOk, codes};
 ghost use Rattle.clap.specs.Words.{app_of};
 ghost use Rattle.arguments.specs.Building.{IsOption, IsCommand};
-ghost use Rattle.arguments.specs.CommandLine.{word_option, number_option, flag, needed, repeated, program_command, command_with, of_user, may_command, subtree_command, pairs_command, audit_command, advise_named, advise_command, replay_command, upgrade_command, with_judgements, command_line};
+ghost use Rattle.arguments.specs.CommandLine.{word_option, number_option, flag, needed, repeated, program_command, command_with, of_user, may_command, subtree_command, pairs_command, with_everybody, audit_options, audit_command, explain_command, advise_named, advise_options, advise_command, replay_command, upgrade_command, with_judgements, command_line};
+ghost use Rattle.clap.specs.Simple.{Shape};
 
 use clap::{Arg, ArgAction, Command, value_parser};
 use std::alloc::{AllocError, Global};
@@ -108,6 +109,8 @@ files, and each cgroup to which a move over the edge of the subtree may lead. Th
 each with how many there are, and last stands the first line of what settle may say.
 The status is 1 where one escapes, else 2 where one is unsettled. Users and subtrees that are named again count once.
 With --pairs it is told of each pair in the order in which they are named, a pair that is named again too: see audit --help.
+With --everybody, in place of --uid, a line `subtree PATH` of each subtree has below it whom each of these entries lets in, whoever there
+is but root, as `owner`, `group` or `others`, and its two limits; the status is 1 where a line says `fails`. See audit --help.
 A user is UID or UID:GID,GID.. in decimal digits, with up to 32 gids, of which the first is the primary one.
 `fault: usage` means that the command line isn't as it says above.
 docs/FORMATS.md of the repository has the tree's format, and every line of an answer and of a fault.
@@ -152,6 +155,8 @@ of each pair, one at least, among the other lines that audit writes with --all; 
 Where audit has no pair to list its text is the one line `contained`, and so is the answer to that.
 With --settle, which isn't for pairs, it says `contained` too where the second row of guards holds of each subtree against all
 users together: a guard fails then, and nothing has to be changed all the same; see settle --help.
+With --everybody, in place of --uid, it is told what to change so that no subtree can be broken by anybody but root, whoever there is;
+see audit --help for whom --but and --group leave out. Whoever is meant to have an entry is named by --but.
 Don't follow it where a user is meant to have what is named, since it was handed to them: then the question was the wrong one.
 An owner that a service manager sets comes back with the unit: change the unit.
 A user is UID or UID:GID,GID.. in decimal digits, with up to 32 gids, of which the first is the primary one; of one user alone
@@ -181,7 +186,7 @@ pub(crate) fn command<'a>(alloc: Global) -> Result<Command<'a>, AllocError>
     ensures { IfOk result (λ command. app_of command ≡ command_line) }
 {
     with_judgements(alloc)?
-        .subcommand(pairs_command(alloc, "explain", EXPLAIN, EXPLAIN_HELP)?)?
+        .subcommand(explain_command(alloc)?)?
         .subcommand(advise_command(alloc)?)?
         .subcommand(replay_command(alloc)?)?
         .subcommand(upgrade_command(alloc)?)
@@ -289,17 +294,47 @@ fn pairs_command<'a>(
 fn audit_command<'a>(alloc: Global) -> Result<Command<'a>, AllocError>
     ensures { IfOk result (IsCommand audit_command) }
 {
-    pairs_command(alloc, "audit", AUDIT, AUDIT_HELP)?
-        .arg(all_argument(alloc))?
-        .arg(settle_argument(alloc))?
+    with_everybody(alloc, audit_options(alloc)?)
+}
+
+fn explain_command<'a>(alloc: Global) -> Result<Command<'a>, AllocError>
+    ensures { IfOk result (IsCommand explain_command) }
+{
+    with_everybody(
+        alloc,
+        pairs_command(alloc, "explain", EXPLAIN, EXPLAIN_HELP)?,
+    )
+}
+
+fn advise_command<'a>(alloc: Global) -> Result<Command<'a>, AllocError>
+    ensures { IfOk result (IsCommand advise_command) }
+{
+    with_everybody(alloc, advise_options(alloc)?)
+}
+
+/// A command that may be asked of everybody, too.
+fn with_everybody<'a>(alloc: Global, command: Command<'a>) -> Result<Command<'a>, AllocError>
+    ensures { IfOk result (λ new. (shape : Shape) → IsCommand shape command.entry → IsCommand (with_everybody shape) new) }
+{
+    command
         .arg(everybody_argument(alloc))?
         .arg(subtrees_argument(alloc))?
         .arg(but_argument(alloc))?
         .arg(group_argument(alloc))
 }
 
-fn advise_command<'a>(alloc: Global) -> Result<Command<'a>, AllocError>
-    ensures { IfOk result (IsCommand advise_command) }
+/// The command `audit`, but for everybody.
+fn audit_options<'a>(alloc: Global) -> Result<Command<'a>, AllocError>
+    ensures { IfOk result (IsCommand audit_options) }
+{
+    pairs_command(alloc, "audit", AUDIT, AUDIT_HELP)?
+        .arg(all_argument(alloc))?
+        .arg(settle_argument(alloc))
+}
+
+/// The command `advise`, but for everybody.
+fn advise_options<'a>(alloc: Global) -> Result<Command<'a>, AllocError>
+    ensures { IfOk result (IsCommand advise_options) }
 {
     advise_named(alloc)?
         .arg(pairs_argument(alloc))?

@@ -12,6 +12,14 @@ use crate::request::numbers;
 use clap::ArgMatches;
 use std::alloc::Global;
 
+/// The command that is asked of everybody.
+#[derive(Clone, Copy, Debug, PartialEq, Eq)]
+pub enum Wanted {
+    Audit,
+    Advise,
+    Explain,
+}
+
 /// Everybody but root and these uids. Of a group that is listed nobody is a member but who stands there.
 #[derive(Debug, Drop)]
 pub struct Everyone {

@@ -3,7 +3,7 @@ ghost use Rattle.std.specs.Prelude.{◌≡◌, ◌≢◌, ◌⊎◌, [], Some, N
 ghost use Rattle.std.specs.Option.{option_map};
 ghost use Rattle.clap.specs.Matches.{found_of, first_value};
 ghost use Rattle.arguments.specs.UserWords.{id_at, ids_at, all_read, user_at};
-ghost use Rattle.arguments.specs.Given.{words_at, file_named, file_at, NamesNoFile, number_at, numbers_at, user_given, users_given, plain_number, users_beside, advised_given, ids_of, NoneIsLeftOut, IsMay, IsCheck, IsAudit, IsEverybody, IsExplain, IsAdvise, IsOfPairs, IsOfSubtrees, tree_file, other_file, IsReplay, IsUpgrade, command_of, Holds, IsOf};
+ghost use Rattle.arguments.specs.Given.{words_at, file_named, file_at, NamesNoFile, number_at, numbers_at, user_given, users_given, plain_number, users_beside, advised_given, ids_of, NoneIsLeftOut, IsMay, IsCheck, IsAudit, IsEverybody, IsExplain, IsAdvise, IsOfPairs, IsOfSubtrees, tree_file, other_file, IsReplay, IsUpgrade, wanted_command, command_of, Holds, IsOf};
 ghost use Rattle.arguments.specs.Words.{Makes, IsNone};
 ghost use Rattle.arguments.specs.declared.request.Everybody.{Everybody};
 ghost use Rattle.arguments.specs.declared.request.Pairs.{Pairs};
@@ -11,7 +11,7 @@ ghost use Rattle.arguments.specs.declared.request.Subtrees.{Subtrees};
 ghost use Rattle.arguments.specs.declared.request.Request.{Request};
 
 use crate::command::command;
-use crate::everyone::Everyone;
+use crate::everyone::{Everyone, Wanted};
 use crate::fault::ArgumentsFault;
 use crate::named_user::{NamedUser, id_of};
 use clap::ArgMatches;
@@ -28,9 +28,11 @@ pub enum Request<'a> {
     /// What `check` is asked, looked at further.
     Settle(Check<'a>),
     Audit(Audit<'a>),
-    AuditEverybody(Everybody<'a>),
-    AuditSubtrees(Subtrees<'a>),
     AuditPairs(Pairs<'a>),
+    /// What `audit`, `advise` and `explain` are asked of everybody.
+    Everybody(Everybody<'a>),
+    /// The same of the subtrees that a text names.
+    Subtrees(Subtrees<'a>),
     Explain(Explain<'a>),
     ExplainPairs(Pairs<'a>),
     Advise(Advise<'a>),
@@ -102,27 +104,33 @@ impl<'a> Request<'a> {
     {
         match given.get_str("pairs") {
             Some(_) => Ok(Request::AuditPairs(Pairs::from_matches(given)?)),
-            None if is_said(given, "everybody", "true") => Request::of_everybody(alloc, given),
+            None if is_said(given, "everybody", "true") => {
+                Request::of_everybody(alloc, Wanted::Audit, given)
+            }
             None => Ok(Request::Audit(Audit::from_matches(alloc, given)?)),
         }
     }
 
-    /// The request of `audit` of everybody, which is of the subtrees of a text where one is named.
-    fn of_everybody(alloc: Global, given: &ArgMatches<'a>) -> Result<Request<'a>, ArgumentsFault>
+    /// What a command is asked of everybody, which is of the subtrees of a text where one is named.
+    fn of_everybody(
+        alloc: Global,
+        wanted: Wanted,
+        given: &ArgMatches<'a>,
+    ) -> Result<Request<'a>, ArgumentsFault>
         requires pairs { first_value (found_of given.now) (codes "pairs") ≡ None }
         requires everybody { first_value (found_of given.now) (codes "everybody") ≡ Some (codes "true") }
-        ensures name { IfOk result (λ asked. command_of asked ≡ Some (codes "audit")) }
+        ensures name { IfOk result (λ asked. command_of asked ≡ Some (wanted_command wanted)) }
         ensures given { IfOk result (Holds (found_of given.now)) }
         ensures fault { IfErr result (λ fault. fault ≢ ArgumentsFault.NoMemory
-            → (asked : Request) → command_of asked ≡ Some (codes "audit") → Holds (found_of given.now) asked → ⊥) }
+            → (asked : Request) → command_of asked ≡ Some (wanted_command wanted) → Holds (found_of given.now) asked → ⊥) }
     {
         match given.get_str("subtrees") {
-            None => Ok(Request::AuditEverybody(Everybody::from_matches(alloc, given)?)),
-            Some(_) => Ok(Request::AuditSubtrees(Subtrees::from_matches(alloc, given)?)),
+            None => Ok(Request::Everybody(Everybody::from_matches(alloc, wanted, given)?)),
+            Some(_) => Ok(Request::Subtrees(Subtrees::from_matches(alloc, wanted, given)?)),
         }
     }
 
-    /// The request of `explain`, which is of the pairs of a text where one is named.
+    /// The request of `explain`, which is of the pairs of a text where one is named, and of everybody where that is said.
     fn of_explain(alloc: Global, given: &ArgMatches<'a>) -> Result<Request<'a>, ArgumentsFault>
         ensures name { IfOk result (λ asked. command_of asked ≡ Some (codes "explain")) }
         ensures given { IfOk result (Holds (found_of given.now)) }
@@ -130,12 +138,15 @@ impl<'a> Request<'a> {
             → (asked : Request) → command_of asked ≡ Some (codes "explain") → Holds (found_of given.now) asked → ⊥) }
     {
         match given.get_str("pairs") {
-            None => Ok(Request::Explain(Explain::from_matches(alloc, given)?)),
             Some(_) => Ok(Request::ExplainPairs(Pairs::from_matches(given)?)),
+            None if is_said(given, "everybody", "true") => {
+                Request::of_everybody(alloc, Wanted::Explain, given)
+            }
+            None => Ok(Request::Explain(Explain::from_matches(alloc, given)?)),
         }
     }
 
-    /// The request of `advise`, which is of the pairs of a text where one is named.
+    /// The request of `advise`, which is of the pairs of a text where one is named, and of everybody where that is said.
     fn of_advise(alloc: Global, given: &ArgMatches<'a>) -> Result<Request<'a>, ArgumentsFault>
         ensures name { IfOk result (λ asked. command_of asked ≡ Some (codes "advise")) }
         ensures given { IfOk result (Holds (found_of given.now)) }
@@ -143,8 +154,11 @@ impl<'a> Request<'a> {
             → (asked : Request) → command_of asked ≡ Some (codes "advise") → Holds (found_of given.now) asked → ⊥) }
     {
         match given.get_str("pairs") {
-            None => Ok(Request::Advise(Advise::from_matches(alloc, given)?)),
             Some(_) => Ok(Request::AdvisePairs(Pairs::from_matches(given)?)),
+            None if is_said(given, "everybody", "true") => {
+                Request::of_everybody(alloc, Wanted::Advise, given)
+            }
+            None => Ok(Request::Advise(Advise::from_matches(alloc, given)?)),
         }
     }
 }
@@ -235,35 +249,39 @@ impl<'a> Audit<'a> {
     }
 }
 
-/// Whether several subtrees are contained against everybody but root.
+/// What is asked of several subtrees and everybody but root.
 #[derive(Drop)]
 pub struct Everybody<'a> {
+    pub wanted: Wanted,
     pub tree: Option<&'a str>,
     pub everyone: Everyone,
     pub subtrees: Vec<&'a str>,
 }
 
 impl<'a> Everybody<'a> {
-    /// What was given to the command, where no text of pairs or subtrees is named, and it is of everybody: beside that no user, and
-    /// neither every pair nor a further look.
+    /// What was given to a command, where no text of pairs or subtrees is named, and it is of everybody: beside that no user and no
+    /// group, and neither every pair nor a further look.
     fn from_matches(
         alloc: Global,
+        wanted: Wanted,
         matches: &ArgMatches<'a>,
     ) -> Result<Everybody<'a>, ArgumentsFault>
         requires pairs { first_value (found_of matches.now) (codes "pairs") ≡ None }
         requires everybody { first_value (found_of matches.now) (codes "everybody") ≡ Some (codes "true") }
         requires subtrees { first_value (found_of matches.now) (codes "subtrees") ≡ None }
+        ensures wanted { IfOk result (λ asked. asked.wanted ≡ wanted) }
         ensures given { IfOk result (IsEverybody (found_of matches.now)) }
         ensures fault { IfErr result (λ fault. fault ≢ ArgumentsFault.NoMemory
             → (asked : Everybody) → IsEverybody (found_of matches.now) asked → ⊥) }
     {
-        if is_given(matches, "uid") || is_said(matches, "all", "true") {
+        if is_given(matches, "uid") || is_given(matches, "gid") {
             return Err(ArgumentsFault::Usage);
         }
-        if is_said(matches, "settle", "true") {
+        if is_said(matches, "all", "true") || is_said(matches, "settle", "true") {
             return Err(ArgumentsFault::Usage);
         }
         Ok(Everybody {
+            wanted,
             tree: file_of(matches, "tree"),
             everyone: Everyone::from_matches(alloc, matches)?,
             subtrees: given(matches, "subtree")?.to_vec(alloc)?,
@@ -271,31 +289,37 @@ impl<'a> Everybody<'a> {
     }
 }
 
-/// Subtrees that a text names, in place of words: whether they are contained against everybody but root.
+/// Subtrees that a text names, in place of words: what is asked of them and everybody but root.
 #[derive(Debug, Drop)]
 pub struct Subtrees<'a> {
+    pub wanted: Wanted,
     pub sources: Sources<'a>,
     pub everyone: Everyone,
 }
 
 impl<'a> Subtrees<'a> {
-    /// What was given to the command, where a text of subtrees is named and none of pairs, and it is of everybody: beside that no
-    /// subtree and no user, and neither every pair nor a further look.
-    fn from_matches(alloc: Global, matches: &ArgMatches<'a>) -> Result<Subtrees<'a>, ArgumentsFault>
+    /// What was given to a command, where a text of subtrees is named and none of pairs, and it is of everybody: beside that no
+    /// subtree, no user and no group, and neither every pair nor a further look.
+    fn from_matches(
+        alloc: Global,
+        wanted: Wanted,
+        matches: &ArgMatches<'a>,
+    ) -> Result<Subtrees<'a>, ArgumentsFault>
         requires pairs { first_value (found_of matches.now) (codes "pairs") ≡ None }
         requires everybody { first_value (found_of matches.now) (codes "everybody") ≡ Some (codes "true") }
         requires subtrees { first_value (found_of matches.now) (codes "subtrees") ≢ None }
         ensures { MatchResult result
-            (IsOfSubtrees (found_of matches.now))
+            (λ asked. (asked.wanted ≡ wanted) × IsOfSubtrees (found_of matches.now) asked)
             (λ fault. fault ≢ ArgumentsFault.NoMemory → (asked : Subtrees) → IsOfSubtrees (found_of matches.now) asked → ⊥) }
     {
-        if is_given(matches, "subtree") || is_given(matches, "uid") {
+        if is_given(matches, "subtree") || is_given(matches, "uid") || is_given(matches, "gid") {
             return Err(ArgumentsFault::Usage);
         }
         if is_said(matches, "all", "true") || is_said(matches, "settle", "true") {
             return Err(ArgumentsFault::Usage);
         }
         Ok(Subtrees {
+            wanted,
             sources: Sources::from_matches(matches, "subtrees")?,
             everyone: Everyone::from_matches(alloc, matches)?,
         })
@@ -311,14 +335,20 @@ pub struct Explain<'a> {
 }
 
 impl<'a> Explain<'a> {
-    /// What was given to the command, where no text of pairs is named.
+    /// What was given to the command, where no text of pairs is named, and it isn't of everybody.
     fn from_matches(alloc: Global, matches: &ArgMatches<'a>) -> Result<Explain<'a>, ArgumentsFault>
-        requires { first_value (found_of matches.now) (codes "pairs") ≡ None }
+        requires pairs { first_value (found_of matches.now) (codes "pairs") ≡ None }
+        requires everybody { first_value (found_of matches.now) (codes "everybody") ≢ Some (codes "true") }
         ensures given { IfOk result (IsExplain (found_of matches.now)) }
         ensures fault { IfErr result (λ fault. fault ≢ ArgumentsFault.NoMemory → (users_given (found_of matches.now) ≡ None)
             ⊎ (words_at (found_of matches.now) (codes "uid") ≡ [])
-            ⊎ (words_at (found_of matches.now) (codes "subtree") ≡ [])) }
+            ⊎ (words_at (found_of matches.now) (codes "subtree") ≡ [])
+            ⊎ (first_value (found_of matches.now) (codes "subtrees") ≢ None)
+            ⊎ (NoneIsLeftOut (found_of matches.now) → ⊥)) }
     {
+        if matches.get_str("subtrees").is_some() || leaves_out(matches) {
+            return Err(ArgumentsFault::Usage);
+        }
         Ok(Explain {
             tree: file_of(matches, "tree"),
             users: users_of(alloc, given(matches, "uid")?)?,
@@ -338,14 +368,20 @@ pub struct Advise<'a> {
 }
 
 impl<'a> Advise<'a> {
-    /// What was given to the command, where no text of pairs is named.
+    /// What was given to the command, where no text of pairs is named, and it isn't of everybody.
     fn from_matches(alloc: Global, matches: &ArgMatches<'a>) -> Result<Advise<'a>, ArgumentsFault>
-        requires { first_value (found_of matches.now) (codes "pairs") ≡ None }
+        requires pairs { first_value (found_of matches.now) (codes "pairs") ≡ None }
+        requires everybody { first_value (found_of matches.now) (codes "everybody") ≢ Some (codes "true") }
         ensures given { IfOk result (IsAdvise (found_of matches.now)) }
         ensures fault { IfErr result (λ fault. fault ≢ ArgumentsFault.NoMemory → (advised_given (found_of matches.now) ≡ None)
             ⊎ (words_at (found_of matches.now) (codes "uid") ≡ [])
-            ⊎ (words_at (found_of matches.now) (codes "subtree") ≡ [])) }
+            ⊎ (words_at (found_of matches.now) (codes "subtree") ≡ [])
+            ⊎ (first_value (found_of matches.now) (codes "subtrees") ≢ None)
+            ⊎ (NoneIsLeftOut (found_of matches.now) → ⊥)) }
     {
+        if matches.get_str("subtrees").is_some() || leaves_out(matches) {
+            return Err(ArgumentsFault::Usage);
+        }
         let words = given(matches, "uid")?;
         Ok(Advise {
             tree: file_of(matches, "tree"),

@@ -6,8 +6,8 @@ use std::alloc::{AllocError, Global};
 
 const USERS: &str =
     "audit and explain take users and subtrees, --uid and --subtree once or more each, or pairs of them alone, --pairs;
-audit takes --everybody in place of users, and then --subtree once or more, or a text of them alone, --subtrees, and beside it
---but UID and --group GID=UID,UID.. or GID=, once or more each;
+audit, advise and explain take --everybody in place of users, and then --subtree once or more, or a text of them alone,
+--subtrees, and beside it --but UID and --group GID=UID,UID.. or GID=, once or more each;
 of these and the tree one at most comes from standard input; a user of audit or explain is UID or UID:GID,GID.. in decimal
 digits, with no spaces: `id -u NAME` prints a user's uid, `id -G NAME` the gids";
 
@@ -17,6 +17,8 @@ name a file for one of them; a file of the name - is ./-";
 
 const ADVISED: &str =
     "advise takes users and subtrees, --uid and --subtree once or more each, or pairs of them alone, --pairs;
+audit, advise and explain take --everybody in place of users, and then --subtree once or more, or a text of them alone,
+--subtrees, and beside it --but UID and --group GID=UID,UID.. or GID=, once or more each;
 of these and the tree one at most comes from standard input; a user is UID or UID:GID,GID.. in decimal digits,
 with no spaces, and --gid stands beside one plain --uid alone";
 

@@ -55,7 +55,7 @@ paths_of-made_one subtree (Chown len name uid gid) st = paths_of-with_owner st (
 paths_of-made_one subtree (Chmod len name mode) st = paths_of-with_mode st (take len subtree) name mode
 paths_of-made_one subtree (Set len file value) st = paths_of-with_value st (take len subtree) file value
 
-paths_of-made : (changes : List Change) (st : State) → paths_of (made changes st) ≡ paths_of st
+pub paths_of-made : (changes : List Change) (st : State) → paths_of (made changes st) ≡ paths_of st
 paths_of-made [] st = refl
 paths_of-made (change ∷ changes) st =
     paths_of-made changes (made_one change.0 change.1 st) ∙ paths_of-made_one change.0 change.1 st
@@ -66,7 +66,7 @@ enabled_at-made_one subtree (Chown len name uid gid) st path = enabled_at-with_o
 enabled_at-made_one subtree (Chmod len name mode) st path = enabled_at-with_mode st (take len subtree) name mode path
 enabled_at-made_one subtree (Set len file value) st path = enabled_at-with_value st (take len subtree) file value path
 
-enabled_at-made : (changes : List Change) (st : State) (path : Names) → enabled_at (made changes st) path ≡ enabled_at st path
+pub enabled_at-made : (changes : List Change) (st : State) (path : Names) → enabled_at (made changes st) path ≡ enabled_at st path
 enabled_at-made [] st path = refl
 enabled_at-made (change ∷ changes) st path =
     enabled_at-made changes (made_one change.0 change.1 st) path ∙ enabled_at-made_one change.0 change.1 st path
@@ -77,24 +77,24 @@ told_text-made_one subtree (Chown len name uid gid) st path file = told_text-wit
 told_text-made_one subtree (Chmod len name mode) st path file = told_text-with_mode st (take len subtree) name mode path file
 told_text-made_one subtree (Set len limit value) st path file = refl
 
-told_text-made : (changes : List Change) (st : State) (path : Names) (file : OtherFile)
+pub told_text-made : (changes : List Change) (st : State) (path : Names) (file : OtherFile)
     → told_text (made changes st) path file ≡ told_text st path file
 told_text-made [] st path file = refl
 told_text-made (change ∷ changes) st path file =
     told_text-made changes (made_one change.0 change.1 st) path file ∙ told_text-made_one change.0 change.1 st path file
 
 -- the processes, the used PIDs and the root's controllers
-record SameRest (st new : State) : Type 0 where
-  live : new.live ≡ st.live
-  used : new.used ≡ st.used
-  controllers : new.controllers ≡ st.controllers
+pub record SameRest (st new : State) : Type 0 where
+  pub live : new.live ≡ st.live
+  pub used : new.used ≡ st.used
+  pub controllers : new.controllers ≡ st.controllers
 
 rest-made_one : (subtree : Names) (mend : Mend) (st : State) → SameRest st (made_one subtree mend st)
 rest-made_one subtree (Chown len name uid gid) st = record { live = refl; used = refl; controllers = refl }
 rest-made_one subtree (Chmod len name mode) st = record { live = refl; used = refl; controllers = refl }
 rest-made_one subtree (Set len file value) st = record { live = refl; used = refl; controllers = refl }
 
-rest-made : (changes : List Change) (st : State) → SameRest st (made changes st)
+pub rest-made : (changes : List Change) (st : State) → SameRest st (made changes st)
 rest-made [] st = record { live = refl; used = refl; controllers = refl }
 rest-made (change ∷ changes) st =
     let rest = rest-made changes (made_one change.0 change.1 st) in
@@ -126,54 +126,53 @@ raised_fits count (Some l) =
     elim (is_within_limit count l) as (λ b. is_within_limit count l ≡ b → is_within_limit count (cond b l (At count)) ≡ true)
     [ true ↦ λ e. e | false ↦ λ _. itself count ] refl
 
-module _ (st : State) (pairs : List Pair) where
-  abbrev new : State
-  new = advised st pairs
+-- each subtree is within its limits, and so is each cgroup that was within its own
+module _ (st new : State) (same_paths : paths_of new ≡ paths_of st) (path : Names) (named : Bool)
+    (values : (file : LimitFile)
+    → value_at new path file ≡ cond named (option_map (raised st path file) (value_at st path file)) (value_at st path file)) where
+  -- of one of the two limits: what it bounds, and by what it is raised
+  fits-by : (fits : State → Names → Bool) (below : State → Names → ℕ) (file : LimitFile)
+      → ((st : State) (path : Names) → fits st path ≡ fits_in (below st path) (value_at st path file))
+      → ((limit : Limit) → raised st path file limit ≡ cond (fits st path) limit (At (below st path)))
+      → below new path ≡ below st path
+      → (named ≡ false → fits st path ≡ true) → fits new path ≡ true
+  fits-by fits below file bound raise same kept =
+      bound new path
+      ∙ ap (λ n. fits_in n (value_at new path file)) same
+      ∙ ap (fits_in (below st path)) (values file)
+      ∙ by_path named kept
+    where
+      by_path : (b : Bool) → (b ≡ false → fits st path ≡ true)
+          → fits_in (below st path) (cond b (option_map (raised st path file) (value_at st path file)) (value_at st path file)) ≡ true
+      by_path true kept =
+          ap (λ f. fits_in (below st path) (option_map f (value_at st path file))) (λ i limit. raise limit i)
+          ∙ ap (λ b. fits_in (below st path) (option_map (λ l. cond b l (At (below st path))) (value_at st path file))) (bound st path)
+          ∙ raised_fits (below st path) (value_at st path file)
+      by_path false kept = sym (bound st path) ∙ kept refl
 
-  same_paths : paths_of new ≡ paths_of st
-  same_paths = paths_of-made (mends st pairs) st
+  pub fits-raised : (named ≡ false → (fits_descendants st path && fits_depth st path) ≡ true)
+      → (fits_descendants new path && fits_depth new path) ≡ true
+  fits-raised kept =
+      and_from _ _
+      (fits-by fits_descendants count_below MaxDescendants descendants-limit (λ limit. refl) (count_below-same_paths st new same_paths path)
+      (λ other. (and_parts _ _ (kept other)).0))
+      (fits-by fits_depth depth_below MaxDepth depth-limit (λ limit. refl) (depth_below-same_paths st new same_paths path)
+      (λ other. (and_parts _ _ (kept other)).1))
 
-  -- each subtree is within its limits, and so is each cgroup that was within its own
-  module _ (path : Names) where
-    -- of one of the two limits: what it bounds, and by what it is raised
-    fits-by : (fits : State → Names → Bool) (below : State → Names → ℕ) (file : LimitFile)
-        → ((st : State) (path : Names) → fits st path ≡ fits_in (below st path) (value_at st path file))
-        → ((limit : Limit) → raised st path file limit ≡ cond (fits st path) limit (At (below st path)))
-        → below new path ≡ below st path
-        → (b : Bool) → is_named pairs path ≡ b → (b ≡ false → fits st path ≡ true) → fits new path ≡ true
-    fits-by fits below file bound raise same b is kept =
-        bound new path
-        ∙ ap (λ n. fits_in n (value_at new path file)) same
-        ∙ ap (fits_in (below st path)) (value_at-advised st pairs path file
-        ∙ ap (λ s. cond s (option_map (raised st path file) (value_at st path file)) (value_at st path file)) is)
-        ∙ by_path b kept
-      where
-        by_path : (b : Bool) → (b ≡ false → fits st path ≡ true)
-            → fits_in (below st path) (cond b (option_map (raised st path file) (value_at st path file)) (value_at st path file)) ≡ true
-        by_path true kept =
-            ap (λ f. fits_in (below st path) (option_map f (value_at st path file))) (λ i limit. raise limit i)
-            ∙ ap (λ b. fits_in (below st path) (option_map (λ l. cond b l (At (below st path))) (value_at st path file))) (bound st path)
-            ∙ raised_fits (below st path) (value_at st path file)
-        by_path false kept = sym (bound st path) ∙ kept refl
-
-    not_over : (is_named pairs path ≡ false → (fits_descendants st path && fits_depth st path) ≡ true) → over_failures new path ≡ []
-    not_over kept =
-        ap (λ fits. unless fits (record { guard = AlreadyOver; len = length path }))
-        (and_from _ _
-        (fits-by fits_descendants count_below MaxDescendants descendants-limit (λ limit. refl)
-        (count_below-same_paths st new same_paths path)
-        (is_named pairs path) refl (λ other. (and_parts _ _ (kept other)).0))
-        (fits-by fits_depth depth_below MaxDepth depth-limit (λ limit. refl) (depth_below-same_paths st new same_paths path)
-        (is_named pairs path) refl (λ other. (and_parts _ _ (kept other)).1)))
+not_over : (st : State) (pairs : List Pair) (path : Names)
+    → (is_named pairs path ≡ false → (fits_descendants st path && fits_depth st path) ≡ true) → over_failures (advised st pairs) path ≡ []
+not_over st pairs path kept =
+    ap (λ fits. unless fits (record { guard = AlreadyOver; len = length path }))
+    (fits-raised st (advised st pairs) (paths_of-made (mends st pairs) st) path (is_named pairs path) (value_at-advised st pairs path) kept)
 
 -- ---- who is among those who get in
 
-either_true : (b : Bool) → b || true ≡ true
+pub either_true : (b : Bool) → b || true ≡ true
 either_true true = refl
 either_true false = refl
 
 -- what one of a list passes, one of the whole passes
-each-any : {A B : Type 0} (f : A → List B) (xs : List A)
+pub each-any : {A B : Type 0} (f : A → List B) (xs : List A)
     → AllByRecursion (λ x. (test : B → Bool) → list_any test (f x) ≡ true → list_any test (flat_map f xs) ≡ true) xs
 each-any f [] = tt
 each-any f (x ∷ xs) = (
@@ -299,7 +298,7 @@ opens-nothing st pairs other path is_user hold =
 
 -- ---- no change can be left out
 
-all_filtered : {A : Type 0} (test : A → Bool) (xs : List A) → AllByRecursion (λ x. test x ≡ true) (filter test xs)
+pub all_filtered : {A : Type 0} (test : A → Bool) (xs : List A) → AllByRecursion (λ x. test x ≡ true) (filter test xs)
 all_filtered test [] = tt
 all_filtered test (x ∷ xs) =
     elim (test x) as (λ b. test x ≡ b → AllByRecursion (λ y. test y ≡ true) (cond b (x ∷ filter test xs) (filter test xs))) [
@@ -364,12 +363,12 @@ limits-needed st pairs subtree =
 
 -- ---- a well-formed tree
 
-abbrev CanBeMade : Mend → Type 0
+abbrev pub CanBeMade : Mend → Type 0
 CanBeMade (Chown len name uid gid) = Unit {0}
 CanBeMade (Chmod len name mode) = mode ≤ 511
 CanBeMade (Set len file value) = accepts file value ≡ true
 
-abbrev IsMakeable : Change → Type 0
+abbrev pub IsMakeable : Change → Type 0
 IsMakeable change = CanBeMade change.1
 
 formed-made_one : (subtree : Names) (mend : Mend) (st : State) → CanBeMade mend → IsWellFormed st → IsWellFormed (made_one subtree mend st)
@@ -377,17 +376,18 @@ formed-made_one subtree (Chown len name uid gid) st can = formed-with_owner st (
 formed-made_one subtree (Chmod len name mode) st can = formed-with_mode st (take len subtree) name mode can
 formed-made_one subtree (Set len file value) st can = formed-with_value st (take len subtree) file value can
 
-formed-made : (changes : List Change) (st : State) → AllByRecursion IsMakeable changes → IsWellFormed st → IsWellFormed (made changes st)
+pub formed-made : (changes : List Change) (st : State) → AllByRecursion IsMakeable changes → IsWellFormed st
+    → IsWellFormed (made changes st)
 formed-made [] st can formed = formed
 formed-made (change ∷ changes) st can formed =
     formed-made changes (made_one change.0 change.1 st) can.1 (formed-made_one change.0 change.1 st can.0 formed)
 
-all_flat : {A B : Type 0} (P : B → Type 0) (Q : A → Type 0) (f : A → List B) → ((x : A) → Q x → AllByRecursion P (f x)) → (xs : List A)
+pub all_flat : {A B : Type 0} (P : B → Type 0) (Q : A → Type 0) (f : A → List B) → ((x : A) → Q x → AllByRecursion P (f x)) → (xs : List A)
     → AllByRecursion Q xs → AllByRecursion P (flat_map f xs)
 all_flat P Q f each [] all = tt
 all_flat P Q f each (x ∷ xs) all = all-append P (f x) (flat_map f xs) (each x all.0) (all_flat P Q f each xs all.1)
 
-makeable : (subtree : Names) (mends : List Mend) → AllByRecursion CanBeMade mends → AllByRecursion IsMakeable (changes_at subtree mends)
+pub makeable : (subtree : Names) (mends : List Mend) → AllByRecursion CanBeMade mends → AllByRecursion IsMakeable (changes_at subtree mends)
 makeable subtree mends can = all-mapped IsMakeable (λ mend. (subtree, mend)) mends can
 
 abbrev HasMode : Entrant → Type 0
@@ -407,7 +407,7 @@ module _ (st : State) (formed : IsWellFormed st) where
         | Some row ↦ λ here some. (formed.rows path row here).modes name entry some
       ] refl is
 
-  entry_mode : (path : Names) (name : EntryName) (entry : Entry) → entry_at st path name ≡ Some entry → entry.mode ≤ 511
+  pub entry_mode : (path : Names) (name : EntryName) (entry : Entry) → entry_at st path name ≡ Some entry → entry.mode ≤ 511
   entry_mode path (Other file) entry is =
       let told = mapped_from (λ told. told.entry) (file_told st path file) entry is in
       subst (λ (entry : Entry). entry.mode ≤ 511) told.2 (stands st formed path file told.0 told.1).mode
@@ -425,7 +425,7 @@ module _ (st : State) (formed : IsWellFormed st) where
       (all-append CanBeMade (chown_of (users_with all each) each.at) (chmod_of (users_with all each) each.at)
       (all-unless CanBeMade _ _ tt) (all-unless CanBeMade _ _ (shut-le (users_with all each) each.at.entry small)))) es modes
 
-  limits_makeable : (subtrees : List Names) → AllByRecursion (AreCountable st) subtrees
+  pub limits_makeable : (subtrees : List Names) → AllByRecursion (AreCountable st) subtrees
       → AllByRecursion IsMakeable (flat_map (limit_changes st) subtrees)
   limits_makeable subtrees few =
       all_flat IsMakeable (AreCountable st) (limit_changes st) (λ subtree few.

@@ -27,7 +27,8 @@ use Rattle.cg_model.specs.Mends.{Pair as Named, Entrant as Entering, entrants, i
 use Rattle.cg_model.proofs.OnceLaws.{once_more, all-once}
 use Rattle.cg_model.proofs.Lists.{all-each}
 use Rattle.cg_advice.specs.AdviceLines.{entry_lines, over_lines, pairs_lines}
-use Rattle.cg_advice.specs.Ways.{no_ways, ways_with, ways_among, ways_at, AreGathered, Key, key_cmp, is_keyed, lines_by, gathered_lines}
+use Rattle.cg_advice.specs.WayLines.{lines_by}
+use Rattle.cg_advice.specs.Ways.{no_ways, ways_with, ways_among, ways_at, AreGathered, Key, key_cmp, is_keyed, gathered_lines}
 use Rattle.cg_advice.specs.declared.ways.Ways.{Ways}
 use Rattle.cg_advice.proofs.Running.{IsThere, entrants-there, this-there}
 

@@ -21,6 +21,7 @@ use Rattle.cg_model.proofs.StateEntries.{entry_at-with_mode, entry_at-with_value
 use Rattle.cg_model.proofs.Lists.{all-flat_map, all-each}
 use Rattle.cg_model.proofs.OnceLaws.{any-once, all-once, filter-none}
 use Rattle.cg_model.specs.Clauses.{unless, present}
+use Rattle.cg_model.specs.Once.{once}
 use Rattle.cg_model.specs.Limits.{fits_descendants, fits_depth}
 use Rattle.cg_model.specs.Guards.{Guarded, guarded_entry, guarded_entries, found}
 use Rattle.cg_model.specs.declared.guard.GuardedEntry.{GuardedEntry}
@@ -41,11 +42,11 @@ map_map : {A : Type 0} (f g : A → A) (o : Option A) → option_map g (option_m
 map_map f g None = refl
 map_map f g (Some x) = refl
 
-map_same : {A : Type 0} (o : Option A) → option_map (λ x. x) o ≡ o
+pub map_same : {A : Type 0} (o : Option A) → option_map (λ x. x) o ≡ o
 map_same None = refl
 map_same (Some x) = refl
 
-same_either : {A : Type 0} (test : Bool) (x : A) → cond test x x ≡ x
+pub same_either : {A : Type 0} (test : Bool) (x : A) → cond test x x ≡ x
 same_either true x = refl
 same_either false x = refl
 
@@ -61,12 +62,12 @@ module _ {V : Type 0} (one : Change → V → V) where
   through-append (x ∷ xs) ys v = through-append xs ys (one x v)
 
   -- the changes of one subtree
-  through-at : (subtree : Names) (xs ys : List Mend) (v : V)
+  pub through-at : (subtree : Names) (xs ys : List Mend) (v : V)
       → through (changes_at subtree (xs ++ ys)) v ≡ through (changes_at subtree ys) (through (changes_at subtree xs) v)
   through-at subtree [] ys v = refl
   through-at subtree (x ∷ xs) ys v = through-at subtree xs ys (one (subtree, x) v)
 
-  through-unless : (test : Bool) (subtree : Names) (mend : Mend) (v : V)
+  pub through-unless : (test : Bool) (subtree : Names) (mend : Mend) (v : V)
       → through (changes_at subtree (unless test mend)) v ≡ cond test v (one (subtree, mend) v)
   through-unless true subtree mend v = refl
   through-unless false subtree mend v = refl
@@ -149,7 +150,7 @@ module _ (path : Names) (name : EntryName) where
       ∙ leaves-all all es others.1 entry
 
 -- an owner and then a mode are set, each where it differs, over what is there or what they give
-settled : (owner given same : Bool) (uid gid mode shut : ℕ) → (same ≡ true → shut ≡ mode)
+pub settled : (owner given same : Bool) (uid gid mode shut : ℕ) → (same ≡ true → shut ≡ mode)
     → let entry : Entry = record { uid = uid; gid = gid; mode = mode } in
     let taken : Entry = record { uid = cond owner 0 uid; gid = gid; mode = shut } in
     let chowned : Entry = cond (not owner) (cond given taken entry) (owned_by (cond owner 0 uid) gid (cond given taken entry)) in
@@ -307,15 +308,15 @@ entry_at-advised st pairs path name =
 -- ---- a value
 
 module _ (path : Names) (file : LimitFile) where
-  abbrev hold_mend : Names → Mend → Limit → Limit
+  abbrev pub hold_mend : Names → Mend → Limit → Limit
   hold_mend subtree (Chown len name uid gid) limit = limit
   hold_mend subtree (Chmod len name mode) limit = limit
   hold_mend subtree (Set len other value) limit = cond (same_path (take len subtree) path && same_file other file) value limit
 
-  abbrev hold_one : Change → Limit → Limit
+  abbrev pub hold_one : Change → Limit → Limit
   hold_one change limit = hold_mend change.0 change.1 limit
 
-  abbrev hold : List Change → Limit → Limit
+  abbrev pub hold : List Change → Limit → Limit
   hold changes limit = through hold_one changes limit
 
   value_at-made_one : (subtree : Names) (mend : Mend) (st : State)
@@ -328,7 +329,7 @@ module _ (path : Names) (file : LimitFile) where
       value_at-with_value st (take len subtree) other value path file
       ∙ cond_map (same_path (take len subtree) path && same_file other file) (λ _. value) (value_at st path file)
 
-  value_at-made : (changes : List Change) (st : State)
+  pub value_at-made : (changes : List Change) (st : State)
       → value_at (made changes st) path file ≡ option_map (hold changes) (value_at st path file)
   value_at-made changes st = through-made hold_one (λ st. value_at st path file) value_at-made_one changes st
 
@@ -406,7 +407,7 @@ raised_again fits_d false count depth MaxDepth limit = refl
 raised_again fits_d fits_h count depth file limit = refl
 
 module _ (st : State) (path : Names) (file : LimitFile) (limit : Limit) where
-  abbrev so_far : Bool → Limit
+  abbrev pub so_far : Bool → Limit
   so_far given = cond given (raised st path file limit) limit
 
   again : (given : Bool) → raised st path file (so_far given) ≡ raised st path file limit
@@ -426,7 +427,7 @@ module _ (st : State) (path : Names) (file : LimitFile) (limit : Limit) where
         | false ↦ λ _. refl
       ] refl
 
-  hold-limits : (subtrees : List Names) (given : Bool)
+  pub hold-limits : (subtrees : List Names) (given : Bool)
       → hold path file (flat_map (limit_changes st) subtrees) (so_far given)
       ≡ cond (list_any (λ subtree. same_path subtree path) subtrees) (raised st path file limit) (so_far given)
   hold-limits [] given = refl
@@ -442,11 +443,14 @@ module _ (st : State) (path : Names) (file : LimitFile) (limit : Limit) where
       ]
 
 -- a subtree is named where it is one of those that count once
+pub among-once : (subtrees : List Names) (path : Names)
+    → list_any (λ subtree. same_path subtree path) (once same_path subtrees) ≡ list_any (λ subtree. same_path subtree path) subtrees
+among-once subtrees path =
+    any-once same_path (λ subtree. same_path subtree path) (λ p q is. ap (λ r. same_path r path) (same_path-is p q is)) subtrees
+
 named_once : (pairs : List Pair) (path : Names) → list_any (λ subtree. same_path subtree path) (subtrees_of pairs) ≡ is_named pairs path
 named_once pairs path =
-    any-once same_path (λ subtree. same_path subtree path) (λ p q is. ap (λ r. same_path r path) (same_path-is p q is))
-    (map (λ pair. pair.subtree) pairs)
-    ∙ any-mapped pairs
+    among-once (map (λ pair. pair.subtree) pairs) path ∙ any-mapped pairs
   where
     any-mapped : (pairs : List Pair) → list_any (λ subtree. same_path subtree path) (map (λ pair. pair.subtree) pairs) ≡ is_named pairs path
     any-mapped [] = refl

@@ -23,13 +23,13 @@ others_off mode = ap (λ n. nat_eq n 2) (and_assoc 2 mode 509 ∙ and_none mode)
 others_kept : (mode : ℕ) → has_bit (bit_and mode 495) 2 ≡ has_bit mode 2
 others_kept mode = ap (λ n. nat_eq n 2) (and_assoc 2 mode 495)
 
-group_kept : (mode : ℕ) → has_bit (bit_and mode 509) 16 ≡ has_bit mode 16
+pub group_kept : (mode : ℕ) → has_bit (bit_and mode 509) 16 ≡ has_bit mode 16
 group_kept mode = ap (λ n. nat_eq n 16) (and_assoc 16 mode 509)
 
 less : (mode bits : ℕ) → mode ≤ 511 → bit_and mode bits ≤ 511
 less mode bits small = omega (arith, small, and_le_l mode bits)
 
-bits-le : (group others : Bool) (mode : ℕ) → mode ≤ 511 → without_bits group others mode ≤ 511
+pub bits-le : (group others : Bool) (mode : ℕ) → mode ≤ 511 → without_bits group others mode ≤ 511
 bits-le true true mode small = less (bit_and mode 495) 509 (less mode 495 small)
 bits-le true false mode small = less mode 495 small
 bits-le false true mode small = less mode 509 small
@@ -39,21 +39,21 @@ pub shut-le : (users : List Identity) (entry : Entry) → entry.mode ≤ 511 →
 shut-le users entry small = bits-le (any_inside users entry.gid) (any_outside users entry.gid) entry.mode small
 
 -- the group's bit where it goes, and the others'
-group_shut : (others : Bool) (mode : ℕ) → has_bit (without_bits true others mode) 16 ≡ false
+pub group_shut : (others : Bool) (mode : ℕ) → has_bit (without_bits true others mode) 16 ≡ false
 group_shut true mode = group_kept (bit_and mode 495) ∙ group_off mode
 group_shut false mode = group_off mode
 
-others_shut : (group : Bool) (mode : ℕ) → has_bit (without_bits group true mode) 2 ≡ false
+pub others_shut : (group : Bool) (mode : ℕ) → has_bit (without_bits group true mode) 2 ≡ false
 others_shut true mode = others_off (bit_and mode 495)
 others_shut false mode = others_off mode
 
 -- a bit that isn't there isn't afterwards
-group_stays : (group others : Bool) (mode : ℕ) → has_bit mode 16 ≡ false → has_bit (without_bits group others mode) 16 ≡ false
+pub group_stays : (group others : Bool) (mode : ℕ) → has_bit mode 16 ≡ false → has_bit (without_bits group others mode) 16 ≡ false
 group_stays true others mode off = group_shut others mode
 group_stays false true mode off = group_kept mode ∙ off
 group_stays false false mode off = off
 
-others_stays : (group others : Bool) (mode : ℕ) → has_bit mode 2 ≡ false → has_bit (without_bits group others mode) 2 ≡ false
+pub others_stays : (group others : Bool) (mode : ℕ) → has_bit mode 2 ≡ false → has_bit (without_bits group others mode) 2 ≡ false
 others_stays group true mode off = others_shut group mode
 others_stays true false mode off = others_kept mode ∙ off
 others_stays false false mode off = off
@@ -61,7 +61,7 @@ others_stays false false mode off = off
 -- ---- who reaches it
 
 -- root's uid is no user's
-nobodys : (user : Identity) → IsUser user → nat_eq 0 user.uid ≡ false
+pub nobodys : (user : Identity) → IsUser user → nat_eq 0 user.uid ≡ false
 nobodys user is =
     let positive = ltb-true 0 user.uid (and_parts (nat_lt 0 user.uid) (nat_le (length user.gids) 32) is).0 in
     false_from_ne_true (nat_eq 0 user.uid) (λ same. let zero_uid = eqb-true 0 user.uid same in omega (arith, positive, zero_uid))
@@ -71,14 +71,14 @@ abbrev pub IsOneOf : Identity → List Identity → Type 0
 IsOneOf user users = (test : Identity → Bool) → test user ≡ true → list_any test users ≡ true
 
 -- who doesn't own it and whose class doesn't write doesn't reach it
-not_reaching : (user : Identity) (entry : Entry) → owns user entry ≡ false
+pub not_reaching : (user : Identity) (entry : Entry) → owns user entry ≡ false
     → cond (in_group user entry.gid) (has_bit entry.mode 16) (has_bit entry.mode 2) ≡ false → reaches user entry ≡ false
 unfolding writes
 not_reaching user entry stranger shut =
     ap (λ b. cond b (has_bit entry.mode 128) (cond (in_group user entry.gid) (has_bit entry.mode 16) (has_bit entry.mode 2)) || b) stranger
     ∙ ap (λ b. b || false) shut
 
-not_writing : (user : Identity) (entry : Entry) → writes user entry ≡ false → owns user entry ≡ false
+pub not_writing : (user : Identity) (entry : Entry) → writes user entry ≡ false → owns user entry ≡ false
     → cond (in_group user entry.gid) (has_bit entry.mode 16) (has_bit entry.mode 2) ≡ false
 unfolding writes
 not_writing user entry off stranger =

@@ -26,12 +26,13 @@ use Rattle.cg_model.specs.declared.mend.Class.TheVariants.{Owner, Group, Others}
 use Rattle.cg_model.specs.Mends.{Pair as Named, Entrant as Entering, if_reached, reached_of, entrant, entrants_of, entrants, same_place}
 use Rattle.cg_guards.proofs.TableWalk.{walk_turn, drop_all}
 use Rattle.cg_model.proofs.OnceLaws.{once_more}
-use Rattle.cg_advice.specs.Ways.{Key, is_keyed, ways_at, no_ways, ways_among, ways_with, tells, lines_by, gathered_lines}
+use Rattle.cg_advice.specs.WayLines.{lines_by, Spot}
+use Rattle.cg_advice.specs.Ways.{Key, is_keyed, ways_at, no_ways, ways_among, ways_with, tells, gathered_lines}
 use Rattle.cg_advice.specs.AdviceLines.{over_lines, pairs_lines}
 use Rattle.cg_advice.specs.declared.ways.Ways.{Ways}
 use Rattle.cg_advice.specs.declared.pair.Stand.{Stand}
 use Rattle.cg_advice.specs.declared.table.Table.{Table}
-use Rattle.cg_advice.specs.Thinned.{IsThin, IsThinned, AreTabled, Spot, spots_of, spots, spot_of, entered, entered_at, key_at, AreAmong, IsKnown, is_new, joined, AreMet, table_path, is_table_of, IsTable, HaveEntered}
+use Rattle.cg_advice.specs.Thinned.{IsThin, IsThinned, AreTabled, spots_of, spots, spot_of, entered, entered_at, key_at, AreAmong, IsKnown, is_new, joined, AreMet, table_path, is_table_of, IsTable, HaveEntered}
 use Rattle.cg_advice.proofs.Gathering.{one_way, ways_more, IsKeyOf, keyed_same_place, same_name-refl, flat_more, all_written}
 
 -- ---- lists with the same first ones

@@ -17,7 +17,7 @@ use Rattle.cg_model.specs.Mends.{descendants_of, depth_of, limit_mends}
 use Rattle.cg_model.specs.declared.mend.Class.{Class}
 use Rattle.cg_model.specs.declared.mend.Class.TheVariants.{Owner, Group, Others}
 use Rattle.cg_advice.specs.AdviceLines.{fails_line, mend_line, mend_lines, over_line, over_lines}
-use Rattle.cg_advice.specs.Ways.{has_way, chown_by, chmod_by, lines_by}
+use Rattle.cg_advice.specs.WayLines.{has_way, chown_by, chmod_by, lines_by}
 use Rattle.cg_advice.specs.declared.ways.Ways.{Ways}
 use Rattle.cg_model.specs.declared.mend.Mend.{Mend}
 use Rattle.cg_model.specs.declared.mend.Mend.TheVariants.{Set}

@@ -1,4 +1,5 @@
 pub mod AdviceLines
+pub mod WayLines
 pub mod Advised
 pub mod Ways
 pub mod Thinned

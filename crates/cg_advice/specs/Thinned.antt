@@ -13,6 +13,7 @@ use Rattle.cg_model.specs.Clauses.{unless, present}
 use Rattle.cg_model.specs.Guards.{Guarded, guarded_entries, standing, IsSubtree}
 use Rattle.cg_model.specs.declared.guard.GuardedEntry.{GuardedEntry}
 use Rattle.cg_model.specs.Mends.{Pair as Named, Entrant as Entering, entrants, same_place}
+use Rattle.cg_advice.specs.WayLines.{Spot}
 use Rattle.cg_advice.specs.Ways.{Key, is_keyed, ways_at, ways_with, tells}
 use Rattle.cg_advice.specs.declared.ways.Ways.{Ways}
 use Rattle.cg_advice.specs.declared.pair.Stand.{Stand}
@@ -35,9 +36,6 @@ abbrev pub AreTabled : List Names → List Names → Type 0
 AreTabled found all = IsThin same_path (λ key path. same_path path key) found all
 
 -- ---- entries on which guards stand
-
-abbrev pub Spot : Type 0
-Spot = Names × GuardedEntry
 
 abbrev pub spots_of : State → Names → Guarded → List Spot
 spots_of st subtree guarded = present (standing st subtree guarded) (λ at. (subtree, at) ∷ [])

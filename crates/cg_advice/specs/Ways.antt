@@ -1,8 +1,8 @@
 -- How an answer is found: nobody has to believe it.
 -- By what users get in at an entry, as the code keeps it.
-use Rattle.std.specs.Prelude.{◌≡◌, ℕ, Bool, false, ◌&&◌, ◌||◌, not, nat_eq, cond, List, [], ◌∷◌, ◌++◌, unwrap_or, take}
+use Rattle.std.specs.Prelude.{◌≡◌, ℕ, Bool, false, ◌&&◌, ◌||◌, not, cond, List, unwrap_or, take}
 use Rattle.std.specs.Borrow.{Bor}
-use Rattle.std.specs.List.{list_any, filter, flat_map}
+use Rattle.std.specs.List.{list_any, filter}
 use Rattle.std.specs.Ordering.{nat_cmp, ordering_then}
 use Rattle.std.specs.declared.cmp.Ordering.{Ordering}
 use Rattle.std.specs.Cmp.Lexicographic.{slice_cmp}
@@ -12,18 +12,13 @@ use Rattle.cg_cgroup.specs.Identity.{Identity}
 use Rattle.cg_cgroup.specs.Users.{owns, in_group}
 use Rattle.cg_cgroup.specs.Files.{entry_text}
 use Rattle.cg_cgroup.specs.declared.user.Entry.{Entry}
-use Rattle.cg_model.specs.Clauses.{unless}
-use Rattle.cg_model.specs.declared.guard.GuardedEntry.{GuardedEntry}
-use Rattle.cg_model.specs.Mended.{is_by, without_bits}
+use Rattle.cg_model.specs.Mended.{is_by}
 use Rattle.cg_model.specs.Mends.{Pair as Named, Entrant as Entering}
-use Rattle.cg_model.specs.declared.mend.Class.{Class}
 use Rattle.cg_model.specs.declared.mend.Class.TheVariants.{Owner, Group, Others}
-use Rattle.cg_model.specs.declared.mend.Mend.{Mend}
-use Rattle.cg_model.specs.declared.mend.Mend.TheVariants.{Chown, Chmod}
 use Rattle.cg_advice.specs.declared.ways.Ways.{Ways}
 use Rattle.cg_advice.specs.declared.pair.Pair.{Pair}
 use Rattle.cg_advice.specs.declared.pair.Entrant.{Entrant}
-use Rattle.cg_advice.specs.AdviceLines.{fails_line, mend_lines}
+use Rattle.cg_advice.specs.WayLines.{lines_by}
 
 -- ---- pairs and entrants, as definitions see them
 
@@ -53,23 +48,6 @@ abbrev pub tells : Ways → Identity → Entry → Bool
 tells ways user entry =
     cond (owns user entry) ways.owner (cond (in_group user entry.gid) ways.group ways.others)
     && cond (in_group user entry.gid) ways.inside ways.outside
-
-abbrev pub has_way : Ways → Class → Bool
-has_way ways Owner = ways.owner
-has_way ways Group = ways.group
-has_way ways Others = ways.others
-
-abbrev pub chown_by : Ways → GuardedEntry → List Mend
-chown_by ways at = unless (not ways.owner) (Chown at.len at.name (cond ways.owner 0 at.entry.uid) at.entry.gid)
-
-abbrev pub chmod_by : Ways → GuardedEntry → List Mend
-chmod_by ways at =
-    let shut : ℕ = without_bits ways.inside ways.outside at.entry.mode in unless (nat_eq shut at.entry.mode) (Chmod at.len at.name shut)
-
-abbrev pub lines_by : Ways → Names → GuardedEntry → List ℕ
-lines_by ways subtree at =
-    flat_map (fails_line subtree at) (filter (has_way ways) (Owner ∷ Group ∷ Others ∷ []))
-    ++ mend_lines subtree (chown_by ways at ++ chmod_by ways at)
 
 -- ---- those of each entry
 

@@ -2,7 +2,7 @@
 ghost use Rattle.std.specs.Prelude.{◌≡◌, ◌≤◌, option_to_list, IfSome};
 ghost use Rattle.cg_model.specs.Mended.{without_bits};
 ghost use Rattle.cg_advice.specs.AdviceLines.{class_name, len_of};
-ghost use Rattle.cg_advice.specs.Ways.{chown_by, chmod_by};
+ghost use Rattle.cg_advice.specs.WayLines.{chown_by, chmod_by};
 
 use crate::ways::Ways;
 use cg_cgroup::user::Mode;

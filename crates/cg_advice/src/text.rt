@@ -11,7 +11,8 @@ ghost use Rattle.cg_model.specs.Clauses.{unless};
 ghost use Rattle.cg_model.specs.Mends.{same_place};
 ghost use Rattle.cg_model.specs.declared.mend.Mend.TheVariants.{Set};
 ghost use Rattle.cg_advice.specs.AdviceLines.{owner_word, mend_line, mend_lines, fails_line, over_line, over_lines, is_pair_guarded, advice_lines, IsShown, len_of};
-ghost use Rattle.cg_advice.specs.Ways.{pair_of, entering, has_way, lines_by, gathered_lines};
+ghost use Rattle.cg_advice.specs.WayLines.{has_way, lines_by};
+ghost use Rattle.cg_advice.specs.Ways.{pair_of, entering, gathered_lines};
 ghost use Rattle.cg_advice.specs.Thinned.{table_path};
 ghost use Rattle.cg_cgroup.specs.Paths.{same_path};
 
@@ -83,27 +84,31 @@ fn push_entries(alloc: Global, text: &mut Vec<u8>, entrants: &[Entrant<'_>]) -> 
         let ways = gathered.at(&key);
         let is_new = seen.insert(key)?;
         if is_new {
-            push_lines(alloc, text, each, ways)?;
+            push_lines(alloc, text, each.pair.subtree, &each.at, ways)?;
         }
     }
     Ok(())
 }
 
-/// The lines of an entry, by what users get in there.
-fn push_lines(
+/// The lines of an entry, by what users get in there, behind a text.
+///
+/// # Errors
+/// `NoMemory` where an allocation was refused.
+pub fn push_lines(
     alloc: Global,
     text: &mut Vec<u8>,
-    each: &Entrant<'_>,
+    subtree: &Path,
+    at: &GuardedEntry,
     ways: Ways,
 ) -> Result<(), NoMemory>
-    ensures { OnOk result (text.new.items ≡ text.old.items ++ lines_by ways each.now.pair.subtree.now each.now.at) }
+    requires { IsShown subtree.now at.now }
+    ensures { OnOk result (text.new.items ≡ text.old.items ++ lines_by ways subtree.now at.now) }
 {
-    let subtree = each.pair.subtree;
-    push_class(alloc, text, each, ways, Class::Owner)?;
-    push_class(alloc, text, each, ways, Class::Group)?;
-    push_class(alloc, text, each, ways, Class::Others)?;
-    push_mend(alloc, text, subtree, chown_of(ways, &each.at))?;
-    push_mend(alloc, text, subtree, chmod_of(ways, &each.at))?;
+    push_class(alloc, text, subtree, at, ways, Class::Owner)?;
+    push_class(alloc, text, subtree, at, ways, Class::Group)?;
+    push_class(alloc, text, subtree, at, ways, Class::Others)?;
+    push_mend(alloc, text, subtree, chown_of(ways, at))?;
+    push_mend(alloc, text, subtree, chmod_of(ways, at))?;
     Ok(())
 }
 
@@ -111,15 +116,16 @@ fn push_lines(
 fn push_class(
     alloc: Global,
     text: &mut Vec<u8>,
-    each: &Entrant<'_>,
+    subtree: &Path,
+    at: &GuardedEntry,
     ways: Ways,
     class: Class,
 ) -> Result<(), NoMemory>
-    ensures { OnOk result (text.new.items ≡ text.old.items
-        ++ cond (has_way ways class) (fails_line each.now.pair.subtree.now each.now.at class) []) }
+    requires { IsShown subtree.now at.now }
+    ensures { OnOk result (text.new.items ≡ text.old.items ++ cond (has_way ways class) (fails_line subtree.now at.now class) []) }
 {
     if ways.has(class) {
-        let line = fails_line(alloc, each.pair.subtree, &each.at, class)?.into_bytes();
+        let line = fails_line(alloc, subtree, at, class)?.into_bytes();
         text.extend_from_slice(line.as_slice())?;
     }
     Ok(())
@@ -146,8 +152,11 @@ fn push_all_limits<H: Hierarchy>(
     Ok(())
 }
 
-/// The lines of the limits of the subtree, where it is over one.
-fn push_limits<H: Hierarchy>(
+/// The lines of the limits of the subtree, where it is over one, behind a text.
+///
+/// # Errors
+/// `NoMemory` where an allocation was refused.
+pub fn push_limits<H: Hierarchy>(
     alloc: Global,
     text: &mut Vec<u8>,
     tree: &H,

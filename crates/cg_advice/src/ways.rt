@@ -1,6 +1,7 @@
 //! By what users get in at an entry.
 ghost use Rattle.std.specs.Prelude.{◌≡◌};
-ghost use Rattle.cg_advice.specs.Ways.{no_ways, ways_with, tells, has_way};
+ghost use Rattle.cg_advice.specs.WayLines.{has_way};
+ghost use Rattle.cg_advice.specs.Ways.{no_ways, ways_with, tells};
 
 use cg_cgroup::user::{Entry, User};
 use cg_model::mend::Class;

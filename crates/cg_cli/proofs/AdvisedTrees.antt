@@ -19,11 +19,11 @@ use Rattle.cg_check.proofs.AllContained.{guarded-are-contained}
 use Rattle.cg_advice.proofs.Advising.{is_advised, mends-all, formed-advised}
 
 -- a cgroup is there where its directory is
-row-directory : (st : State) (path : Names) → has_row st path ≡ is_some (entry_at st path Dir)
+pub row-directory : (st : State) (path : Names) → has_row st path ≡ is_some (entry_at st path Dir)
 row-directory st path =
     elim (row_at st path) as (λ r. is_some r ≡ is_some (option_and_then (λ row. entry_in row Dir) r)) [ None ↦ refl | Some row ↦ refl ]
 
-still_some : (f : Entry → Entry) (o : Option Entry) → is_some (option_map f o) ≡ is_some o
+pub still_some : (f : Entry → Entry) (o : Option Entry) → is_some (option_map f o) ≡ is_some o
 still_some f None = refl
 still_some f (Some e) = refl
 

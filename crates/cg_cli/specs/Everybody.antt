@@ -1,4 +1,4 @@
--- The report of an audit against everybody but root, whoever there is. Own.
+-- The report on subtrees and everybody but root, whoever there is. Own.
 use Rattle.std.specs.Prelude.{ℕ, List, [], ◌∷◌, ◌++◌, Option, Result, Ok}
 use Rattle.std.specs.List.{flat_map}
 use Rattle.cg_cgroup.specs.Identity.{Identity}
@@ -9,7 +9,9 @@ use Rattle.cg_model.specs.Once.{once}
 use Rattle.cg_model.specs.States.{State}
 use Rattle.cg_model.specs.declared.fault.CheckFault.{CheckFault}
 use Rattle.machine_everybody.specs.Everybody.{Everybody}
+use Rattle.cg_everybody.specs.Advice.{everybody_advice}
 use Rattle.cg_everybody.specs.Everybody.{everybody_lines}
+use Rattle.cg_everybody.specs.Explained.{everybody_explained}
 use Rattle.cg_everybody.specs.Premises.{premise_lines}
 use Rattle.cg_format.specs.Readings.{Reading}
 use Rattle.cg_cli.specs.Advising.{contained_line}
@@ -17,28 +19,48 @@ use Rattle.cg_cli.specs.Audits.{paths_read}
 use Rattle.cg_cli.specs.Containment.{in_call}
 use Rattle.cg_cli.specs.May.{tree_read}
 use Rattle.cg_cli.specs.Reports.{Report, Reports, report_on}
+use Rattle.cg_cli.specs.declared.everybody.Wanted.{Wanted}
+use Rattle.cg_cli.specs.declared.everybody.Wanted.TheVariants.{Audit, Advise, Explain}
 use Rattle.cg_faults.specs.declared.fault.CliFault.{CliFault}
 
--- contained where nothing is found, with status 0, and else the lines with status 1; and last what that stands on
-abbrev pub found_report : Everybody → List ℕ → Report
-found_report asked [] = record { text = contained_line ++ premise_lines asked; ending = Ok 0 }
-found_report asked (byte ∷ bytes) = record { text = byte ∷ bytes ++ premise_lines asked; ending = Ok 1 }
+-- 0 where nothing is found that lets somebody break one
+abbrev pub found_status : List ℕ → ℕ
+found_status [] = 0
+found_status (byte ∷ bytes) = 1
+
+-- `contained` where nothing is found, else these
+abbrev pub or_contained : List ℕ → List ℕ → List ℕ
+or_contained [] lines = contained_line
+or_contained (byte ∷ bytes) lines = lines
+
+-- what is wanted, by what is found
+abbrev pub wanted_lines : Wanted → Everybody → State → List Names → List ℕ → List ℕ
+wanted_lines Audit asked st subtrees found = or_contained found found
+wanted_lines Advise asked st subtrees found = or_contained found (everybody_advice st asked subtrees)
+wanted_lines Explain asked st subtrees found = everybody_explained st asked subtrees
+
+-- and last what it stands on
+abbrev pub found_report : Wanted → Everybody → State → List Names → List ℕ → Report
+found_report wanted asked st subtrees found = record {
+  text = wanted_lines wanted asked st subtrees found ++ premise_lines asked;
+  ending = Ok (found_status found);
+}
 
 -- the first fault of the subtrees, in the order of their list, or what is found of them
 abbrev pub everybody_found : State → Everybody → List Names → Result (List ℕ) CheckFault
 everybody_found st asked subtrees = unless_fault (first (flat_map (subtree_faults st) subtrees)) (everybody_lines st asked subtrees)
 
-abbrev pub everybody_said : Everybody → State → List Names → Report
-everybody_said asked st subtrees = report_on (in_call (everybody_found st asked subtrees)) (found_report asked)
+abbrev pub everybody_said : Wanted → Everybody → State → List Names → Report
+everybody_said wanted asked st subtrees = report_on (in_call (everybody_found st asked subtrees)) (found_report wanted asked st subtrees)
 
 -- There are no users about whom it is asked.
-abbrev pub AuditsEverybody : Everybody → State → List Identity → List Names → Option (List ℕ) → Option (List ℕ) → Result ℕ CliFault
+abbrev pub AnswersEverybody : Wanted → Everybody → State → List Identity → List Names → Option (List ℕ) → Option (List ℕ) → Result ℕ CliFault
     → Type 0
-AuditsEverybody asked st users subtrees = Reports (everybody_said asked st subtrees)
+AnswersEverybody wanted asked st users subtrees = Reports (everybody_said wanted asked st subtrees)
 
 -- All paths are looked at first; then the tree's text, and whether the subtrees are ones that can be checked. What is named again
 -- counts once.
-abbrev pub everybody_report : Everybody → Reading → List (List ℕ) → Report
-everybody_report asked tree texts =
+abbrev pub everybody_report : Wanted → Everybody → Reading → List (List ℕ) → Report
+everybody_report wanted asked tree texts =
     report_on (paths_read texts) (λ subtrees.
-    report_on (tree_read tree) (λ st. everybody_said asked st (once same_path subtrees)))
+    report_on (tree_read tree) (λ st. everybody_said wanted asked st (once same_path subtrees)))

@@ -1,9 +1,11 @@
-//! Whether several subtrees are contained against everybody, but for who is left out.
-ghost use Rattle.std.specs.Prelude.{◌≡◌, ◌≢◌, ◌++◌, map, Ok, Err, IfOk, IsOk, MatchResult};
+//! What is answered of several subtrees and everybody, but for who is left out.
+ghost use Rattle.std.specs.Prelude.{◌≡◌, ◌≢◌, ◌++◌, map, Ok, Err, IfOk, MatchResult};
+ghost use Rattle.std.specs.List.{All};
+ghost use Rattle.cg_model.specs.Guards.{IsSubtree};
 ghost use Rattle.cg_format.specs.Readings.{OnText};
-ghost use Rattle.cg_everybody.specs.Everybody.{everybody_of};
+ghost use Rattle.cg_everybody.specs.Everybody.{everybody_of, everybody_lines};
 ghost use Rattle.cg_everybody.specs.Premises.{premise_lines};
-ghost use Rattle.cg_cli.specs.Everybody.{found_report, everybody_found, everybody_said, AuditsEverybody, everybody_report};
+ghost use Rattle.cg_cli.specs.Everybody.{found_status, wanted_lines, found_report, everybody_found, everybody_said, AnswersEverybody, everybody_report};
 ghost use Rattle.cg_cli.specs.Reports.{Reports};
 
 use crate::advise::contained_line;
@@ -13,7 +15,9 @@ use cg_cgroup::memory::NoMemory;
 use cg_cgroup::path::Path;
 use cg_cgroup::user::User;
 use cg_check::first_fault;
+use cg_everybody::advice::everybody_advice;
 use cg_everybody::asked::Asked;
+use cg_everybody::explained::everybody_explained;
 use cg_everybody::lines::everybody_lines;
 use cg_everybody::premises::premise_lines;
 use cg_faults::fault::CliFault;
@@ -22,10 +26,27 @@ use cg_model::hierarchy::Hierarchy;
 use std::alloc::Global;
 use std::io::Write;
 
-/// Writes whether every subtree is contained against everybody who is asked about: `contained` with status 0; else, with status 1, the
-/// line of each that isn't, and below it a line for each class of users that an entry lets in on which a guard stands, and one where the
-/// subtree is over its limits. Last a line for each uid that is left out, and one for each list of a group. A subtree that is named again
-/// counts once.
+/// What is wanted of the subtrees: who may break them, what to change so that nobody may, or whom each of their guarded entries lets in.
+#[derive(Clone, Copy, Debug, PartialEq, Eq)]
+pub enum Wanted {
+    Audit,
+    Advise,
+    Explain,
+}
+
+/// What is wanted, and of whom it is asked.
+#[derive(Clone, Copy)]
+struct Question<'r, 'a> {
+    wanted: Wanted,
+    asked: &'r Asked<'a>,
+}
+
+/// Writes what is wanted of subtrees and everybody who is asked about, with status 0 where every subtree is contained against them, else
+/// with status 1. `Audit` and `Advise` write `contained` with status 0. Else `Audit` writes the line of each subtree that isn't contained,
+/// and below it a line for each class of users that an entry lets in on which a guard stands, and one where the subtree is over its
+/// limits; and `Advise` such lines of each entry once, with the changes that take it from them, and the same of limits. `Explain` writes
+/// whom each guarded entry lets in. Last comes a line for each uid that is left out, and one for each list of a group. A subtree that is
+/// named again counts once.
 ///
 /// # Errors
 /// The first that holds of `BadPath`, `Tree` and `Subtree`, and then nothing is written; `Write` where a write failed or took
@@ -33,20 +54,22 @@ use std::io::Write;
 pub fn everybody_bytes<W: Write>(
     alloc: Global,
     tree: &[u8],
+    wanted: Wanted,
     asked: &Asked<'_>,
     subtrees: &[&str],
     out: &mut W,
 ) -> Result<u8, CliFault>
     ensures { OnText tree.now (λ read. Reports
-        (everybody_report (everybody_of asked.now) read (map (λ subtree. subtree.now) subtrees.now))
+        (everybody_report wanted (everybody_of asked.now) read (map (λ subtree. subtree.now) subtrees.now))
         (W.contents out.old) (W.contents out.new) result) }
 {
     let mut stranger = None;
-    ask_named(alloc, asked, tree, &[], subtrees, &mut stranger, out)
+    let question = Question { wanted, asked };
+    ask_named(alloc, &question, tree, &[], subtrees, &mut stranger, out)
 }
 
-impl NamedQuestion for Asked<'_> {
-    ghost answers = { λ asked. AuditsEverybody (everybody_of asked) };
+impl NamedQuestion for Question<'_, '_> {
+    ghost answers = { λ question. AnswersEverybody question.wanted (everybody_of question.asked.now) };
 
     fn answer<H: Hierarchy + Drop, W: Write>(
         &self,
@@ -56,7 +79,7 @@ impl NamedQuestion for Asked<'_> {
         subtrees: &[Path],
         out: &mut W,
     ) -> Result<u8, CliFault> {
-        let said = found(alloc, tree, self, subtrees)?;
+        let said = found(alloc, tree, self.wanted, self.asked, subtrees)?;
         write_said(out, said)
     }
 }
@@ -65,11 +88,12 @@ impl NamedQuestion for Asked<'_> {
 fn found<H: Hierarchy + Drop>(
     alloc: Global,
     tree: &H,
+    wanted: Wanted,
     asked: &Asked<'_>,
     subtrees: &[Path],
 ) -> Result<(Vec<u8>, u8), CheckFault>
     ensures { MatchResult result
-        (λ said. everybody_said (everybody_of asked.now) (H.state tree.now) subtrees.now
+        (λ said. everybody_said wanted (everybody_of asked.now) (H.state tree.now) subtrees.now
         ≡ record { text = said.0.items; ending = Ok said.1 })
         (λ fault. fault ≢ CheckFault.NoMemory
         → everybody_found (H.state tree.now) (everybody_of asked.now) subtrees.now ≡ Err fault) }
@@ -77,27 +101,57 @@ fn found<H: Hierarchy + Drop>(
     if let Some(fault) = first_fault(tree, subtrees) {
         return Err(fault);
     }
-    match said_of(alloc, asked, everybody_lines(alloc, tree, asked, subtrees)) {
+    match said(alloc, tree, wanted, asked, subtrees) {
         Err(NoMemory) => Err(CheckFault::NoMemory),
         Ok(said) => Ok(said),
     }
 }
 
-/// What is said of the lines that were found, and the status.
-fn said_of(
+/// What is said of subtrees that are there, and the status.
+fn said<H: Hierarchy>(
     alloc: Global,
+    tree: &H,
+    wanted: Wanted,
     asked: &Asked<'_>,
-    found: Result<Vec<u8>, NoMemory>,
+    subtrees: &[Path],
 ) -> Result<(Vec<u8>, u8), NoMemory>
-    ensures said { IfOk result (λ said. IfOk found (λ lines.
-        found_report (everybody_of asked.now) lines.items ≡ record { text = said.0.items; ending = Ok said.1 })) }
-    ensures found { IsOk result → IsOk found }
+    requires { All (IsSubtree (H.state tree.now)) subtrees.now }
+    ensures { IfOk result (λ said. found_report wanted (everybody_of asked.now) (H.state tree.now) subtrees.now
+        (everybody_lines (H.state tree.now) (everybody_of asked.now) subtrees.now) ≡ record { text = said.0.items; ending = Ok said.1 }) }
 {
-    let lines = found?;
-    if lines.is_empty() {
-        Ok((with_premises(alloc, asked, contained_line(alloc)?)?, 0))
-    } else {
-        Ok((with_premises(alloc, asked, lines)?, 1))
+    let found = everybody_lines(alloc, tree, asked, subtrees)?;
+    let status = found_status(found.as_slice());
+    let lines = wanted_lines(alloc, tree, wanted, asked, subtrees, found)?;
+    let text = with_premises(alloc, asked, lines)?;
+    Ok((text, status))
+}
+
+fn found_status(found: &[u8]) -> u8
+    ensures { result ≡ found_status found.now }
+{
+    match found {
+        [] => 0,
+        _ => 1,
+    }
+}
+
+/// What is wanted of subtrees, by the lines that were found of them.
+fn wanted_lines<H: Hierarchy>(
+    alloc: Global,
+    tree: &H,
+    wanted: Wanted,
+    asked: &Asked<'_>,
+    subtrees: &[Path],
+    found: Vec<u8>,
+) -> Result<Vec<u8>, NoMemory>
+    requires { All (IsSubtree (H.state tree.now)) subtrees.now }
+    ensures { IfOk result (λ lines. lines.items ≡ wanted_lines wanted (everybody_of asked.now) (H.state tree.now) subtrees.now found.items) }
+{
+    match (wanted, found_status(found.as_slice())) {
+        (Wanted::Explain, _) => everybody_explained(alloc, tree, asked, subtrees),
+        (_, 0) => Ok(contained_line(alloc)?),
+        (Wanted::Audit, _) => Ok(found),
+        (Wanted::Advise, _) => everybody_advice(alloc, tree, asked, subtrees),
     }
 }
 

@@ -51,7 +51,7 @@ module _ {A B : Type 0} (f : A → List B) (some : (x : A) → f x ≢ []) where
   first_out true x xs none = absurd (some x (no_parts (f x) (flat_map f xs) none).0)
   first_out false x xs none = (refl, none)
 
-none_of_three : (a b c : Bool) → a ≡ false → b ≡ false → c ≡ false → (a || (b || c)) ≡ false
+pub none_of_three : (a b c : Bool) → a ≡ false → b ≡ false → c ≡ false → (a || (b || c)) ≡ false
 none_of_three a b c first second third = ap (λ x. x || (b || c)) first ∙ ap (λ y. y || c) second ∙ third
 
 three_apart : (a b c : Bool) → (a || (b || c)) ≡ false → (a ≡ false) × (b ≡ false) × (c ≡ false)
@@ -67,7 +67,7 @@ module _ (asked : Everybody) (subtree : Names) (at : GuardedEntry) where
       ended (join_with_byte 32 (codes "fails" ∷ guard_name at.guard ∷ path_text (take at.len subtree) ∷ entry_text at.name
       ∷ owner_word at.entry.uid at.entry.gid ∷ mode_word at.entry.mode ∷ class_name class ∷ [])) 10
 
-  shut : flat_map (fails_line subtree at) (classes_in asked at.entry) ≡ [] → lets_anybody_in asked at.entry ≡ false
+  pub shut : flat_map (fails_line subtree at) (classes_in asked at.entry) ≡ [] → lets_anybody_in asked at.entry ≡ false
   shut none =
       let lines = fails_line subtree at in
       let owner = first_out lines some_line (opens_to asked at.entry Owner) Owner (filter (opens_to asked at.entry) (Group ∷ Others ∷
@@ -78,7 +78,7 @@ module _ (asked : Everybody) (subtree : Names) (at : GuardedEntry) where
       none_of_three (opens_to asked at.entry Owner) (opens_to asked at.entry Group) (opens_to asked at.entry Others) owner.0 group.0
       others.0
 
-  no_lines : lets_anybody_in asked at.entry ≡ false → flat_map (fails_line subtree at) (classes_in asked at.entry) ≡ []
+  pub no_lines : lets_anybody_in asked at.entry ≡ false → flat_map (fails_line subtree at) (classes_in asked at.entry) ≡ []
   no_lines none =
       let apart = three_apart (opens_to asked at.entry Owner) (opens_to asked at.entry Group) (opens_to asked at.entry Others) none in
       ap (λ b. flat_map (fails_line subtree at) (cond b (Owner ∷ filter (opens_to asked at.entry) (Group ∷ Others ∷ []))
@@ -151,7 +151,7 @@ module _ (st : State) (asked : Everybody) (subtree : Names) where
   abbrev over : Failed
   over = record { guard = AlreadyOver; len = length subtree }
 
-  fit : (b : Bool) → cond b [] (over_line subtree) ≡ [] → b ≡ true
+  pub fit : (b : Bool) → cond b [] (over_line subtree) ≡ [] → b ≡ true
   fit true none = refl
   fit false none = absurd (ended (join_with_byte 32 (codes "fails" ∷ guard_name AlreadyOver ∷ path_text subtree ∷ [])) 10 none)
 

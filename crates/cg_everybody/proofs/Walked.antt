@@ -1,4 +1,4 @@
--- The lines of the guarded entries, one after another.
+-- The lines of the classes of an entry, and of one subtree after another.
 use Rattle.std.proofs.Common.{◌≡◌, ℕ, ◌+◌, ◌≤◌, ◌<◌, Bool, true, false, cond, List, [], ◌∷◌, ◌++◌, length, take, drop, get_or, Option, refl, sym, ap, ◌∙◌, append_assoc, append-nil, take-suc, add-one}
 use Rattle.std.specs.Prelude.{option_and_then, slice_get}
 use Rattle.std.specs.List.{filter, flat_map}
@@ -11,29 +11,8 @@ use Rattle.cg_model.specs.declared.mend.Class.{Class}
 use Rattle.cg_model.specs.declared.mend.Class.TheVariants.{Owner, Group, Others}
 use Rattle.cg_advice.specs.AdviceLines.{fails_line}
 use Rattle.cg_advice.proofs.Gathering.{flat_more}
-use Rattle.cg_guards.proofs.TableWalk.{walk_turn, drop_all}
 use Rattle.machine_everybody.specs.Everybody.{Everybody}
 use Rattle.cg_everybody.specs.Everybody.{opens_to, classes_in, entrance_lines, found_lines, headed, subtree_lines, everybody_lines}
-
-module _ (st : State) (asked : Everybody) (subtree : Names) where
-  abbrev each : GuardedEntry → List ℕ
-  each at = flat_map (fails_line subtree at) (classes_in asked at.entry)
-
-  abbrev left : ℕ → List ℕ
-  left place = flat_map (entrance_lines st asked subtree) (drop place (guarded_entries subtree))
-
-  -- what is written at a place, and what is left behind it
-  pub walked : (place : ℕ) (here : Option GuardedEntry) (text new : List ℕ)
-      → here ≡ option_and_then (standing st subtree) (slice_get (guarded_entries subtree) place)
-      → new ≡ text ++ present here each → new ++ left (place + 1) ≡ text ++ left place
-  walked place here text new is written =
-      ap (λ front. front ++ left (place + 1)) written
-      ∙ append_assoc text (present here each) (left (place + 1))
-      ∙ ap (λ rest. text ++ rest) (sym (walk_turn st subtree each (guarded_entries subtree) place here is))
-
-  pub none_left : (place : ℕ) (text : List ℕ) → length (guarded_entries subtree) ≤ place → text ++ left place ≡ text
-  none_left place text all =
-      ap (λ gs. text ++ flat_map (entrance_lines st asked subtree) gs) (drop_all (guarded_entries subtree) place all) ∙ append-nil text
 
 -- ---- the classes of an entry
 
@@ -73,3 +52,6 @@ one_more st asked subtrees i subtree text new found within is so_far of_found wr
     written ∙ (λ k. so_far k ++ headed subtree (of_found k)) ∙ sym (flat_more (subtree_lines st asked) (take i subtrees) subtree)
     ∙ ap (everybody_lines st asked)
     (ap (λ (last : Names). take i subtrees ++ (last ∷ [])) is ∙ sym (rw add-one (take-suc subtrees i subtree within)))
+
+pub taken_more : {A : Type 0} (xs : List A) (i : ℕ) (x : A) → i < length xs → x ≡ get_or xs i x → take (i + 1) xs ≡ take i xs ++ x ∷ []
+taken_more xs i x within is = rw add-one (take-suc xs i x within) ∙ ap (λ last. take i xs ++ (last ∷ [])) (sym is)

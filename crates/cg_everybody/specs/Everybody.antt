@@ -8,10 +8,12 @@ use Rattle.cg_model.specs.Clauses.{present}
 use Rattle.cg_model.specs.Guards.{Guarded, GuardsHold, guarded_entries, guarded_entry, standing}
 use Rattle.cg_model.specs.Limits.{fits_descendants, fits_depth}
 use Rattle.cg_model.specs.States.{State}
+use Rattle.cg_model.specs.declared.guard.GuardedEntry.{GuardedEntry}
 use Rattle.cg_model.specs.declared.mend.Class.{Class}
 use Rattle.cg_model.specs.declared.mend.Class.TheVariants.{Owner, Group, Others}
 use Rattle.cg_advice.specs.AdviceLines.{line, fails_line, over_line}
-use Rattle.machine_everybody.specs.Everybody.{Everybody, Class as Kind, Owner as OwnerKind, Members as MembersKind, Others as OthersKind, IsAsked, entry_class, lets_class_in}
+use Rattle.cg_advice.specs.WayLines.{Spot}
+use Rattle.machine_everybody.specs.Everybody.{Everybody, Class as Kind, Owner as OwnerKind, Members as MembersKind, Others as OthersKind, IsAsked, entry_class, lets_class_in, lets_anybody_in}
 use Rattle.cg_everybody.specs.declared.asked.Asked.{Asked}
 use Rattle.cg_everybody.specs.declared.asked.Members.{Members}
 
@@ -33,6 +35,18 @@ opens_to asked entry class = lets_class_in asked entry (class_kind class)
 -- The classes that an entry lets in.
 abbrev pub classes_in : Everybody → Entry → List Class
 classes_in asked entry = filter (opens_to asked entry) (Owner ∷ Group ∷ Others ∷ [])
+
+-- an entry of a subtree, where it lets somebody in
+abbrev pub entered_by : Everybody → Names → GuardedEntry → List Spot
+entered_by asked subtree at = cond (lets_anybody_in asked at.entry) ((subtree, at) ∷ []) []
+
+-- a guarded one, where it is there
+abbrev pub entrance_of : State → Everybody → Names → Guarded → List Spot
+entrance_of st asked subtree guarded = present (standing st subtree guarded) (entered_by asked subtree)
+
+-- in the order of the guards
+abbrev pub entrances : State → Everybody → Names → List Spot
+entrances st asked subtree = flat_map (entrance_of st asked subtree) (guarded_entries subtree)
 
 -- a line for each class that a guarded entry lets in, where the entry is there
 abbrev pub entrance_lines : State → Everybody → Names → Guarded → List ℕ

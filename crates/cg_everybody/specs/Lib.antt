@@ -1,2 +1,5 @@
 pub mod Everybody
 pub mod Premises
+pub mod Entrances
+pub mod Advice
+pub mod Explained

@@ -1,10 +1,11 @@
 //! Everybody, but for who is left out.
 ghost use Rattle.std.specs.Prelude.{◌≡◌, ◌&&◌, nat_eq};
 ghost use Rattle.std.specs.List.{list_any};
-ghost use Rattle.machine_everybody.specs.Everybody.{is_left_out, is_listed, is_other, has_listed, has_members};
-ghost use Rattle.cg_everybody.specs.Everybody.{everybody_of};
+ghost use Rattle.machine_everybody.specs.Everybody.{is_left_out, is_listed, is_other, has_listed, has_members, lets_anybody_in};
+ghost use Rattle.cg_everybody.specs.Everybody.{everybody_of, opens_to};
 
 use cg_cgroup::user::Entry;
+use cg_model::mend::Class;
 
 /// Everybody but root and some further uids. Of a group that is listed nobody is a member but who stands there; where it is listed again,
 /// whoever stands in one of its lists.
@@ -22,15 +23,35 @@ pub struct Members<'a> {
 }
 
 impl Asked<'_> {
+    /// Whether an entry lets somebody in who is asked about.
+    pub(crate) fn lets_anybody_in(&self, entry: &Entry) -> bool
+        ensures { result ≡ lets_anybody_in (everybody_of self.now) entry.now }
+    {
+        self.opens_to(entry, Class::Owner)
+            || self.opens_to(entry, Class::Group)
+            || self.opens_to(entry, Class::Others)
+    }
+
+    /// Whether an entry lets a class of users in, of those who are asked about. Its owner sets its mode first.
+    pub(crate) fn opens_to(&self, entry: &Entry, class: Class) -> bool
+        ensures { result ≡ opens_to (everybody_of self.now) entry.now class }
+    {
+        match class {
+            Class::Owner => !self.is_left_out(entry.uid),
+            Class::Group => entry.mode & 0o020 == 0o020 && self.has_members(entry),
+            Class::Others => entry.mode & 0o002 == 0o002,
+        }
+    }
+
     /// Whether somebody who is asked about may be in an entry's group, and isn't its owner.
-    pub(crate) fn has_members(&self, entry: &Entry) -> bool
+    fn has_members(&self, entry: &Entry) -> bool
         ensures { result ≡ has_members (everybody_of self.now) entry.now }
     {
         !self.is_listed(entry.gid) || self.has_listed(entry)
     }
 
     /// Whether nobody of this uid is asked about.
-    pub(crate) fn is_left_out(&self, uid: u32) -> bool
+    fn is_left_out(&self, uid: u32) -> bool
         ensures { result ≡ is_left_out (everybody_of self.now) uid }
     {
         uid == 0 || self.but.contains(&uid)

@@ -1,18 +1,19 @@
 //! The lines of a report on everybody.
-ghost use Rattle.std.specs.Prelude.{◌≡◌, ◌++◌, ◌∷◌, [], cond, false, IfOk, OnOk, string_bytes};
+ghost use Rattle.std.specs.Prelude.{◌≡◌, ◌++◌, ◌∷◌, [], cond, false, IfOk, OnOk, map, string_bytes};
 ghost use Rattle.std.specs.List.{All, flat_map};
-ghost use Rattle.cg_cgroup.specs.Paths.{is_root};
 ghost use Rattle.cg_model.specs.Guards.{guarded_entries, IsSubtree};
+ghost use Rattle.cg_cgroup.specs.Paths.{is_root};
 ghost use Rattle.cg_advice.specs.AdviceLines.{IsShown, fails_line, over_line};
 ghost use Rattle.cg_everybody.specs.Everybody.{opens_to, classes_in, entrance_lines, found_lines, subtree_line, headed, everybody_lines, everybody_of};
+ghost use Rattle.cg_everybody.specs.Entrances.{entrance_spot, IsWalked, class_lines};
 
 use crate::asked::Asked;
+use crate::entrance::Entrance;
+use crate::walk::Walk;
 use cg_advice::text::{fails_line, over_line};
 use cg_cgroup::memory::NoMemory;
 use cg_cgroup::path::Path;
-use cg_cgroup::user::Entry;
 use cg_guards::failed::is_over;
-use cg_guards::table::{Top, guarded_count, guarded_entry};
 use cg_model::guard::GuardedEntry;
 use cg_model::hierarchy::Hierarchy;
 use cg_model::mend::Class;
@@ -33,9 +34,10 @@ pub fn everybody_lines<H: Hierarchy>(
     requires { All (IsSubtree (H.state tree.now)) subtrees.now }
     ensures { IfOk result (λ text. text.items ≡ everybody_lines (H.state tree.now) (everybody_of asked.now) subtrees.now) }
 {
+    let mut walk = Walk::new(alloc);
     let mut text = Vec::new(alloc);
     for subtree in subtrees {
-        let found = found_lines(alloc, tree, asked, subtree)?;
+        let found = found_lines(alloc, tree, asked, &mut walk, subtree)?;
         push_headed(alloc, &mut text, subtree, found.as_slice())?;
     }
     Ok(text)
@@ -60,24 +62,27 @@ fn push_headed(
 }
 
 /// The line of a subtree.
-fn subtree_line(alloc: Global, subtree: &Path) -> Result<String, AllocError>
+pub(crate) fn subtree_line(alloc: Global, subtree: &Path) -> Result<String, AllocError>
     ensures { IfOk result (λ line. string_bytes line ≡ subtree_line subtree.now) }
 {
     let place = subtree.prefix(subtree.depth());
     format!(in alloc; "subtree {place}\n")
 }
 
-/// What lets somebody break a subtree, in the order of the guards.
-fn found_lines<H: Hierarchy>(
+/// What lets somebody break a subtree, which is the next of a walk, in the order of the guards.
+fn found_lines<'a, H: Hierarchy>(
     alloc: Global,
     tree: &H,
     asked: &Asked<'_>,
-    subtree: &Path,
+    walk: &mut Walk<'a>,
+    subtree: &'a Path,
 ) -> Result<Vec<u8>, NoMemory>
-    requires { IsSubtree (H.state tree.now) subtree.now }
-    ensures { IfOk result (λ text. text.items ≡ found_lines (H.state tree.now) (everybody_of asked.now) subtree.now) }
+    requires subtree { IsSubtree (H.state tree.now) subtree.now }
+    requires walked { IsWalked (H.state tree.now) (everybody_of asked.now) walk.old }
+    ensures lines { IfOk result (λ text. text.items ≡ found_lines (H.state tree.now) (everybody_of asked.now) subtree.now) }
+    ensures walked { OnOk result (IsWalked (H.state tree.now) (everybody_of asked.now) walk.new) }
 {
-    let mut text = entries_lines(alloc, tree, asked, subtree)?;
+    let mut text = guards_lines(alloc, tree, asked, walk, subtree)?;
     if is_over(tree, subtree) {
         let line = over_line(alloc, subtree)?.into_bytes();
         text.extend_from_slice(line.as_slice())?;
@@ -85,30 +90,43 @@ fn found_lines<H: Hierarchy>(
     Ok(text)
 }
 
-/// The lines of the guarded entries that let somebody in.
-fn entries_lines<H: Hierarchy>(
+/// The lines of the guarded entries of a subtree that let somebody in, which is the next of a walk.
+fn guards_lines<'a, H: Hierarchy>(
     alloc: Global,
     tree: &H,
     asked: &Asked<'_>,
-    subtree: &Path,
+    walk: &mut Walk<'a>,
+    subtree: &'a Path,
 ) -> Result<Vec<u8>, NoMemory>
-    requires { is_root subtree.now ≡ false }
-    ensures { IfOk result (λ text.
+    requires not_root { is_root subtree.now ≡ false }
+    requires walked { IsWalked (H.state tree.now) (everybody_of asked.now) walk.old }
+    ensures lines { IfOk result (λ text.
         text.items ≡ flat_map (entrance_lines (H.state tree.now) (everybody_of asked.now) subtree.now) (guarded_entries subtree.now)) }
+    ensures walked { OnOk result (IsWalked (H.state tree.now) (everybody_of asked.now) walk.new) }
 {
-    let top = Top::of(tree, subtree);
+    let mut found = Vec::new(alloc);
+    walk.next(&mut found, tree, asked, subtree)?;
+    let text = entrances_lines(alloc, asked, found.as_slice())?;
+    Ok(text)
+}
+
+/// The lines of entries that let somebody in.
+fn entrances_lines(
+    alloc: Global,
+    asked: &Asked<'_>,
+    found: &[Entrance<'_>],
+) -> Result<Vec<u8>, NoMemory>
+    ensures { IfOk result (λ text. text.items ≡ flat_map (class_lines (everybody_of asked.now)) (map entrance_spot found.now)) }
+{
     let mut text = Vec::new(alloc);
-    for place in 0..guarded_count(subtree) {
-        let Some(at) = guarded_entry(tree, subtree, top, place) else {
-            continue;
-        };
-        push_entry(alloc, &mut text, asked, subtree, &at)?;
+    for each in found {
+        push_entry(alloc, &mut text, asked, each.subtree, &each.at)?;
     }
     Ok(text)
 }
 
 /// A line for each class that an entry lets in, behind a text.
-fn push_entry(
+pub(crate) fn push_entry(
     alloc: Global,
     text: &mut Vec<u8>,
     asked: &Asked<'_>,
@@ -136,20 +154,9 @@ fn push_class(
     requires { IsShown subtree.now at.now }
     ensures { OnOk result (text.new.items ≡ text.old.items ++ cond (opens_to (everybody_of asked.now) at.now.entry class) (fails_line subtree.now at.now class) []) }
 {
-    if opens_to(asked, &at.entry, class) {
+    if asked.opens_to(&at.entry, class) {
         let line = fails_line(alloc, subtree, at, class)?.into_bytes();
         text.extend_from_slice(line.as_slice())?;
     }
     Ok(())
-}
-
-/// Whether an entry lets a class of users in, of those who are asked about. Its owner sets its mode first.
-fn opens_to(asked: &Asked<'_>, entry: &Entry, class: Class) -> bool
-    ensures { result ≡ opens_to (everybody_of asked.now) entry.now class }
-{
-    match class {
-        Class::Owner => !asked.is_left_out(entry.uid),
-        Class::Group => entry.mode & 0o020 == 0o020 && asked.has_members(entry),
-        Class::Others => entry.mode & 0o002 == 0o002,
-    }
 }

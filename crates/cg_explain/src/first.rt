@@ -60,7 +60,7 @@ fn has_line<H: Hierarchy>(tree: &H, subtree: &Path, name: EntryName, by: Option<
 }
 
 /// Whether the tree tells of an entry of the subtree.
-fn is_told_of<H: Hierarchy>(tree: &H, subtree: &Path, name: EntryName) -> bool
+pub fn is_told_of<H: Hierarchy>(tree: &H, subtree: &Path, name: EntryName) -> bool
     ensures { result ≡ is_told_of (H.state tree.now) subtree.now name }
 {
     match name {

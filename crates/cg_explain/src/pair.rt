@@ -115,7 +115,10 @@ fn push_asked(
 }
 
 /// The lines of the two limits behind a text.
-fn push_limits<H: Hierarchy>(
+///
+/// # Errors
+/// `NoMemory` where an allocation was refused.
+pub fn push_limits<H: Hierarchy>(
     alloc: Global,
     text: &mut Vec<u8>,
     tree: &H,

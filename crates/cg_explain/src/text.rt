@@ -24,7 +24,8 @@ pub fn told_line(alloc: Global, subtree: &Path, told: &Told) -> Result<String, A
     }
 }
 
-fn holds_line(alloc: Global, subtree: &Path, at: &GuardedEntry) -> Result<String, AllocError>
+/// The line of a guard that holds: its entry, with the owner, group and mode.
+pub fn holds_line(alloc: Global, subtree: &Path, at: &GuardedEntry) -> Result<String, AllocError>
     requires { IsShown subtree.now at.now }
     ensures { IfOk result (λ line. string_bytes line ≡ holds_line subtree.now at.now) }
 {

@@ -39,13 +39,13 @@ awaited (request.May may) = tree_awaited may.tree
 awaited (request.Check check) = tree_awaited check.tree
 awaited (request.Settle check) = tree_awaited check.tree
 awaited (request.Audit audit) = tree_awaited audit.tree
-awaited (request.AuditEverybody asked) = tree_awaited asked.tree
+awaited (request.Everybody asked) = tree_awaited asked.tree
 awaited (request.Explain explain) = tree_awaited explain.tree
 awaited (request.Advise advise) = tree_awaited advise.tree
 awaited (request.AdvisePairs asked) = awaited_of asked.sources pairs_words
 awaited (request.AuditPairs asked) = awaited_of asked.sources pairs_words
 awaited (request.ExplainPairs asked) = awaited_of asked.sources pairs_words
-awaited (request.AuditSubtrees asked) = awaited_of asked.sources subtrees_words
+awaited (request.Subtrees asked) = awaited_of asked.sources subtrees_words
 awaited (request.Replay replay) = awaited_of replay.sources operations_words
 awaited (request.Upgrade upgrade) = tree_awaited upgrade.tree
 

@@ -8,8 +8,8 @@ pub(crate) fn tree_of<'a>(request: &Request<'a>) -> Option<&'a str> {
         Request::May(request) => request.tree,
         Request::Check(request) | Request::Settle(request) => request.tree,
         Request::Audit(request) => request.tree,
-        Request::AuditEverybody(request) => request.tree,
-        Request::AuditSubtrees(request) => request.sources.tree(),
+        Request::Everybody(request) => request.tree,
+        Request::Subtrees(request) => request.sources.tree(),
         Request::Explain(request) => request.tree,
         Request::Advise(request) => request.tree,
         Request::AdvisePairs(request)
@@ -27,7 +27,7 @@ pub(crate) fn other_of<'a>(request: &Request<'a>) -> Option<&'a str> {
         Request::AdvisePairs(request)
         | Request::AuditPairs(request)
         | Request::ExplainPairs(request) => request.sources.other(),
-        Request::AuditSubtrees(request) => request.sources.other(),
+        Request::Subtrees(request) => request.sources.other(),
         Request::Replay(request) => request.sources.other(),
         _ => None,
     }
@@ -44,7 +44,7 @@ pub(crate) fn paths_of<'a>(
             Vec::from_slice(alloc, &[request.subtree])
         }
         Request::Audit(request) => Vec::from_slice(alloc, request.subtrees.as_slice()),
-        Request::AuditEverybody(request) => Vec::from_slice(alloc, request.subtrees.as_slice()),
+        Request::Everybody(request) => Vec::from_slice(alloc, request.subtrees.as_slice()),
         Request::Explain(request) => Vec::from_slice(alloc, request.subtrees.as_slice()),
         Request::Advise(request) => Vec::from_slice(alloc, request.subtrees.as_slice()),
         Request::Replay(request) => match request.subtree {

@@ -36,7 +36,7 @@ pub(crate) fn line_said(
             Request::AdvisePairs(_) | Request::AuditPairs(_) | Request::ExplainPairs(_) => {
                 shown_with(alloc, line, PAIR)
             }
-            Request::AuditSubtrees(_) => subtree_said(alloc, line),
+            Request::Subtrees(_) => subtree_said(alloc, line),
             _ => operation_said(alloc, vocabulary, line),
         },
         Err(_) => String::from_str(alloc, "the line isn't UTF-8"),

@@ -39,12 +39,12 @@ fn awaited(request: &Request<'_>) -> Option<&'static str>
         Request::May(asked) => tree_awaited(asked.tree),
         Request::Check(asked) | Request::Settle(asked) => tree_awaited(asked.tree),
         Request::Audit(asked) => tree_awaited(asked.tree),
-        Request::AuditEverybody(asked) => tree_awaited(asked.tree),
+        Request::Everybody(asked) => tree_awaited(asked.tree),
         Request::Explain(asked) => tree_awaited(asked.tree),
         Request::Advise(asked) => tree_awaited(asked.tree),
         Request::AdvisePairs(asked) | Request::AuditPairs(asked) | Request::ExplainPairs(asked) =>
             awaited_of(asked.sources, PAIRS),
-        Request::AuditSubtrees(asked) => awaited_of(asked.sources, SUBTREES),
+        Request::Subtrees(asked) => awaited_of(asked.sources, SUBTREES),
         Request::Replay(asked) => awaited_of(asked.sources, OPERATIONS),
         Request::Upgrade(asked) => tree_awaited(asked.tree),
     }

@@ -28,7 +28,7 @@ use Rattle.cg_cli.specs.Replaying.{Reporting, Replays, ReplaysFrom}
 use Rattle.cg_cli.specs.Reports.{Report, Reports, report_on}
 use Rattle.cg_faults.specs.declared.fault.CliFault.{CliFault}
 use Rattle.cg_faults.specs.declared.fault.CliFault.TheVariants.{Read, Write, NoMemory}
-use Rattle.commands.specs.Requests.{Files, source, name_of, may_said, check_said, whom, everybody_asked, SettlesAs, AdviseSays, GuardsSay, FurtherSay}
+use Rattle.commands.specs.Requests.{Files, source, name_of, may_said, check_said, whom, wanted_of, everybody_asked, SettlesAs, AdviseSays, GuardsSay, FurtherSay}
 use Rattle.commands.specs.Requests.{AuditSays, ExplainSays, AdvisesOn, AuditsOn, ExplainsOn, EverybodyOn, OnLines, OnBothTexts, replay_said, IsUnread, OnTreeText, OnTree, ReportsOnTree, ReplaysOver, CarriesOut}
 use Rattle.commands.specs.PairLines.{pairs_read}
 use Rattle.commands.specs.SubtreeLines.{subtrees_read}
@@ -203,11 +203,12 @@ CarriesOut-Keeps (request.Settle check) files given old mid new result h k =
 CarriesOut-Keeps (request.Audit audit) files given old mid new result h k =
     OnTree-Keeps (source files (name_of audit.tree) given) (AuditSays audit old mid result) (AuditSays audit old new result) old mid new
     result (λ tree said. AuditSays-Keeps audit old mid new result tree said k) h k
-CarriesOut-Keeps (request.AuditEverybody asked) files given old mid new result h k =
+CarriesOut-Keeps (request.Everybody asked) files given old mid new result h k =
     ReportsOnTree-Keeps (source files (name_of asked.tree) given) (everybody_asked asked) old mid new result h k
-CarriesOut-Keeps (request.AuditSubtrees asked) files given old mid new result h k =
-    OnBothTexts-Keeps subtrees_read (EverybodyOn (whom asked.everyone)) _ _ old mid new result
-    (λ subtrees tree said kept. Reports-Keeps (everybody_report (whom asked.everyone) tree subtrees) old mid new result said kept) h k
+CarriesOut-Keeps (request.Subtrees asked) files given old mid new result h k =
+    OnBothTexts-Keeps subtrees_read (EverybodyOn (wanted_of asked.wanted) (whom asked.everyone)) _ _ old mid new result
+    (λ subtrees tree said kept. Reports-Keeps (everybody_report (wanted_of asked.wanted) (whom asked.everyone) tree subtrees) old mid new
+    result said kept) h k
 CarriesOut-Keeps (request.Explain explain) files given old mid new result h k =
     OnTree-Keeps (source files (name_of explain.tree) given) (ExplainSays explain old mid result) (ExplainSays explain old new result) old
     mid new result (λ tree said. ExplainSays-Keeps explain old mid new result tree said k) h k

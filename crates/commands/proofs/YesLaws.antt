@@ -16,6 +16,7 @@ use Rattle.cg_cli.specs.AllPairs.{read_then, pairs_found, all_report, ReportsPai
 use Rattle.cg_cli.specs.Containment.{subtree_report, check_report}
 use Rattle.cg_cli.specs.Audits.{users_read, paths_read, pairs_report, audit_report}
 use Rattle.cg_cli.specs.Everybody.{everybody_said, everybody_report}
+use Rattle.cg_cli.specs.declared.everybody.Wanted.{Wanted}
 use Rattle.cg_cli.specs.Once.{same_user}
 use Rattle.cg_model.specs.Once.{once}
 use Rattle.cg_cli.specs.Reports.{Report, Reports, report_on}
@@ -23,7 +24,9 @@ use Rattle.cg_faults.specs.declared.fault.CliFault.{CliFault}
 use Rattle.cg_faults.specs.declared.fault.CliFault.TheVariants.{NoMemory}
 use Rattle.clap.specs.declared.parser.matches.Found.{Found}
 use Rattle.arguments.specs.declared.everyone.Everyone.{Everyone}
-use Rattle.arguments.specs.Given.{ids_of, words_at, users_given, everyone_given, everyone_of, IsAudit, IsEverybody, IsOfSubtrees, tree_file, other_file, Holds, command_of}
+use Rattle.arguments.specs.declared.everyone.Wanted.{Wanted as Asked}
+use Rattle.arguments.specs.declared.everyone.Wanted.TheVariants as asked_for
+use Rattle.arguments.specs.Given.{ids_of, words_at, users_given, everyone_given, everyone_of, IsAudit, IsEverybody, IsOfSubtrees, tree_file, other_file, Holds, wanted_command, command_of}
 use Rattle.arguments.specs.UserWords.{all_read, user_at}
 use Rattle.arguments.specs.declared.request.Check.{Check}
 use Rattle.arguments.specs.declared.request.Audit.{Audit}
@@ -33,12 +36,13 @@ use Rattle.arguments.specs.declared.request.Subtrees.{Subtrees}
 use Rattle.arguments.specs.declared.request.Request.{Request}
 use Rattle.arguments.specs.declared.request.Request.TheVariants as request
 use Rattle.arguments.proofs.MadeLaws.{named_as}
+use Rattle.arguments.proofs.WantedLaws.{of_wanted}
 use Rattle.machine_everybody.specs.Everybody.{Everybody as Whom}
 use Rattle.machine_answers.specs.Contained.{of_ids, IsContainedIn, AreContainedIn, AreHeldAgainstEverybody}
 use Rattle.machine_answers.proofs.MachineLaws.{contained_in}
 use Rattle.machine_answers.proofs.AuditedLaws.{audited_in, all_audited_in}
 use Rattle.machine_answers.proofs.EverybodyLaws.{held_against_everybody}
-use Rattle.commands.specs.Requests.{Files, source, name_of, IsTree, IsOtherText, IsUnread, check_said, whom, everybody_asked, EverybodyOn, OnLines, GuardsSay, FurtherSay, CarriesOut}
+use Rattle.commands.specs.Requests.{Files, source, name_of, IsTree, IsOtherText, IsUnread, check_said, whom, wanted_of, everybody_asked, EverybodyOn, OnLines, GuardsSay, FurtherSay, CarriesOut}
 use Rattle.commands.specs.Runs.{IsFlushed, LeadsTo, RunsTo, exit_status}
 use Rattle.commands.specs.SubtreeLines.{subtrees_read, AreLinesOf}
 use Rattle.commands.specs.Yes.{AsksCheck, AsksAudit, AsksEverybody, AsksEverybodyOfLines, WasRead, CheckMeans, AuditMeans, EverybodyMeans}
@@ -112,11 +116,11 @@ all_refused fault users subtrees pairs is =
     unread_pairs (users_read users) (paths_read subtrees) (lifted fault)
     (λ (users : List Identity) (paths : List Names) (st : State). pairs_found st (once same_user users) (once same_path paths)) pairs is
 
-everybody_refused : (asked : Whom) (fault : TreeFault) (subtrees : List (List ℕ))
-    → (everybody_report asked (Err fault) subtrees).ending ≡ Ok 0 → ⊥
-everybody_refused asked fault subtrees is =
+everybody_refused : (wanted : Wanted) (asked : Whom) (fault : TreeFault) (subtrees : List (List ℕ))
+    → (everybody_report wanted asked (Err fault) subtrees).ending ≡ Ok 0 → ⊥
+everybody_refused wanted asked fault subtrees is =
     refused {A = Unit {0}} (Ok tt) (paths_read subtrees) (lifted fault)
-    (λ (none : Unit {0}) (paths : List Names) (st : State). everybody_said asked st (once same_path paths)) is
+    (λ (none : Unit {0}) (paths : List Names) (st : State). everybody_said wanted asked st (once same_path paths)) is
 
 pub not_unread : {P : Type 0} (old new : Option (List ℕ)) (status : ℕ) → IsUnread old new (Ok status) → P
 not_unread old new status (inl never, keeps) = let none : ⊥ = cc in absurd none
@@ -178,7 +182,7 @@ module _ (files : Files) (given old new : Option (List ℕ)) where
       by_flag true says = all_of read reading (all_report read users subtrees) refl says
   audit_carried audit settle (inr it) = not_unread old new 0 it
 
-  everybody_carried : (asked : Everybody) → CarriesOut (request.AuditEverybody asked) files given old new (Ok 0)
+  everybody_carried : (asked : Everybody) → CarriesOut (request.Everybody asked) files given old new (Ok 0)
       → (text : List ℕ) × WasRead files (name_of asked.tree) given text
       × AreHeldAgainstEverybody text (whom asked.everyone) (map (λ subtree. subtree.now) asked.subtrees.items)
   everybody_carried asked (inl (text, is_tree, (read, reading, reports))) = by_reading read reading reports
@@ -191,9 +195,10 @@ module _ (files : Files) (given old new : Option (List ℕ)) where
       by_reading (Ok st) reading reports = (
         text,
         read_whole (source files (name_of asked.tree) given) text is_tree reading.short,
-        held_against_everybody text (Ok st) (whom asked.everyone) subtrees reading reports.0,
+        held_against_everybody text (Ok st) (wanted_of asked.wanted) (whom asked.everyone) subtrees reading reports.0,
       )
-      by_reading (Err fault) reading reports = absurd (everybody_refused (whom asked.everyone) fault subtrees reports.0)
+      by_reading (Err fault) reading reports =
+          absurd (everybody_refused (wanted_of asked.wanted) (whom asked.everyone) fault subtrees reports.0)
   everybody_carried asked (inr it) = not_unread old new 0 it
 
   -- what both texts say of a request of subtrees that lines name
@@ -203,12 +208,12 @@ module _ (files : Files) (given old new : Option (List ℕ)) where
       × WasRead files (other_file asked.sources) given named × AreLinesOf named subtrees
       × AreHeldAgainstEverybody text (whom asked.everyone) subtrees
 
-  lines_carried : (asked : Subtrees) → CarriesOut (request.AuditSubtrees asked) files given old new (Ok 0) → AreHeldByLines asked
+  lines_carried : (asked : Subtrees) → CarriesOut (request.Subtrees asked) files given old new (Ok 0) → AreHeldByLines asked
   lines_carried asked (inl (text, named, is_tree, are_named, (inl (read, reading, said)))) =
       by_lines (subtrees_read named) refl read reading said
     where
       by_reading : (subtrees : List (List ℕ)) → subtrees_read named ≡ Ok subtrees → (read : Reading) → IsReading text read
-          → EverybodyOn (whom asked.everyone) subtrees read old new (Ok 0) → AreHeldByLines asked
+          → EverybodyOn (wanted_of asked.wanted) (whom asked.everyone) subtrees read old new (Ok 0) → AreHeldByLines asked
       by_reading subtrees of (Ok st) reading reports =
           let lines = are_lines named subtrees of in (
             text,
@@ -217,12 +222,13 @@ module _ (files : Files) (given old new : Option (List ℕ)) where
             read_whole (source files (tree_file asked.sources) given) text is_tree reading.short,
             lines_whole (source files (other_file asked.sources) given) named are_named lines.1,
             lines.0,
-            held_against_everybody text (Ok st) (whom asked.everyone) subtrees reading reports.0,
+            held_against_everybody text (Ok st) (wanted_of asked.wanted) (whom asked.everyone) subtrees reading reports.0,
           )
-      by_reading subtrees of (Err fault) reading reports = absurd (everybody_refused (whom asked.everyone) fault subtrees reports.0)
+      by_reading subtrees of (Err fault) reading reports =
+          absurd (everybody_refused (wanted_of asked.wanted) (whom asked.everyone) fault subtrees reports.0)
 
       by_lines : (lines : Result (List (List ℕ)) CliFault) → subtrees_read named ≡ lines → (read : Reading) → IsReading text read
-          → OnLines (EverybodyOn (whom asked.everyone)) lines read old new (Ok 0) → AreHeldByLines asked
+          → OnLines (EverybodyOn (wanted_of asked.wanted) (whom asked.everyone)) lines read old new (Ok 0) → AreHeldByLines asked
       by_lines (Ok subtrees) of read reading said = by_reading subtrees of read reading said
       by_lines (Err fault) of read reading said = let never : ⊥ = let same = said.0 in cc in absurd never
   lines_carried asked (inl (text, named, is_tree, are_named, (inr it))) = not_unread old new 0 it
@@ -278,13 +284,18 @@ check-audit is = true≢false (ap (λ (o : Option (List ℕ)). nat_eq (get_or (u
 none-audit : ◌≡◌ {A = Option (List ℕ)} None (Some (codes "audit")) → ⊥
 none-audit is = cc
 
+wanted-check : (wanted : Asked) → ◌≡◌ {A = Option (List ℕ)} (Some (wanted_command wanted)) (Some (codes "check")) → ⊥
+wanted-check asked_for.Audit is = audit-check is
+wanted-check asked_for.Advise is = advise-check is
+wanted-check asked_for.Explain is = explain-check is
+
 -- what is said of all requests of `audit` is said of them
-of_audit : (P : Request → Type 0) → ((audit : Audit) → P (request.Audit audit)) → ((asked : Everybody) → P (request.AuditEverybody asked))
-    → ((asked : Subtrees) → P (request.AuditSubtrees asked)) → ((pairs : Pairs) → P (request.AuditPairs pairs)) → (asked : Request)
+of_audit : (P : Request → Type 0) → ((audit : Audit) → P (request.Audit audit)) → ((asked : Everybody) → P (request.Everybody asked))
+    → ((asked : Subtrees) → P (request.Subtrees asked)) → ((pairs : Pairs) → P (request.AuditPairs pairs)) → (asked : Request)
     → command_of asked ≡ Some (codes "audit") → P asked
 of_audit P one everybody lines each (request.Audit audit) is = one audit
-of_audit P one everybody lines each (request.AuditEverybody asked) is = everybody asked
-of_audit P one everybody lines each (request.AuditSubtrees asked) is = lines asked
+of_audit P one everybody lines each (request.Everybody asked) is = everybody asked
+of_audit P one everybody lines each (request.Subtrees asked) is = lines asked
 of_audit P one everybody lines each (request.AuditPairs pairs) is = each pairs
 of_audit P one everybody lines each (request.Help help) is = absurd (none-audit is)
 of_audit P one everybody lines each (request.May may) is = absurd (may-audit is)
@@ -371,8 +382,8 @@ module _ (words : List (List ℕ)) (files : Files) (given old said : Option (Lis
       by_request (request.May may) is holds done = absurd (may-check is)
       by_request (request.Settle check) is holds done = absurd (settle-check is)
       by_request (request.Audit audit) is holds done = absurd (audit-check is)
-      by_request (request.AuditEverybody asked) is holds done = absurd (audit-check is)
-      by_request (request.AuditSubtrees asked) is holds done = absurd (audit-check is)
+      by_request (request.Everybody asked) is holds done = absurd (wanted-check asked.wanted is)
+      by_request (request.Subtrees asked) is holds done = absurd (wanted-check asked.wanted is)
       by_request (request.AuditPairs pairs) is holds done = absurd (audit-check is)
       by_request (request.Explain explain) is holds done = absurd (explain-check is)
       by_request (request.ExplainPairs pairs) is holds done = absurd (explain-check is)
@@ -389,7 +400,7 @@ module _ (words : List (List ℕ)) (files : Files) (given old said : Option (Lis
       → (text : List ℕ) × WasRead files tree given text × AreContainedIn text (map of_ids users) subtrees)
       by_audit by_everybody by_lines (λ pairs holds done. absurd (holds.some_pairs asks.3.3)) leads.0 of.0 of.1 carried
     where
-      by_lines : (asked : Subtrees) → IsOfSubtrees asks.0 asked → CarriesOut (request.AuditSubtrees asked) files given old said (Ok 0)
+      by_lines : (asked : Subtrees) → IsOfSubtrees asks.0 asked → CarriesOut (request.Subtrees asked) files given old said (Ok 0)
           → (text : List ℕ) × WasRead files tree given text × AreContainedIn text (map of_ids users) subtrees
       by_lines asked holds done =
           let means = lines_carried files given old said asked done in
@@ -417,7 +428,7 @@ module _ (words : List (List ℕ)) (files : Files) (given old said : Option (Lis
                 (map (λ subtree. subtree.now) audit.subtrees.items)) of_users means.2),
           )
 
-      by_everybody : (asked : Everybody) → IsEverybody asks.0 asked → CarriesOut (request.AuditEverybody asked) files given old said (Ok 0)
+      by_everybody : (asked : Everybody) → IsEverybody asks.0 asked → CarriesOut (request.Everybody asked) files given old said (Ok 0)
           → (text : List ℕ) × WasRead files tree given text × AreContainedIn text (map of_ids users) subtrees
       by_everybody asked holds done =
           let means = everybody_carried files given old said asked done in
@@ -432,16 +443,16 @@ module _ (words : List (List ℕ)) (files : Files) (given old said : Option (Lis
                 (for_nobody means.0 (whom asked.everyone) (map (λ subtree. subtree.now) asked.subtrees.items) means.2)),
           )
 
-  everybody_means : (tree : Option (List ℕ)) (who : Whom) (subtrees : List (List ℕ)) → AsksEverybody words tree who subtrees
+  everybody_means : (wanted : Asked) (tree : Option (List ℕ)) (who : Whom) (subtrees : List (List ℕ))
+      → AsksEverybody wanted words tree who subtrees
       → (text : List ℕ) × WasRead files tree given text × AreHeldAgainstEverybody text who subtrees
-  everybody_means tree who subtrees asks =
-      let of = named_as words (codes "audit") asks.0 asks.1 asks.2 leads.0 leads.1 in
-      of_audit (λ (asked : Request). Holds asks.0 asked → CarriesOut asked files given old said (Ok 0)
+  everybody_means wanted tree who subtrees asks =
+      let of = named_as words (wanted_command wanted) asks.0 asks.1 asks.2 leads.0 leads.1 in
+      of_wanted asks.0 asks.3.2 (λ (asked : Request). CarriesOut asked files given old said (Ok 0)
       → (text : List ℕ) × WasRead files tree given text × AreHeldAgainstEverybody text who subtrees)
-      (λ audit holds done. absurd (holds.not_everybody asks.3.2)) by_everybody by_lines
-      (λ pairs holds done. absurd (holds.not_everybody asks.3.2)) leads.0 of.0 of.1 carried
+      by_everybody by_lines wanted leads.0 of.0 of.1 carried
     where
-      by_lines : (asked : Subtrees) → IsOfSubtrees asks.0 asked → CarriesOut (request.AuditSubtrees asked) files given old said (Ok 0)
+      by_lines : (asked : Subtrees) → IsOfSubtrees asks.0 asked → CarriesOut (request.Subtrees asked) files given old said (Ok 0)
           → (text : List ℕ) × WasRead files tree given text × AreHeldAgainstEverybody text who subtrees
       by_lines asked holds done =
           let means = lines_carried files given old said asked done in
@@ -453,7 +464,7 @@ module _ (words : List (List ℕ)) (files : Files) (given old said : Option (Lis
                 (sym holds.no_subtree ∙ asks.3.1) (held_of_none means.0 (whom asked.everyone) means.2 means.6)),
           )
 
-      by_everybody : (asked : Everybody) → IsEverybody asks.0 asked → CarriesOut (request.AuditEverybody asked) files given old said (Ok 0)
+      by_everybody : (asked : Everybody) → IsEverybody asks.0 asked → CarriesOut (request.Everybody asked) files given old said (Ok 0)
           → (text : List ℕ) × WasRead files tree given text × AreHeldAgainstEverybody text who subtrees
       by_everybody asked holds done =
           let means = everybody_carried files given old said asked done in
@@ -470,14 +481,14 @@ module _ (words : List (List ℕ)) (files : Files) (given old said : Option (Lis
       (text named : List ℕ) × (subtrees : List (List ℕ)) × WasRead files tree given text × WasRead files lines given named
       × AreLinesOf named subtrees × AreHeldAgainstEverybody text who subtrees
 
-  lines_means : (tree lines : Option (List ℕ)) (who : Whom) → AsksEverybodyOfLines words tree who lines → LinesMean tree lines who
-  lines_means tree lines who asks =
-      let of = named_as words (codes "audit") asks.0 asks.1 asks.2 leads.0 leads.1 in
-      of_audit (λ (asked : Request). Holds asks.0 asked → CarriesOut asked files given old said (Ok 0) → LinesMean tree lines who)
-      (λ audit holds done. absurd (holds.not_everybody asks.3.3)) (λ asked holds done. absurd (asks.3.2 holds.no_subtrees)) by_lines
-      (λ pairs holds done. absurd (holds.not_everybody asks.3.3)) leads.0 of.0 of.1 carried
+  lines_means : (wanted : Asked) (tree lines : Option (List ℕ)) (who : Whom) → AsksEverybodyOfLines wanted words tree who lines
+      → LinesMean tree lines who
+  lines_means wanted tree lines who asks =
+      let of = named_as words (wanted_command wanted) asks.0 asks.1 asks.2 leads.0 leads.1 in
+      of_wanted asks.0 asks.3.3 (λ (asked : Request). CarriesOut asked files given old said (Ok 0) → LinesMean tree lines who)
+      (λ asked holds done. absurd (asks.3.2 holds.no_subtrees)) by_lines wanted leads.0 of.0 of.1 carried
     where
-      by_lines : (asked : Subtrees) → IsOfSubtrees asks.0 asked → CarriesOut (request.AuditSubtrees asked) files given old said (Ok 0)
+      by_lines : (asked : Subtrees) → IsOfSubtrees asks.0 asked → CarriesOut (request.Subtrees asked) files given old said (Ok 0)
           → LinesMean tree lines who
       by_lines asked holds done =
           let means = lines_carried files given old said asked done in (
@@ -511,9 +522,10 @@ module _ (words : List (List ℕ)) (files : Files) (given old new : Option (List
 
   pub run_audits_everybody : EverybodyMeans words files given (exit_status answer)
   run_audits_everybody = (
-    (λ tree who subtrees asks is.
-        everybody_means words files given old runs.0 (leads_to (answer_is answer is)) tree who subtrees asks),
-    (λ tree lines who asks is. lines_means words files given old runs.0 (leads_to (answer_is answer is)) tree lines who asks),
+    (λ wanted tree who subtrees asks is.
+        everybody_means words files given old runs.0 (leads_to (answer_is answer is)) wanted tree who subtrees asks),
+    (λ wanted tree lines who asks is.
+        lines_means words files given old runs.0 (leads_to (answer_is answer is)) wanted tree lines who asks),
   )
 
 -- ---- of the program
@@ -544,8 +556,8 @@ module _ {W : Type 0} (contents : W → Option (List ℕ)) (P : W → Type 0) (w
   pub program_audits_everybody : (out : Option W) → MatchOption out (answer ≡ Err (Cli NoMemory)) P
       → EverybodyMeans words files given status
   program_audits_everybody out ran = (
-    (λ tree who subtrees asks zero.
-        let found = zero_runs out ran zero in everybody_means words files given old found.0 found.1 tree who subtrees asks),
-    (λ tree lines who asks zero.
-        let found = zero_runs out ran zero in lines_means words files given old found.0 found.1 tree lines who asks),
+    (λ wanted tree who subtrees asks zero.
+        let found = zero_runs out ran zero in everybody_means words files given old found.0 found.1 wanted tree who subtrees asks),
+    (λ wanted tree lines who asks zero.
+        let found = zero_runs out ran zero in lines_means words files given old found.0 found.1 wanted tree lines who asks),
   )

@@ -23,6 +23,10 @@ use Rattle.cg_cli.specs.AllPairs.{all_report, ReportsPairs}
 use Rattle.cg_cli.specs.Asking.{CallEnding}
 use Rattle.cg_cli.specs.EachPair.{audit_pairs_report, explain_pairs_asked}
 use Rattle.cg_cli.specs.Everybody.{everybody_report}
+use Rattle.cg_cli.specs.declared.everybody.Wanted.{Wanted}
+use Rattle.cg_cli.specs.declared.everybody.Wanted.TheVariants.{Audit as AuditWanted, Advise as AdviseWanted, Explain as ExplainWanted}
+use Rattle.arguments.specs.declared.everyone.Wanted.{Wanted as Asked}
+use Rattle.arguments.specs.declared.everyone.Wanted.TheVariants as asked_for
 use Rattle.machine_everybody.specs.Everybody.{Everybody as Whom}
 use Rattle.arguments.specs.declared.everyone.Everyone.{Everyone}
 use Rattle.cg_cli.specs.Explaining.{explain_asked, ReportsTold}
@@ -79,8 +83,15 @@ check_said check tree = check_report tree check.user.uid check.user.gids.items c
 abbrev pub whom : Everyone → Whom
 whom everyone = record { but = everyone.but.items; groups = map listed_group everyone.groups.items }
 
+-- and what is wanted of them
+abbrev pub wanted_of : Asked → Wanted
+wanted_of asked_for.Audit = AuditWanted
+wanted_of asked_for.Advise = AdviseWanted
+wanted_of asked_for.Explain = ExplainWanted
+
 abbrev pub everybody_asked : Everybody → Reading → Report
-everybody_asked asked tree = everybody_report (whom asked.everyone) tree (map (λ subtree. subtree.now) asked.subtrees.items)
+everybody_asked asked tree =
+    everybody_report (wanted_of asked.wanted) (whom asked.everyone) tree (map (λ subtree. subtree.now) asked.subtrees.items)
 
 -- what check says, or where that is unsettled what the second row of guards and the planner know
 abbrev pub SettlesAs : Check → Option (List ℕ) → Option (List ℕ) → Result ℕ CliFault → Reading → Type 0
@@ -106,8 +117,8 @@ AuditsOn pairs tree = ReportsPairs (audit_pairs_report tree pairs)
 abbrev pub ExplainsOn : List GivenPair → Reading → CallEnding
 ExplainsOn pairs tree = ReportsTold (explain_pairs_asked tree pairs)
 
-abbrev pub EverybodyOn : Whom → List (List ℕ) → Reading → CallEnding
-EverybodyOn asked subtrees tree = Reports (everybody_report asked tree subtrees)
+abbrev pub EverybodyOn : Wanted → Whom → List (List ℕ) → Reading → CallEnding
+EverybodyOn wanted asked subtrees tree = Reports (everybody_report wanted asked tree subtrees)
 
 -- the first fault of the lines of a text, by when nothing is written, or what is answered of what they name
 abbrev pub OnLines : {A : Type 0} → (List A → Reading → CallEnding) → Result (List A) CliFault → Reading → CallEnding
@@ -195,10 +206,10 @@ CarriesOut (request.Settle check) files given old new result =
     SettlesOnTree (source files (name_of check.tree) given) check old new result
 CarriesOut (request.Audit audit) files given old new result =
     OnTree (source files (name_of audit.tree) given) (AuditSays audit old new result) old new result
-CarriesOut (request.AuditEverybody asked) files given old new result =
+CarriesOut (request.Everybody asked) files given old new result =
     ReportsOnTree (source files (name_of asked.tree) given) (everybody_asked asked) old new result
-CarriesOut (request.AuditSubtrees asked) files given old new result =
-    OnBothTexts subtrees_read (EverybodyOn (whom asked.everyone)) (source files (tree_file asked.sources) given)
+CarriesOut (request.Subtrees asked) files given old new result =
+    OnBothTexts subtrees_read (EverybodyOn (wanted_of asked.wanted) (whom asked.everyone)) (source files (tree_file asked.sources) given)
     (source files (other_file asked.sources) given) old new result
 CarriesOut (request.Explain explain) files given old new result =
     OnTree (source files (name_of explain.tree) given) (ExplainSays explain old new result) old new result

@@ -2,8 +2,9 @@
 use Rattle.std.specs.Prelude.{◌≡◌, ◌≢◌, ℕ, List, map, codes, Option, Some, None, IfSome}
 use Rattle.clap.specs.Matches.{first_value, one_text}
 use Rattle.clap.specs.Walk.{Text}
-use Rattle.arguments.specs.Given.{words_at, file_at, user_given, users_given, everyone_given}
+use Rattle.arguments.specs.Given.{words_at, file_at, user_given, users_given, everyone_given, wanted_command}
 use Rattle.arguments.specs.Words.{NamesCommand}
+use Rattle.arguments.specs.declared.everyone.Wanted.{Wanted}
 use Rattle.machine_everybody.specs.Everybody.{Everybody}
 use Rattle.machine_answers.specs.Contained.{of_ids, IsContainedIn, AreContainedIn, AreHeldAgainstEverybody}
 use Rattle.commands.specs.Requests.{Files, source}
@@ -20,15 +21,15 @@ AsksAudit words tree given subtrees = NamesCommand words (codes "audit") (λ fou
     (file_at found (codes "tree") ≡ tree) × (users_given found ≡ Some given) × (words_at found (codes "subtree") ≡ subtrees)
     × (first_value found (codes "pairs") ≡ None) × (one_text found (codes "settle") ≡ Some (codes "false")))
 
--- They name `audit` with everybody, but for who is left out, and subtrees.
-abbrev pub AsksEverybody : List Text → Option (List ℕ) → Everybody → List (List ℕ) → Type 0
-AsksEverybody words tree asked subtrees = NamesCommand words (codes "audit") (λ found.
+-- They name `audit`, `advise` or `explain` with everybody, but for who is left out, and subtrees.
+abbrev pub AsksEverybody : Wanted → List Text → Option (List ℕ) → Everybody → List (List ℕ) → Type 0
+AsksEverybody wanted words tree asked subtrees = NamesCommand words (wanted_command wanted) (λ found.
     (file_at found (codes "tree") ≡ tree) × (words_at found (codes "subtree") ≡ subtrees)
     × (first_value found (codes "everybody") ≡ Some (codes "true")) × (everyone_given found ≡ Some (asked.but, asked.groups)))
 
--- They name `audit` with everybody, likewise, and a file for the subtrees, or standard input.
-abbrev pub AsksEverybodyOfLines : List Text → Option (List ℕ) → Everybody → Option (List ℕ) → Type 0
-AsksEverybodyOfLines words tree asked lines = NamesCommand words (codes "audit") (λ found.
+-- They name one of these with everybody, likewise, and a file for the subtrees, or standard input.
+abbrev pub AsksEverybodyOfLines : Wanted → List Text → Option (List ℕ) → Everybody → Option (List ℕ) → Type 0
+AsksEverybodyOfLines wanted words tree asked lines = NamesCommand words (wanted_command wanted) (λ found.
     (file_at found (codes "tree") ≡ tree) × (file_at found (codes "subtrees") ≡ lines)
     × (first_value found (codes "subtrees") ≢ None) × (first_value found (codes "everybody") ≡ Some (codes "true"))
     × (everyone_given found ≡ Some (asked.but, asked.groups)))
@@ -50,13 +51,14 @@ AuditMeans words files given status =
 
 abbrev pub EverybodyOfWordsMeans : List Text → Files → Option (List ℕ) → ℕ → Type 0
 EverybodyOfWordsMeans words files given status =
-    (tree : Option (List ℕ)) (asked : Everybody) (subtrees : List (List ℕ)) → AsksEverybody words tree asked subtrees → status ≡ 0
+    (wanted : Wanted) (tree : Option (List ℕ)) (asked : Everybody) (subtrees : List (List ℕ))
+    → AsksEverybody wanted words tree asked subtrees → status ≡ 0
     → (text : List ℕ) × WasRead files tree given text × AreHeldAgainstEverybody text asked subtrees
 
 -- Each path is held that is a line of the text that was read for the subtrees, which has one at least, and nothing else.
 abbrev pub EverybodyOfLinesMeans : List Text → Files → Option (List ℕ) → ℕ → Type 0
 EverybodyOfLinesMeans words files given status =
-    (tree lines : Option (List ℕ)) (asked : Everybody) → AsksEverybodyOfLines words tree asked lines → status ≡ 0
+    (wanted : Wanted) (tree lines : Option (List ℕ)) (asked : Everybody) → AsksEverybodyOfLines wanted words tree asked lines → status ≡ 0
     → (text named : List ℕ) × (subtrees : List (List ℕ)) × WasRead files tree given text × WasRead files lines given named
     × AreLinesOf named subtrees × AreHeldAgainstEverybody text asked subtrees
 

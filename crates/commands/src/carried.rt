@@ -50,8 +50,8 @@ pub(crate) fn carried_out<F: Files, I: Read + Drop, W: Write>(
         Request::Check(asked) => on_tree(alloc, asked, files, input, beside, out),
         Request::Settle(asked) => { on_tree(alloc, &Settling { asked }, files, input, beside, out) }
         Request::Audit(asked) => on_tree(alloc, asked, files, input, beside, out),
-        Request::AuditEverybody(asked) => on_tree(alloc, asked, files, input, beside, out),
-        Request::AuditSubtrees(asked) => on_subtrees(alloc, asked, files, input, noted, out),
+        Request::Everybody(asked) => on_tree(alloc, asked, files, input, beside, out),
+        Request::Subtrees(asked) => on_subtrees(alloc, asked, files, input, noted, out),
         Request::Explain(asked) => on_tree(alloc, asked, files, input, beside, out),
         Request::Advise(asked) => on_tree(alloc, asked, files, input, beside, out),
         Request::Upgrade(asked) => on_tree(alloc, asked, files, input, beside, out),

@@ -1,11 +1,11 @@
-//! The command that is asked of everybody, of a tree and of the subtrees that a text names.
+//! The commands that are asked of everybody, of a tree and of the subtrees that a text names.
 ghost use Rattle.std.specs.Prelude.{◌⊎◌, IfOk, map};
 ghost use Rattle.cg_format.specs.Readings.{OnText};
 ghost use Rattle.cg_cli.specs.Everybody.{everybody_report};
 ghost use Rattle.cg_cli.specs.Reports.{Reports};
 ghost use Rattle.arguments.specs.Given.{tree_file, other_file};
 ghost use Rattle.commands.specs.Beside.{IsPlain};
-ghost use Rattle.commands.specs.Requests.{source, whom, EverybodyOn, IsUnread, AnswersLines, OnBothTexts};
+ghost use Rattle.commands.specs.Requests.{source, whom, wanted_of, EverybodyOn, IsUnread, AnswersLines, OnBothTexts};
 ghost use Rattle.commands.specs.SubtreeLines.{subtrees_read};
 
 use crate::both::plain;
@@ -13,8 +13,8 @@ use crate::carried::Noted;
 use crate::lines::line_at;
 use crate::subtrees::read_subtrees;
 use crate::texts::both_texts;
-use crate::users::all_members;
-use arguments::everyone::Everyone;
+use crate::users::{all_members, wanted_of};
+use arguments::everyone::{Everyone, Wanted};
 use arguments::request::Subtrees;
 use cg_cli::everybody::everybody_bytes;
 use cg_everybody::asked::Asked;
@@ -23,7 +23,7 @@ use std::alloc::Global;
 use std::io::{Read, Write};
 use streams::files::Files;
 
-/// Audits the subtrees of a text against everybody, but for who is left out. Where one of its lines ends it, that line is noted.
+/// Answers on the subtrees of a text and everybody, but for who is left out. Where one of its lines ends it, that line is noted.
 pub(crate) fn on_subtrees<F: Files, I: Read + Drop, W: Write>(
     alloc: Global,
     asked: &Subtrees<'_>,
@@ -32,7 +32,7 @@ pub(crate) fn on_subtrees<F: Files, I: Read + Drop, W: Write>(
     noted: &mut Noted,
     out: &mut W,
 ) -> Result<u8, CliFault>
-    ensures answer { OnBothTexts subtrees_read (EverybodyOn (whom asked.now.everyone))
+    ensures answer { OnBothTexts subtrees_read (EverybodyOn (wanted_of asked.now.wanted) (whom asked.now.everyone))
         (source (F.given files.now) (tree_file asked.now.sources) (I.remaining input))
         (source (F.given files.now) (other_file asked.now.sources) (I.remaining input))
         (W.contents out.old) (W.contents out.new) result }
@@ -42,6 +42,7 @@ pub(crate) fn on_subtrees<F: Files, I: Read + Drop, W: Write>(
     noted.beside = plain(alloc, texts.tree.as_slice())?;
     answered(
         alloc,
+        asked.wanted,
         &asked.everyone,
         texts.tree.as_slice(),
         texts.other.as_slice(),
@@ -53,33 +54,37 @@ pub(crate) fn on_subtrees<F: Files, I: Read + Drop, W: Write>(
 /// Answers on the subtrees of a text and the text of a tree.
 fn answered<W: Write>(
     alloc: Global,
+    wanted: Wanted,
     everyone: &Everyone,
     tree: &[u8],
     text: &[u8],
     line: &mut Option<Vec<u8>>,
     out: &mut W,
 ) -> Result<u8, CliFault>
-    ensures { AnswersLines subtrees_read (EverybodyOn (whom everyone.now)) tree.now text.now (W.contents out.old) (W.contents out.new) result }
+    ensures { AnswersLines subtrees_read (EverybodyOn (wanted_of wanted) (whom everyone.now)) tree.now text.now (W.contents out.old) (W.contents out.new) result }
 {
     match read_subtrees(alloc, text) {
         Err(fault) => {
             *line = line_at(alloc, text, &fault);
             Err(fault)
         }
-        Ok(subtrees) => against_everybody(alloc, tree, everyone, subtrees.as_slice(), out),
+        Ok(subtrees) => {
+            against_everybody(alloc, tree, wanted, everyone, subtrees.as_slice(), out)
+        }
     }
 }
 
-/// Audits subtrees against everybody, but for who is left out.
+/// Answers on subtrees and everybody, but for who is left out.
 pub(crate) fn against_everybody<W: Write>(
     alloc: Global,
     tree: &[u8],
+    wanted: Wanted,
     everyone: &Everyone,
     subtrees: &[&str],
     out: &mut W,
 ) -> Result<u8, CliFault>
     ensures { OnText tree.now (λ read. Reports
-        (everybody_report (whom everyone.now) read (map (λ subtree. subtree.now) subtrees.now))
+        (everybody_report (wanted_of wanted) (whom everyone.now) read (map (λ subtree. subtree.now) subtrees.now))
         (W.contents out.old) (W.contents out.new) result)
         ⊎ IsUnread (W.contents out.old) (W.contents out.new) result }
 {
@@ -88,5 +93,6 @@ pub(crate) fn against_everybody<W: Write>(
         but: everyone.but.as_slice(),
         groups: groups.as_slice(),
     };
-    everybody_bytes(alloc, tree, &asked, subtrees, out)
+    let wanted = wanted_of(wanted);
+    everybody_bytes(alloc, tree, wanted, &asked, subtrees, out)
 }

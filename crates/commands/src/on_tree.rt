@@ -220,7 +220,8 @@ impl OnTree for Everybody<'_> {
         _: &mut Beside,
         out: &mut W,
     ) -> Result<u8, CliFault> {
-        against_everybody(alloc, tree, &self.everyone, self.subtrees.as_slice(), out)
+        let subtrees = self.subtrees.as_slice();
+        against_everybody(alloc, tree, self.wanted, &self.everyone, subtrees, out)
     }
 }
 

@@ -1,13 +1,15 @@
-//! Users and pairs as the command line names them, handed to a call.
+//! Users and pairs as the command line names them, and what is wanted of everybody, handed to a call.
 ghost use Rattle.std.specs.Prelude.{◌≡◌, map, IfOk, IfErr};
 ghost use Rattle.cg_cli.specs.Pairs.{pair_given};
 ghost use Rattle.cg_everybody.specs.Everybody.{members_of};
 ghost use Rattle.arguments.specs.Given.{ids_of, ids_of_pair, listed_group};
+ghost use Rattle.commands.specs.Requests.{wanted_of};
 
-use arguments::everyone::ListedGroup;
+use arguments::everyone::{ListedGroup, Wanted as Asked};
 use arguments::named_pair::NamedPair;
 use arguments::named_user::NamedUser;
 use cg_cli::arguments::UserIds;
+use cg_cli::everybody::Wanted;
 use cg_cli::pairs::PairIds;
 use cg_everybody::asked::Members;
 use cg_faults::fault::CliFault;
@@ -37,6 +39,17 @@ pub(crate) fn all_ids<'a>(
         all.push(ids(user))?;
     }
     Ok(all)
+}
+
+/// What is wanted, as a call takes it.
+pub(crate) fn wanted_of(asked: Asked) -> Wanted
+    ensures { result ≡ wanted_of asked }
+{
+    match asked {
+        Asked::Audit => Wanted::Audit,
+        Asked::Advise => Wanted::Advise,
+        Asked::Explain => Wanted::Explain,
+    }
 }
 
 /// The groups of which it is told who is a member, as a call takes them.

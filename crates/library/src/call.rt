@@ -19,7 +19,7 @@ const NO_MEMORY: &[u8] = b"fault: memory\n";
 ///
 /// It gives the program's status, how many bytes the program writes to standard output, or where the status is 3 to standard error, and
 /// of these as many as there is room for. Where the words ask `check` or `audit`, status 0 says that the text that was read tells of a
-/// machine in which what they name is contained against whom they name, or where they ask `audit --everybody` against everybody but root.
+/// machine in which what they name is contained against whom they name, or where they ask with `--everybody` against everybody but root.
 pub fn call(
     alloc: Global,
     words: &[u8],

@@ -1,4 +1,4 @@
--- What the report of an audit against everybody says of the machine that a text tells of.
+-- What the report on everybody says of the machine that a text tells of.
 use Rattle.std.proofs.Common.{◌≡◌, ℕ, List, [], ◌∷◌, Some, None, Result, Ok, sym, ap, ◌∙◌, subst}
 use Rattle.std.specs.List.{AllByRecursion, flat_map}
 use Rattle.std.proofs.lemmas.List.Elements.{All-from_recursion, All-contains}
@@ -20,6 +20,7 @@ use Rattle.cg_cli.specs.Containment.{in_call}
 use Rattle.cg_cli.specs.Everybody.{found_report, everybody_found, everybody_said, everybody_report}
 use Rattle.cg_cli.specs.May.{tree_read}
 use Rattle.cg_cli.specs.Reports.{report_on}
+use Rattle.cg_cli.specs.declared.everybody.Wanted.{Wanted}
 use Rattle.cg_cli.proofs.AuditOnce.{all_once}
 use Rattle.cg_escapes.proofs.EscapeReplays.{report_ok, found_is, unfaulted}
 use Rattle.machine.specs.Machines.{IsPresent}
@@ -37,9 +38,10 @@ use Rattle.machine_answers.proofs.GuardedLaws.{state_read}
 abbrev IsClear : State → Everybody → Names → Type 0
 IsClear st asked subtree = IsSubtree st subtree × GuardsHoldForEverybody st asked subtree
 
-nothing_found : (asked : Everybody) (lines : List ℕ) → (found_report asked lines).ending ≡ Ok 0 → lines ≡ []
-nothing_found asked [] is = λ i. []
-nothing_found asked (byte ∷ bytes) is = let never : ⊥ = cc in absurd never
+nothing_found : (wanted : Wanted) (asked : Everybody) (st : State) (subtrees : List Names) (lines : List ℕ)
+    → (found_report wanted asked st subtrees lines).ending ≡ Ok 0 → lines ≡ []
+nothing_found wanted asked st subtrees [] is = λ i. []
+nothing_found wanted asked st subtrees (byte ∷ bytes) is = let never : ⊥ = cc in absurd never
 
 all_clear : (st : State) (asked : Everybody) (subtrees : List Names) → first (flat_map (subtree_faults st) subtrees) ≡ None
     → AllByRecursion (GuardsHoldForEverybody st asked) subtrees → AllByRecursion (IsClear st asked) subtrees
@@ -63,18 +65,19 @@ held_in text st of asked word subtree path clear =
       again = λ users turns real all. again (view st) asked users subtree there shut real turns all;
     }
 
-pub held_against_everybody : (text : List ℕ) (tree : Reading) (asked : Everybody) (words : List (List ℕ)) → IsReading text tree
-    → (everybody_report asked tree words).ending ≡ Ok 0 → AreHeldAgainstEverybody text asked words
-held_against_everybody text tree asked words reading is =
+pub held_against_everybody : (text : List ℕ) (tree : Reading) (wanted : Wanted) (asked : Everybody) (words : List (List ℕ))
+    → IsReading text tree → (everybody_report wanted asked tree words).ending ≡ Ok 0 → AreHeldAgainstEverybody text asked words
+held_against_everybody text tree wanted asked words reading is =
     let paths =
-    report_ok (paths_read words) (λ subtrees. report_on (tree_read tree) (λ st. everybody_said asked st (once same_path subtrees))) 0 is in
+    report_ok (paths_read words)
+    (λ subtrees. report_on (tree_read tree) (λ st. everybody_said wanted asked st (once same_path subtrees))) 0 is in
     let subtrees = once same_path paths.0 in
-    let state = report_ok (tree_read tree) (λ st. everybody_said asked st subtrees) 0 paths.2 in
+    let state = report_ok (tree_read tree) (λ st. everybody_said wanted asked st subtrees) 0 paths.2 in
     let st = state.0 in
-    let one = report_ok (in_call (everybody_found st asked subtrees)) (found_report asked) 0 state.2 in
+    let one = report_ok (in_call (everybody_found st asked subtrees)) (found_report wanted asked st subtrees) 0 state.2 in
     let stated =
     unfaulted (first (flat_map (subtree_faults st) subtrees)) (everybody_lines st asked subtrees) []
-    (found_is (everybody_found st asked subtrees) one.0 one.1 ∙ ap Ok (nothing_found asked one.0 one.2)) in
+    (found_is (everybody_found st asked subtrees) one.0 one.1 ∙ ap Ok (nothing_found wanted asked st subtrees one.0 one.2)) in
     let clear = all_clear st asked subtrees stated.0 (each_holds st asked subtrees stated.1) in
     let of : IsTextOf st text = subst (IsReading text) (state_read tree st state.1) reading in record {
       machine = view st;

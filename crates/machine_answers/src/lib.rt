@@ -9,6 +9,7 @@ ghost use Rattle.cg_model.specs.Listed.{Listed};
 ghost use Rattle.cg_cli.specs.AllPairs.{pairs_status, all_report};
 ghost use Rattle.cg_cli.specs.Audits.{audit_report};
 ghost use Rattle.cg_cli.specs.Everybody.{everybody_report};
+ghost use Rattle.cg_cli.specs.declared.everybody.Wanted.{Wanted};
 ghost use Rattle.machine_everybody.specs.Everybody.{Everybody};
 ghost use Rattle.machine_answers.specs.Contained.{of_ids, IsContainedIn, AreContainedIn, AreHeldAgainstEverybody};
 
@@ -31,9 +32,9 @@ pub fn audited()
         → AreContainedIn text (map of_ids given) words }
 {}
 
-/// Where the report of `audit --everybody` does, each of the subtrees is contained there against everybody who is asked about.
+/// Where the report on everybody does, whichever command asks, each of the subtrees is contained there against everybody who is asked about.
 pub fn audited_against_everybody()
-    ensures { (text : List ℕ) (tree : Reading) (asked : Everybody) (words : List (List ℕ))
-        → IsReading text tree → (everybody_report asked tree words).ending ≡ Ok 0
+    ensures { (text : List ℕ) (tree : Reading) (wanted : Wanted) (asked : Everybody) (words : List (List ℕ))
+        → IsReading text tree → (everybody_report wanted asked tree words).ending ≡ Ok 0
         → AreHeldAgainstEverybody text asked words }
 {}

@@ -36,6 +36,7 @@ use Rattle.cg_cli.specs.Asking.{CallEnding}
 use Rattle.cg_cli.specs.EachPair.{audit_pairs_report, explain_pairs_asked, UnlistedAsNamed}
 use Rattle.cg_cli.specs.Containment.{answer_report}
 use Rattle.cg_cli.specs.Explaining.{explain_asked, ReportsTold}
+use Rattle.cg_cli.specs.declared.everybody.Wanted.{Wanted}
 use Rattle.cg_cli.specs.Everybody.{everybody_report}
 use Rattle.cg_everybody.specs.Everybody.{GuardsHoldForEverybody}
 use Rattle.machine_everybody.specs.Everybody.{Everybody as Whom, IsAsked}
@@ -68,7 +69,7 @@ use Rattle.arguments.specs.declared.request.Request.TheVariants as request
 use Rattle.streams.specs.declared.write.WriteFailed.{WriteFailed}
 use Rattle.commands.specs.PairLines.{GivenPair, pairs_read, AsksSomething}
 use Rattle.commands.specs.SubtreeLines.{subtrees_read, AreLinesOf}
-use Rattle.commands.specs.Requests.{Files, source, name_of, may_said, check_said, whom, everybody_asked, SettlesAs, AdviseSays, AdvisesOn, AuditsOn, ExplainsOn, EverybodyOn, OnLines, OnBothTexts, GuardsSay, FurtherSay, AuditSays, ExplainSays, replay_said, OnTreeText, OnTree, ReplaysOver, CarriesOut}
+use Rattle.commands.specs.Requests.{Files, source, name_of, may_said, check_said, whom, wanted_of, everybody_asked, SettlesAs, AdviseSays, AdvisesOn, AuditsOn, ExplainsOn, EverybodyOn, OnLines, OnBothTexts, GuardsSay, FurtherSay, AuditSays, ExplainSays, replay_said, OnTreeText, OnTree, ReplaysOver, CarriesOut}
 use Rattle.commands.specs.Runs.{CarriesOutBuffered, LeadsTo, LiesBelow, RunsTo}
 use Rattle.commands.specs.declared.fault.Fault.{Fault}
 use Rattle.commands.specs.declared.fault.Fault.TheVariants.{Usage, Cli}
@@ -193,11 +194,11 @@ pairs_named Says pairs (Ok named) is st old new status said =
     (named, sym is, asked_about Says pairs (Ok named) is (Ok st) old new status said, said)
 pairs_named Says pairs (Err fault) is st old new status said = let never : ⊥ = let same = said.0 in cc in absurd never
 
-subtrees_named : (asked : Whom) (lines : List ℕ) (read : Result (List (List ℕ)) CliFault) → read ≡ subtrees_read lines → (st : State)
-    (old new : Option (List ℕ)) (status : ℕ) → OnLines (EverybodyOn asked) read (Ok st) old new (Ok status)
-    → (named : List (List ℕ)) × (subtrees_read lines ≡ Ok named) × Reports (everybody_report asked (Ok st) named) old new (Ok status)
-subtrees_named asked lines (Ok named) is st old new status said = (named, sym is, said)
-subtrees_named asked lines (Err fault) is st old new status said = let never : ⊥ = let same = said.0 in cc in absurd never
+subtrees_named : (wanted : Wanted) (asked : Whom) (lines : List ℕ) (read : Result (List (List ℕ)) CliFault) → read ≡ subtrees_read lines
+    → (st : State) (old new : Option (List ℕ)) (status : ℕ) → OnLines (EverybodyOn wanted asked) read (Ok st) old new (Ok status)
+    → (named : List (List ℕ)) × (subtrees_read lines ≡ Ok named) × Reports (everybody_report wanted asked (Ok st) named) old new (Ok status)
+subtrees_named wanted asked lines (Ok named) is st old new status said = (named, sym is, said)
+subtrees_named wanted asked lines (Err fault) is st old new status said = let never : ⊥ = let same = said.0 in cc in absurd never
 
 -- ---- command by command
 
@@ -242,7 +243,7 @@ module _ (files : Files) (given old new : Option (List ℕ)) (status : ℕ) wher
         )
 
     pub everybody_ended : (asked : Everybody) (subtrees : List Names)
-        → CarriesOut (request.AuditEverybody asked) files given old new (Ok status)
+        → CarriesOut (request.Everybody asked) files given old new (Ok status)
         → source files (name_of asked.tree) given ≡ Some text → IsTextOf st text
         → paths_read (map (λ subtree. subtree.now) asked.subtrees.items) ≡ Ok subtrees
         → Reports (everybody_asked asked (Ok st)) old new (Ok status)
@@ -255,31 +256,31 @@ module _ (files : Files) (given old new : Option (List ℕ)) (status : ℕ) wher
         on_state (λ read. Reports (everybody_asked asked read) old new (Ok status)) (source files (name_of asked.tree) given) old new status
         text st of_known of_text carried in (
           report,
-          all_hold st (whom asked.everyone) words subtrees status of_paths report.0,
-          all_contained st (whom asked.everyone) words subtrees status of_paths report.0 of_text.says.formed,
+          all_hold st (wanted_of asked.wanted) (whom asked.everyone) words subtrees status of_paths report.0,
+          all_contained st (wanted_of asked.wanted) (whom asked.everyone) words subtrees status of_paths report.0 of_text.says.formed,
         )
 
-    pub subtrees_ended : (asked : Subtrees) (lines : List ℕ) → CarriesOut (request.AuditSubtrees asked) files given old new (Ok status)
+    pub subtrees_ended : (asked : Subtrees) (lines : List ℕ) → CarriesOut (request.Subtrees asked) files given old new (Ok status)
         → source files (tree_file asked.sources) given ≡ Some text → source files (other_file asked.sources) given ≡ Some lines
         → IsTextOf st text → length lines ≤ 16777216
         → (named : List (List ℕ)) × (subtrees_read lines ≡ Ok named) × AreLinesOf lines named
-        × Reports (everybody_report (whom asked.everyone) (Ok st) named) old new (Ok status)
+        × Reports (everybody_report (wanted_of asked.wanted) (whom asked.everyone) (Ok st) named) old new (Ok status)
         × ((subtrees : List Names) → paths_read named ≡ Ok subtrees
         → ((status ≡ 0) ↔ All (GuardsHoldForEverybody st (whom asked.everyone)) subtrees)
         × (status ≡ 0 → (users : List Identity) → AllByRecursion (IsAsked (whom asked.everyone)) users → users ≢ []
         → AreContained st users subtrees))
     subtrees_ended asked lines carried of_known of_lines of_text short =
         let said =
-        subtrees_named (whom asked.everyone) lines (subtrees_read lines) refl st old new status
-        (on_lines subtrees_read (EverybodyOn (whom asked.everyone)) (source files (tree_file asked.sources) given)
+        subtrees_named (wanted_of asked.wanted) (whom asked.everyone) lines (subtrees_read lines) refl st old new status
+        (on_lines subtrees_read (EverybodyOn (wanted_of asked.wanted) (whom asked.everyone)) (source files (tree_file asked.sources) given)
         (source files (other_file asked.sources) given) old new status text lines st of_known of_lines of_text short carried) in (
           said.0,
           said.1,
           (are_lines lines said.0 said.1).0,
           said.2,
           λ subtrees of_paths. (
-            all_hold st (whom asked.everyone) said.0 subtrees status of_paths said.2.0,
-            all_contained st (whom asked.everyone) said.0 subtrees status of_paths said.2.0 of_text.says.formed,
+            all_hold st (wanted_of asked.wanted) (whom asked.everyone) said.0 subtrees status of_paths said.2.0,
+            all_contained st (wanted_of asked.wanted) (whom asked.everyone) said.0 subtrees status of_paths said.2.0 of_text.says.formed,
           ),
         )
 

@@ -59,8 +59,11 @@ ghost use Rattle.cg_cli.specs.Once.{same_user};
 ghost use Rattle.cg_cli.specs.AllPairs.{all_report, ReportsPairs, UnlistedAreContained};
 ghost use Rattle.cg_cli.specs.Explaining.{explain_asked, ReportsTold};
 ghost use Rattle.cg_cli.specs.Everybody.{everybody_report};
+ghost use Rattle.cg_cli.specs.declared.everybody.Wanted.TheVariants.{Advise as AdviseWanted};
+ghost use Rattle.cg_everybody.specs.Advice.{everybody_advice, everybody_advised, IsAdvisedToEverybody};
 ghost use Rattle.cg_everybody.specs.Everybody.{GuardsHoldForEverybody};
-ghost use Rattle.machine_everybody.specs.Everybody.{IsAsked};
+ghost use Rattle.cg_everybody.specs.Premises.{premise_lines};
+ghost use Rattle.machine_everybody.specs.Everybody.{Everybody as Whom, IsAsked};
 ghost use Rattle.cg_cli.specs.EachPair.{audit_pairs_report, explain_pairs_asked, UnlistedAsNamed};
 ghost use Rattle.cg_cli.specs.Upgrades.{upgrade_report, IsNewText};
 ghost use Rattle.cg_cli.specs.FurtherAdvice.{AreHeld};
@@ -89,7 +92,7 @@ ghost use Rattle.arguments.specs.declared.request.Request.{Request};
 ghost use Rattle.arguments.specs.declared.request.Request.TheVariants as request;
 ghost use Rattle.commands.specs.PairLines.{pairs_read, AsksSomething};
 ghost use Rattle.commands.specs.SubtreeLines.{subtrees_read, AreLinesOf};
-ghost use Rattle.commands.specs.Requests.{Files, source, name_of, may_said, check_said, whom, everybody_asked, CarriesOut};
+ghost use Rattle.commands.specs.Requests.{Files, source, name_of, may_said, check_said, whom, wanted_of, everybody_asked, CarriesOut};
 ghost use Rattle.commands.specs.Runs.{LeadsTo, RunsTo};
 ghost use Rattle.commands.specs.declared.fault.Fault.{Fault};
 ghost use Rattle.streams.specs.declared.write.WriteFailed.{WriteFailed};
@@ -170,7 +173,7 @@ pub fn escapes_are_replayed()
 
 /// With the changes of the advice made the subtrees are contained against the users, all of them together, and of pairs each subtree
 /// against all users who are named with it; nobody gets in by them, and nothing else differs. Where `advise` ends with status 0 on a
-/// text they are contained as they are, and with status 1 it prints these changes.
+/// text they are contained as they are, and with status 1 it prints these changes. So it is of everybody who is asked about.
 pub fn advice()
     ensures contained { (st : State) (pairs : List Pair) (users : List Identity) (subtrees : List Names)
         → IsWellFormed st → All (IsAdvisable st) pairs → AreNamed pairs users subtrees → users ≢ []
@@ -200,6 +203,19 @@ pub fn advice()
         → (advise_pairs_report (Ok st) given).ending ≡ Ok 1 → All (AreCountable st) subtrees
         → ((advise_pairs_report (Ok st) given).text ≡ pairs_lines st (paired users subtrees))
         × AreContainedAsNamed (advised st (paired users subtrees)) (paired users subtrees) }
+    ensures everybody { (st : State) (asked : Whom) (users : List Identity) (subtrees : List Names)
+        → IsWellFormed st → All (IsSubtree st) subtrees → All (AreCountable st) subtrees → AllByRecursion (IsAsked asked) users → users ≢ []
+        → AreContained (everybody_advised st asked subtrees) users subtrees }
+    ensures everybody_opens_nothing { (st : State) (asked : Whom) (subtrees : List Names) (other : Identity) (path : Names)
+        → IsUser other → GuardsHold st other path → GuardsHold (everybody_advised st asked subtrees) other path }
+    ensures everybody_no_more { (st : State) (asked : Whom) (subtrees : List Names)
+        → IsAdvisedToEverybody st (everybody_advised st asked subtrees) asked subtrees }
+    ensures everybody_changed { (text : List ℕ) (st : State) (asked : Whom) (words : List (List ℕ)) (subtrees : List Names)
+        → IsTextOf st text → paths_read words ≡ Ok subtrees
+        → (everybody_report AdviseWanted asked (Ok st) words).ending ≡ Ok 1
+        → ((everybody_report AdviseWanted asked (Ok st) words).text
+        ≡ everybody_advice st asked (once same_path subtrees) ++ premise_lines asked)
+        × All (GuardsHoldForEverybody (everybody_advised st asked (once same_path subtrees)) asked) subtrees }
 {}
 
 /// A text has a state exactly where it has no fault, and one at most. What is written of a state in one of the formats is one text, and it
@@ -297,19 +313,19 @@ pub fn the_program()
         → ReportsPairs (all_report (Ok st) (map ids_of audit.users.items) (map (λ subtree. subtree.now) audit.subtrees.items)) old new (Ok status)
         × (status ≡ 0 → (users : List Identity) (subtrees : List Names) → users_read (map ids_of audit.users.items) ≡ Ok users
         → paths_read (map (λ subtree. subtree.now) audit.subtrees.items) ≡ Ok subtrees → users ≢ [] → AreContained st users subtrees) }
-    ensures audit_everybody { (asked : Everybody) (files : Files) (given old new : Option (List ℕ)) (status : ℕ) (text : List ℕ) (st : State) (subtrees : List Names)
-        → CarriesOut (request.AuditEverybody asked) files given old new (Ok status)
+    ensures everybody { (asked : Everybody) (files : Files) (given old new : Option (List ℕ)) (status : ℕ) (text : List ℕ) (st : State) (subtrees : List Names)
+        → CarriesOut (request.Everybody asked) files given old new (Ok status)
         → source files (name_of asked.tree) given ≡ Some text → IsTextOf st text
         → paths_read (map (λ subtree. subtree.now) asked.subtrees.items) ≡ Ok subtrees
         → Reports (everybody_asked asked (Ok st)) old new (Ok status)
         × ((status ≡ 0) ↔ All (GuardsHoldForEverybody st (whom asked.everyone)) subtrees)
         × (status ≡ 0 → (users : List Identity) → AllByRecursion (IsAsked (whom asked.everyone)) users → users ≢ [] → AreContained st users subtrees) }
-    ensures audit_subtrees { (asked : Subtrees) (files : Files) (given old new : Option (List ℕ)) (status : ℕ) (text lines : List ℕ) (st : State)
-        → CarriesOut (request.AuditSubtrees asked) files given old new (Ok status)
+    ensures subtrees { (asked : Subtrees) (files : Files) (given old new : Option (List ℕ)) (status : ℕ) (text lines : List ℕ) (st : State)
+        → CarriesOut (request.Subtrees asked) files given old new (Ok status)
         → source files (tree_file asked.sources) given ≡ Some text → source files (other_file asked.sources) given ≡ Some lines
         → IsTextOf st text → length lines ≤ 16777216
         → (named : List (List ℕ)) × (subtrees_read lines ≡ Ok named) × AreLinesOf lines named
-        × Reports (everybody_report (whom asked.everyone) (Ok st) named) old new (Ok status)
+        × Reports (everybody_report (wanted_of asked.wanted) (whom asked.everyone) (Ok st) named) old new (Ok status)
         × ((subtrees : List Names) → paths_read named ≡ Ok subtrees
         → ((status ≡ 0) ↔ All (GuardsHoldForEverybody st (whom asked.everyone)) subtrees)
         × (status ≡ 0 → (users : List Identity) → AllByRecursion (IsAsked (whom asked.everyone)) users → users ≢ [] → AreContained st users subtrees)) }

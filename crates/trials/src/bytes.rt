@@ -13,7 +13,7 @@ use cg_cli::audit_all::audit_all_bytes;
 use cg_cli::audit_pairs::audit_pairs_bytes;
 use cg_cli::audit_settle::{audit_all_settled_bytes, audit_settled_bytes};
 use cg_cli::check::check_bytes;
-use cg_cli::everybody::everybody_bytes;
+use cg_cli::everybody::{Wanted, everybody_bytes};
 use cg_cli::explain::explain_bytes;
 use cg_cli::explain_pairs::explain_pairs_bytes;
 use cg_cli::may::may_bytes;
@@ -98,7 +98,7 @@ impl Named<'_> {
 enum Call<'a> {
     May(UserIds<'a>, u32, &'a str),
     Named(Asked, Named<'a>),
-    Everybody(Vec<&'a str>),
+    Everybody(Wanted, Vec<&'a str>),
     AdvisePairs(Vec<PairIds<'a>>),
     AuditPairs(Vec<PairIds<'a>>),
     ExplainPairs(Vec<PairIds<'a>>),
@@ -112,7 +112,7 @@ impl Call<'_> {
         match self {
             Call::May(user, pid, to) => may_bytes(alloc, tree, *user, *pid, to, &mut None, out),
             Call::Named(asked, named) => named.ask(alloc, *asked, tree, out),
-            Call::Everybody(subtrees) => {
+            Call::Everybody(wanted, subtrees) => {
                 let left_out = Everybody {
                     but: &[4000],
                     groups: &[Members {
@@ -120,7 +120,7 @@ impl Call<'_> {
                         uids: &[4001],
                     }],
                 };
-                everybody_bytes(alloc, tree, &left_out, subtrees.as_slice(), out)
+                everybody_bytes(alloc, tree, *wanted, &left_out, subtrees.as_slice(), out)
             }
             Call::AdvisePairs(pairs) => advise_pairs_bytes(alloc, tree, pairs.as_slice(), out),
             Call::AuditPairs(pairs) => audit_pairs_bytes(alloc, tree, pairs.as_slice(), out),
@@ -202,14 +202,26 @@ fn paired<'a>(alloc: Global, words: &mut Words<'a>) -> Result<Vec<PairIds<'a>>, 
     Ok(pairs)
 }
 
+/// What is wanted of everybody, where a call's name says so.
+fn wanted_named(name: &str) -> Option<Wanted> {
+    match name {
+        "everybody" => Some(Wanted::Audit),
+        "advise_everybody" => Some(Wanted::Advise),
+        "explain_everybody" => Some(Wanted::Explain),
+        _ => None,
+    }
+}
+
 fn call_told<'a>(alloc: Global, words: &mut Words<'a>) -> Result<Call<'a>, Stopped> {
     let name = words.next()?;
     if let Some(asked) = Asked::named(name) {
         return Ok(Call::Named(asked, all_named(alloc, words.rest())?));
     }
+    if let Some(wanted) = wanted_named(name) {
+        return Ok(Call::Everybody(wanted, all_paths(alloc, words.rest())?));
+    }
     match name {
         "may" => Ok(Call::May(user(words.id()?), words.id()?, words.next()?)),
-        "everybody" => Ok(Call::Everybody(all_paths(alloc, words.rest())?)),
         "advise_pairs" => Ok(Call::AdvisePairs(paired(alloc, words)?)),
         "audit_pairs" => Ok(Call::AuditPairs(paired(alloc, words)?)),
         "explain_pairs" => Ok(Call::ExplainPairs(paired(alloc, words)?)),

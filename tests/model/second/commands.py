@@ -25,11 +25,12 @@ OPTIONS = {
     "settle": {"--tree": "", "--uid": "must", "--gid": "again", "--subtree": "must"},
     "audit": {"--tree": "", "--uid": "again", "--subtree": "again", "--pairs": "", "--all": "flag", "--settle": "flag",
               "--everybody": "flag", "--subtrees": "", "--but": "again", "--group": "again"},
-    "explain": {"--tree": "", "--uid": "again", "--subtree": "again", "--pairs": ""},
+    "explain": {"--tree": "", "--uid": "again", "--subtree": "again", "--pairs": "", "--everybody": "flag", "--subtrees": "",
+                "--but": "again", "--group": "again"},
     "replay": {"--tree": "", "--uid": "must", "--gid": "again", "--ops": "must", "--subtree": ""},
     "upgrade": {"--tree": ""},
     "advise": {"--tree": "", "--uid": "again", "--gid": "again", "--subtree": "again", "--pairs": "",
-               "--settle": "flag"},
+               "--settle": "flag", "--everybody": "flag", "--subtrees": "", "--but": "again", "--group": "again"},
 }
 # what says whom `--everybody` means
 OF_EVERYBODY = "--but", "--group"
@@ -215,7 +216,7 @@ class Call:
                 raise Fault("usage")
             return []
         if "--everybody" in self.given:
-            if self.given.keys() & {"--uid", "--all", "--settle"} or len(self.given.keys() & {"--subtree", "--subtrees"}) != 1:
+            if self.given.keys() & {"--uid", "--gid", "--all", "--settle"} or len(self.given.keys() & {"--subtree", "--subtrees"}) != 1:
                 raise Fault("usage")
             return []
         if self.given.keys() & {"--subtrees", *OF_EVERYBODY} or not {"--uid", "--subtree"} <= self.given.keys():
@@ -435,6 +436,11 @@ def audit_of_everybody(call, state, tops, lines):
     for top in dict.fromkeys(tops):
         found = everybody.lines_of(state, top, call.asked)
         lines += [f"subtree {text_of(top)}", *found] if found else []
+    return ended(call, lines)
+
+
+def ended(call, lines):
+    """What stands below the lines of what isn't held against everybody, or in their place, and the status."""
     is_held = not lines
     lines += ["contained"] * is_held + call.asked.lines()
     return 0 if is_held else 1
@@ -473,7 +479,17 @@ def replay(call, state, tops, files, lines):
     return 0 if lines[-1] == "kept" else 1
 
 
+def explain_of_everybody(call, state, tops, lines):
+    for top, told in {top: everybody.told_of(state, top, call.asked) for top in tops}.items():
+        lines += [f"subtree {text_of(top)}", *told]
+    is_held = all(not line.startswith("fails ") for line in lines)
+    lines += call.asked.lines()
+    return 0 if is_held else 1
+
+
 def explain(call, state, tops, _files, lines):
+    if "--everybody" in call.given:
+        return explain_of_everybody(call, state, tops, lines)
     told = [(user, top, [head_of(user, top), *explained.lines_of(state, user, top)]) for user, top in asked(call, tops)]
     ends = [settled.known(state, user, top) for user, top, _ in told]
     if None in ends:
@@ -499,6 +515,9 @@ def is_told(state, told, said, status):
 
 def advise(call, state, tops, _files, lines):
     """With --settle nothing is to be changed where of each subtree the second row holds for all users together."""
+    if "--everybody" in call.given:
+        lines += everybody.advice(state, tops, call.asked)
+        return ended(call, lines)
     if "--settle" not in call.given or not all(settled.is_contained(state, call.users, top) for top in tops):
         pairs = zip(call.users, tops) if "--pairs" in call.given else itertools.product(call.users, tops)
         lines += rules.advice(state, list(dict.fromkeys(pairs)))

@@ -1,10 +1,10 @@
-"""The second model: whom what is guarded lets in, whoever there is, by the words of docs/MODEL.md. Written from that page alone, as
-rules.py is.
+"""The second model: whom what is guarded lets in, whoever there is, and what to change so that it lets nobody in, by the words of
+docs/MODEL.md and docs/FORMATS.md. Written from these pages alone, as rules.py is.
 """
-from dataclasses import dataclass
+from dataclasses import dataclass, replace
 from typing import Tuple
 
-from . import rules
+from . import explained, rules
 from .rules import text_of
 
 
@@ -51,3 +51,39 @@ def lines_of(state, top, asked):
     for guard, path, name, classes in listed(state, top, asked):
         lines += rules.class_lines(guard, f"{text_of(path)} {name}", state.cgroups[path].entries[name], classes)
     return lines + ([f"fails already-over {text_of(top)}"] if rules.over(state, top) else [])
+
+
+def advice(state, tops, asked):
+    """The lines of each entry that lets a class in, where the subtrees meet it first, and then of each subtree's limits."""
+    met = {}
+    for top in tops:
+        for guard, path, name, classes in listed(state, top, asked):
+            met.setdefault((path, name), (guard, classes))
+    lines = []
+    for (path, name), (guard, classes) in met.items():
+        entry, where = state.cgroups[path].entries[name], f"{text_of(path)} {name}"
+        lines += rules.class_lines(guard, where, entry, classes) + changes_of(entry, where, asked)
+    for top in dict.fromkeys(tops):
+        lines += rules.limit_lines(state, top)
+    return lines
+
+
+def changes_of(entry, where, asked):
+    """What takes an entry from all classes that it lets in: from its owner first, who may then be of another class."""
+    changes, let_in = [], classes_of(entry, asked)
+    if "owner" in let_in:
+        entry = replace(entry, uid=0)
+        changes.append(f"chown {where} {entry.uid}:{entry.gid}")
+        let_in = classes_of(entry, asked)
+    bits = sum(bit for name, bit in (("group", 0o020), ("others", 0o002)) if name in let_in)
+    return changes + ([f"chmod {where} {entry.mode & ~bits:03o}"] if bits else [])
+
+
+def told_of(state, top, asked):
+    """All lines of a subtree below the one that names it: whom each guarded entry lets in, and its limits."""
+    lines = []
+    for guard, path, name in (each for each in rules.guarded(state, top) if rules.is_shown(state, *each[1:])):
+        entry, where = state.cgroups[path].entries[name], f"{text_of(path)} {name}"
+        held = f"holds {guard} {where} {entry.uid}:{entry.gid} {entry.mode:03o}"
+        lines += rules.class_lines(guard, where, entry, classes_of(entry, asked)) or [held]
+    return lines + explained.limits(state, top)

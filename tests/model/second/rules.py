@@ -505,10 +505,15 @@ def advice(state, pairs):
     for (path, name), (guard, users) in let_in.items():
         lines += entry_lines(guard, f"{text_of(path)} {name}", state.cgroups[path].entries[name], users)
     for top in dict.fromkeys(top for _, top in pairs):
-        if over(state, top):
-            lines.append(f"fails already-over {text_of(top)}")
-            lines += [f"set {text_of(top)} {file} {count}" for file, count in over(state, top).items()]
+        lines += limit_lines(state, top)
     return lines
+
+
+def limit_lines(state, top):
+    """The lines of a subtree's limits, where it is over one."""
+    exceeded = over(state, top)
+    told = [f"fails already-over {text_of(top)}"] if exceeded else []
+    return told + [f"set {text_of(top)} {file} {count}" for file, count in exceeded.items()]
 
 
 def class_lines(guard, where, entry, classes):

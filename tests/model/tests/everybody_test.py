@@ -1,4 +1,7 @@
 """What the second model says against everybody, beside what check's guards say of each user that a small tree can tell apart."""
+import copy
+from dataclasses import replace
+import functools
 import itertools
 import os
 import random
@@ -7,7 +10,7 @@ import unittest
 
 sys.path.insert(0, os.path.dirname(os.path.dirname(os.path.abspath(__file__))))
 from second import commands, everybody, rules
-from second.rules import CONTROL, DEPTH, DIR, PROCS
+from second.rules import CONTROL, DEPTH, DESCENDANTS, DIR, PROCS
 from trials import small
 from search_test import state_of
 from trials_test import example
@@ -93,11 +96,67 @@ def compared(test, trees, seed=0):
     return counts
 
 
+def made(state, line):
+    """A tree with a line of advice carried out; `fails` changes nothing."""
+    kind, path, name, *value = line.split(" ")
+    if kind == "fails":
+        return state
+    new = copy.deepcopy(state)
+    cgroup = new.cgroups[rules.path_of(path)]
+    turned = (dict(zip(("uid", "gid"), map(int, value[0].split(":")))) if kind == "chown" else
+              {"mode": int(value[0], 8)} if kind == "chmod" else {"value": int(value[0])})
+    cgroup.entries[name] = replace(cgroup.entries[name], **turned)
+    return new
+
+
+def compare_advice(test, state, asked, tops, counts):
+    """With all changes made nobody is let in, with any one left out somebody is, and nobody is let in anywhere who wasn't."""
+    lines = everybody.advice(state, tops, asked)
+    changes = [line for line in lines if not line.startswith("fails ")]
+    test.assertEqual(not lines, not any(everybody.lines_of(state, top, asked) for top in tops))
+    after = functools.reduce(made, changes, state)
+    test.assertFalse(any(everybody.lines_of(after, top, asked) for top in tops), (state, tops, asked, lines))
+    for left in range(len(changes)):
+        short = functools.reduce(made, changes[:left] + changes[left + 1:], state)
+        test.assertTrue(any(everybody.lines_of(short, top, asked) for top in tops), (state, tops, asked, changes[left]))
+    held = [(user, top) for user in users_of(state, asked) for top in state.cgroups if top and not rules.failures(state, user, top)]
+    test.assertEqual([pair for pair in held if rules.failures(after, *pair)], [])
+    told = [line for top in dict.fromkeys(tops) for line in everybody.lines_of(state, top, asked)]
+    test.assertEqual({line for line in lines if line.startswith("fails ")}, {*told})
+    for change in changes or ["none"]:
+        counts[change.split(" ")[0]] += 1
+
+
+def advised(test, trees, seed=0):
+    counts = dict.fromkeys(("chown", "chmod", "set", "none"), 0)
+    for number in range(trees):
+        rng = random.Random(f"{seed} {number} advice")
+        state = small_tree(rng)
+        below = [path for path in state.cgroups if path]
+        if below and len({entry.gid for entry in entries_of(state)}) <= MOST_GIDS:
+            compare_advice(test, state, asked_of(rng, state), rng.choices(below, k=rng.choice([1, 1, 2, 3])), counts)
+    return counts
+
+
 class EverybodyTest(unittest.TestCase):
     def test_whom_check_does_not_call_contained_is_in_a_listed_class(self):
         counts = compared(self, TREES)
         for what in ("contained", "over", "listed"):
             self.assertGreater(counts[what], 0, what)
+
+    def test_all_changes_of_the_advice_let_nobody_in_and_each_is_needed(self):
+        counts = advised(self, TREES)
+        for what in ("chown", "chmod", "set", "none"):
+            self.assertGreater(counts[what], 0, what)
+
+    def test_changes_by_hand(self):
+        for entry, asked, changes in (
+                ((1000, 5, 0o644), everybody.Asked(), ["chown E 0:5"]), ((0, 5, 0o664), everybody.Asked(), ["chmod E 644"]),
+                ((1000, 5, 0o777), everybody.Asked(), ["chown E 0:5", "chmod E 755"]),
+                ((1000, 5, 0o664), everybody.Asked((), ((5, (1000,)),)), ["chown E 0:5", "chmod E 644"]),
+                ((1000, 5, 0o666), everybody.Asked((), ((5, ()),)), ["chown E 0:5", "chmod E 664"]),
+                ((1000, 5, 0o664), everybody.Asked((1000,)), ["chmod E 644"]), ((1000, 5, 0o664), everybody.Asked((1000,), ((5, (1000,)),)), [])):
+            self.assertEqual(everybody.changes_of(rules.Entry(*entry), "E", asked), changes, entry)
 
     def test_classes_by_hand(self):
         for uid, mode, classes in ((0, 0o755, []), (0, 0o664, ["group"]), (0, 0o646, ["others"]), (1000, 0o400, ["owner"]),
@@ -132,6 +191,27 @@ class ReportTest(unittest.TestCase):
         self.assertEqual(self.ask(asked, "delegation-ancestor-owned.toml"), (
             [each for top in ("/c0", "/c1") for each in (f"subtree {top}", f"{line} owner", f"{line} others")], 1))
 
+    def test_advice(self):
+        asked = "advise --everybody --subtree /c0 --subtree /c1"
+        self.assertEqual(self.ask(asked, "delegation.toml"), (["contained"], 0))
+        line = "fails common-ancestor / cgroup.procs 1000:0 446"
+        self.assertEqual(self.ask(asked, "delegation-ancestor-owned.toml"), (
+            [f"{line} owner", f"{line} others", "chown / cgroup.procs 0:0", "chmod / cgroup.procs 444"], 1))
+        self.assertEqual(self.ask(f"{asked} --but 1000", "delegation-ancestor-owned.toml"), (
+            [f"{line} others", "chmod / cgroup.procs 444", "but 1000"], 1))
+        told, status = self.ask("advise --everybody --subtree /c0 --subtree /c0", "delegation-over-limit.toml")
+        self.assertEqual((told[0], told[1].split(" ")[:2], status), ("fails already-over /c0", ["set", "/c0"], 1))
+
+    def test_whom_each_entry_lets_in(self):
+        told, status = self.ask("explain --everybody --subtree /c0 --group 0=", "delegation-ancestor-owned.toml")
+        self.assertEqual((told[:4], told[-1], status), (
+            ["subtree /c0", "fails common-ancestor / cgroup.procs 1000:0 446 owner", "fails common-ancestor / cgroup.procs 1000:0 446 others",
+             told[3]], "group 0=", 1))
+        self.assertEqual({line.split(" ")[0] for line in told[3:-1]}, {"holds"})
+        self.assertEqual([line.split(" ")[1:4] for line in told[-3:-1]], [["already-over", "/c0", file] for file in (DESCENDANTS, DEPTH)])
+        told, status = self.ask("explain --everybody --subtree /c0 --subtree /c1 --subtree /c0", "delegation.toml")
+        self.assertEqual(([line for line in told if not line.startswith("holds ")], status), (["subtree /c0", "subtree /c1"], 0))
+
     def test_a_subtree_that_is_named_again_counts_once(self):
         asked = "audit --everybody --subtree /c0"
         self.assertEqual(self.ask(f"{asked} --subtree /c0", "delegation-over-limit.toml"), self.ask(asked, "delegation-over-limit.toml"))
@@ -152,6 +232,9 @@ class ReportTest(unittest.TestCase):
         for words in ("--uid 1000 --subtree /c0", "--all --subtree /c0", "--settle --subtree /c0", "--pairs -", "", "--everybody --subtree /c0",
                       "--gid 5 --subtree /c0"):
             self.assertEqual(self.ask(f"audit --everybody {words}".strip(), "delegation.toml"), (["fault: usage"], 3), words)
+        for command in ("advise", "explain"):
+            for words in ("--uid 1000", "--gid 5", "--settle", "--all", "--pairs -", "--everybody", "--subtrees x"):
+                self.assertEqual(self.ask(f"{command} --everybody --subtree /c0 {words}", "delegation.toml"), (["fault: usage"], 3), words)
         for paths, fault in (("/ /nowhere", "subtree root"), ("/nowhere /", "subtree missing"), ("/nowhere a", "path")):
             words = " ".join(f"--subtree {path}" for path in paths.split(" "))
             self.assertEqual(self.ask(f"audit --everybody {words}", "delegation.toml"), ([f"fault: {fault}"], 3))
@@ -159,6 +242,7 @@ class ReportTest(unittest.TestCase):
 
 if __name__ == "__main__":
     if len(sys.argv) == 2 and sys.argv[1].isdigit():
-        print(compared(unittest.TestCase(), int(sys.argv[1]), random.SystemRandom().randrange(10 ** 9)))
+        drawn = random.SystemRandom().randrange(10 ** 9)
+        print(compared(unittest.TestCase(), int(sys.argv[1]), drawn), advised(unittest.TestCase(), int(sys.argv[1]), drawn))
     else:
         unittest.main()

@@ -100,7 +100,7 @@ def drawn_case(seed, number, known):
             and rng.random() < 0.7 and state_of(data)):
         limit_files.open_device(rng, tree)
         data = spelling.document(rng, tree.document(rng))
-    if command in ("audit --everybody", "audit --subtrees") and not large and rng.random() < 0.5:
+    if command in AGAINST_EVERYBODY and not large and rng.random() < 0.5:
         data = closed_text(rng, tree.subtree, data)
     case = Case(MAKERS[command](rng, tree, state_of(data)))
     if command.startswith("replay"):
@@ -299,14 +299,22 @@ def all_words(rng, tree, state):
     return [*audit_words(rng, tree, state), "--all"]
 
 
-def everybody_words(rng, tree, state):
+def everybody_words(rng, tree, state, command="audit"):
     """Often of many subtrees, of which some are held; at times with words that it excludes."""
-    below, words = [path for path in tree.rows if path], ["audit", "--everybody"]
+    below, words = [path for path in tree.rows if path], [command, "--everybody"]
     words += ["--subtree", subtree_word(rng, tree, state)]
     for _ in range(rng.choice([0, 0, 0, 1, 2, 3, 9])):
         words += ["--subtree", text_of(rng.choice(below)) if below and rng.random() < 0.9 else subtree_word(rng, tree, state)]
     words += left_out(rng)
     return words + rng.choice([["--all"], ["--settle"], ["--uid", "1000"]]) if rng.random() < 0.03 else words
+
+
+def against_everybody(command):
+    def words(rng, tree, state):
+        found = everybody_words(rng, tree, state, command)
+        return found + ["--gid", "5"] if rng.random() < 0.03 else found
+
+    return words
 
 
 def left_out(rng):
@@ -390,16 +398,19 @@ MAKERS = {"may": may_words, "check": check_words, "audit": audit_words, "audit -
           "advise --pairs": pairs_words, "settle": of_one("settle"), "audit --settle": settled_audit_words,
           "advise --settle": settled_advice_words, "explain": explain_words, "replay": replay_words,
           "replay alone": replay_alone_words, "upgrade": upgrade_words, "audit --pairs": audit_pairs_words,
-          "explain --pairs": explain_pairs_words, "audit --everybody": everybody_words, "audit --subtrees": subtrees_words}
+          "explain --pairs": explain_pairs_words, "audit --everybody": everybody_words, "audit --subtrees": subtrees_words,
+          "advise --everybody": against_everybody("advise"), "explain --everybody": against_everybody("explain")}
 WEIGHTS = {"may": 14, "check": 30, "audit": 12, "audit --all": 12, "advise": 14, "advise --pairs": 12, "settle": 24,
            "audit --settle": 14, "advise --settle": 8, "explain": 18, "replay": 28, "replay alone": 6, "upgrade": 7,
-           "audit --pairs": 10, "explain --pairs": 5, "audit --everybody": 12, "audit --subtrees": 8}
+           "audit --pairs": 10, "explain --pairs": 5, "audit --everybody": 12, "audit --subtrees": 8,
+           "advise --everybody": 10, "explain --everybody": 5}
 # of one user and one subtree, with no weight of its own
 OTHERS_OF_ONE = [name for name in commands.OF_ONE if name not in MAKERS]
 MAKERS.update((name, of_one(name)) for name in OTHERS_OF_ONE)
 WEIGHTS.update((name, 5) for name in OTHERS_OF_ONE)
 # commands that came when a seed was fixed by which mutants are told apart: fresh cases have them
-LATER = frozenset({"audit --pairs", "explain --pairs", "audit --everybody", "audit --subtrees", *OTHERS_OF_ONE})
+AGAINST_EVERYBODY = "audit --everybody", "audit --subtrees", "advise --everybody", "explain --everybody"
+LATER = frozenset({"audit --pairs", "explain --pairs", *AGAINST_EVERYBODY, *OTHERS_OF_ONE})
 
 
 # Operations

@@ -29,7 +29,7 @@ FAULTS = ["usage", "uid", "gid", "pid", "path", "subtree root", "subtree missing
           "too-many-steps", "read", "write", *("tree " + name for name in re.split(r",\s+", TREE_FAULTS))]
 STATUSES = {"may": 2, "audit": 3, "audit --all": 3, "replay": 2, "upgrade": 1, "advise": 2, "advise --pairs": 2, "audit --settle": 3,
             **{name: 3 for name in commands.OF_ONE}, "audit --all --settle": 3, "advise --settle": 2, "explain": 3, "audit --pairs": 3,
-            "explain --pairs": 3, "audit --everybody": 2, "audit --subtrees": 2}
+            "explain --pairs": 3, "audit --everybody": 2, "audit --subtrees": 2, "advise --everybody": 2, "explain --everybody": 2}
 # of trees of format 4, and of controllers that other formats don't have
 FAULTS_4 = """bad-controller cgroup, bad-controller top, bad-entry cgroup, bad-value cgroup, internal-process process, no-such-file cgroup,
 shape cgroup, too-many, top-down cgroup"""
@@ -86,6 +86,10 @@ def wanted(known):
         labels += [f"settle: {guard} fails first, then {kind}" for guard in SETTLED for kind in commands.STATUS]
     if "audit --everybody" in known:
         labels += [f"everybody: {guard} lets in {name}" for guard in GUARDS[:4] for name in BY] + OF_EVERYBODY
+    if "advise --everybody" in known:
+        labels += [f"against everybody: change {change}" for change in ("chown", "chmod", "chown chmod", "set")]
+    if "explain --everybody" in known:
+        labels += [f"against everybody: {word} {guard}" for word in ("holds", "fails") for guard in GUARDS]
     if "explain" in known:
         labels += [f"explain: {told}" for told in wanted_of_explain()]
     if FORMAT_4 in known:
@@ -350,6 +354,15 @@ def everybody_labels(case, lines):
     return sorted({f"everybody: {what}" for what in found})
 
 
+def advice_to_everybody_labels(case, lines):
+    changes = [line for line in lines if line.split(" ")[0] in ("fails", "chown", "chmod", "set")]
+    return [f"against everybody: {label.removeprefix('advise: ')}" for label in advise_labels(case, changes) if "change" in label]
+
+
+def everybody_told_labels(_case, lines):
+    return sorted({f"against everybody: {' '.join(line.split(' ')[:2])}" for line in lines if line.split(" ")[0] in ("holds", "fails")})
+
+
 def explain_labels(_case, lines):
     found, further = set(), False
     for line in lines:
@@ -370,4 +383,5 @@ def told_words(kind, _path, *words):
 
 
 LABELS = {"may": may_labels, "check": check_labels, "advise": advise_labels, "advise --pairs": advise_labels, "settle": settle_labels,
-          "explain": explain_labels, "explain --pairs": explain_labels, "audit --everybody": everybody_labels}
+          "explain": explain_labels, "explain --pairs": explain_labels, "audit --everybody": everybody_labels,
+          "advise --everybody": advice_to_everybody_labels, "explain --everybody": everybody_told_labels}

@@ -20,7 +20,8 @@ def known_commands(program):
     listed = lines[lines.index("Commands:") + 1:]
     names = {line.split()[0] for line in listed[:listed.index("")]} & commands.OPTIONS.keys()
     for command, option in (("audit", "--all"), ("advise", "--pairs"), ("audit", "--pairs"), ("explain", "--pairs"), ("audit", "--settle"),
-                            ("advise", "--settle"), ("audit", "--everybody"), ("audit", "--subtrees")):
+                            ("advise", "--settle"), ("audit", "--everybody"), ("audit", "--subtrees"), ("advise", "--everybody"),
+                            ("explain", "--everybody")):
         if command in names and any(re.search(rf"{option}\b", line) for line in help_of(program, command)):
             names |= {f"{command} {option}"}
     reads = subprocess.run([program, "upgrade"], input=format_4.TREE, capture_output=True).returncode == 0

@@ -12,6 +12,8 @@ IS_MEANT, OF_GROUP = "return uid != 0 and uid not in self.but", "lists = [uids f
 MEMBERS = "any(self.is_meant(uid) and uid != entry.uid for uid in uids)"
 GUARDED = "for guard, path, name in rules.guarded(state, top)]"
 OVER_LAST = """return lines + ([f"fails already-over {text_of(top)}"] if rules.over(state, top) else [])"""
+CHOWNED, TAKEN = "entry = replace(entry, uid=0)", 'bits = sum(bit for name, bit in (("group", 0o020), ("others", 0o002)) if name in let_in)'
+TOLD = "rules.class_lines(guard, where, entry, classes_of(entry, asked)) or [held]"
 LIVE_PID = "found = [(\"bad-pid\", not 1 <= pid <= rules.LAST_PID)"
 
 
@@ -127,6 +129,22 @@ OF_ROWS = {
     "what an answer stands on is told where it is contained alone": (
         "left out", "commands", " + call.asked.lines()", " + call.asked.lines() * is_held"),
     "who is left out may stand beside users": ("left out", "commands", '{"--subtrees", *OF_EVERYBODY} or not', '{"--subtrees"} or not'),
+    "a chown to root takes the group along": ("changed and told", "everybody", CHOWNED, CHOWNED.replace("uid=0", "uid=0, gid=0")),
+    "whoever owned an entry is of no class of it behind the chown": (
+        "changed and told", "everybody", "        let_in = classes_of(entry, asked)\n    bits", "    bits"),
+    "both bits are taken where one lets in": ("changed and told", "everybody", TAKEN, "bits = entry.mode & 0o022"),
+    "the group's bit stays": ("changed and told", "everybody", TAKEN, TAKEN.replace("0o020", "0")),
+    "an entry is changed where it is met last": (
+        "changed and told", "everybody", "met.setdefault((path, name), (guard, classes))", "met[path, name] = met.pop((path, name), (guard, classes))"),
+    "entries are changed in the order of paths": (
+        "changed and told", "everybody", "for (path, name), (guard, classes) in met.items():", "for (path, name), (guard, classes) in sorted(met.items()):"),
+    "limits are changed before entries": (
+        "changed and told", "everybody", "        lines += rules.limit_lines(state, top)\n", "        lines = rules.limit_lines(state, top) + lines\n"),
+    "the limits of a subtree that is named again are told again": (
+        "changed and told", "everybody", "    for top in dict.fromkeys(tops):\n", "    for top in tops:\n"),
+    "what holds against everybody isn't told": ("changed and told", "everybody", TOLD, TOLD.replace(" or [held]", "")),
+    "of what fails against everybody its hold is told, too": ("changed and told", "everybody", TOLD, TOLD.replace(" or [held]", " + [held]")),
+    "limits aren't told against everybody": ("changed and told", "everybody", "return lines + explained.limits(state, top)", "return lines"),
     "a text may name no subtree": ("lines of subtrees", "commands", "    if not words:\n", "    if False:\n"),
     "the first path of a text is dropped": ("lines of subtrees", "commands", "    return words\n", "    return words[1:] or words\n"),
     "the last path of a text is dropped": ("lines of subtrees", "commands", "    return words\n", "    return words[:-1] or words\n"),

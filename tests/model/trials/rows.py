@@ -299,6 +299,32 @@ def left_out():
         yield from (Case([command, "--uid", "1000", "--subtree", "/a", *words], over) for command in ("check", "explain", "advise", "settle"))
 
 
+def changed_and_told():
+    """What to change so that nobody is let in, and whom each entry lets in: entries in the hands of several, of one subtree and of two,
+    with who is left out and with who is in a group; limits; and words that are excluded."""
+    commands_of, deep = ("advise", "explain"), ["--subtree", "/a/b", "--subtree", "/a"]
+    rows = {"/": {}, "/a": {"enabled": list(ALL_CONTROLLERS)}, "/a/b": {}, "/a/b/c": {}, "/d": {}}
+    entries = [("/", rules.PROCS), ("/", None), ("/a", rules.CONTROL), ("/a/b", None), ("/a", rules.DEPTH), ("/a/b", "memory.max"), ("/a/b", "io.max")]
+    whom = [], ["--but", "1000"], ["--group", "5="], ["--group", "5=1000"], ["--group", "5=1001", "--but", "1001"], ["--group", "5=1000,1001"]
+    for (path, file), uid, gid, mode in itertools.product(entries, (0, 1000), (0, 5), (0, 0o020, 0o002, 0o022, 0o777, 0o400)):
+        entry = {"uid": uid, "gid": gid, "mode": mode}
+        tree = text_of(4, {**rows, path: {**rows[path], **({"dir": entry} if file is None else {"files": {file: entry}})}})
+        for command, some in itertools.product(commands_of, whom):
+            yield Case([command, "--everybody", *deep, *some], tree)
+    theirs = {"uid": 1000, "gid": 5, "mode": 0o666}
+    for values in itertools.product((0, 1, 2, "max"), repeat=2):
+        files = {file: {**theirs, "value": value} for file, value in zip((rules.DESCENDANTS, rules.DEPTH), values)}
+        tree = text_of(2, {"/a": {"files": files}, "/a/b": {"files": files}, "/a/b/c": {}, "/c": {"dir": theirs}, "/c/d": {}})
+        for command, tops in itertools.product(commands_of, itertools.permutations(("/a", "/a/b", "/c/d"), 2)):
+            yield Case([command, "--everybody", *(word for top in (*tops, tops[0]) for word in ("--subtree", top)), "--but", "7"], tree)
+    for command in commands_of:
+        yield Case([command, "--everybody", "--subtrees", "list", "--group", "05=006,7"], tree, {"list": b"/c/d\n/a/b\n/a\n/c/d\n"})
+        for words in (["--uid", "1000"], ["--gid", "5"], ["--settle"], ["--all"], ["--pairs", "list"], ["--everybody"], ["--subtrees", "list"]):
+            yield Case([command, "--everybody", "--subtree", "/a", *words], tree, {"list": b"/a\n"})
+        for words in [], ["--subtrees", "none"], ["--subtree", "/"], ["--subtree", "/x"], ["--subtree", "/a", "--but", "x"], ["--but", "5"]:
+            yield Case([command, "--everybody", *words], tree)
+
+
 def lines_of_subtrees():
     """Texts of a path a line: whole ones, in each order, ones with a line that is none, and ones that are cut or empty."""
     theirs = {"files": {rules.DEPTH: {"uid": 1000}}}
@@ -343,4 +369,4 @@ def bounds():
 
 TABLES = {**{file: functools.partial(limit_file, file) for file in LIMIT_FILES}, "bounds": bounds, "names": names, "two tries": two_tries,
           "at the root": at_the_root, "theirs": theirs, "classes": classes, "everybody": everybody, "left out": left_out,
-          "lines of subtrees": lines_of_subtrees, "written": written}
+          "changed and told": changed_and_told, "lines of subtrees": lines_of_subtrees, "written": written}

@@ -14,9 +14,9 @@ returns c = record {
       audit_ended files given old new status text st audit carried of_known of_text guards first;
   audit_all = λ audit files given old new status text st carried guards each of_known of_text.
       all_ended files given old new status text st audit carried of_known of_text guards each;
-  audit_everybody = λ asked files given old new status text st subtrees.
+  everybody = λ asked files given old new status text st subtrees.
       everybody_ended files given old new status text st asked subtrees;
-  audit_subtrees = λ asked files given old new status text lines st.
+  subtrees = λ asked files given old new status text lines st.
       subtrees_ended files given old new status text st asked lines;
   audit_settled = λ audit files given old new status text st users subtrees carried further first of_known of_text of_users of_paths.
       settled_ended files given old new status text st audit carried of_known of_text users subtrees further of_users of_paths first;

@@ -1,8 +1,7 @@
 use Rattle.std.proofs.lemmas.Result.{IfOk-weaker}
-use Rattle.arguments.proofs.CommandLaws.{option_added}
+use Rattle.arguments.specs.CommandLine.{advise_options}
 use Rattle.arguments.proofs.command.advise_command.Goals as goal
 
 pub returns : goal.returns
 returns c =
-    let of_pairs = option_added _ _ _ _ _ c.in_ok-advise_named.ensures c.pairs_argument.ensures c.in_ok-arg.ensures in
-    IfOk-weaker c.arg-2.result _ _ (λ new added. option_added _ _ _ _ _ of_pairs c.settle_argument.ensures added) c.arg-2.ensures
+    IfOk-weaker c.with_everybody.result _ _ (λ new added. added advise_options c.in_ok-advise_options.ensures) c.with_everybody.ensures

@@ -1,12 +1,7 @@
 use Rattle.std.proofs.lemmas.Result.{IfOk-weaker}
-use Rattle.arguments.proofs.CommandLaws.{option_added}
+use Rattle.arguments.specs.CommandLine.{audit_options}
 use Rattle.arguments.proofs.command.audit_command.Goals as goal
 
 pub returns : goal.returns
 returns c =
-    let of_all = option_added _ _ _ _ _ c.in_ok-pairs_command.ensures c.all_argument.ensures c.in_ok-arg.ensures in
-    let of_settle = option_added _ _ _ _ _ of_all c.settle_argument.ensures c.in_ok-arg-2.ensures in
-    let of_everybody = option_added _ _ _ _ _ of_settle c.everybody_argument.ensures c.in_ok-arg-3.ensures in
-    let of_subtrees = option_added _ _ _ _ _ of_everybody c.subtrees_argument.ensures c.in_ok-arg-4.ensures in
-    let of_but = option_added _ _ _ _ _ of_subtrees c.but_argument.ensures c.in_ok-arg-5.ensures in
-    IfOk-weaker c.arg-6.result _ _ (λ new added. option_added _ _ _ _ _ of_but c.group_argument.ensures added) c.arg-6.ensures
+    IfOk-weaker c.with_everybody.result _ _ (λ new added. added audit_options c.in_ok-audit_options.ensures) c.with_everybody.ensures

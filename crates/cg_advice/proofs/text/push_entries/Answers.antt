@@ -2,7 +2,8 @@ use Rattle.std.proofs.Common.{ap, sym, subst, ◌∙◌, ◌++◌, map, take}
 use Rattle.std.specs.Ordering.{is_eq}
 use Rattle.std.specs.BTreeSet.{contains}
 use Rattle.cg_model.specs.Mends.{same_place}
-use Rattle.cg_advice.specs.Ways.{entering, key_cmp, is_keyed, lines_by, gathered_lines}
+use Rattle.cg_advice.specs.WayLines.{lines_by}
+use Rattle.cg_advice.specs.Ways.{entering, key_cmp, is_keyed, gathered_lines}
 use Rattle.cg_advice.proofs.Gathering.{one_more, IsKeyOf, tied, keyed_same_place, ways_of_key, AreWritten, written_first, written_again}
 use Rattle.cg_advice.proofs.text.push_entries.Goals as goal
 use Rattle.cg_advice.proofs.text.push_entries.Goals.{then-is_new+in_ok-push_lines, else-is_new}

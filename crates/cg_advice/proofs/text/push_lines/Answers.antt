@@ -5,8 +5,8 @@ use Rattle.cg_advice.proofs.text.push_lines.Goals as goal
 
 pub returns : goal.returns
 returns c =
-    let subtree = c.args.each.now.pair.subtree.now in
-    entry_written c.args.ways subtree c.args.each.now.at c.args.text.now.items c.push_class.new.text.items c.push_class-2.new.text.items
+    let subtree = c.args.subtree.now in
+    entry_written c.args.ways subtree c.args.at.now c.args.text.now.items c.push_class.new.text.items c.push_class-2.new.text.items
     c.push_class-3.new.text.items c.push_mend.new.text.items c.push_mend-2.new.text.items
     c.in_ok-push_class.ensures c.in_ok-push_class-2.ensures c.in_ok-push_class-3.ensures
     (c.in_ok-push_mend.ensures ∙ ap (λ mends. c.push_class-3.new.text.items ++ mend_lines subtree mends) c.chown_of.ensures.mend)

@@ -15,11 +15,11 @@ returns-in-Settle-clause-answer g c = rw c.in-Settle.is c.on_tree-in-Settle.ensu
 pub returns-in-Audit-clause-answer : goal.returns-in-Audit-clause-answer
 returns-in-Audit-clause-answer g c = rw c.in-Audit.is c.on_tree-in-Audit.ensures.answer
 
-pub returns-in-AuditEverybody-clause-answer : goal.returns-in-AuditEverybody-clause-answer
-returns-in-AuditEverybody-clause-answer g c = rw c.in-AuditEverybody.is c.on_tree-in-AuditEverybody.ensures.answer
+pub returns-in-Everybody-clause-answer : goal.returns-in-Everybody-clause-answer
+returns-in-Everybody-clause-answer g c = rw c.in-Everybody.is c.on_tree-in-Everybody.ensures.answer
 
-pub returns-in-AuditSubtrees-clause-answer : goal.returns-in-AuditSubtrees-clause-answer
-returns-in-AuditSubtrees-clause-answer g c = rw c.in-AuditSubtrees.is c.on_subtrees.ensures.answer
+pub returns-in-Subtrees-clause-answer : goal.returns-in-Subtrees-clause-answer
+returns-in-Subtrees-clause-answer g c = rw c.in-Subtrees.is c.on_subtrees.ensures.answer
 
 pub returns-in-Explain-clause-answer : goal.returns-in-Explain-clause-answer
 returns-in-Explain-clause-answer g c = rw c.in-Explain.is c.on_tree-in-Explain.ensures.answer
@@ -54,11 +54,11 @@ returns-in-Settle-clause-noted g c = rw c.in-Settle.is c.on_tree-in-Settle.ensur
 pub returns-in-Audit-clause-noted : goal.returns-in-Audit-clause-noted
 returns-in-Audit-clause-noted g c = rw c.in-Audit.is c.on_tree-in-Audit.ensures.noted
 
-pub returns-in-AuditEverybody-clause-noted : goal.returns-in-AuditEverybody-clause-noted
-returns-in-AuditEverybody-clause-noted g c = rw c.in-AuditEverybody.is c.on_tree-in-AuditEverybody.ensures.noted
+pub returns-in-Everybody-clause-noted : goal.returns-in-Everybody-clause-noted
+returns-in-Everybody-clause-noted g c = rw c.in-Everybody.is c.on_tree-in-Everybody.ensures.noted
 
-pub returns-in-AuditSubtrees-clause-noted : goal.returns-in-AuditSubtrees-clause-noted
-returns-in-AuditSubtrees-clause-noted g c = rw c.in-AuditSubtrees.is c.on_subtrees.ensures.noted
+pub returns-in-Subtrees-clause-noted : goal.returns-in-Subtrees-clause-noted
+returns-in-Subtrees-clause-noted g c = rw c.in-Subtrees.is c.on_subtrees.ensures.noted
 
 pub returns-in-Explain-clause-noted : goal.returns-in-Explain-clause-noted
 returns-in-Explain-clause-noted g c = rw c.in-Explain.is c.on_tree-in-Explain.ensures.noted

@@ -3,6 +3,7 @@ use Rattle.machine_everybody.specs.Everybody.{Everybody}
 use Rattle.cg_everybody.specs.Everybody.{members_of}
 use Rattle.cg_cli.specs.Everybody.{everybody_report}
 use Rattle.cg_cli.specs.Reports.{Reports}
+use Rattle.cg_cli.specs.declared.everybody.Wanted.{Wanted}
 use Rattle.arguments.specs.Given.{listed_group}
 use Rattle.commands.proofs.RequestLaws.{unread_by}
 use Rattle.commands.proofs.on_subtrees.against_everybody.Goals as goal
@@ -21,7 +22,9 @@ returns g c =
     let said = c.everybody_bytes.ensures in inl (
       said.0,
       said.1,
-      subst (λ (asked : Everybody). Reports (everybody_report asked said.0 (map (λ subtree. subtree.now) c.args.subtrees.now))
+      subst (λ (both : Wanted × Everybody).
+          Reports (everybody_report both.0 both.1 said.0 (map (λ subtree. subtree.now) c.args.subtrees.now))
           (g.W.Write.contents c.args.out.now) (g.W.Write.contents c.everybody_bytes.new.out) c.everybody_bytes.result)
-          (λ i. let it : Everybody = record { but = c.as_slice-2.ensures.value i; groups = groups i } in it) said.2,
+          (λ i. let it : Everybody = record { but = c.as_slice-2.ensures.value i; groups = groups i } in
+          (c.wanted_of-wanted.ensures i, it)) said.2,
     )

@@ -5,15 +5,16 @@ use Rattle.cg_cli.specs.Everybody.{found_report, everybody_said}
 use Rattle.cg_cli.specs.Reports.{Report, Reports, report_on}
 use Rattle.cg_cli.proofs.EverybodyReports.{everybody_takes}
 use Rattle.cg_cli.proofs.ReportLaws.{subtree_fault}
-use Rattle.cg_cli.proofs.everybody.AskedNamedQuestion.answer.Goals as goal
+use Rattle.cg_cli.proofs.everybody.QuestionNamedQuestion.answer.Goals as goal
 
 pub returns-in_err-said : goal.returns-in_err-said
 returns-in_err-said g c =
     let st = g.H.Hierarchy.state c.args.tree.now in
-    let asked = everybody_of c.args.self.now in
+    let wanted = c.args.self.now.wanted in
+    let asked = everybody_of c.args.self.now.asked.now in
     let subtrees = c.args.subtrees.now in
-    subtree_fault (everybody_said asked st subtrees) (everybody_takes asked st subtrees) c.in_err-said.field-0.0
-    (λ other. ap (λ found. report_on (in_call found) (found_report asked)) (c.in_err-said.ensures other))
+    subtree_fault (everybody_said wanted asked st subtrees) (everybody_takes wanted asked st subtrees) c.in_err-said.field-0.0
+    (λ other. ap (λ found. report_on (in_call found) (found_report wanted asked st subtrees)) (c.in_err-said.ensures other))
     (g.W.Write.contents c.args.out.now) c.from_residual.result c.from_residual.ensures.1
 
 pub returns : goal.returns
