@@ -60,5 +60,6 @@ returns-clause-everybody c =
     (λ error fault. ((fault ≡ Usage) × (error_kind error ≢ OutOfMemory)) ⊎ ((fault ≡ Cli NoMemory) × (error_kind error ≡ OutOfMemory)))
     (λ lines. EverybodyMeans lines (λ _. Some c.args.other.now) (Some c.args.tree.now) c.run_program-ended.result.status)
     (words_in c.args.words.now) _ c.run_program-ended.result.status runs.0 c.words_of-words.result c.run_program-ended.result.out
-    (λ none. ((λ tree who subtrees asks zero. absurd (none zero)), (λ tree lines who asks zero. absurd (none zero)))) runs.2 runs.4
+    (λ none. ((λ wanted tree who subtrees asks zero. absurd (none zero)), (λ wanted tree lines who asks zero. absurd (none zero))))
+    runs.2 runs.4
     c.run_program-ended.ensures.everybody c.words_of-words.ensures
