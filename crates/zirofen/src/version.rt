@@ -1,4 +1,4 @@
 //! Which version this is, and of which sources: the first digits of their sum, which leaves this file out, and the version not. Written by
 //! tools/build.
 
-pub const VERSION: &str = "0.3.0 (0e69c0fc386b)";
+pub const VERSION: &str = "0.3.0 (c83a9de3d21e)";
