@@ -9,7 +9,7 @@ sys.path[:0] = [os.path.join(TOP, "tests", folder) for folder in ("model", "prog
 
 import help as told_below  # noqa: E402
 import migrations  # noqa: E402
-from trials import mutants, row_mutants, row_tables  # noqa: E402
+from trials import mutants, row_mutants, row_tables, rows  # noqa: E402
 
 
 class FiguresTest(unittest.TestCase):
@@ -18,6 +18,9 @@ class FiguresTest(unittest.TestCase):
             told = re.search(pattern, re.sub(r"\s+", " ", page.read()))
         self.assertTrue(told, pattern)
         self.assertEqual(tuple(map(int, told.groups())), counts)
+
+    def test_rows_of_the_second_model(self):
+        self.assert_told(r"draws nothing: (\d+) rows ask", sum(len([*table()]) for table in rows.TABLES.values()))
 
     def test_mutants(self):
         own = len(row_tables.MUTANTS)
