@@ -78,6 +78,23 @@ class KernelTest(unittest.TestCase):
                 self.assertFalse(source.watch(b"/"))
             self.assertTrue(source.is_short)
 
+    def test_one_persons_part_of_the_watches(self):
+        with tempfile.TemporaryDirectory() as room:
+            for name in "abcd":
+                os.mkdir(f"{room}/{name}")
+            source = kernel.Inotify(room)
+            self.addCleanup(source.close)
+            source.most = 2
+            self.assertEqual([source.watch(path, 1000) for path in (b"/a", b"/b", b"/c")], [True, True, False])
+            self.assertEqual([source.may_watch(person) for person in (1000, 1001, 0)], [False, True, True])
+            self.assertEqual((source.watch(b"/c"), source.is_short), (True, False))
+            source.forget(b"/c")
+            source.forget(b"/a")
+            self.assertEqual([source.watch(path, 1000) for path in (b"/d", b"/a")], [True, False])
+        self.assertGreater(kernel.most_watches(), 0)
+        with mock.patch.object(kernel, "MOST_WATCHES", room):
+            self.assertEqual(kernel.most_watches(), kernel.FEW_WATCHES)
+
     def test_lost_events_of_inotify(self):
         with tempfile.TemporaryDirectory() as room:
             source = kernel.Inotify(room)
@@ -394,6 +411,17 @@ class LanesTest(unittest.TestCase):
         to.all[1003].part = None
         # and 1004 is asked of since root changed something
         self.assertEqual(loop.Loop.shallow(made, to.deep), (1000, 1001, 1002))
+
+    def test_whoever_has_many_folders_to_watch(self):
+        """What isn't watched of theirs is said, and asks nothing once more."""
+        said, run = [], argparse.Namespace(lane=lanes.Lane(1000, 0.0), asked=argparse.Namespace(part=b"/a"))
+        source = argparse.Namespace(has_pids=False, is_short=False, watch=lambda _, person: person == 1001,
+                                    may_watch=lambda person: person != 1000)
+        made = argparse.Namespace(source=source, owners=argparse.Namespace(of={b"/a": 1000, b"/b": 1001}.get), has_surveyed=True,
+                                  limit=lambda what, _: said.append(what))
+        for path, parts in (("/a", (None, ["watches 1000"])), ("/b", (b"/a", ["watches 1000"]))):
+            loop.Loop.watch_all(made, run, argparse.Namespace(part=known.Part(path, frozenset(), frozenset({path}))))
+            self.assertEqual((run.lane.part, said), parts)
 
     def test_what_comes_behind_all_else(self):
         """A check of all of it that no change asked for."""

@@ -387,9 +387,12 @@ class Loop:
         """Watches what was found, where each folder is watched by itself; what wasn't yet is asked of once more."""
         if self.source.has_pids:
             return
-        fresh = [path for path in map(path_of, made.part.there) if self.source.watch(path)]
+        owned = [(path, self.owners.of(path)) for path in map(path_of, made.part.there)]
+        fresh = [path for path, person in owned if self.source.watch(path, person)]
         if self.source.is_short:
             self.limit("watches", "not every cgroup is watched: inotify has no more watches (fs.inotify.max_user_watches)")
+        for person in sorted({person for _, person in owned if not self.source.may_watch(person)}):
+            self.limit(f"watches {person}", f"not every cgroup of uid {person} is watched: a person has an eighth of inotify's watches")
         if fresh and self.has_surveyed:
             run.lane.add(run.asked.part, time.monotonic())
 
