@@ -70,6 +70,29 @@ class RunTest(HostTest):
         self.assertIn("gone: /c: contained, by 1002 who holds it", self.said("gone: /c"))
         self.end()
 
+    def test_whoever_changes_something_at_first(self):
+        """The first check of all of it reads nothing of theirs, and their own has what stands there; the numbers are those of all of it."""
+        self.host.cgroup("/a/x", owners=owned(1002))
+        is_ended = threading.Event()
+
+        def change():
+            while not is_ended.wait(0.02):
+                os.chmod(f"{self.host.mount}/a/cgroup.procs", 0o600)
+                os.chmod(f"{self.host.mount}/a/cgroup.procs", 0o644)
+
+        changing = threading.Thread(target=change)
+        changing.start()
+        self.addCleanup(changing.join)
+        self.addCleanup(is_ended.set)
+        first = self.start("--format", f"metrics={self.host.folder}/watch.prom")
+        self.assertIn("watch: 3 cgroups were asked of", first[-1])
+        line = "new: /a/x: contained, by 1002 who holds it"
+        self.assertIn(line, first if line in first else self.said(line))
+        self.waited_for(f"{self.host.folder}/watch.prom")
+        with open(f"{self.host.folder}/watch.prom", encoding="ascii") as text:
+            self.assertIn("zirofen_subtrees_asked 3\n", text.read())
+        self.end()
+
     def test_a_baseline_and_acceptances(self):
         """What stands in the baseline isn't new, and what is accepted isn't told."""
         os.chmod(f"{self.host.mount}/a/memory.max", 0o666)

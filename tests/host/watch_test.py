@@ -2,6 +2,7 @@
 import argparse
 import os
 import select
+import signal
 import socket
 import struct
 import tempfile
@@ -76,6 +77,23 @@ class KernelTest(unittest.TestCase):
             with mock.patch.object(kernel, "call", side_effect=OSError(28, "No space left on device")):
                 self.assertFalse(source.watch(b"/"))
             self.assertTrue(source.is_short)
+
+    def test_one_persons_part_of_the_watches(self):
+        with tempfile.TemporaryDirectory() as room:
+            for name in "abcd":
+                os.mkdir(f"{room}/{name}")
+            source = kernel.Inotify(room)
+            self.addCleanup(source.close)
+            source.most = 2
+            self.assertEqual([source.watch(path, 1000) for path in (b"/a", b"/b", b"/c")], [True, True, False])
+            self.assertEqual([source.may_watch(person) for person in (1000, 1001, 0)], [False, True, True])
+            self.assertEqual((source.watch(b"/c"), source.is_short), (True, False))
+            source.forget(b"/c")
+            source.forget(b"/a")
+            self.assertEqual([source.watch(path, 1000) for path in (b"/d", b"/a")], [True, False])
+        self.assertGreater(kernel.most_watches(), 0)
+        with mock.patch.object(kernel, "MOST_WATCHES", room):
+            self.assertEqual(kernel.most_watches(), kernel.FEW_WATCHES)
 
     def test_lost_events_of_inotify(self):
         with tempfile.TemporaryDirectory() as room:
@@ -369,12 +387,52 @@ class LanesTest(unittest.TestCase):
         made = argparse.Namespace(owners=owners, lanes=to, findings=argparse.Namespace(entries=argparse.Namespace(all=paths)))
         to.host.touch(Event(b"/a", b"cgroup.procs", ATTRIB, 7), 1, 1.0, Doer(7))
         to.host.add(b"/a", 1.0)
+        to.host.why = "mounts changed"
         loop.Loop.ask_of_left_out(made, to.host.take(), (1000, 1002))
+        self.assertEqual(to.all[1000].why, "mounts changed")
         self.assertEqual({person: lane.part for person, lane in to.all.items() if lane.part}, {1000: b"/a"})
         self.assertEqual(to.all[1000].touched[b"/a", "cgroup.procs"].doers, (Doer(7),))
         for persons in ((1001, 1000), (EVERYBODY,)):
             self.assertEqual(owners.parts_of(persons, paths, b"/"), {1000: b"/", 1001: b"/a/e"})
         self.assertEqual(owners.parts_of((), paths, b"/"), {})
+
+    def test_who_changes_something_waits_for_their_own(self):
+        """A check of all of it reads nothing of whoever changes something, or has more than is asked of."""
+        to = lanes.Lanes(0.0)
+        made = argparse.Namespace(lanes=to)
+        for person in (1000, 1001, 1002, 1003, 1004):
+            to.of(person, 0.0).add(b"/a", 1.0)
+        to.all[1000].go_on(1, 1.0)
+        to.all[1001].touch(Event(b"/a", b"n", CREATE | IS_FOLDER, 7), 1, 1.0, None)
+        to.all[1001].take()
+        to.all[1002].spend(lanes.AT_ONCE + 1)
+        # something happened there once
+        to.all[1003].go_on(1, 1.0)
+        to.all[1003].part = None
+        # and 1004 is asked of since root changed something
+        self.assertEqual(loop.Loop.shallow(made, to.deep), (1000, 1001, 1002))
+
+    def test_whoever_has_many_folders_to_watch(self):
+        """What isn't watched of theirs is said, and asks nothing once more."""
+        said, run = [], argparse.Namespace(lane=lanes.Lane(1000, 0.0), asked=argparse.Namespace(part=b"/a"))
+        source = argparse.Namespace(has_pids=False, is_short=False, watch=lambda _, person: person == 1001,
+                                    may_watch=lambda person: person != 1000)
+        made = argparse.Namespace(source=source, owners=argparse.Namespace(of={b"/a": 1000, b"/b": 1001}.get), has_surveyed=True,
+                                  limit=lambda what, _: said.append(what))
+        for path, parts in (("/a", (None, ["watches 1000"])), ("/b", (b"/a", ["watches 1000"]))):
+            loop.Loop.watch_all(made, run, argparse.Namespace(part=known.Part(path, frozenset(), frozenset({path}))))
+            self.assertEqual((run.lane.part, said), parts)
+
+    def test_what_comes_behind_all_else(self):
+        """A check of all of it that no change asked for."""
+        to = lanes.Lanes(0.0)
+        made = argparse.Namespace(has_begun=False)
+        self.assertTrue(loop.Loop.is_urgent(made, to.deep, None))
+        made.has_begun = True
+        self.assertEqual([loop.Loop.is_urgent(made, to.deep, each) for each in (None, print)], [False, True])
+        self.assertTrue(loop.Loop.is_urgent(made, to.host, None))
+        to.deep.touch(Event(b"/a", b"cgroup.procs", ATTRIB, 7), 1, 1.0, None)
+        self.assertTrue(loop.Loop.is_urgent(made, to.deep, None))
 
     def test_what_is_urgent(self):
         """What is asked of whoever changes much comes behind all else."""
@@ -620,6 +678,16 @@ class ChildTest(unittest.TestCase):
                            (lambda: time.sleep(60), checks.Failed("it took longer than 1 seconds, and this is no answer"))):
             child = checks.Child(make, 1)
             self.assertEqual(child.made(), made)
+
+    def test_one_that_has_just_begun_can_be_ended(self):
+        """What the watch does at a signal isn't done by a check that has none of its own yet."""
+        self.addCleanup(signal.signal, signal.SIGTERM, signal.signal(signal.SIGTERM, lambda *_: None))
+        with mock.patch.object(checks.os, "nice", lambda _: time.sleep(0.5)):
+            child = checks.Child(lambda: time.sleep(30), 60)
+        began = time.monotonic()
+        child.ask_to_end()
+        self.assertEqual(child.made(), checks.Failed(f"a check ended with {-signal.SIGTERM}"))
+        self.assertLess(time.monotonic() - began, 25)
 
     def test_one_that_is_not_urgent_is_nicer(self):
         mine = os.getpriority(os.PRIO_PROCESS, 0)

@@ -481,7 +481,7 @@ def main():
             ways.fill()
         enemy = hostile(mount) if given.hostile else None
         kind = Service if given.service else Watch
-        watch = kind(words_of(given, mount), "is watched" if given.hostile else "were asked of")
+        watch = kind(words_of(given, mount), "were asked of")
         counts = [0, 1]
         try:
             if given.churn or given.idle:

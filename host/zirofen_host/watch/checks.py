@@ -137,9 +137,12 @@ class Child(Generic[Made]):
 
     def __init__(self, make: Callable[[], Made], seconds: int, is_urgent: bool = True) -> None:
         self.left = os.memfd_create("zirofen-watch")
+        # a signal to a process that has just begun waits until it is taken there, and isn't one for the watch
+        before = signal.pthread_sigmask(signal.SIG_BLOCK, ending.SIGNALS)
         self.pid = os.fork()
         if not self.pid:
-            end_with(self.left, make, seconds, 0 if is_urgent else LATER)
+            end_with(self.left, make, seconds, 0 if is_urgent else LATER, before)
+        signal.pthread_sigmask(signal.SIG_SETMASK, before)
         self.opened = os.pidfd_open(self.pid)
         # of a processor, once it has ended
         self.seconds = 0.0
@@ -169,8 +172,8 @@ class Child(Generic[Made]):
         return made
 
 
-def end_with(number: int, make: Callable[[], Made], seconds: int, later: int) -> None:
-    """Makes it, by that much later than others, leaves it, and ends this process."""
+def end_with(number: int, make: Callable[[], Made], seconds: int, later: int, mask: Iterable[int]) -> None:
+    """Makes it, by that much later than others, leaves it, and ends this process. Signals are kept back until it takes them."""
     status = fault.FAULT
     try:
         gc.disable()
@@ -181,6 +184,7 @@ def end_with(number: int, make: Callable[[], Made], seconds: int, later: int) ->
         signal.set_wakeup_fd(-1)
         os.dup2(output.nowhere(), ending.STANDARD_ERROR)
         ending.take_signals(f"{NAME} watch")
+        signal.pthread_sigmask(signal.SIG_SETMASK, mask)
         fault.bound(seconds)
         output.leave(number, pickle.dumps(found_by(make), pickle.HIGHEST_PROTOCOL))
         status = 0

@@ -4,6 +4,7 @@ import ctypes
 import os
 import struct
 import time
+from collections import Counter
 from typing import Callable, Dict, List, Mapping, NamedTuple, Optional, Tuple, Union
 
 from zirofen_host.collect import bounded
@@ -21,6 +22,8 @@ PART = 1 << 18
 MOST_FOLDERS, LOOKED_UP, LOOKING = 65536, 64, 0.02
 AT_FDCWD = -100
 CLOSED_AND_NOT_WAITING = os.O_CLOEXEC | os.O_NONBLOCK
+# how many folders inotify watches for one uid, the part of them that one person's may be, and their number where that isn't known
+MOST_WATCHES, PART_OF_WATCHES, FEW_WATCHES = "/proc/sys/fs/inotify/max_user_watches", 8, 8192
 
 # fanotify
 CLOEXEC, NONBLOCK, FOLDER_AND_NAME = 0x1, 0x2, 0xC00
@@ -160,7 +163,11 @@ class Fanotify:
             self.keep(path, handle)
         return path
 
-    def watch(self, path: CgroupPath) -> bool:
+    def may_watch(self, _: int) -> bool:
+        """Whether more of a person's is watched: all of it is."""
+        return True
+
+    def watch(self, path: CgroupPath, _: int = 0) -> bool:
         """Knows a folder that was made, so that what happens in it takes no look; all of it is watched."""
         with contextlib.suppress(OSError):
             self.know({path: os.stat(self.mount + path).st_ino})
@@ -211,6 +218,10 @@ class Inotify:
         self.drain = Drain(self.opened)
         self.paths: Dict[int, CgroupPath] = {}
         self.watches: Dict[CgroupPath, int] = {}
+        # whose each is that is somebody's, how many each has, and how many each may have
+        self.persons: Dict[CgroupPath, int] = {}
+        self.by: "Counter[int]" = Counter()
+        self.most = most_watches() // PART_OF_WATCHES
         # not every folder could be watched
         self.is_short = False
 
@@ -220,9 +231,13 @@ class Inotify:
     def full(self, path: CgroupPath) -> bytes:
         return self.mount if path == ROOT else self.mount + path
 
-    def watch(self, path: CgroupPath) -> bool:
-        """Watches one folder more, as far as there are watches; whether it wasn't watched yet."""
-        if path in self.watches:
+    def may_watch(self, person: int) -> bool:
+        """Whether somebody has fewer watches than would be others'; root has all."""
+        return not person or self.by[person] < self.most
+
+    def watch(self, path: CgroupPath, person: int = 0) -> bool:
+        """Watches one folder more, of a person's or root's, as far as there are watches; whether it wasn't watched yet."""
+        if path in self.watches or not self.may_watch(person):
             return False
         try:
             number = call("inotify_add_watch", self.opened, self.full(path), ctypes.c_uint32(WANTED | ONLY_FOLDERS | NO_LINKS))
@@ -232,11 +247,16 @@ class Inotify:
             self.is_short = True
             return False
         self.paths[number], self.watches[path] = path, number
+        if person:
+            self.persons[path] = person
+            self.by[person] += 1
         return True
 
     def forget(self, path: CgroupPath) -> None:
         """Knows no more of a folder that went; a kernel takes its watch away."""
         self.paths.pop(self.watches.pop(path, -1), None)
+        if path in self.persons:
+            self.by[self.persons.pop(path)] -= 1
 
     def went(self, path: CgroupPath) -> None:
         """Nothing: a kernel says that a watch ended, in its turn."""
@@ -270,6 +290,14 @@ class Inotify:
     def event_of(self, record: Record) -> Optional[Event]:
         """None: no folder has a handle here."""
         return None
+
+
+def most_watches() -> int:
+    """How many folders a kernel watches for one uid."""
+    try:
+        return int(bounded.read_file(MOST_WATCHES, bounded.STATUS).data)
+    except (OSError, ValueError):
+        return FEW_WATCHES
 
 
 class FolderWatch:

@@ -161,6 +161,11 @@ class Lane:
         return self.left < 0
 
     @property
+    def is_busy(self) -> bool:
+        """Whether something happens in it now; what root did beside it is no event of it."""
+        return self.is_waiting or self.events > 0 and (self.part is not None or self.is_running)
+
+    @property
     def is_urgent(self) -> bool:
         """Whether what is asked of it comes before what is asked of whoever changes much."""
         return self.person <= HOST or self.left > self.at_once / 2
@@ -269,6 +274,10 @@ class Lanes:
         """The others who have more than is asked of: inside of theirs nothing is read for anybody else."""
         others = ((each, lane) for each, lane in self.all.items() if each > HOST and each != person)
         return tuple(sorted(each for each, lane in others if lane.is_waiting or lane.is_running))
+
+    def busy(self) -> Tuple[int, ...]:
+        """In whose folders something happens now, or more than is asked of."""
+        return tuple(sorted(person for person, lane in self.all.items() if person > HOST and lane.is_busy))
 
     def newly_waiting(self) -> Iterable[int]:
         """Whoever has more than is asked of now, each once."""

@@ -123,15 +123,15 @@ class Loop:
         """Watches until a signal ends it."""
         self.source.drain.begin()
         self.source.watch(ROOT)
-        self.begin_with(self.lanes.host, False)
+        self.begin_with_roots()
         while not self.is_ending:
             self.turn()
         self.end()
 
-    def begin_with(self, lane: Lane, is_whole: bool) -> None:
-        """A first check: of what is root's, so that events have somebody to go to, and then of all of it."""
-        lane.ask_whole(time.monotonic(), "the first check", is_whole)
-        lane.first -= lanes.LONGEST_BURST
+    def begin_with_roots(self) -> None:
+        """The first check: of what is root's, so that events have somebody to go to."""
+        self.ask_whole("the first check")
+        self.lanes.host.first -= lanes.LONGEST_BURST
 
     def turn(self) -> None:
         """Waits for what comes next, and does it."""
@@ -190,6 +190,16 @@ class Loop:
     def ask_whole(self, why: str) -> None:
         self.lanes.host.ask_whole(time.monotonic(), why, False)
 
+    def ask_all(self, why: str, is_whole: bool) -> None:
+        """Has everybody's asked of. Where that doesn't have to be one check, whoever changes something now is asked of in their own lane:
+        what changes is looked at ten times, and of 10,000 cgroups that can take minutes."""
+        self.lanes.deep.ask_whole(time.monotonic(), why, is_whole)
+
+    @property
+    def has_numbers(self) -> bool:
+        """Whether numbers are written, which are those of all of it."""
+        return self.outside.leave_numbers is not None
+
     def look_at_mounts(self) -> None:
         found = checks.mounts_seen(self.options)
         if found != self.mounts:
@@ -234,7 +244,7 @@ class Loop:
             self.limits.clear()
             self.lanes.named.clear()
             self.findings.begin_hour()
-            self.lanes.deep.ask_whole(now, "the hourly check")
+            self.ask_all("the hourly check", self.has_numbers)
         if self.is_asked_for_forms and not self.lanes.deep.is_running:
             self.is_asked_for_forms = False
             self.lanes.deep.ask_whole(now, "a check of all of it that a signal asked for")
@@ -257,11 +267,11 @@ class Loop:
             self.start(lane)
 
     def start(self, lane: Lane, write: Optional[Write] = None) -> None:
-        is_urgent, asked = lane.is_urgent, lane.take()
+        is_urgent, asked = self.is_urgent(lane, write), lane.take()
         shallow = () if asked.is_whole else self.shallow(lane)
         part = asked.part if self.is_there(asked.part) else self.nearest(asked.part)
         asked = asked._replace(part=part)
-        if lane.person == lanes.HOST and self.has_surveyed:
+        if lane.person <= lanes.HOST and self.has_surveyed:
             self.ask_of_left_out(asked, shallow)
         began = time.monotonic()
         look = functools.partial(checks.look, self.options, part, shallow, write, write is not None and self.outside.is_full)
@@ -269,9 +279,15 @@ class Loop:
         self.running[child.fileno()] = Running(child, asked, lane, write is not None, began)
         self.poll.register(child.fileno(), select.POLLIN)
 
+    def is_urgent(self, lane: Lane, write: Optional[Write]) -> bool:
+        """Whether a check comes before others: nobody waits for one of all of it that no change asked for."""
+        return lane.is_urgent and (lane.person != lanes.DEEP or not self.has_begun or bool(lane.touched) or write is not None)
+
     def shallow(self, lane: Lane) -> Sequence[int]:
         """Inside of whose nothing is read: of everybody's until a check of all of it has ended, which shows who has much of their own, and
-        then of theirs who have, or wait for it."""
+        then of theirs who have, or wait for it; and by a check of all of it of whoever changes something."""
+        if lane.person == lanes.DEEP:
+            return self.lanes.busy()
         if not self.has_begun and lane.person == lanes.HOST:
             return (EVERYBODY,)
         many = self.owners.many(self.findings.entries.all) if lane.person == lanes.HOST else ()
@@ -284,6 +300,7 @@ class Loop:
             lane = self.lanes.of(person, now)
             lane.give_back(asked)
             lane.add(part, now)
+            lane.why = lane.why or asked.why
 
     def is_there(self, path: CgroupPath) -> bool:
         return path == ROOT or os.path.isdir(os.fsencode(self.options.mount) + path)
@@ -321,16 +338,19 @@ class Loop:
             run.lane.add(run.asked.part, time.monotonic() + SETTLING - lanes.QUIET)
         self.count()
 
-    def begin(self, run: Running, made: Result) -> None:
+    def begin(self, run: Running, made: Result, needs_whole: bool) -> None:
         """The first check of what is root's is behind it, or that of all of it."""
         if run.lane.person == lanes.HOST:
             self.has_surveyed = True
             self.say(WATCH, f"{shown(self.options.mount)} is watched{'' if self.source.has_pids else ', without who does it'}")
             self.outside.manager("READY=1", "STATUS=watching")
-            self.begin_with(self.lanes.deep, True)
+            # a moment later it is seen who changes something
+            self.ask_all("the first check", False)
         else:
             self.has_begun = True
             self.say(WATCH, f"{len(made.part.there)} cgroups were asked of; {made.sum_line}")
+            if made.part.without and (self.has_numbers or needs_whole):
+                self.ask_all("a check of all of it", True)
 
     def failed(self, run: Running, failed: Failed) -> None:
         """A check that found nothing is reported, and its part is asked once more; the first has to find something."""
@@ -349,7 +369,7 @@ class Loop:
         then = self.findings.take(run.asked, made, is_first, self.waiting(), time.time() - (time.monotonic() - run.began))
         self.events.know(made.inodes, then.gone, run.began)
         if is_first:
-            self.begin(run, made)
+            self.begin(run, made, then.needs_whole)
         elif then.needs_whole:
             self.lanes.deep.give_back(run.asked)
             self.lanes.deep.ask_whole(max(time.monotonic(), self.next_deep), "a check of the whole host")
@@ -367,9 +387,12 @@ class Loop:
         """Watches what was found, where each folder is watched by itself; what wasn't yet is asked of once more."""
         if self.source.has_pids:
             return
-        fresh = [path for path in map(path_of, made.part.there) if self.source.watch(path)]
+        owned = [(path, self.owners.of(path)) for path in map(path_of, made.part.there)]
+        fresh = [path for path, person in owned if self.source.watch(path, person)]
         if self.source.is_short:
             self.limit("watches", "not every cgroup is watched: inotify has no more watches (fs.inotify.max_user_watches)")
+        for person in sorted({person for _, person in owned if not self.source.may_watch(person)}):
+            self.limit(f"watches {person}", f"not every cgroup of uid {person} is watched: a person has an eighth of inotify's watches")
         if fresh and self.has_surveyed:
             run.lane.add(run.asked.part, time.monotonic())
 
