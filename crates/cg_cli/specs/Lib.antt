@@ -28,3 +28,4 @@ pub mod Explaining
 pub mod EachPair
 pub mod SettledPairs
 pub mod SettledRows
+pub mod AsJson

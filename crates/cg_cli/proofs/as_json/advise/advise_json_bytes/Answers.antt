@@ -1,0 +1,10 @@
+use Rattle.std.proofs.Common.{map}
+use Rattle.cg_cli.specs.AsJson.{AdvisesAsJson}
+use Rattle.cg_cli.proofs.AuditReports.{means_contained}
+use Rattle.cg_cli.proofs.as_json.advise.advise_json_bytes.Goals as goal
+
+pub returns-clause-contained : goal.returns-clause-contained
+returns-clause-contained g c =
+    means_contained AdvisesAsJson (λ st users subtrees old new result said. said.1) c.args.tree.now
+    (map (λ user. (user.uid, user.gids.now)) c.args.users.now) (map (λ subtree. subtree.now) c.args.subtrees.now)
+    (g.W.Write.contents c.args.out.now) (g.W.Write.contents c.ask_named.new.out) c.ask_named.result c.ask_named.ensures.report

@@ -1,0 +1,5 @@
+//! Reports as JSON.
+pub mod advise;
+pub mod audit;
+pub mod check;
+pub mod may;

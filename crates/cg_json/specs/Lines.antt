@@ -1,0 +1,10 @@
+-- Answers as JSON: nobody has to believe it.
+-- A JSON value on a line. Own.
+use Rattle.std.specs.Prelude.{◌≡◌, ℕ, List, [], ◌∷◌, ◌++◌, Some}
+use Rattle.serde_json.specs.Data.{Data}
+use Rattle.serde_json.specs.Read.{read}
+use Rattle.serde_json.specs.Written.{compact_text}
+
+-- A text is what is written of the value, and a newline; and what is written reads as the value.
+abbrev pub IsLineOf : Data → List ℕ → Type 0
+IsLineOf value text = (text ≡ compact_text value ++ 10 ∷ []) × (read (compact_text value) ≡ Some value)
