@@ -1,26 +1,35 @@
 -- What is said as JSON, by what was answered.
 use Rattle.std.specs.List.{flat_map, list_all}
+use Rattle.std.specs.Option.{ForSome}
 use Rattle.std.proofs.Common.{◌≡◌, ◌≢◌, ℕ, Bool, true, false, cond, List, [], Option, Some, None, Result, Ok, Err, IsErrAnd, refl, sym, ap, subst, inl, inr}
 use Rattle.cg_cgroup.specs.Paths.{Names}
 use Rattle.cg_cgroup.specs.Identity.{Identity}
 use Rattle.cg_model.specs.States.{State}
 use Rattle.cg_model.specs.Answers.{answer}
+use Rattle.cg_model.specs.Bars.{bars}
 use Rattle.cg_model.specs.Clauses.{first}
 use Rattle.cg_model.specs.Mends.{Pair}
 use Rattle.cg_model.specs.Checks.{subtree_faults, unless_fault, checked, all_checked}
 use Rattle.cg_model.specs.declared.answer.Answer.{Answer}
 use Rattle.cg_model.specs.declared.answer.AllAnswer.{AllAnswer}
 use Rattle.cg_model.specs.declared.fault.CheckFault.{CheckFault}
+use Rattle.cg_model.specs.declared.operation.Op.{Op}
+use Rattle.cg_model.specs.declared.outcome.Refusal.{Refusal}
+use Rattle.cg_model.specs.declared.outcome.Outcome.TheVariants.{Refused}
 use Rattle.cg_model.specs.declared.fault.CheckFault.TheVariants.{RootSubtree, NoSuchSubtree, NoMemory as CheckNoMemory}
 use Rattle.cg_advice.specs.AdviceLines.{is_pair_guarded, pairs_lines, advice_lines}
 use Rattle.cg_advice.specs.Found.{parts_of, advice_parts}
 use Rattle.cg_check.specs.Checks.{takes_memory, all_take_memory, Gives}
+use Rattle.cg_format.specs.Readings.{Reading}
+use Rattle.cg_lines.specs.Outcomes.{CanShow}
+use Rattle.cg_lines.proofs.OutcomeLaws.{bars_shown}
 use Rattle.cg_json.specs.Answers.{answer_value}
 use Rattle.cg_json.specs.Audits.{audit_value}
 use Rattle.cg_faults.specs.Faults.{lifted_check}
 use Rattle.cg_faults.specs.declared.fault.CliFault.{CliFault}
 use Rattle.cg_faults.specs.declared.fault.CliFault.TheVariants.{NoMemory}
-use Rattle.cg_cli.specs.AsJson.{SaysValue, AnswersAsJson, PairsAsJson, SaysParts, parts_status, AdviceAsJson}
+use Rattle.cg_cli.specs.Arguments.{user_read, pid_read, path_read}
+use Rattle.cg_cli.specs.AsJson.{SaysValue, AnswersAsJson, PairsAsJson, SaysParts, parts_status, AdviceAsJson, may_json_report}
 use Rattle.cg_cli.specs.Audits.{audit_status}
 use Rattle.cg_cli.specs.Containment.{in_call, answer_status}
 use Rattle.cg_cli.specs.Reports.{Report, Reports, fault_report, takes_memory as report_takes_memory}
@@ -102,6 +111,23 @@ said_fault Says fault says known result handed = (
   says,
   handed_on (Reports (fault_report (lifted_check fault)) known known) (lifted_check fault) result handed (fault_reports fault known),
 )
+
+-- ---- moves
+
+-- what bars an operation can be shown
+pub bar_shown : (st : State) (user : Identity) (op : Op) (bar : Option Refusal) → bar ≡ first (bars st user op)
+    → ForSome bar (λ one. CanShow op (Refused one))
+bar_shown st user op None is = tt
+bar_shown st user op (Some bar) is = bars_shown st user op bar (sym is)
+
+-- A move that is read, and of which memory was refused.
+pub unsaid_as_json : (read : Reading) (uid : ℕ) (gids : List ℕ) (pid : ℕ) (to : List ℕ) (user : Identity) (number : ℕ) (path : Names)
+    (st : State) → user_read uid gids ≡ Ok user → pid_read pid ≡ Ok number → path_read to ≡ Ok path → read ≡ Ok st
+    → (known : Option (List ℕ)) (result : Result ℕ CliFault) → result ≡ Err NoMemory
+    → Reports (may_json_report read uid gids pid to) known known result
+unsaid_as_json read uid gids pid to user number path st is_user is_pid is_path is_tree known result refused =
+    subst (λ (r : Result ℕ CliFault). Reports (may_json_report read uid gids pid to) known known r) (sym refused)
+    (rw (is_user, is_pid, is_path, is_tree) refl, Keeps-refl known)
 
 -- ---- advice
 

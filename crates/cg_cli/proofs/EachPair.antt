@@ -24,7 +24,7 @@ use Rattle.cg_cli.specs.Asking.{CallEnding, read_in_turn, named_read, read_takes
 use Rattle.cg_cli.specs.Audits.{users_read, paths_read}
 use Rattle.cg_cli.specs.Containment.{in_call}
 use Rattle.cg_cli.specs.EachPair.{pair_listed, pairs_listed, lists_then, pairs_then, audited_unless_fault, UnlistedAsNamed, ListsNamed}
-use Rattle.cg_cli.specs.Explaining.{asked_unless_fault, ReportsTold}
+use Rattle.cg_cli.specs.Explaining.{Writing, asked_unless_fault, ReportsToldBy}
 use Rattle.cg_cli.specs.May.{tree_read}
 use Rattle.cg_cli.specs.Pairs.{pair_given}
 use Rattle.cg_cli.specs.declared.pairs.PairIds.{PairIds}
@@ -128,15 +128,15 @@ audit_said tree pairs old new result said =
     ListsNamed (λ st users subtrees old new result lists. lists.0) tree (map (λ pair. (pair_given pair).0) pairs)
     (map (λ pair. (pair_given pair).1) pairs) old new result said)
 
-pub explain_said : (tree : Reading) (pairs : List PairIds) (old new : Option (List ℕ)) (result : Result ℕ CliFault)
-    → PairsReport (λ st users subtrees. ReportsTold (asked_unless_fault st subtrees (paired users subtrees))) tree
+pub explain_said : (written : Writing) (tree : Reading) (pairs : List PairIds) (old new : Option (List ℕ)) (result : Result ℕ CliFault)
+    → PairsReport (λ st users subtrees. ReportsToldBy written (asked_unless_fault st subtrees (paired users subtrees))) tree
     (map (λ pair. (pair_given pair).0) pairs) (map (λ pair. (pair_given pair).1) pairs) old new result
-    → ReportsTold (pairs_then asked_unless_fault tree (map pair_given pairs)) old new result
-explain_said tree pairs old new result said =
-    subst (λ report. ReportsTold report old new result) (sym (of_pairs asked_unless_fault tree pairs))
-    (lists_said ReportsTold met_asked asked_unless_fault
+    → ReportsToldBy written (pairs_then asked_unless_fault tree (map pair_given pairs)) old new result
+explain_said written tree pairs old new result said =
+    subst (λ report. ReportsToldBy written report old new result) (sym (of_pairs asked_unless_fault tree pairs))
+    (lists_said (ReportsToldBy written) (met_asked written) asked_unless_fault
     (λ st subtrees all. call_takes (unless_fault (first (flat_map (subtree_faults st) subtrees)) (st, all)))
-    (λ st users subtrees. ReportsTold (asked_unless_fault st subtrees (paired users subtrees)))
+    (λ st users subtrees. ReportsToldBy written (asked_unless_fault st subtrees (paired users subtrees)))
     (λ st users subtrees old new result told. told) tree (map (λ pair. (pair_given pair).0) pairs)
     (map (λ pair. (pair_given pair).1) pairs) old new result said)
 

@@ -11,11 +11,13 @@ use Rattle.cg_model.specs.Mends.{Pair}
 use Rattle.cg_model.specs.Several.{AreContained}
 use Rattle.cg_model.specs.declared.answer.Answer.{Answer}
 use Rattle.cg_model.specs.declared.fault.CheckFault.{CheckFault}
+use Rattle.cg_model.specs.declared.operation.Op.{Op}
 use Rattle.cg_model.specs.declared.operation.Op.TheVariants.{Move}
+use Rattle.cg_model.specs.declared.outcome.Refusal.{Refusal}
 use Rattle.cg_advice.specs.Found.{Let, Raised, advice_parts}
 use Rattle.cg_format.specs.Readings.{Reading}
 use Rattle.serde_json.specs.Data.{Data}
-use Rattle.cg_json.specs.Lines.{IsLineOf}
+use Rattle.cg_json.specs.Lines.{IsLineOf, json_line}
 use Rattle.cg_json.specs.Answers.{answer_value}
 use Rattle.cg_json.specs.Audits.{audit_value}
 use Rattle.cg_json.specs.Advice.{advice_value}
@@ -25,8 +27,11 @@ use Rattle.cg_cli.specs.Arguments.{user_read, pid_read, path_read}
 use Rattle.cg_cli.specs.Audits.{audit_status}
 use Rattle.cg_cli.specs.Containment.{in_call, answer_status}
 use Rattle.cg_cli.specs.May.{permission, tree_read}
-use Rattle.cg_cli.specs.Reports.{Report, Reports, fault_report}
+use Rattle.cg_cli.specs.Explaining.{ReportsToldBy}
+use Rattle.cg_cli.specs.Formats.{told_in}
+use Rattle.cg_cli.specs.Reports.{Report, Reports, fault_report, report_on}
 use Rattle.cg_cli.specs.Settling.{SaysOn}
+use Rattle.cg_cli.specs.declared.format.Format.TheVariants.{Json}
 use Rattle.cg_faults.specs.declared.fault.CliFault.{CliFault}
 use Rattle.cg_faults.specs.declared.fault.CliFault.TheVariants.{NoMemory}
 
@@ -79,15 +84,24 @@ AdvisesAsJson st users subtrees old new result =
     ((said : Report) × AdviceAsJson st subtrees (all_pairs users subtrees) said × Reports said old new result)
     × (result ≡ Ok 0 → users ≢ [] → AreContained st users subtrees)
 
+-- what is written of an operation that may be barred, and the status
+abbrev pub permission_as_json : Op → Option Refusal → List ℕ × ℕ
+permission_as_json op bar = (json_line (permission_value op bar), (permission op bar).1)
+
 -- granted exactly where nothing bars the move, else refused for the first bar
-abbrev pub MovesAsJson : State → Identity → ℕ → Names → Report → Type 0
-MovesAsJson st user pid to =
-    let bar = first (bars st user (Move pid to)) in IfMade (SaysValue (permission_value (Move pid to) bar) (permission (Move pid to) bar).1)
+abbrev pub move_json_report : State → Identity → ℕ → Names → Report
+move_json_report st user pid to =
+    let said : List ℕ × ℕ = permission_as_json (Move pid to) (first (bars st user (Move pid to))) in
+    record { text = said.0; ending = Ok said.1 }
 
 -- The arguments are looked at in the order of uid, gids, PID and path, and then the tree's text.
-abbrev pub MaySaysAsJson : Reading → ℕ → List ℕ → ℕ → List ℕ → Report → Type 0
-MaySaysAsJson tree uid gids pid to =
-    SaysOn (user_read uid gids) (λ user.
-    SaysOn (pid_read pid) (λ number.
-    SaysOn (path_read to) (λ path.
-    SaysOn (tree_read tree) (λ st. MovesAsJson st user number path))))
+abbrev pub may_json_report : Reading → ℕ → List ℕ → ℕ → List ℕ → Report
+may_json_report tree uid gids pid to =
+    report_on (user_read uid gids) (λ user.
+    report_on (pid_read pid) (λ number.
+    report_on (path_read to) (λ path.
+    report_on (tree_read tree) (λ st. move_json_report st user number path))))
+
+-- all that is told of pairs, an object on a line for each
+abbrev pub ExplainedAsJson : Result (State × List Pair) CliFault → Option (List ℕ) → Option (List ℕ) → Result ℕ CliFault → Type 0
+ExplainedAsJson asked old new result = ReportsToldBy (told_in Json) asked old new result

@@ -2,4 +2,5 @@
 pub mod advise;
 pub mod audit;
 pub mod check;
+pub mod explain;
 pub mod may;

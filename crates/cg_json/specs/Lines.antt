@@ -5,6 +5,10 @@ use Rattle.serde_json.specs.Data.{Data}
 use Rattle.serde_json.specs.Read.{read}
 use Rattle.serde_json.specs.Written.{compact_text}
 
--- A text is what is written of the value, and a newline; and what is written reads as the value.
+-- what is written of the value, and a newline
+abbrev pub json_line : Data → List ℕ
+json_line value = compact_text value ++ 10 ∷ []
+
+-- A text is that, and what is written reads as the value.
 abbrev pub IsLineOf : Data → List ℕ → Type 0
-IsLineOf value text = (text ≡ compact_text value ++ 10 ∷ []) × (read (compact_text value) ≡ Some value)
+IsLineOf value text = (text ≡ json_line value) × (read (compact_text value) ≡ Some value)

@@ -1,13 +1,12 @@
 //! One migration, as JSON.
-ghost use Rattle.std.specs.Prelude.{Ok, IfOk};
+ghost use Rattle.std.specs.Prelude.{◌≡◌, IfOk};
 ghost use Rattle.cg_model.specs.Clauses.{first};
 ghost use Rattle.cg_model.specs.Bars.{bars};
+ghost use Rattle.cg_model.specs.declared.operation.Op.{Op};
 ghost use Rattle.cg_format.specs.Readings.{OnText};
-ghost use Rattle.cg_json.specs.Outcomes.{permission_value};
-ghost use Rattle.cg_cli.specs.AsJson.{SaysValue, MaySaysAsJson};
-ghost use Rattle.cg_cli.specs.May.{permission};
+ghost use Rattle.cg_cli.specs.AsJson.{permission_as_json, may_json_report};
 ghost use Rattle.cg_cli.specs.Missing.{IsAbsentFrom};
-ghost use Rattle.cg_cli.specs.Reports.{Report, Reports};
+ghost use Rattle.cg_cli.specs.Reports.{Reports};
 
 use crate::arguments::{UserIds, read_path, read_pid, read_user};
 use crate::missing::if_missing;
@@ -19,6 +18,7 @@ use cg_faults::fault::CliFault;
 use cg_json::outcome::permission_json;
 use cg_model::hierarchy::Hierarchy;
 use cg_model::operation::Op;
+use cg_model::outcome::Refusal;
 use cg_ops::refusal;
 use std::alloc::Global;
 use std::io::Write;
@@ -38,8 +38,8 @@ pub fn may_json_bytes<W: Write>(
     missing: &mut Option<Missing>,
     out: &mut W,
 ) -> Result<u8, CliFault>
-    ensures report { OnText tree.now (λ read. (said : Report) × MaySaysAsJson read user.entry.uid user.entry.gids.now pid to.now said
-        × Reports said (W.contents out.old) (W.contents out.new) result) }
+    ensures report { OnText tree.now (λ read. Reports (may_json_report read user.entry.uid user.entry.gids.now pid to.now)
+        (W.contents out.old) (W.contents out.new) result) }
     ensures missing { IsAbsentFrom tree.now to.now result missing.new }
 {
     let user = read_user(user)?;
@@ -59,10 +59,23 @@ fn permission_said<H: Hierarchy>(
     user: &User,
     op: &Op,
 ) -> Result<(Vec<u8>, u8), NoMemory>
-    ensures { IfOk result (λ said. SaysValue (permission_value op.now (first (bars (H.state tree.now) user.now op.now)))
-        (permission op.now (first (bars (H.state tree.now) user.now op.now))).1 (record { text = said.0.items; ending = Ok said.1 })) }
+    ensures text { IfOk result (λ said. said.0.items
+        ≡ (permission_as_json op.now (first (bars (H.state tree.now) user.now op.now))).0) }
+    ensures status { IfOk result (λ said. said.1
+        ≡ (permission_as_json op.now (first (bars (H.state tree.now) user.now op.now))).1) }
 {
     let bar = refusal(tree, user, op);
+    let status = permission_status(bar);
     let text = permission_json(alloc, op, bar)?;
-    Ok((text, if bar.is_some() { 1 } else { 0 }))
+    Ok((text, status))
+}
+
+/// The status of an operation that something may bar.
+fn permission_status(bar: Option<Refusal>) -> u8
+    ensures { (op : Op) → result ≡ (permission_as_json op bar).1 }
+{
+    match bar {
+        None => 0,
+        Some(_) => 1,
+    }
 }
