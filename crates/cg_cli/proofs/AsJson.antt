@@ -1,116 +1,112 @@
--- What is said as JSON, by what was answered.
+-- What is said as JSON, by what was read.
 use Rattle.std.specs.List.{flat_map, list_all}
 use Rattle.std.specs.Option.{ForSome}
-use Rattle.std.proofs.Common.{◌≡◌, ◌≢◌, ℕ, Bool, true, false, cond, List, [], Option, Some, None, Result, Ok, Err, IsErrAnd, refl, sym, ap, subst, inl, inr}
-use Rattle.cg_cgroup.specs.Paths.{Names}
+use Rattle.std.proofs.Common.{◌≡◌, ◌≢◌, ℕ, Bool, true, false, cond, List, [], map, Option, Some, None, Result, Ok, Err, refl, sym, ap, ◌∙◌, subst, inl, inr}
+use Rattle.std.proofs.KnownBytes.{Keeps-refl}
+use Rattle.cg_cgroup.specs.Paths.{Names, same_path}
 use Rattle.cg_cgroup.specs.Identity.{Identity}
 use Rattle.cg_model.specs.States.{State}
 use Rattle.cg_model.specs.Answers.{answer}
 use Rattle.cg_model.specs.Bars.{bars}
 use Rattle.cg_model.specs.Clauses.{first}
 use Rattle.cg_model.specs.Mends.{Pair}
+use Rattle.cg_model.specs.Once.{once}
 use Rattle.cg_model.specs.Checks.{subtree_faults, unless_fault, checked, all_checked}
 use Rattle.cg_model.specs.declared.answer.Answer.{Answer}
-use Rattle.cg_model.specs.declared.answer.AllAnswer.{AllAnswer}
 use Rattle.cg_model.specs.declared.fault.CheckFault.{CheckFault}
+use Rattle.cg_model.specs.declared.fault.CheckFault.TheVariants.{RootSubtree, NoSuchSubtree, NoMemory as CheckNoMemory}
 use Rattle.cg_model.specs.declared.operation.Op.{Op}
 use Rattle.cg_model.specs.declared.outcome.Refusal.{Refusal}
 use Rattle.cg_model.specs.declared.outcome.Outcome.TheVariants.{Refused}
-use Rattle.cg_model.specs.declared.fault.CheckFault.TheVariants.{RootSubtree, NoSuchSubtree, NoMemory as CheckNoMemory}
-use Rattle.cg_advice.specs.AdviceLines.{is_pair_guarded, pairs_lines, advice_lines}
-use Rattle.cg_advice.specs.Found.{parts_of, advice_parts}
-use Rattle.cg_check.specs.Checks.{takes_memory, all_take_memory, Gives}
-use Rattle.cg_format.specs.Readings.{Reading}
 use Rattle.cg_lines.specs.Outcomes.{CanShow}
 use Rattle.cg_lines.proofs.OutcomeLaws.{bars_shown}
-use Rattle.cg_json.specs.Answers.{answer_value}
-use Rattle.cg_json.specs.Audits.{audit_value}
+use Rattle.cg_advice.specs.AdviceLines.{is_pair_guarded, pairs_lines, advice_lines}
+use Rattle.cg_advice.specs.Found.{parts_of, advice_parts}
+use Rattle.cg_format.specs.Readings.{Reading}
 use Rattle.cg_faults.specs.Faults.{lifted_check}
 use Rattle.cg_faults.specs.declared.fault.CliFault.{CliFault}
 use Rattle.cg_faults.specs.declared.fault.CliFault.TheVariants.{NoMemory}
+use Rattle.cg_cli.specs.Advising.{paired, named_report}
 use Rattle.cg_cli.specs.Arguments.{user_read, pid_read, path_read}
-use Rattle.cg_cli.specs.AsJson.{SaysValue, AnswersAsJson, PairsAsJson, SaysParts, parts_status, AdviceAsJson, may_json_report}
-use Rattle.cg_cli.specs.Audits.{audit_status}
-use Rattle.cg_cli.specs.Containment.{in_call, answer_status}
-use Rattle.cg_cli.specs.Reports.{Report, Reports, fault_report, takes_memory as report_takes_memory}
-use Rattle.cg_cli.specs.Settled.{IsSettledFault}
+use Rattle.cg_cli.specs.AsJson.{answer_json_report, subtree_json_report, FurtherSaysAsJson, audit_json_answer, pairs_json_report, parts_status, parts_report, parts_asked, advice_json_report, AdvisesNamedAsJson, advise_pairs_json_report, may_json_report}
+use Rattle.cg_cli.specs.Asking.{named_read, PairsReport, NamedReports}
+use Rattle.cg_cli.specs.Containment.{in_call}
+use Rattle.cg_cli.specs.Once.{same_user}
+use Rattle.cg_cli.specs.Pairs.{pair_given}
+use Rattle.cg_cli.specs.Reports.{Report, Reports, fault_report, report_on, takes_memory}
+use Rattle.cg_cli.specs.Settled.{IsSettledFrom, IsSettled, IsSettledFault}
 use Rattle.cg_cli.specs.Settling.{SaysOn}
-use Rattle.cg_cli.proofs.AdviseReports.{all_guarded}
-use Rattle.cg_cli.proofs.ReportLaws.{handed_on}
-use Rattle.std.proofs.KnownBytes.{Keeps-refl}
+use Rattle.cg_cli.specs.declared.pairs.PairIds.{PairIds}
+use Rattle.cg_cli.proofs.AdviseReports.{all_guarded, fault_said, said_of_read}
+use Rattle.cg_cli.proofs.NamedPairs.{mapped_again}
+use Rattle.cg_cli.proofs.NamedReads.{by_read, by_reading}
+use Rattle.cg_cli.proofs.ReportLaws.{call_takes, report_takes}
+use Rattle.cg_cli.proofs.SettleReports.{some_settled}
 
--- a report whatever happens
-pub unmade_takes : (says : Report → Type 0) → says (fault_report NoMemory)
-    → (said : Report) × says said × (report_takes_memory said.ending ≡ true)
-unmade_takes says is = (fault_report NoMemory, is, refl)
+-- ---- one user and one subtree
 
-module _ (follows : State → Identity → Names → Answer → Answer → Type 0) (st : State) (user : Identity) (subtree : Names) where
+pub containment_takes : (st : State) (user : Identity) (path : Names) → takes_memory (subtree_json_report st user path).ending ≡ true
+containment_takes st user path =
+    report_takes (in_call (checked st user path)) (answer_json_report path) (λ found. refl) (call_takes (checked st user path))
+
+module _ (st : State) (user : Identity) (subtree : Names) where
   abbrev SaysFrom : Answer → Report → Type 0
-  SaysFrom given said =
-      (found : Answer) × follows st user subtree given found × SaysValue (answer_value subtree found) (answer_status found) said
+  SaysFrom given said = (found : Answer) × IsSettledFrom st user subtree given found × (said ≡ answer_json_report subtree found)
 
-  -- an answer
-  pub answered : (given found : Answer) → checked st user subtree ≡ Ok given → follows st user subtree given found → (said : Report)
-      → SaysValue (answer_value subtree found) (answer_status found) said → AnswersAsJson follows st user subtree said
-  answered given found is follows_it said says =
-      inl (subst (λ asked. SaysOn (in_call asked) SaysFrom said) (sym is) (found, follows_it, says))
+  says_some : (found : Result Answer CheckFault)
+      → (said : Report) × SaysOn (in_call found) SaysFrom said × (takes_memory said.ending ≡ true)
+  says_some (Ok given) =
+      let some = some_settled st user subtree given in (answer_json_report subtree some.0, (some.0, some.1, refl), refl)
+  says_some (Err RootSubtree) = (fault_report (lifted_check RootSubtree), refl, refl)
+  says_some (Err NoSuchSubtree) = (fault_report (lifted_check NoSuchSubtree), refl, refl)
+  says_some (Err CheckNoMemory) = (fault_report (lifted_check CheckNoMemory), refl, refl)
 
-  -- a fault of the subtree
-  pub faulted : (fault : CheckFault) → checked st user subtree ≡ Err fault
-      → AnswersAsJson follows st user subtree (fault_report (lifted_check fault))
-  faulted fault is =
-      inl (subst (λ asked. SaysOn (in_call asked) SaysFrom (fault_report (lifted_check fault))) (sym is) refl)
+  pub settling_takes : (said : Report) × FurtherSaysAsJson IsSettledFrom st user subtree said × (takes_memory said.ending ≡ true)
+  settling_takes = says_some (checked st user subtree)
 
-  pub given_fault : (fault : CheckFault) → Gives takes_memory (checked st user subtree) (Err fault)
-      → AnswersAsJson follows st user subtree (fault_report (lifted_check fault))
-  given_fault RootSubtree is = faulted RootSubtree is
-  given_fault NoSuchSubtree is = faulted NoSuchSubtree is
-  given_fault CheckNoMemory is = inr refl
+  pub says_found : (found : Answer) → first (subtree_faults st subtree) ≡ None → IsSettled st user subtree found → (said : Report)
+      → said ≡ answer_json_report subtree found → FurtherSaysAsJson IsSettledFrom st user subtree said
+  says_found found none settled said is =
+      subst (λ fault. SaysOn (in_call (unless_fault fault (answer st user subtree))) SaysFrom said) (sym none) (found, settled, is)
 
-  pub settled_fault : (fault : CheckFault) → IsSettledFault st subtree fault
-      → AnswersAsJson follows st user subtree (fault_report (lifted_check fault))
-  settled_fault fault (inl memory) =
-      subst (λ (f : CheckFault). AnswersAsJson follows st user subtree (fault_report (lifted_check f))) (sym memory) (inr refl)
-  settled_fault fault (inr is) = faulted fault (ap (λ found. unless_fault found (answer st user subtree)) is)
+  pub says_fault : (fault : CheckFault) → IsSettledFault st subtree fault → fault ≢ CheckNoMemory
+      → FurtherSaysAsJson IsSettledFrom st user subtree (fault_report (lifted_check fault))
+  says_fault fault (inl memory) other = absurd (other memory)
+  says_fault fault (inr is) other =
+      subst
+      (λ found. SaysOn (in_call (unless_fault found (answer st user subtree))) SaysFrom (fault_report (lifted_check fault)))
+      (sym is) refl
 
-  pub settled : (found : Answer) → first (subtree_faults st subtree) ≡ None → follows st user subtree (answer st user subtree) found
-      → (said : Report) → SaysValue (answer_value subtree found) (answer_status found) said → AnswersAsJson follows st user subtree said
-  settled found none = answered (answer st user subtree) found (ap (λ fault. unless_fault fault (answer st user subtree)) none)
+-- ---- several
 
-module _ (st : State) (users : List Identity) (subtrees : List Names) where
-  abbrev SaysOfAll : AllAnswer → Report → Type 0
-  SaysOfAll found said = SaysValue (audit_value users subtrees found) (audit_status found) said
+pub pairs_take : (st : State) (users : List Identity) (subtrees : List Names)
+    → takes_memory (pairs_json_report st users subtrees).ending ≡ true
+pairs_take st users subtrees =
+    report_takes (in_call (all_checked st users subtrees)) (audit_json_answer users subtrees) (λ found. refl)
+    (call_takes (all_checked st users subtrees))
 
-  pub all_answered : (found : AllAnswer) → all_checked st users subtrees ≡ Ok found → (said : Report) → SaysOfAll found said
-      → PairsAsJson st users subtrees said
-  all_answered found is said says = inl (subst (λ asked. SaysOn (in_call asked) SaysOfAll said) (sym is) says)
+-- a report on users and subtrees each of whom counts once
+module _ (report : State → List Identity → List Names → Report)
+    (takes : (st : State) (users : List Identity) (subtrees : List Names) → takes_memory (report st users subtrees).ending ≡ true) where
+  abbrev of_once : State → List Identity → List Names → Report
+  of_once st users subtrees = report st (once same_user users) (once same_path subtrees)
 
-  all_faulted : (fault : CheckFault) → all_checked st users subtrees ≡ Err fault
-      → PairsAsJson st users subtrees (fault_report (lifted_check fault))
-  all_faulted fault is =
-      inl (subst (λ asked. SaysOn (in_call asked) SaysOfAll (fault_report (lifted_check fault))) (sym is) refl)
+  of_once_takes : (st : State) (users : List Identity) (subtrees : List Names) → takes_memory (of_once st users subtrees).ending ≡ true
+  of_once_takes st users subtrees = takes st (once same_user users) (once same_path subtrees)
 
-  pub all_given_fault : (fault : CheckFault) → Gives all_take_memory (all_checked st users subtrees) (Err fault)
-      → PairsAsJson st users subtrees (fault_report (lifted_check fault))
-  all_given_fault RootSubtree is = all_faulted RootSubtree is
-  all_given_fault NoSuchSubtree is = all_faulted NoSuchSubtree is
-  all_given_fault CheckNoMemory is = inr refl
-
--- a fault that is reported before anything is written
-fault_reports : (fault : CheckFault) (known : Option (List ℕ))
-    → Reports (fault_report (lifted_check fault)) known known (Err (lifted_check fault))
-fault_reports RootSubtree known = (refl, Keeps-refl known)
-fault_reports NoSuchSubtree known = (refl, Keeps-refl known)
-fault_reports CheckNoMemory known = (refl, Keeps-refl known)
-
-pub said_fault : (Says : Report → Type 0) (fault : CheckFault) → Says (fault_report (lifted_check fault)) → (known : Option (List ℕ))
-    (result : Result ℕ CliFault) → IsErrAnd result (λ found. found ≡ lifted_check fault)
-    → (said : Report) × Says said × Reports said known known result
-said_fault Says fault says known result handed = (
-  fault_report (lifted_check fault),
-  says,
-  handed_on (Reports (fault_report (lifted_check fault)) known known) (lifted_check fault) result handed (fault_reports fault known),
-)
+  pub once_said : (answers : State → List Identity → List Names → Option (List ℕ) → Option (List ℕ) → Result ℕ CliFault → Type 0)
+      → ((st : State) (users : List Identity) (subtrees : List Names) (old new : Option (List ℕ)) (result : Result ℕ CliFault)
+      → answers st users subtrees old new result → Reports (report st users subtrees) old new result)
+      → (tree : Reading) (given : List (ℕ × List ℕ)) (texts : List (List ℕ)) (old new : Option (List ℕ)) (result : Result ℕ CliFault)
+      → NamedReports answers tree given texts old new result → Reports (named_report of_once tree given texts) old new result
+  once_said answers says tree given texts =
+      by_reading answers tree given texts (Reports (named_report of_once tree given texts))
+      (λ fault met known. fault_said of_once of_once_takes tree given texts fault met known (Err fault) refl)
+      (λ users subtrees st kept old new result said.
+      subst (λ (r : Report). Reports r old new result)
+      (sym (said_of_read of_once of_once_takes tree given texts kept.all_users kept.all_subtrees st kept.is
+      ∙ (λ i. report st (sym kept.of_users i) (sym kept.of_subtrees i))))
+      (says st users subtrees old new result said))
 
 -- ---- moves
 
@@ -131,17 +127,10 @@ unsaid_as_json read uid gids pid to user number path st is_user is_pid is_path i
 
 -- ---- advice
 
-module _ (st : State) (subtrees : List Names) (pairs : List Pair) where
-  pub advice_answered : first (flat_map (subtree_faults st) subtrees) ≡ None → (said : Report) → SaysParts (advice_parts st pairs) said
-      → AdviceAsJson st subtrees pairs said
-  advice_answered none said says =
-      inl (subst (λ fault. SaysOn (in_call (unless_fault fault (advice_parts st pairs))) SaysParts said) (sym none) says)
-
-  pub advice_faulted : (fault : CheckFault) → first (flat_map (subtree_faults st) subtrees) ≡ Some fault
-      → AdviceAsJson st subtrees pairs (fault_report (lifted_check fault))
-  advice_faulted fault is =
-      inl (subst (λ found. SaysOn (in_call (unless_fault found (advice_parts st pairs))) SaysParts (fault_report (lifted_check fault)))
-      (sym is) refl)
+pub advice_takes : (st : State) (subtrees : List Names) (pairs : List Pair)
+    → takes_memory (advice_json_report st subtrees pairs).ending ≡ true
+advice_takes st subtrees pairs =
+    report_takes (in_call (parts_asked st subtrees pairs)) parts_report (λ found. refl) (call_takes (parts_asked st subtrees pairs))
 
 -- where no guard fails
 pub no_parts : (st : State) (pairs : List Pair) → None ≡ advice_lines st pairs → None ≡ advice_parts st pairs
@@ -154,3 +143,39 @@ no_lines st pairs = by_test (list_all (is_pair_guarded st) pairs)
         → None ≡ cond guarded None (Some (pairs_lines st pairs))
     by_test true zero = refl
     by_test false zero = let never : ⊥ = cc in absurd never
+
+-- of subtrees without a fault
+pub advice_found : (st : State) (subtrees : List Names) (pairs : List Pair) → first (flat_map (subtree_faults st) subtrees) ≡ None
+    → (said : Report) → parts_report (advice_parts st pairs) ≡ said → advice_json_report st subtrees pairs ≡ said
+advice_found st subtrees pairs none said is =
+    ap (λ fault. report_on (in_call (unless_fault fault (advice_parts st pairs))) parts_report) none ∙ is
+
+-- of pairs, each as it is named
+abbrev pub paired_json_report : State → List Identity → List Names → Report
+paired_json_report st users subtrees = advice_json_report st subtrees (paired users subtrees)
+
+paired_takes : (st : State) (users : List Identity) (subtrees : List Names)
+    → takes_memory (paired_json_report st users subtrees).ending ≡ true
+paired_takes st users subtrees = advice_takes st subtrees (paired users subtrees)
+
+of_lists : (tree : Reading) (pairs : List PairIds) → advise_pairs_json_report tree (map pair_given pairs)
+    ≡ named_report paired_json_report tree (map (λ pair. (pair_given pair).0) pairs) (map (λ pair. (pair_given pair).1) pairs)
+of_lists tree pairs =
+    λ i.
+    named_report paired_json_report tree (mapped_again (λ pair. pair.0) pair_given pairs i)
+    (mapped_again (λ pair. pair.1) pair_given pairs i)
+
+pub advised_said : (tree : Reading) (pairs : List PairIds) (old new : Option (List ℕ)) (result : Result ℕ CliFault)
+    → PairsReport AdvisesNamedAsJson tree (map (λ pair. (pair_given pair).0) pairs) (map (λ pair. (pair_given pair).1) pairs) old new result
+    → Reports (advise_pairs_json_report tree (map pair_given pairs)) old new result
+advised_said tree pairs old new result said =
+    let given = map (λ pair. (pair_given pair).0) pairs in
+    let texts = map (λ pair. (pair_given pair).1) pairs in
+    subst (λ (r : Report). Reports r old new result) (sym (of_lists tree pairs))
+    (by_read (named_read given texts tree) (λ users subtrees st. named_read given texts tree ≡ Ok (users, subtrees, st)) AdvisesNamedAsJson
+    (Reports (named_report paired_json_report tree given texts))
+    (λ fault met known. fault_said paired_json_report paired_takes tree given texts fault met known (Err fault) refl)
+    (λ users subtrees st is old new result advises.
+    subst (λ (r : Report). Reports r old new result)
+    (sym (said_of_read paired_json_report paired_takes tree given texts users subtrees st is)) advises.0)
+    old new result said)

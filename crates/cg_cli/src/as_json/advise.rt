@@ -1,5 +1,5 @@
 //! What to change so that every subtree is contained against every user, as JSON.
-ghost use Rattle.std.specs.Prelude.{◌≡◌, ◌≢◌, List, [], map, Ok, None, IfOk, MatchResult};
+ghost use Rattle.std.specs.Prelude.{◌≡◌, ◌≢◌, List, [], map, Ok, Err, None, IfOk, MatchResult};
 ghost use Rattle.std.specs.List.{flat_map};
 ghost use Rattle.std.specs.Option.{option_map};
 ghost use Rattle.cg_cgroup.specs.Identity.{Identity};
@@ -11,12 +11,10 @@ ghost use Rattle.cg_model.specs.Several.{AreContained};
 ghost use Rattle.cg_advice.specs.Found.{found_parts, advice_parts};
 ghost use Rattle.cg_format.specs.Readings.{OnText};
 ghost use Rattle.cg_format.specs.TextOf.{IsTextOf};
-ghost use Rattle.cg_faults.specs.Faults.{lifted_check};
 ghost use Rattle.cg_cli.specs.Advising.{all_pairs};
-ghost use Rattle.cg_cli.specs.AsJson.{SaysParts, AdviceAsJson, AdvisesAsJson};
-ghost use Rattle.cg_cli.specs.Asking.{NamedReports};
+ghost use Rattle.cg_cli.specs.AsJson.{parts_report, parts_asked, advice_json_report, AdvisesAsJson, advise_json_report};
 ghost use Rattle.cg_cli.specs.Audits.{users_read, paths_read};
-ghost use Rattle.cg_cli.specs.Reports.{fault_report};
+ghost use Rattle.cg_cli.specs.Reports.{Reports};
 ghost use Rattle.cg_cli.specs.Strangers.{IsFirstStranger};
 
 use crate::advise::all_pairs;
@@ -50,8 +48,8 @@ pub fn advise_json_bytes<W: Write>(
     stranger: &mut Option<u32>,
     out: &mut W,
 ) -> Result<u8, CliFault>
-    ensures report { OnText tree.now (λ read. NamedReports AdvisesAsJson read
-        (map (λ user. (user.uid, user.gids.now)) users.now) (map (λ subtree. subtree.now) subtrees.now)
+    ensures report { OnText tree.now (λ read. Reports
+        (advise_json_report read (map (λ user. (user.uid, user.gids.now)) users.now) (map (λ subtree. subtree.now) subtrees.now))
         (W.contents out.old) (W.contents out.new) result) }
     ensures contained { result ≡ Ok 0 → (st : State) (who : List Identity) (paths : List Names)
         → IsTextOf st tree.now → users_read (map (λ user. (user.uid, user.gids.now)) users.now) ≡ Ok who
@@ -89,9 +87,10 @@ fn advised<H: Hierarchy + Drop>(
     subtrees: &[Path],
 ) -> Result<(Vec<u8>, u8), CheckFault>
     ensures said { MatchResult result
-        (λ said. AdviceAsJson (H.state tree.now) subtrees.now (all_pairs users.now subtrees.now)
-        (record { text = said.0.items; ending = Ok said.1 }))
-        (λ fault. AdviceAsJson (H.state tree.now) subtrees.now (all_pairs users.now subtrees.now) (fault_report (lifted_check fault))) }
+        (λ said. advice_json_report (H.state tree.now) subtrees.now (all_pairs users.now subtrees.now)
+        ≡ record { text = said.0.items; ending = Ok said.1 })
+        (λ fault. fault ≢ CheckFault.NoMemory
+        → parts_asked (H.state tree.now) subtrees.now (all_pairs users.now subtrees.now) ≡ Err fault) }
     ensures contained { IfOk result (λ said. said.1 ≡ 0 → users.now ≢ []
         → AreContained (H.state tree.now) users.now subtrees.now) }
 {
@@ -112,8 +111,8 @@ fn advice_said<H: Hierarchy>(
     subtrees: &[Path],
 ) -> Result<(Vec<u8>, u8), NoMemory>
     requires { first (flat_map (subtree_faults (H.state tree.now)) subtrees.now) ≡ None }
-    ensures { IfOk result (λ said. SaysParts (advice_parts (H.state tree.now) (all_pairs users.now subtrees.now))
-        (record { text = said.0.items; ending = Ok said.1 })) }
+    ensures { IfOk result (λ said. parts_report (advice_parts (H.state tree.now) (all_pairs users.now subtrees.now))
+        ≡ record { text = said.0.items; ending = Ok said.1 }) }
 {
     let parts = advice_of(alloc, tree, users, subtrees)?;
     parts_said(alloc, parts)
@@ -139,14 +138,20 @@ fn advice_of<'a, H: Hierarchy>(
 }
 
 /// What is said of what was found, and the status.
-fn parts_said(alloc: Global, parts: Option<Found<'_>>) -> Result<(Vec<u8>, u8), NoMemory>
-    ensures { IfOk result (λ said. SaysParts (option_map found_parts parts) (record { text = said.0.items; ending = Ok said.1 })) }
+pub(crate) fn parts_said(
+    alloc: Global,
+    parts: Option<Found<'_>>,
+) -> Result<(Vec<u8>, u8), NoMemory>
+    ensures { IfOk result (λ said. parts_report (option_map found_parts parts) ≡ record { text = said.0.items; ending = Ok said.1 }) }
 {
     match parts {
-        None => Ok((contained_json(alloc)?, 0)),
-        Some(found) => Ok((
-            failing_json(alloc, found.stands.as_slice(), found.overs.as_slice())?,
-            1,
-        )),
+        None => {
+            let text = contained_json(alloc)?;
+            Ok((text, 0))
+        }
+        Some(found) => {
+            let text = failing_json(alloc, found.stands.as_slice(), found.overs.as_slice())?;
+            Ok((text, 1))
+        }
     }
 }

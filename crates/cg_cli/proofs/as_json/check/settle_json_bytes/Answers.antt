@@ -1,7 +1,5 @@
-use Rattle.std.proofs.Common.{inr, refl}
-use Rattle.cg_cli.specs.Reports.{fault_report}
-use Rattle.cg_faults.specs.declared.fault.CliFault.TheVariants.{NoMemory}
+use Rattle.cg_cli.proofs.AsJson.{settling_takes}
 use Rattle.cg_cli.proofs.as_json.check.settle_json_bytes.Goals as goal
 
 pub ask-requires : goal.ask-requires
-ask-requires g c = λ st who path. (fault_report NoMemory, inr refl, refl)
+ask-requires g c = settling_takes
