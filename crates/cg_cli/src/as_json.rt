@@ -2,6 +2,9 @@
 pub mod advise;
 pub mod advise_pairs;
 pub mod audit;
+pub mod audit_all;
+pub mod audit_pairs;
+pub mod audit_settle;
 pub mod check;
 pub mod explain;
 pub mod may;

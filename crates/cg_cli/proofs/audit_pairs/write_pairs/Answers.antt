@@ -28,7 +28,7 @@ loop-pair-preserved g c =
     let far =
     pair_next (g.H.Hierarchy.state c.args.tree.now) c.args.pairs.now c.loop-pair.pair-index _ _ _ _ c.loop-pair.invariant
     c.pair-item.result c.loop-pair-test.true c.pair-item.is in
-    subst (Front _ _ _ _) (sym c.worse-worst.ensures) (goes_on _ _ _ _ _ _ _ far c.in_ok-write_pair.field-0 c.in_ok-write_pair.ensures)
+    subst (Front _ _ _ _ _) (sym c.worse-worst.ensures) (goes_on _ _ _ _ _ _ _ far c.in_ok-write_pair.field-0 c.in_ok-write_pair.ensures)
 
 pub returns : goal.returns
 returns g c =

@@ -1,4 +1,5 @@
-use Rattle.std.proofs.Common.{refl, sym}
+use Rattle.std.proofs.Common.{refl, sym, subst, ◌∙◌}
+use Rattle.std.specs.Io.KnownBytes.{Appends}
 use Rattle.cg_check.proofs.ListedLaws.{all-unlisted}
 use Rattle.cg_cli.proofs.audit_all.Listing.write.Goals as goal
 

@@ -7,6 +7,7 @@ use Rattle.cg_guards.specs.Reach.{AreCovered}
 use Rattle.cg_guards.specs.declared.identities.Identities.{Identities}
 use Rattle.cg_guards.proofs.OutOfReach.{drop_covered}
 use Rattle.cg_check.proofs.ListedLaws.{listed_past}
+use Rattle.cg_cli.specs.Formats.{listing_in}
 use Rattle.cg_cli.proofs.AllPairs.{begins, goes_on, stops, passes_on, user_next, wants}
 use Rattle.cg_cli.proofs.audit_all.Listing.write_pairs.Goals as goal
 
@@ -33,7 +34,7 @@ pub returns-in_err-identities : goal.returns-in_err-identities
 returns-in_err-identities g c =
     let p = err_from_is_err_and c.from_residual.result c.from_residual.ensures.1 in
     rw (p.1, p.2)
-    (wants (listed (g.H.Hierarchy.state c.args.self.now.tree.now) c.args.users.now c.args.self.now.subtrees.now)
+    (wants {how = listing_in c.args.self.now.format} (listed (g.H.Hierarchy.state c.args.self.now.tree.now) c.args.users.now c.args.self.now.subtrees.now)
     (g.W.Write.contents c.args.out.now))
 
 pub from_first_unguarded-left-requires-in-len1-up-clause-covered : goal.from_first_unguarded-left-requires-in-len1-up-clause-covered

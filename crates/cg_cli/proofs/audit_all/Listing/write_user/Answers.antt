@@ -29,4 +29,4 @@ loop-subtree-preserved g c =
     let far =
     here_next st c.args.user.now c.args.self.now.subtrees.now c.loop-subtree.subtree-index c.subtree-item.result _ _ _ _
     c.loop-subtree-test.true c.subtree-item.is c.loop-subtree.invariant in
-    subst (Front _ _ _ _) (sym c.worse-worst.ensures) (goes_on _ _ _ _ _ _ _ far c.in_ok-write_pair.field-0 c.in_ok-write_pair.ensures)
+    subst (Front _ _ _ _ _) (sym c.worse-worst.ensures) (goes_on _ _ _ _ _ _ _ far c.in_ok-write_pair.field-0 c.in_ok-write_pair.ensures)
