@@ -21,19 +21,20 @@ use Rattle.cg_model.specs.declared.outcome.Outcome.TheVariants.{Refused}
 use Rattle.cg_lines.specs.Outcomes.{CanShow}
 use Rattle.cg_lines.proofs.OutcomeLaws.{bars_shown}
 use Rattle.cg_advice.specs.AdviceLines.{is_pair_guarded, pairs_lines, advice_lines}
-use Rattle.cg_advice.specs.Found.{parts_of, advice_parts}
+use Rattle.cg_advice.specs.Found.{Let, Raised, parts_of, advice_parts}
 use Rattle.cg_format.specs.Readings.{Reading}
 use Rattle.cg_faults.specs.Faults.{lifted_check}
 use Rattle.cg_faults.specs.declared.fault.CliFault.{CliFault}
 use Rattle.cg_faults.specs.declared.fault.CliFault.TheVariants.{NoMemory}
-use Rattle.cg_cli.specs.Advising.{paired, named_report}
+use Rattle.cg_cli.specs.Advising.{all_pairs, paired, named_report}
 use Rattle.cg_cli.specs.Arguments.{user_read, pid_read, path_read}
-use Rattle.cg_cli.specs.AsJson.{answer_json_report, subtree_json_report, FurtherSaysAsJson, audit_json_answer, pairs_json_report, parts_status, parts_report, parts_asked, advice_json_report, AdvisesNamedAsJson, advise_pairs_json_report, may_json_report}
+use Rattle.cg_cli.specs.AsJson.{answer_json_report, subtree_json_report, FurtherSaysAsJson, audit_json_answer, pairs_json_report, parts_status, parts_report, parts_asked, advice_json_report, settled_parts, settled_asked, settled_json_report, AdvisesNamedAsJson, advise_pairs_json_report, may_json_report}
 use Rattle.cg_cli.specs.Asking.{named_read, PairsReport, NamedReports}
 use Rattle.cg_cli.specs.Containment.{in_call}
 use Rattle.cg_cli.specs.Once.{same_user}
 use Rattle.cg_cli.specs.Pairs.{pair_given}
 use Rattle.cg_cli.specs.Reports.{Report, Reports, fault_report, report_on, takes_memory}
+use Rattle.cg_cli.specs.SettledAdvice.{are_held}
 use Rattle.cg_cli.specs.Settled.{IsSettledFrom, IsSettled, IsSettledFault}
 use Rattle.cg_cli.specs.Settling.{SaysOn}
 use Rattle.cg_cli.specs.declared.pairs.PairIds.{PairIds}
@@ -149,6 +150,27 @@ pub advice_found : (st : State) (subtrees : List Names) (pairs : List Pair) → 
     → (said : Report) → parts_report (advice_parts st pairs) ≡ said → advice_json_report st subtrees pairs ≡ said
 advice_found st subtrees pairs none said is =
     ap (λ fault. report_on (in_call (unless_fault fault (advice_parts st pairs))) parts_report) none ∙ is
+
+pub settled_takes : (st : State) (users : List Identity) (subtrees : List Names)
+    → takes_memory (settled_json_report st users subtrees).ending ≡ true
+settled_takes st users subtrees =
+    report_takes (in_call (settled_asked st users subtrees)) parts_report (λ found. refl) (call_takes (settled_asked st users subtrees))
+
+-- of subtrees without a fault
+pub settled_found : (st : State) (users : List Identity) (subtrees : List Names) → first (flat_map (subtree_faults st) subtrees) ≡ None
+    → (said : Report) → parts_report (settled_parts st users subtrees) ≡ said → settled_json_report st users subtrees ≡ said
+settled_found st users subtrees none said is =
+    ap (λ fault. report_on (in_call (unless_fault fault (settled_parts st users subtrees))) parts_report) none ∙ is
+
+-- whether the second row holds or not
+pub nothing_settled : (st : State) (users : List Identity) (subtrees : List Names) → None ≡ advice_parts st (all_pairs users subtrees)
+    → None ≡ settled_parts st users subtrees
+nothing_settled st users subtrees none =
+    by_test (are_held st users subtrees) ∙ ap (λ parts. cond (are_held st users subtrees) None parts) none
+  where
+    by_test : (held : Bool) → let parts : Option (List Let × List Raised) = None in parts ≡ cond held None None
+    by_test true = refl
+    by_test false = refl
 
 -- of pairs, each as it is named
 abbrev pub paired_json_report : State → List Identity → List Names → Report

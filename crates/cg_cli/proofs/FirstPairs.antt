@@ -1,5 +1,5 @@
 -- The first of the pairs that are listed, and what is said of it.
-use Rattle.std.proofs.Common.{◌≡◌, ℕ, ◌+◌, ◌<◌, ◌≤◌, false, List, [], ◌∷◌, ◌++◌, length, get_or, drop, drop-cons, add-one, Some, None, Ok, refl, sym, ap, ◌∙◌, subst, arith}
+use Rattle.std.proofs.Common.{◌≡◌, ℕ, ◌+◌, ◌<◌, ◌≤◌, true, false, List, [], ◌∷◌, ◌++◌, length, get_or, drop, drop-cons, add-one, Some, None, Ok, refl, sym, ap, ◌∙◌, subst, arith}
 use Rattle.std.specs.Prelude.{slice_get}
 use Rattle.std.specs.List.{All, flat_map}
 use Rattle.std.proofs.lemmas.List.{drop_all}
@@ -17,7 +17,7 @@ use Rattle.cg_cli.specs.Formats.{listing_in, one_in, first_in}
 use Rattle.cg_cli.specs.declared.format.Format.{Format}
 use Rattle.cg_cli.specs.declared.format.Format.TheVariants.{Lines, Json}
 use Rattle.cg_cli.specs.ListedRows.{AreListed}
-use Rattle.cg_cli.specs.Reports.{Report}
+use Rattle.cg_cli.specs.Reports.{Report, takes_memory}
 use Rattle.cg_cli.specs.SettledPairs.{SaysFirst}
 use Rattle.cg_cli.specs.SettledRows.{pair_found, row_pairs, rows_pairs, IsPairLine, IsRowOfLines}
 use Rattle.cg_cli.proofs.SettledPairs.{may_list}
@@ -77,6 +77,10 @@ one_said Json user subtree (Escapes ops) more rest text status listed is status_
     (λ i. record { text = sym is i; ending = Ok (sym status_is i) })
 one_said Json user subtree (Unsettled failed) more rest text status listed is status_is =
     (λ i. record { text = sym is i; ending = Ok (sym status_is i) })
+
+pub first_takes : (format : Format) (pairs : List Listed) → takes_memory (first_in format pairs).ending ≡ true
+first_takes Lines pairs = refl
+first_takes Json pairs = refl
 
 pub none_reported : (format : Format) (text : List ℕ) → text ≡ (listing_in format).none
     → first_in format [] ≡ record { text = text; ending = Ok 0 }

@@ -1,5 +1,5 @@
 -- The reports of calls as JSON: those of lines, but for their text. Own.
-use Rattle.std.specs.Prelude.{◌≡◌, ◌≢◌, ℕ, List, [], map, Option, Some, None, Result, Ok}
+use Rattle.std.specs.Prelude.{◌≡◌, ◌≢◌, ℕ, cond, List, [], map, Option, Some, None, Result, Ok}
 use Rattle.std.specs.List.{flat_map}
 use Rattle.cg_cgroup.specs.Paths.{Names, same_path}
 use Rattle.cg_cgroup.specs.Identity.{Identity}
@@ -32,6 +32,7 @@ use Rattle.cg_cli.specs.Formats.{told_in}
 use Rattle.cg_cli.specs.May.{permission, tree_read}
 use Rattle.cg_cli.specs.Once.{same_user}
 use Rattle.cg_cli.specs.Reports.{Report, Reports, report_on}
+use Rattle.cg_cli.specs.SettledAdvice.{are_held}
 use Rattle.cg_cli.specs.Settling.{SaysOn}
 use Rattle.cg_cli.specs.declared.format.Format.TheVariants.{Json}
 use Rattle.cg_faults.specs.declared.fault.CliFault.{CliFault}
@@ -112,6 +113,21 @@ abbrev pub advise_pairs_json_report : Reading → List ((ℕ × List ℕ) × Lis
 advise_pairs_json_report tree given =
     named_report (λ st users subtrees. advice_json_report st subtrees (paired users subtrees)) tree
     (map (λ pair. pair.0) given) (map (λ pair. pair.1) given)
+
+-- nothing is to be changed where the second row of each subtree holds for all users together
+abbrev pub settled_parts : State → List Identity → List Names → Option (List Let × List Raised)
+settled_parts st users subtrees = cond (are_held st users subtrees) None (advice_parts st (all_pairs users subtrees))
+
+abbrev pub settled_asked : State → List Identity → List Names → Result (Option (List Let × List Raised)) CheckFault
+settled_asked st users subtrees = unless_fault (first (flat_map (subtree_faults st) subtrees)) (settled_parts st users subtrees)
+
+abbrev pub settled_json_report : State → List Identity → List Names → Report
+settled_json_report st users subtrees = report_on (in_call (settled_asked st users subtrees)) parts_report
+
+-- Who and what is named again counts once.
+abbrev pub advise_settled_json_report : Reading → List (ℕ × List ℕ) → List (List ℕ) → Report
+advise_settled_json_report tree given texts =
+    named_report (λ st users subtrees. settled_json_report st (once same_user users) (once same_path subtrees)) tree given texts
 
 -- ---- one move
 

@@ -1,6 +1,7 @@
 //! Reports as JSON.
 pub mod advise;
 pub mod advise_pairs;
+pub mod advise_settle;
 pub mod audit;
 pub mod audit_all;
 pub mod audit_pairs;

@@ -119,7 +119,7 @@ fn advice_said<H: Hierarchy>(
 }
 
 /// What is to be changed for every user with every subtree. Where no guard fails that is asked once of each subtree, for all users.
-fn advice_of<'a, H: Hierarchy>(
+pub(crate) fn advice_of<'a, H: Hierarchy>(
     alloc: Global,
     tree: &H,
     users: &'a [User],
