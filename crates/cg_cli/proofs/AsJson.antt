@@ -28,9 +28,11 @@ use Rattle.cg_faults.specs.declared.fault.CliFault.{CliFault}
 use Rattle.cg_faults.specs.declared.fault.CliFault.TheVariants.{NoMemory}
 use Rattle.cg_cli.specs.Advising.{all_pairs, paired, named_report}
 use Rattle.cg_cli.specs.Arguments.{user_read, pid_read, path_read}
-use Rattle.cg_cli.specs.AsJson.{answer_json_report, subtree_json_report, FurtherSaysAsJson, audit_json_answer, pairs_json_report, parts_status, parts_report, parts_asked, advice_json_report, settled_parts, settled_asked, settled_json_report, AdvisesNamedAsJson, advise_pairs_json_report, may_json_report}
+use Rattle.cg_cli.specs.AsJson.{answer_json_report, subtree_json_report, FurtherSaysAsJson, audit_json_answer, pairs_json_report, parts_status, parts_report, parts_asked, advice_json_report, settled_parts, settled_asked, settled_json_report, AdvisesNamedAsJson, advise_pairs_json_report, may_json_report, check_json_report, audit_json_report}
 use Rattle.cg_cli.specs.Asking.{named_read, PairsReport, NamedReports}
-use Rattle.cg_cli.specs.Containment.{in_call}
+use Rattle.cg_cli.specs.Audits.{users_read, paths_read, audit_answer_report, pairs_report, audit_report}
+use Rattle.cg_cli.specs.Containment.{in_call, answer_report, subtree_report, check_report}
+use Rattle.cg_cli.specs.May.{tree_read}
 use Rattle.cg_cli.specs.Once.{same_user}
 use Rattle.cg_cli.specs.Pairs.{pair_given}
 use Rattle.cg_cli.specs.Reports.{Report, Reports, fault_report, report_on, takes_memory}
@@ -39,6 +41,7 @@ use Rattle.cg_cli.specs.Settled.{IsSettledFrom, IsSettled, IsSettledFault}
 use Rattle.cg_cli.specs.Settling.{SaysOn}
 use Rattle.cg_cli.specs.declared.pairs.PairIds.{PairIds}
 use Rattle.cg_cli.proofs.AdviseReports.{all_guarded, fault_said, said_of_read}
+use Rattle.cg_cli.proofs.AuditOnce.{said_once}
 use Rattle.cg_cli.proofs.NamedPairs.{mapped_again}
 use Rattle.cg_cli.proofs.NamedReads.{by_read, by_reading}
 use Rattle.cg_cli.proofs.ReportLaws.{call_takes, report_takes}
@@ -201,3 +204,42 @@ advised_said tree pairs old new result said =
     subst (λ (r : Report). Reports r old new result)
     (sym (said_of_read paired_json_report paired_takes tree given texts users subtrees st is)) advises.0)
     old new result said)
+
+-- ---- they end as those of lines
+
+same_ending : {A : Type 0} (read : Result A CliFault) (one other : A → Report) → ((x : A) → (one x).ending ≡ (other x).ending)
+    → (report_on read one).ending ≡ (report_on read other).ending
+same_ending (Ok x) one other same = same x
+same_ending (Err fault) one other same = refl
+
+pub check_ending : (tree : Reading) (uid : ℕ) (gids subtree : List ℕ)
+    → (check_json_report tree uid gids subtree).ending ≡ (check_report tree uid gids subtree).ending
+check_ending tree uid gids subtree =
+    same_ending (user_read uid gids)
+    (λ user. report_on (path_read subtree) (λ path. report_on (tree_read tree) (λ st. subtree_json_report st user path)))
+    (λ user. report_on (path_read subtree) (λ path. report_on (tree_read tree) (λ st. subtree_report st user path))) (λ user.
+    same_ending (path_read subtree) (λ path. report_on (tree_read tree) (λ st. subtree_json_report st user path))
+    (λ path. report_on (tree_read tree) (λ st. subtree_report st user path)) (λ path.
+    same_ending (tree_read tree) (λ st. subtree_json_report st user path) (λ st. subtree_report st user path) (λ st.
+    same_ending (in_call (checked st user path)) (answer_json_report path) (answer_report path) (λ found. refl))))
+
+pub audit_ending : (tree : Reading) (given : List (ℕ × List ℕ)) (texts : List (List ℕ))
+    → (audit_json_report tree given texts).ending ≡ (audit_report tree given texts).ending
+audit_ending tree given texts =
+    same_ending (users_read given)
+    (λ users. report_on (paths_read texts) (λ paths. report_on (tree_read tree) (λ st.
+    pairs_json_report st (once same_user users) (once same_path paths))))
+    (λ users. report_on (paths_read texts) (λ paths. report_on (tree_read tree) (λ st. pairs_report st users paths))) (λ users.
+    same_ending (paths_read texts)
+    (λ paths. report_on (tree_read tree) (λ st. pairs_json_report st (once same_user users) (once same_path paths)))
+    (λ paths. report_on (tree_read tree) (λ st. pairs_report st users paths)) (λ paths.
+    same_ending (tree_read tree) (λ st. pairs_json_report st (once same_user users) (once same_path paths))
+    (λ st. pairs_report st users paths) (λ st. of_pairs st users paths)))
+  where
+    of_pairs : (st : State) (users : List Identity) (paths : List Names)
+        → (pairs_json_report st (once same_user users) (once same_path paths)).ending ≡ (pairs_report st users paths).ending
+    of_pairs st users paths =
+        same_ending (in_call (all_checked st (once same_user users) (once same_path paths)))
+        (audit_json_answer (once same_user users) (once same_path paths))
+        (audit_answer_report (once same_user users) (once same_path paths)) (λ found. refl)
+        ∙ ap (λ (report : Report). report.ending) (said_once st users paths)

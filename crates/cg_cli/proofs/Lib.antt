@@ -37,4 +37,4 @@ pub mod FoundPlaces
 pub mod Knowing
 pub mod Auditing
 pub mod ListedRows
-mod AsJson
+pub mod AsJson

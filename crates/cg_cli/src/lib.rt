@@ -15,7 +15,7 @@ pub mod check;
 pub mod everybody;
 pub mod explain;
 pub mod explain_pairs;
-mod format;
+pub mod format;
 pub mod laws;
 pub mod may;
 mod missing;
