@@ -370,7 +370,6 @@ module _ (said : List Listed → Report) (takes_it : (pairs : List Listed) → t
       (says.0, says.1, subst (λ (report : Report). Reports report old new result) (sym says.2) reports)
 
 module _ (st : State) (users : List Identity) (subtrees : List Names) where
-
   pub subtree_found : (how : Listing) (fault : CheckFault) (known : Option (List ℕ))
       → Some fault ≡ first (flat_map (subtree_faults st) subtrees)
       → ReportsFound (ReportsPairsBy how) st users subtrees known known (Err (lifted_check fault))

@@ -2,7 +2,6 @@
 ghost use Rattle.std.specs.Prelude.{◌≡◌, IfOk};
 ghost use Rattle.cg_model.specs.Clauses.{first};
 ghost use Rattle.cg_model.specs.Bars.{bars};
-ghost use Rattle.cg_model.specs.declared.operation.Op.{Op};
 ghost use Rattle.cg_format.specs.Readings.{OnText};
 ghost use Rattle.cg_cli.specs.AsJson.{permission_as_json, may_json_report};
 ghost use Rattle.cg_cli.specs.Missing.{IsAbsentFrom};
@@ -18,7 +17,6 @@ use cg_faults::fault::CliFault;
 use cg_json::outcome::permission_json;
 use cg_model::hierarchy::Hierarchy;
 use cg_model::operation::Op;
-use cg_model::outcome::Refusal;
 use cg_ops::refusal;
 use std::alloc::Global;
 use std::io::Write;
@@ -64,18 +62,14 @@ fn permission_said<H: Hierarchy>(
     ensures status { IfOk result (λ said. said.1
         ≡ (permission_as_json op.now (first (bars (H.state tree.now) user.now op.now))).1) }
 {
-    let bar = refusal(tree, user, op);
-    let status = permission_status(bar);
-    let text = permission_json(alloc, op, bar)?;
-    Ok((text, status))
-}
-
-/// The status of an operation that something may bar.
-fn permission_status(bar: Option<Refusal>) -> u8
-    ensures { (op : Op) → result ≡ (permission_as_json op bar).1 }
-{
-    match bar {
-        None => 0,
-        Some(_) => 1,
+    match refusal(tree, user, op) {
+        None => {
+            let text = permission_json(alloc, op, None)?;
+            Ok((text, 0))
+        }
+        Some(bar) => {
+            let text = permission_json(alloc, op, Some(bar))?;
+            Ok((text, 1))
+        }
     }
 }
