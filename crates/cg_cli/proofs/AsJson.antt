@@ -117,8 +117,7 @@ module _ (report : State → List Identity → List Names → Report)
 -- what bars an operation can be shown
 pub bar_shown : (st : State) (user : Identity) (op : Op) (bar : Option Refusal) → bar ≡ first (bars st user op)
     → ForSome bar (λ one. CanShow op (Refused one))
-bar_shown st user op None is = tt
-bar_shown st user op (Some bar) is = bars_shown st user op bar (sym is)
+bar_shown st user op bar is = λ one same. bars_shown st user op one (sym is ∙ same)
 
 -- A move that is read, and of which memory was refused.
 pub unsaid_as_json : (read : Reading) (uid : ℕ) (gids : List ℕ) (pid : ℕ) (to : List ℕ) (user : Identity) (number : ℕ) (path : Names)
