@@ -57,7 +57,7 @@ def objects_of(words, lines):
     if words[0] in ("may", "replay"):
         return [step_of(line) for line in lines]
     if "--everybody" in words:
-        return [everybody_of(lines)] if lines else []
+        return [OF_EVERYBODY[words[0]](lines)] if lines else []
     if words[0] in ("audit", "explain"):
         return pairs_of(words, lines)
     if words[0] == "advise":
@@ -152,20 +152,45 @@ def advice_of(lines):
     return {"answer": "contained"} if lines == ["contained"] else {"answer": "fails", "fails": failing(lines)}
 
 
-def everybody_of(lines):
-    """The object of an audit against everybody, with whom it leaves out and who may be in groups."""
-    subtrees = []
+def by_subtrees(lines):
+    """The lines below that of each subtree, by the subtree."""
+    found = {}
     for line in lines:
-        if line.startswith("subtree "):
-            subtrees.append({"subtree": line.split(" ")[1], "fails": []})
-        if line.startswith("fails "):
-            subtrees[-1]["fails"].append(line)
-    return {"answer": "fails" if subtrees else "contained",
-            "subtrees": [{**each, "fails": failing(each["fails"])} for each in subtrees],
-            "but": [int(line.split(" ")[1]) for line in lines if line.startswith("but ")],
+        word, *rest = line.split(" ")
+        if word == "subtree":
+            found[rest[0]] = below = []
+        if word in ("holds", "fails"):
+            below.append(line)
+    return found
+
+
+def premises_of(lines):
+    """Whom everybody leaves out, and who may be in groups."""
+    return {"but": [int(line.split(" ")[1]) for line in lines if line.startswith("but ")],
             "groups": [group_of(line) for line in lines if line.startswith("group ")]}
+
+
+def everybody_of(lines):
+    """The object of an audit against everybody."""
+    subtrees = [{"subtree": path, "fails": failing(below)} for path, below in by_subtrees(lines).items()]
+    return {"answer": "fails" if subtrees else "contained", "subtrees": subtrees, **premises_of(lines)}
+
+
+def advice_to_everybody_of(lines):
+    """The object of the advice against everybody."""
+    return {**advice_of([line for line in lines if line.split(" ")[0] not in ("but", "group")]), **premises_of(lines)}
+
+
+def explained_to_everybody_of(lines):
+    """The object of whom each guarded entry lets in."""
+    subtrees = [{"subtree": path, "guards": [guard_of(line) for line in below]} for path, below in by_subtrees(lines).items()]
+    holds = all(guard["holds"] for each in subtrees for guard in each["guards"])
+    return {"answer": "contained" if holds else "fails", "subtrees": subtrees, **premises_of(lines)}
 
 
 def group_of(line):
     gid, _, uids = line.split(" ")[1].partition("=")
     return {"gid": int(gid), "uids": [int(uid) for uid in uids.split(",") if uid]}
+
+
+OF_EVERYBODY = {"audit": everybody_of, "advise": advice_to_everybody_of, "explain": explained_to_everybody_of}

@@ -8,9 +8,11 @@ def lines_of(words, objects):
     if words[0] in ("may", "replay"):
         return [step_line(each) for each in objects]
     of_one = {"explain": explained_lines, "advise": advice_lines}.get(words[0], answer_lines)
-    if words[0] == "audit":
+    if "--everybody" in words:
+        of_one = {"audit": everybody_lines, "advise": advice_to_everybody_lines, "explain": explained_to_everybody_lines}[words[0]]
+    elif words[0] == "audit":
         is_listed = bool({word.partition("=")[0] for word in words} & {"--all", "--pairs"})
-        of_one = everybody_lines if "--everybody" in words else lambda each: audited_lines(each, is_listed)
+        of_one = lambda each: audited_lines(each, is_listed)
     return [line for each in objects for line in of_one(each)]
 
 
@@ -84,5 +86,18 @@ def everybody_lines(found):
     lines = ["contained"] * (found["answer"] == "contained")
     for each in found["subtrees"]:
         lines += [f"subtree {each['subtree']}", *[line for at in each["fails"] for line in failing_lines(at)]]
+    return lines + premise_lines(found)
+
+
+def advice_to_everybody_lines(found):
+    return advice_lines(found) + premise_lines(found)
+
+
+def explained_to_everybody_lines(found):
+    told = [line for each in found["subtrees"] for line in (f"subtree {each['subtree']}", *map(guard_line, each["guards"]))]
+    return told + premise_lines(found)
+
+
+def premise_lines(found):
     groups = [f"group {each['gid']}={','.join(map(str, each['uids']))}" for each in found["groups"]]
-    return lines + [f"but {uid}" for uid in found["but"]] + groups
+    return [f"but {uid}" for uid in found["but"]] + groups

@@ -38,7 +38,8 @@ def of_command(name):
 
 
 def part_of(words):
-    return "everybody" if "--everybody" in words else "check" if words[0] == "settle" else words[0]
+    name = "check" if words[0] == "settle" else words[0]
+    return f"{name} --everybody" if "--everybody" in words else name
 
 
 def content(name):

@@ -139,7 +139,7 @@ pub(crate) fn advice_of<'a, H: Hierarchy>(
 
 /// What is said of what was found, and the status.
 pub(crate) fn parts_said(alloc: Global, parts: Option<Found<'_>>) -> Result<(Vec<u8>, u8), NoMemory>
-    ensures { IfOk result (λ said. parts_report (option_map found_parts parts) ≡ record { text = said.0.items; ending = Ok said.1 }) }
+    ensures { IfOk result (λ said. parts_report (option_map found_parts parts.entry) ≡ record { text = said.0.items; ending = Ok said.1 }) }
 {
     match parts {
         None => {

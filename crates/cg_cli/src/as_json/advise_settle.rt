@@ -124,7 +124,7 @@ fn settled_parts<'a, H: Hierarchy>(
 
 /// What was found, but where the second row of each subtree holds nothing.
 fn found_unless(is_held: bool, found: Found<'_>) -> Result<Option<Found<'_>>, NoMemory>
-    ensures { result ≡ Ok (cond is_held None (Some found)) }
+    ensures { result ≡ Ok (cond is_held None (Some found.entry)) }
 {
     if is_held {
         return Ok(None);
