@@ -25,7 +25,7 @@ returns-in_err-write_whole-clause-report g c =
     (contained_stops {how = listing_in c.args.self.now.format} st c.args.self.now.subtrees.now
     (listed st c.args.users.now c.args.self.now.subtrees.now) c.in_default.ensures.fault c.in_ok-status.status _ _ _ c.in_ok-status.ensures
     c.if-status-eq0.true
-    (subst (AppendsPart (g.W.Write.contents c.write_pairs-status.new.out) (g.W.Write.contents c.write_whole.new.out))
+    (subst (AppendsPart (g.W.Write.contents c.write_pairs.new.out) (g.W.Write.contents c.write_whole.new.out))
     (c.as_slice.ensures.value ∙ c.in_ok-text.ensures) c.in_err-write_whole.ensures.err))
 
 pub returns-in_ok-write_whole-clause-report : goal.returns-in_ok-write_whole-clause-report
@@ -34,7 +34,7 @@ returns-in_ok-write_whole-clause-report g c =
     contained_said {how = listing_in c.args.self.now.format} st c.args.self.now.subtrees.now
     (listed st c.args.users.now c.args.self.now.subtrees.now) c.in_default.ensures.fault c.in_ok-status.status _ _ _ c.in_ok-status.ensures
     c.if-status-eq0.true
-    (subst (Appends (g.W.Write.contents c.write_pairs-status.new.out) (g.W.Write.contents c.write_whole.new.out))
+    (subst (Appends (g.W.Write.contents c.write_pairs.new.out) (g.W.Write.contents c.write_whole.new.out))
     (c.as_slice.ensures.value ∙ c.in_ok-text.ensures) c.in_ok-write_whole.ensures.ok)
 
 pub returns-in_ok-write_whole-clause-unlisted : goal.returns-in_ok-write_whole-clause-unlisted
