@@ -90,7 +90,7 @@ pub record Front (how : Listing) (pairs rest : List Listed) (old new : Option (L
   pub status : pairs_status front ≡ worst
   pub text : Appends old new (pairs_by how front)
 
-module _ {how : Listing} where
+module _ (how : Listing) where
   text_of_both : (xs ys : List Listed) → pairs_by how (xs ++ ys) ≡ pairs_by how xs ++ pairs_by how ys
   text_of_both xs ys = flat_map-append how.each xs ys
 

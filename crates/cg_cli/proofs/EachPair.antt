@@ -123,7 +123,7 @@ pub audit_said : (how : Listing) (tree : Reading) (pairs : List PairIds) (old ne
     → ReportsPairsBy how (pairs_then audited_unless_fault tree (map pair_given pairs)) old new result
 audit_said how tree pairs old new result said =
     subst (λ report. ReportsPairsBy how report old new result) (sym (of_pairs audited_unless_fault tree pairs))
-    (lists_said (ReportsPairsBy how) (met_pairs {how = how}) audited_unless_fault
+    (lists_said (ReportsPairsBy how) (met_pairs how) audited_unless_fault
     (λ st subtrees all. call_takes (unless_fault (first (flat_map (subtree_faults st) subtrees)) (pairs_listed st all)))
     (ListsNamed how) (λ st users subtrees old new result lists. lists.0) tree (map (λ pair. (pair_given pair).0) pairs)
     (map (λ pair. (pair_given pair).1) pairs) old new result said)

@@ -309,11 +309,11 @@ settled_said says answers of_fault of_memory found tree given texts =
 
 pairs_fault : (how : Listing) (known : Option (List ℕ)) (fault : CliFault) → fault ≢ Write
     → ReportsPairsBy how (Err fault) known known (Err fault)
-pairs_fault how known fault other = fault_said {how = how} fault known
+pairs_fault how known fault other = fault_said how fault known
 
 pairs_memory : (how : Listing) (known : Option (List ℕ)) (report : Result (List Listed) CliFault) → read_takes_memory report ≡ true
     → ReportsPairsBy how report known known (Err NoMemory)
-pairs_memory how known (Ok pairs) takes = wants {how = how} pairs known
+pairs_memory how known (Ok pairs) takes = wants how pairs known
 pairs_memory how known (Err fault) takes = (takes, Keeps-refl known)
 
 -- ---- the first alone
@@ -375,7 +375,7 @@ module _ (st : State) (users : List Identity) (subtrees : List Names) where
       → ReportsFound (ReportsPairsBy how) st users subtrees known known (Err (lifted_check fault))
   subtree_found how fault known is =
       let none = subst (λ o. MayBeFound st users subtrees o (Err (lifted_check fault))) is refl in
-      (Err (lifted_check fault), none, fault_said {how = how} (lifted_check fault) known)
+      (Err (lifted_check fault), none, fault_said how (lifted_check fault) known)
 
   pub memory_wanted : (how : Listing) (known : Option (List ℕ)) (result : Result ℕ CliFault) → IsErrAnd result (λ found. found ≡ NoMemory)
       → ReportsFound (ReportsPairsBy how) st users subtrees known known result

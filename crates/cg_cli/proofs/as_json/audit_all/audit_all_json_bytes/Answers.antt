@@ -8,13 +8,13 @@ returns-clause-report g c =
     let asked = c.ask_named.ensures.report in (
       asked.0,
       asked.1,
-      all_said {how = in_json} asked.0 (map (λ user. (user.uid, user.gids.now)) c.args.users.now)
+      all_said in_json asked.0 (map (λ user. (user.uid, user.gids.now)) c.args.users.now)
           (map (λ subtree. subtree.now) c.args.subtrees.now)
           (g.W.Write.contents c.args.out.now) (g.W.Write.contents c.ask_named.new.out) c.ask_named.result asked.2,
     )
 
 pub returns-clause-unlisted : goal.returns-clause-unlisted
 returns-clause-unlisted g c =
-    unlisted_contained {how = in_json} c.args.tree.now (map (λ user. (user.uid, user.gids.now)) c.args.users.now)
+    unlisted_contained in_json c.args.tree.now (map (λ user. (user.uid, user.gids.now)) c.args.users.now)
     (map (λ subtree. subtree.now) c.args.subtrees.now)
     (g.W.Write.contents c.args.out.now) (g.W.Write.contents c.ask_named.new.out) c.ask_named.result c.ask_named.ensures.report

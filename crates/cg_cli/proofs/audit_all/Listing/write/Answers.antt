@@ -14,15 +14,15 @@ returns-in_err-text-clause-report g c =
     let st = g.H.Hierarchy.state c.args.self.now.tree.now in
     let pairs : List Listed = listed st c.args.users.now c.args.self.now.subtrees.now in
     rw (p.1, p.2)
-    (by_pairs {how = listing_in c.args.self.now.format} st c.args.self.now.subtrees.now pairs c.in_default.ensures.fault _ _ _
-    (contained_wants {how = listing_in c.args.self.now.format} pairs c.in_ok-status.status _ _ c.in_ok-status.ensures))
+    (by_pairs (listing_in c.args.self.now.format) st c.args.self.now.subtrees.now pairs c.in_default.ensures.fault _ _ _
+    (contained_wants (listing_in c.args.self.now.format) pairs c.in_ok-status.status _ _ c.in_ok-status.ensures))
 
 pub returns-in_err-write_whole-clause-report : goal.returns-in_err-write_whole-clause-report
 returns-in_err-write_whole-clause-report g c =
     let p = err_from_is_err_and c.from_residual-in_err-write_whole.result c.from_residual-in_err-write_whole.ensures.1 in
     let st = g.H.Hierarchy.state c.args.self.now.tree.now in
     rw (p.1, p.2)
-    (contained_stops {how = listing_in c.args.self.now.format} st c.args.self.now.subtrees.now
+    (contained_stops (listing_in c.args.self.now.format) st c.args.self.now.subtrees.now
     (listed st c.args.users.now c.args.self.now.subtrees.now) c.in_default.ensures.fault c.in_ok-status.status _ _ _ c.in_ok-status.ensures
     c.if-status-eq0.true
     (subst (AppendsPart (g.W.Write.contents c.write_pairs.new.out) (g.W.Write.contents c.write_whole.new.out))
@@ -31,7 +31,7 @@ returns-in_err-write_whole-clause-report g c =
 pub returns-in_ok-write_whole-clause-report : goal.returns-in_ok-write_whole-clause-report
 returns-in_ok-write_whole-clause-report g c =
     let st = g.H.Hierarchy.state c.args.self.now.tree.now in
-    contained_said {how = listing_in c.args.self.now.format} st c.args.self.now.subtrees.now
+    contained_said (listing_in c.args.self.now.format) st c.args.self.now.subtrees.now
     (listed st c.args.users.now c.args.self.now.subtrees.now) c.in_default.ensures.fault c.in_ok-status.status _ _ _ c.in_ok-status.ensures
     c.if-status-eq0.true
     (subst (Appends (g.W.Write.contents c.write_pairs.new.out) (g.W.Write.contents c.write_whole.new.out))
