@@ -1,13 +1,10 @@
 -- What holds of the list of all limit files holds of each, whichever and however many they are.
-use Rattle.std.proofs.Common.{◌≡◌, ◌≢◌, Option, None, map, get_or, ap, Bool, true, false, ◌||◌, List, [], ◌∷◌, refl, sym, subst}
+use Rattle.std.proofs.Common.{◌≡◌, Bool, true, false, ◌||◌, List, [], ◌∷◌, refl, sym, subst}
 use Rattle.std.proofs.lemmas.Bool.{false≢true, and_parts, and_from}
 use Rattle.std.specs.List.{list_all, list_any, AllByRecursion}
-use Rattle.cg_cgroup.specs.Files.{all_files, brought_files, place_of, same_file}
-use Rattle.cg_cgroup.specs.Cgroups.{file_of}
+use Rattle.cg_cgroup.specs.Files.{all_files, same_file}
 use Rattle.cg_cgroup.specs.declared.files.LimitFile.{LimitFile}
-use Rattle.cg_cgroup.specs.declared.files.LimitFile.TheVariants.{MaxDescendants, MaxDepth}
-use Rattle.cg_cgroup.specs.declared.cgroup.LimitEntry.{LimitEntry}
-use Rattle.cg_cgroup.specs.declared.cgroup.Cgroup.{Cgroup}
+use Rattle.cg_cgroup.specs.declared.files.LimitFile.TheVariants.{MaxDescendants}
 use Rattle.cg_cgroup.proofs.CgroupLaws.{same_file-true}
 
 listed : (file : LimitFile) → list_any (same_file file) all_files ≡ true
@@ -38,16 +35,3 @@ each_passes test h = each_file (λ file. test file ≡ true) (passing test all_f
 pub all_pass : (test : LimitFile → Bool) → ((file : LimitFile) → test file ≡ true) → (files : List LimitFile) → list_all test files ≡ true
 all_pass test h [] = refl
 all_pass test h (file ∷ files) = and_from _ _ (h file) (all_pass test h files)
-
-pub each_brought : (test : LimitFile → Bool) → list_all test brought_files ≡ true → (file : LimitFile) → file ≢ MaxDescendants
-    → file ≢ MaxDepth → test file ≡ true
-each_brought test h MaxDescendants other deeper = absurd (other refl)
-each_brought test h MaxDepth other deeper = absurd (deeper refl)
-each_brought test h file other deeper = each_of (λ file. test file ≡ true) file brought_files (passing test brought_files h) refl
-
--- what the list of a row's files has, each file is
-pub held_as : (row : Cgroup) (held : LimitFile → Option LimitEntry) → row.files.entries ≡ map held brought_files → (file : LimitFile)
-    → file ≢ MaxDescendants → file ≢ MaxDepth → file_of row file ≡ held file
-held_as row held are MaxDescendants other deeper = absurd (other refl)
-held_as row held are MaxDepth other deeper = absurd (deeper refl)
-held_as row held are file other deeper = ap (λ entries. get_or entries (place_of file) None) are

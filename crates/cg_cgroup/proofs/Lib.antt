@@ -11,9 +11,9 @@ pub mod PathLaws
 mod Places
 pub mod Mapped
 pub mod CgroupLaws
-pub mod ToldLaws
 pub mod AllFiles
-pub mod AllOthers
+pub mod TextLaws
+pub mod KeptLaws
 pub mod DeviceLines
 pub mod NameLaws
 pub mod ControllerLaws

@@ -7,8 +7,7 @@ use Rattle.std.specs.Cmp.Lexicographic.{bytes_decides}
 use Rattle.std.proofs.lemmas.Option.{none-some, same_Some}
 use Rattle.std.proofs.Math.Bool.{or-true}
 use Rattle.cg_cgroup.specs.Paths.{same_name}
-use Rattle.cg_cgroup.specs.Files.{AreNames, all_controllers, format_2_controllers, all_files, all_entries, controller_name, controller_named, same_controller, is_in_format_2, named_in_format_2, is_known, known_as, file_name, file_named, entry_text, entry_named, entry_known_as, format_2_entries, all_others}
-use Rattle.cg_cgroup.specs.OtherKinds.{other_named}
+use Rattle.cg_cgroup.specs.Files.{AreNames, all_controllers, format_2_controllers, all_files, all_entries, controller_name, controller_named, same_controller, is_in_format_2, named_in_format_2, is_known, known_as, file_name, file_named, file_known_as, known_files, control_entries, control_named, entry_text, entry_named, entry_known_as}
 use Rattle.cg_cgroup.specs.declared.files.Controller.{Controller}
 use Rattle.cg_cgroup.specs.declared.files.Controller.TheVariants.{Cpu}
 use Rattle.cg_cgroup.specs.declared.files.Vocabulary.{Vocabulary}
@@ -16,8 +15,7 @@ use Rattle.cg_cgroup.specs.declared.files.Vocabulary.TheVariants.{Format2, Forma
 use Rattle.cg_cgroup.specs.declared.files.LimitFile.{LimitFile}
 use Rattle.cg_cgroup.specs.declared.files.LimitFile.TheVariants.{MaxDescendants}
 use Rattle.cg_cgroup.specs.declared.files.EntryName.{EntryName}
-use Rattle.cg_cgroup.specs.declared.files.EntryName.TheVariants.{Dir, Procs, SubtreeControl, File, Other}
-use Rattle.cg_cgroup.specs.declared.other_file.OtherFile.TheVariants.{CpuMax}
+use Rattle.cg_cgroup.specs.declared.files.EntryName.TheVariants.{Dir, Procs, SubtreeControl, File}
 use Rattle.std.proofs.lemmas.List.Folds.{find-append}
 use Rattle.cg_cgroup.proofs.ControllerLaws.{same_controller-refl, each_in_format_2}
 
@@ -52,8 +50,6 @@ found_entry Procs = refl
 found_entry SubtreeControl = refl
 found_entry (File MaxDescendants) = refl
 found_entry (File file) = refl
-found_entry (Other CpuMax) = refl
-found_entry (Other file) = refl
 
 pub controller_names : AreNames controller_name controller_named
 controller_names = are_names controller_name all_controllers found_controller
@@ -140,14 +136,14 @@ find-map test f (x ∷ xs) =
       | false ↦ find-map test f xs
     ]
 
--- an entry of a name is one that formats 1 and 2 name, or else a limit file beyond `LimitFile`
-pub entry_parts : (text : List ℕ) (first later : Option EntryName) → first ≡ entry_known_as Format2 text
-    → later ≡ option_map Other (other_named text) → option_or first later ≡ entry_named text
-entry_parts text first later first_is later_is =
+-- an entry of a name is no limit file, or else one
+pub entry_parts : (vocabulary : Vocabulary) (text : List ℕ) (first later : Option EntryName) → first ≡ control_named text
+    → later ≡ option_map File (file_known_as vocabulary text) → option_or first later ≡ entry_known_as vocabulary text
+entry_parts vocabulary text first later first_is later_is =
     ap (λ it. option_or it later) first_is
-    ∙ ap (option_or (entry_known_as Format2 text)) later_is
-    ∙ ap (option_or (entry_known_as Format2 text)) (sym (find-map (λ name. same_name text (entry_text name)) Other all_others))
-    ∙ sym (find-append (λ name. same_name text (entry_text name)) format_2_entries (map Other all_others))
+    ∙ ap (option_or (control_named text)) later_is
+    ∙ ap (option_or (control_named text)) (sym (find-map (λ name. same_name text (entry_text name)) File (known_files vocabulary)))
+    ∙ sym (find-append (λ name. same_name text (entry_text name)) control_entries (map File (known_files vocabulary)))
 
 -- what is found of a text as an entry has its name, and where nothing is found no entry has
 pub entry_found : (text : List ℕ) (found : Option EntryName) → found ≡ entry_named text → IfSome found (λ name. text ≡ entry_text name)

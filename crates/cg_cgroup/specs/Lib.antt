@@ -5,10 +5,9 @@ pub mod PathText
 pub mod Numbers
 pub mod Identity
 pub mod Users
-pub mod OtherKinds
 pub mod Values
 pub mod Files
+pub mod FileMap
 pub mod Cgroups
-pub mod ToldList
-pub mod Told
+pub mod Kept
 pub mod Options

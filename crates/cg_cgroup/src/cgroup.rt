@@ -1,62 +1,24 @@
-//! One cgroup: its entries, its limits and what it enables for its children.
-ghost use Rattle.std.specs.Prelude.{◌≡◌, map};
-ghost use Rattle.cg_cgroup.specs.Files.{all_controllers, brought_files};
-ghost use Rattle.cg_cgroup.specs.Cgroups.{file_of, untold_in, entry_in, value_in, with_value_in, with_value_of, with_mode_in, with_file_mode_of, file_made_by, refitted, refitted_other, other_in, with_files_of, cgroup_made_by};
+//! One cgroup: its entries, its limit files and what it enables for its children.
+ghost use Rattle.std.specs.Prelude.{◌≡◌, true, IfOk, OnOk, OnErr};
+ghost use Rattle.std.specs.Option.{option_map};
+ghost use Rattle.cg_cgroup.specs.Files.{is_text, is_text_entry, accepts};
+ghost use Rattle.cg_cgroup.specs.Values.{value_now};
+ghost use Rattle.cg_cgroup.specs.Cgroups.{entry_in, value_in, most_in, is_named_in, with_value_in, with_mode_in, with_files_of, cgroup_made_by};
 
-use crate::brought::BroughtFiles;
-use crate::controllers::CONTROLLER_COUNT;
-use crate::files::{BROUGHT_COUNT, Controller, ControllerSet, EntryName, Limit, LimitFile};
-use crate::other_file::OtherFile;
-use crate::others::OtherFiles;
+use crate::files::{ControllerSet, EntryName, LimitFile};
+use crate::held::Files;
+use crate::memory::NoMemory;
 use crate::user::{Entry, Mode, User};
-
-/// A limit file: its owner and mode, and its value.
-#[derive(Clone, Copy, Debug, PartialEq, Eq)]
-pub struct LimitEntry {
-    pub entry: Entry,
-    pub value: Limit,
-}
-
-impl LimitEntry {
-    /// A limit file that has just been made: the user's, with mode 0o644 and its default value.
-    pub fn made_by(user: &User, file: LimitFile) -> LimitEntry
-        ensures { result ≡ file_made_by user.now file }
-    {
-        LimitEntry {
-            entry: Entry::made_by(user, Mode::FILE),
-            value: file.default_value(),
-        }
-    }
-
-    /// The file with another value.
-    pub fn with_value(self, value: Limit) -> LimitEntry
-        ensures { result ≡ with_value_of value self }
-    {
-        LimitEntry { value, ..self }
-    }
-
-    /// The file with another mode.
-    pub fn with_mode(self, mode: Mode) -> LimitEntry
-        ensures { result ≡ with_file_mode_of mode self }
-    {
-        let mut file = self;
-        file.entry.mode = mode.get();
-        file
-    }
-}
+use crate::value::ValueRef;
+use std::alloc::Global;
 
 /// A cgroup.
-#[derive(Clone, Copy, Debug, PartialEq, Eq)]
+#[derive(Debug, Drop)]
 pub struct Cgroup {
     pub dir: Entry,
     pub procs: Entry,
     pub subtree_control: Entry,
-    pub max_descendants: LimitEntry,
-    pub max_depth: LimitEntry,
-    /// `cgroup.freeze`, which stands at each cgroup but the root.
-    pub freeze: Option<Entry>,
-    pub files: BroughtFiles,
-    pub others: OtherFiles,
+    pub files: Files,
     pub enabled: ControllerSet,
 }
 
@@ -70,46 +32,14 @@ impl Cgroup {
             dir: Entry::made_by(user, Mode::DIRECTORY),
             procs: Entry::made_by(user, Mode::FILE),
             subtree_control: Entry::made_by(user, Mode::FILE),
-            max_descendants: LimitEntry::made_by(user, LimitFile::MaxDescendants),
-            max_depth: LimitEntry::made_by(user, LimitFile::MaxDepth),
-            freeze: Some(Entry::made_by(user, Mode::FILE)),
-            files: BroughtFiles::none(),
-            others: OtherFiles::none(),
+            files: Files::none(),
             enabled: ControllerSet::none(),
         };
         cgroup.refit(enabled, user);
         cgroup
     }
 
-    /// A limit file, where it stands.
-    pub fn file(&self, file: LimitFile) -> Option<LimitEntry>
-        ensures { result ≡ file_of self.now file }
-    {
-        match file {
-            LimitFile::MaxDescendants => Some(self.max_descendants),
-            LimitFile::MaxDepth => Some(self.max_depth),
-            _ => self.files.get(file.place()),
-        }
-    }
-
-    /// The owner, group and mode of the other limit files that a controller brings, where they stand.
-    pub fn other(&self, controller: Controller) -> Option<Entry>
-        ensures { result ≡ other_in self.now controller }
-    {
-        self.others.get(controller)
-    }
-
-    /// The owner, group and mode of a limit file beyond `LimitFile` of which nothing is told, where it stands.
-    pub fn untold(&self, file: OtherFile) -> Option<Entry>
-        ensures { result ≡ untold_in self.now file }
-    {
-        match file.controller() {
-            None => self.freeze,
-            Some(controller) => self.other(controller),
-        }
-    }
-
-    /// The owner, group and mode of an entry, where it is there and nothing else is told of it.
+    /// The owner, group and mode of an entry, where it is there.
     pub fn entry(&self, name: EntryName) -> Option<Entry>
         ensures { result ≡ entry_in self.now name }
     {
@@ -117,51 +47,59 @@ impl Cgroup {
             EntryName::Dir => Some(self.dir),
             EntryName::Procs => Some(self.procs),
             EntryName::SubtreeControl => Some(self.subtree_control),
-            EntryName::File(file) => self.file(file).map(|held| held.entry),
-            EntryName::Other(file) => self.untold(file),
+            EntryName::File(file) => self.files.entry(file),
         }
     }
 
     /// The value of a limit file, where it stands.
-    pub fn limit(&self, file: LimitFile) -> Option<Limit>
-        ensures { result ≡ value_in self.now file }
+    pub fn value(&self, file: LimitFile) -> Option<ValueRef<'_>>
+        ensures { option_map value_now result ≡ value_in self.now file }
     {
-        self.file(file).map(|held| held.value)
+        self.files.value(file)
     }
 
-    /// Sets the value of a limit file, where it stands.
-    pub fn set_value(&mut self, file: LimitFile, value: Limit)
-        ensures { self.new ≡ with_value_in file value self.old }
+    /// The number that bounds something, where the limit file stands and its value is one.
+    pub fn most(&self, file: LimitFile) -> Option<u64>
+        ensures { result ≡ most_in self.now file }
     {
-        match file {
-            LimitFile::MaxDescendants => self.max_descendants.value = value,
-            LimitFile::MaxDepth => self.max_depth.value = value,
-            _ => self.files.set_value(file.place(), value),
-        }
+        self.files.value(file)?.most()
     }
 
-    /// Sets the mode of an entry, where it is there and none of `OtherFile`.
-    pub fn set_mode(&mut self, name: EntryName, mode: Mode)
-        ensures { self.new ≡ with_mode_in name mode self.old }
+    /// Whether anybody speaks of a limit file.
+    pub fn names(&self, file: LimitFile) -> bool
+        ensures { result ≡ is_named_in self.now file }
+    {
+        self.files.names(file)
+    }
+
+    /// Sets the value of a limit file, where it stands. Only a text can fail for want of memory.
+    pub fn set_value(
+        &mut self,
+        alloc: Global,
+        file: LimitFile,
+        value: ValueRef<'_>,
+    ) -> Result<(), NoMemory>
+        requires { accepts file (value_now value) ≡ true }
+        ensures ok { OnOk result (self.new ≡ with_value_in file (value_now value.entry) self.old) }
+        ensures err { OnErr result (self.new ≡ self.old) }
+        ensures memory { OnErr result (is_text file ≡ true) }
+    {
+        self.files.set_value(alloc, file, value)
+    }
+
+    /// Sets the mode of an entry, where it is there. Only a limit file whose value is a text can fail for want of memory.
+    pub fn set_mode(&mut self, alloc: Global, name: EntryName, mode: Mode) -> Result<(), NoMemory>
+        ensures ok { OnOk result (self.new ≡ with_mode_in name mode self.old) }
+        ensures err { OnErr result (self.new ≡ self.old) }
+        ensures memory { OnErr result (is_text_entry name ≡ true) }
     {
         match name {
             EntryName::Dir => self.dir.mode = mode.get(),
             EntryName::Procs => self.procs.mode = mode.get(),
             EntryName::SubtreeControl => self.subtree_control.mode = mode.get(),
-            EntryName::File(file) => self.set_file_mode(file, mode),
-            EntryName::Other(_) => {}
+            EntryName::File(file) => self.files.set_mode(alloc, file, mode)?,
         }
-    }
-
-    /// Sets the mode of a limit file, where it stands.
-    fn set_file_mode(&mut self, file: LimitFile, mode: Mode)
-        ensures { self.new ≡ with_mode_in (EntryName.File file) mode self.old }
-    {
-        match file {
-            LimitFile::MaxDescendants => self.max_descendants.entry.mode = mode.get(),
-            LimitFile::MaxDepth => self.max_depth.entry.mode = mode.get(),
-            _ => self.files.set_mode(file.place(), mode),
-        }
+        Ok(())
     }
 
     /// Makes and removes limit files as a parent that enables these controllers has them. A file that stays is kept
@@ -169,68 +107,19 @@ impl Cgroup {
     pub fn refit(&mut self, enabled: ControllerSet, user: &User)
         ensures { self.new ≡ with_files_of enabled user.now self.old }
     {
-        self.files = BroughtFiles {
-            entries: refitted_files(self, enabled, user),
-        };
-        self.others = OtherFiles {
-            entries: refitted_others(self, enabled, user),
-        };
+        self.files.refit(false, enabled, Entry::made_by(user, Mode::FILE));
     }
-}
 
-/// The files that controllers bring, as a parent that enables these has them.
-fn refitted_files(
-    cgroup: &Cgroup,
-    enabled: ControllerSet,
-    user: &User,
-) -> [Option<LimitEntry>; BROUGHT_COUNT]
-    ensures { result ≡ map (λ file. refitted enabled user.now file (file_of cgroup.now file)) brought_files }
-{
-    LimitFile::BROUGHT.map(|file| refitted(cgroup.file(file), file, enabled, user))
-}
-
-/// A limit file that stays, a new one, or none.
-fn refitted(
-    held: Option<LimitEntry>,
-    file: LimitFile,
-    enabled: ControllerSet,
-    user: &User,
-) -> Option<LimitEntry>
-    ensures { result ≡ refitted enabled user.now file held }
-{
-    if !file.stands_under(enabled) {
-        return None;
+    /// An equal cgroup. Fails where memory is wanted.
+    pub fn try_clone(&self, alloc: Global) -> Result<Cgroup, NoMemory>
+        ensures { IfOk result (λ copy. copy ≡ self.now) }
+    {
+        Ok(Cgroup {
+            dir: self.dir,
+            procs: self.procs,
+            subtree_control: self.subtree_control,
+            files: self.files.try_clone(alloc)?,
+            enabled: self.enabled,
+        })
     }
-    Some(held.unwrap_or(LimitEntry::made_by(user, file)))
-}
-
-/// The other files that controllers bring, as a parent that enables these has them.
-fn refitted_others(
-    cgroup: &Cgroup,
-    enabled: ControllerSet,
-    user: &User,
-) -> [Option<Entry>; CONTROLLER_COUNT]
-    ensures { result ≡ map (λ controller. refitted_other enabled user.now controller (other_in cgroup.now controller)) all_controllers }
-{
-    Controller::ALL.map(|controller| refitted_other(
-        cgroup.other(controller),
-        controller,
-        enabled,
-        user,
-    ))
-}
-
-/// The other files that a controller brings: as they were, new ones, or none.
-fn refitted_other(
-    held: Option<Entry>,
-    controller: Controller,
-    enabled: ControllerSet,
-    user: &User,
-) -> Option<Entry>
-    ensures { result ≡ refitted_other enabled user.now controller held }
-{
-    if !enabled.contains(controller) {
-        return None;
-    }
-    Some(held.unwrap_or(Entry::made_by(user, Mode::FILE)))
 }

@@ -1,22 +1,18 @@
-//! Controllers, and the limit files that they bring.
-ghost use Rattle.std.specs.Prelude.{ℕ, ◌≡◌, ◌≢◌, ◌<◌, ◌≤◌, true, false, length, IfSome, IfNone};
+//! Controllers, limit files, and the entries of a cgroup.
+ghost use Rattle.std.specs.Prelude.{ℕ, ◌≡◌, ◌≢◌, ◌<◌, true, length, IfSome, IfNone};
 ghost use Rattle.std.specs.List.{find};
-ghost use Rattle.cg_cgroup.specs.Paths.{same_name};
 ghost use Rattle.std.specs.Option.{option_map};
-ghost use Rattle.cg_cgroup.specs.OtherKinds.{other_named};
-ghost use Rattle.cg_cgroup.specs.declared.files.EntryName.TheVariants.{Other};
-ghost use Rattle.cg_cgroup.specs.Files.{kind_of, brought_files, place_of, controller_of, default_value, accepts, stands_under, all_controllers, format_2_controllers, controller_kind, all_files, AreNames, controller_name, controller_named, is_in_format_2, named_in_format_2, is_known, known_as, is_of, vocabulary_of, file_name, file_named, entry_text, entry_named, entry_known_as};
+ghost use Rattle.cg_cgroup.specs.declared.files.EntryName.TheVariants.{File};
+ghost use Rattle.cg_cgroup.specs.Paths.{same_name};
+ghost use Rattle.cg_cgroup.specs.Values.{value_now};
+ghost use Rattle.cg_cgroup.specs.Kept.{is_number_place};
+ghost use Rattle.cg_cgroup.specs.Files.{all_controllers, format_2_controllers, controller_kind, AreNames, controller_name, controller_named, is_in_format_2, named_in_format_2, is_known, known_as, is_of, vocabulary_of};
+ghost use Rattle.cg_cgroup.specs.Files.{kind_of, all_files, format_2_files, controller_of, is_brought_by, default_value, is_text_form, is_text, is_of_devices, fits, accepts, stands_under, stands_at, same_file, file_name, file_named, file_known_as, control_named, entry_text, entry_named, entry_known_as};
 
 use crate::controllers::CONTROLLER_COUNT;
 pub use crate::controllers::ControllerSet;
-use crate::other_file::OtherFile;
-
-/// The value of a limit file: `max`, or a number.
-#[derive(Clone, Copy, Debug, PartialEq, Eq)]
-pub enum Limit {
-    Max,
-    At(u64),
-}
+use crate::held::numbers::NUMBER_COUNT;
+use crate::value::ValueRef;
 
 /// The controllers of the profile, in the order used everywhere.
 #[derive(Clone, Copy, Debug, PartialEq, Eq)]
@@ -46,7 +42,7 @@ impl Controller {
         Controller::Dmem,
     ];
 
-    /// Those that texts of formats 1 and 2, and operation lines for them, name: the ones that bring a `LimitFile`.
+    /// Those that texts of formats 1 and 2, and operation lines for them, name: the ones that bring a limit file of format 1.
     pub const IN_FORMAT_2: [Controller; 3] = [
         Controller::Cpu,
         Controller::Memory,
@@ -120,7 +116,7 @@ impl Controller {
     }
 }
 
-/// Which controllers tree texts and operation lines name: in formats 1 and 2 those of `IN_FORMAT_2`, in format 4 all.
+/// Which controllers and limit files tree texts and operation lines name: in formats 1 and 2 those of `IN_FORMAT_2`, in format 4 all.
 #[derive(Clone, Copy, Debug, PartialEq, Eq)]
 pub enum Vocabulary {
     Format2,
@@ -169,6 +165,65 @@ impl Vocabulary {
     }
 }
 
+/// Of which form the values of a limit file are.
+#[derive(Clone, Copy, Debug, PartialEq, Eq)]
+pub enum Form {
+    /// The numbers from the least to the greatest, and `max` or not.
+    Numbers {
+        least: u64,
+        greatest: u64,
+        takes_max: bool,
+    },
+    Texts,
+    /// Texts of which each line begins with a device or a resource.
+    DeviceTexts,
+}
+
+impl Form {
+    /// Most files whose values are numbers take `max` and each number up to `LimitFile::GREATEST`.
+    const NUMBERS: Form = Form::Numbers {
+        least: 0,
+        greatest: LimitFile::GREATEST,
+        takes_max: true,
+    };
+    const WEIGHT: Form = Form::Numbers {
+        least: 1,
+        greatest: 10000,
+        takes_max: false,
+    };
+
+    /// Whether the values are texts.
+    pub fn is_text(self) -> bool
+        ensures { result ≡ is_text_form self }
+    {
+        match self {
+            Form::Numbers { .. } => false,
+            Form::Texts | Form::DeviceTexts => true,
+        }
+    }
+
+    /// Whether a value is one of them.
+    fn fits(self, value: ValueRef<'_>) -> bool
+        ensures { result ≡ fits self (value_now value.entry) }
+    {
+        match (self, value) {
+            (
+                Form::Numbers {
+                    least, greatest, ..
+                },
+                ValueRef::Number(number),
+            ) => least <= number && number <= greatest,
+            (Form::Numbers { takes_max, .. }, ValueRef::Max) => takes_max,
+            (Form::Texts, ValueRef::Text(_)) => true,
+            (Form::DeviceTexts, ValueRef::Text(_)) => true,
+            _ => false,
+        }
+    }
+}
+
+/// How many limit files there are.
+pub const FILE_COUNT: usize = 51;
+
 /// The limit files, in the order used everywhere.
 #[derive(Clone, Copy, Debug, PartialEq, Eq)]
 pub enum LimitFile {
@@ -180,66 +235,68 @@ pub enum LimitFile {
     MemoryHigh,
     MemoryMax,
     PidsMax,
+    Freeze,
+    CpuIdle,
+    CpuMax,
+    CpuMaxBurst,
+    CpuUclampMax,
+    CpuUclampMin,
+    CpuWeightNice,
+    CpusetCpus,
+    CpusetCpusExclusive,
+    CpusetCpusPartition,
+    CpusetMems,
+    DmemLow,
+    DmemMax,
+    DmemMin,
+    HugetlbOf16GbMax,
+    HugetlbOf16GbReservedMax,
+    HugetlbOf16MbMax,
+    HugetlbOf16MbReservedMax,
+    HugetlbOf1GbMax,
+    HugetlbOf1GbReservedMax,
+    HugetlbOf1MbMax,
+    HugetlbOf1MbReservedMax,
+    HugetlbOf2GbMax,
+    HugetlbOf2GbReservedMax,
+    HugetlbOf2MbMax,
+    HugetlbOf2MbReservedMax,
+    HugetlbOf32MbMax,
+    HugetlbOf32MbReservedMax,
+    HugetlbOf512MbMax,
+    HugetlbOf512MbReservedMax,
+    HugetlbOf64KbMax,
+    HugetlbOf64KbReservedMax,
+    IoBfqWeight,
+    IoLatency,
+    IoMax,
+    IoPrioClass,
+    IoWeight,
+    MemorySwapHigh,
+    MemorySwapMax,
+    MemoryZswapMax,
+    MemoryZswapWriteback,
+    MiscMax,
+    RdmaMax,
 }
 
 /// What a limit file is.
 #[derive(Clone, Copy, Debug)]
-struct Kind {
+struct Row {
     name: &'static str,
-    /// The controller that brings it; `None` for the two that stand at every cgroup.
+    /// The controller that brings it; `None` for those of the core.
     controller: Option<Controller>,
+    form: Form,
     /// The value of one that has just been made.
-    default: Limit,
-    /// The least and the greatest number that it takes.
-    least: u64,
-    greatest: u64,
-    takes_max: bool,
+    default: ValueRef<'static>,
+    /// What a try sets it to, and to what else where it is that already.
+    loose: ValueRef<'static>,
+    other: ValueRef<'static>,
 }
-
-impl Kind {
-    /// A file that takes `max` and each number up to `LimitFile::GREATEST`.
-    fn usual(name: &'static str, controller: Option<Controller>, default: Limit) -> Kind
-        ensures name { result.name.now ≡ name.now }
-        ensures controller { result.controller ≡ controller }
-        ensures default { result.default ≡ default }
-        ensures least { result.least ≡ 0 }
-        ensures greatest { result.greatest ≡ 9223372036854775807 }
-        ensures takes_max { result.takes_max ≡ true }
-    {
-        Kind {
-            name,
-            controller,
-            default,
-            least: 0,
-            greatest: LimitFile::GREATEST,
-            takes_max: true,
-        }
-    }
-
-    /// A file that takes the numbers of a range alone.
-    fn with_range(self, least: u64, greatest: u64) -> Kind
-        ensures name { result.name.now ≡ self.name.now }
-        ensures controller { result.controller ≡ self.controller }
-        ensures default { result.default ≡ self.default }
-        ensures least { result.least ≡ least }
-        ensures greatest { result.greatest ≡ greatest }
-        ensures takes_max { result.takes_max ≡ false }
-    {
-        Kind {
-            least,
-            greatest,
-            takes_max: false,
-            ..self
-        }
-    }
-}
-
-/// How many limit files controllers bring.
-pub const BROUGHT_COUNT: usize = 6;
 
 impl LimitFile {
-    /// The limit files, in their order. The two of the core come first.
-    pub const ALL: [LimitFile; 8] = [
+    /// The limit files, in their order.
+    pub const ALL: [LimitFile; FILE_COUNT] = [
         LimitFile::MaxDescendants,
         LimitFile::MaxDepth,
         LimitFile::CpuWeight,
@@ -248,10 +305,55 @@ impl LimitFile {
         LimitFile::MemoryHigh,
         LimitFile::MemoryMax,
         LimitFile::PidsMax,
+        LimitFile::Freeze,
+        LimitFile::CpuIdle,
+        LimitFile::CpuMax,
+        LimitFile::CpuMaxBurst,
+        LimitFile::CpuUclampMax,
+        LimitFile::CpuUclampMin,
+        LimitFile::CpuWeightNice,
+        LimitFile::CpusetCpus,
+        LimitFile::CpusetCpusExclusive,
+        LimitFile::CpusetCpusPartition,
+        LimitFile::CpusetMems,
+        LimitFile::DmemLow,
+        LimitFile::DmemMax,
+        LimitFile::DmemMin,
+        LimitFile::HugetlbOf16GbMax,
+        LimitFile::HugetlbOf16GbReservedMax,
+        LimitFile::HugetlbOf16MbMax,
+        LimitFile::HugetlbOf16MbReservedMax,
+        LimitFile::HugetlbOf1GbMax,
+        LimitFile::HugetlbOf1GbReservedMax,
+        LimitFile::HugetlbOf1MbMax,
+        LimitFile::HugetlbOf1MbReservedMax,
+        LimitFile::HugetlbOf2GbMax,
+        LimitFile::HugetlbOf2GbReservedMax,
+        LimitFile::HugetlbOf2MbMax,
+        LimitFile::HugetlbOf2MbReservedMax,
+        LimitFile::HugetlbOf32MbMax,
+        LimitFile::HugetlbOf32MbReservedMax,
+        LimitFile::HugetlbOf512MbMax,
+        LimitFile::HugetlbOf512MbReservedMax,
+        LimitFile::HugetlbOf64KbMax,
+        LimitFile::HugetlbOf64KbReservedMax,
+        LimitFile::IoBfqWeight,
+        LimitFile::IoLatency,
+        LimitFile::IoMax,
+        LimitFile::IoPrioClass,
+        LimitFile::IoWeight,
+        LimitFile::MemorySwapHigh,
+        LimitFile::MemorySwapMax,
+        LimitFile::MemoryZswapMax,
+        LimitFile::MemoryZswapWriteback,
+        LimitFile::MiscMax,
+        LimitFile::RdmaMax,
     ];
 
-    /// Those that controllers bring, in their order.
-    pub const BROUGHT: [LimitFile; BROUGHT_COUNT] = [
+    /// Those that texts of formats 1 and 2, and operation lines for them, name: the ones whose values are numbers.
+    pub const IN_FORMAT_2: [LimitFile; NUMBER_COUNT] = [
+        LimitFile::MaxDescendants,
+        LimitFile::MaxDepth,
         LimitFile::CpuWeight,
         LimitFile::MemoryMin,
         LimitFile::MemoryLow,
@@ -264,46 +366,105 @@ impl LimitFile {
     pub const GREATEST: u64 = 9223372036854775807;
 
     /// What the file is.
-    fn kind(self) -> Kind
+    fn row(self) -> Row
         ensures name { result.name.now ≡ (kind_of self).name }
         ensures controller { result.controller ≡ (kind_of self).controller }
-        ensures default { result.default ≡ (kind_of self).default }
-        ensures least { result.least ≡ (kind_of self).least }
-        ensures greatest { result.greatest ≡ (kind_of self).greatest }
-        ensures takes_max { result.takes_max ≡ (kind_of self).takes_max }
+        ensures form { result.form ≡ (kind_of self).form }
+        ensures default { value_now result.default ≡ (kind_of self).default }
+        ensures loose { value_now result.loose ≡ (kind_of self).loose }
+        ensures other { value_now result.other ≡ (kind_of self).other }
     {
-        let cpu = Some(Controller::Cpu);
-        let memory = Some(Controller::Memory);
-        let pids = Some(Controller::Pids);
-        let none = Limit::At(0);
-        match self {
-            LimitFile::MaxDescendants => Kind::usual("cgroup.max.descendants", None, Limit::Max),
-            LimitFile::MaxDepth => Kind::usual("cgroup.max.depth", None, Limit::Max),
-            LimitFile::CpuWeight => Kind::usual("cpu.weight", cpu, Limit::At(100)).with_range(
-                1, 10000,
-            ),
-            LimitFile::MemoryMin => Kind::usual("memory.min", memory, none),
-            LimitFile::MemoryLow => Kind::usual("memory.low", memory, none),
-            LimitFile::MemoryHigh => Kind::usual("memory.high", memory, Limit::Max),
-            LimitFile::MemoryMax => Kind::usual("memory.max", memory, Limit::Max),
-            LimitFile::PidsMax => Kind::usual("pids.max", pids, Limit::Max),
+        use ValueRef::{Max, Number, Text, Unknown};
+        let (name, controller, form, default, loose, other) = match self {
+            LimitFile::MaxDescendants => ("cgroup.max.descendants", None, Form::NUMBERS, Max, Max, Number(0)),
+            LimitFile::MaxDepth => ("cgroup.max.depth", None, Form::NUMBERS, Max, Max, Number(0)),
+            LimitFile::CpuWeight => ("cpu.weight", Some(Controller::Cpu), Form::WEIGHT, Number(100), Number(100), Number(1)),
+            LimitFile::MemoryMin => ("memory.min", Some(Controller::Memory), Form::NUMBERS, Number(0), Max, Number(0)),
+            LimitFile::MemoryLow => ("memory.low", Some(Controller::Memory), Form::NUMBERS, Number(0), Max, Number(0)),
+            LimitFile::MemoryHigh => ("memory.high", Some(Controller::Memory), Form::NUMBERS, Max, Max, Number(0)),
+            LimitFile::MemoryMax => ("memory.max", Some(Controller::Memory), Form::NUMBERS, Max, Max, Number(0)),
+            LimitFile::PidsMax => ("pids.max", Some(Controller::Pids), Form::NUMBERS, Max, Max, Number(0)),
+            LimitFile::Freeze => ("cgroup.freeze", None, Form::Texts, Unknown, Text("0"), Text("1")),
+            LimitFile::CpuIdle => ("cpu.idle", Some(Controller::Cpu), Form::Texts, Unknown, Text("0"), Text("1")),
+            LimitFile::CpuMax => ("cpu.max", Some(Controller::Cpu), Form::Texts, Unknown, Text("max 100000"), Text("max 50000")),
+            LimitFile::CpuMaxBurst => ("cpu.max.burst", Some(Controller::Cpu), Form::Texts, Unknown, Text("0"), Text("1")),
+            LimitFile::CpuUclampMax => ("cpu.uclamp.max", Some(Controller::Cpu), Form::Texts, Unknown, Text("max"), Text("50")),
+            LimitFile::CpuUclampMin => ("cpu.uclamp.min", Some(Controller::Cpu), Form::Texts, Unknown, Text("max"), Text("0")),
+            LimitFile::CpuWeightNice => ("cpu.weight.nice", Some(Controller::Cpu), Form::Texts, Unknown, Text("-20"), Text("-19")),
+            LimitFile::CpusetCpus => ("cpuset.cpus", Some(Controller::Cpuset), Form::Texts, Unknown, Text("0-1"), Text("0")),
+            LimitFile::CpusetCpusExclusive => ("cpuset.cpus.exclusive", Some(Controller::Cpuset), Form::Texts, Unknown, Text("0-1"), Text("0")),
+            LimitFile::CpusetCpusPartition => ("cpuset.cpus.partition", Some(Controller::Cpuset), Form::Texts, Unknown, Text("member"), Text("root")),
+            LimitFile::CpusetMems => ("cpuset.mems", Some(Controller::Cpuset), Form::Texts, Unknown, Text("0-1"), Text("0")),
+            LimitFile::DmemLow => ("dmem.low", Some(Controller::Dmem), Form::DeviceTexts, Unknown, Text("max"), Text("0")),
+            LimitFile::DmemMax => ("dmem.max", Some(Controller::Dmem), Form::DeviceTexts, Unknown, Text("max"), Text("0")),
+            LimitFile::DmemMin => ("dmem.min", Some(Controller::Dmem), Form::DeviceTexts, Unknown, Text("max"), Text("0")),
+            LimitFile::HugetlbOf16GbMax => ("hugetlb.16GB.max", Some(Controller::Hugetlb), Form::Texts, Unknown, Text("max"), Text("0")),
+            LimitFile::HugetlbOf16GbReservedMax => ("hugetlb.16GB.rsvd.max", Some(Controller::Hugetlb), Form::Texts, Unknown, Text("max"), Text("0")),
+            LimitFile::HugetlbOf16MbMax => ("hugetlb.16MB.max", Some(Controller::Hugetlb), Form::Texts, Unknown, Text("max"), Text("0")),
+            LimitFile::HugetlbOf16MbReservedMax => ("hugetlb.16MB.rsvd.max", Some(Controller::Hugetlb), Form::Texts, Unknown, Text("max"), Text("0")),
+            LimitFile::HugetlbOf1GbMax => ("hugetlb.1GB.max", Some(Controller::Hugetlb), Form::Texts, Unknown, Text("max"), Text("0")),
+            LimitFile::HugetlbOf1GbReservedMax => ("hugetlb.1GB.rsvd.max", Some(Controller::Hugetlb), Form::Texts, Unknown, Text("max"), Text("0")),
+            LimitFile::HugetlbOf1MbMax => ("hugetlb.1MB.max", Some(Controller::Hugetlb), Form::Texts, Unknown, Text("max"), Text("0")),
+            LimitFile::HugetlbOf1MbReservedMax => ("hugetlb.1MB.rsvd.max", Some(Controller::Hugetlb), Form::Texts, Unknown, Text("max"), Text("0")),
+            LimitFile::HugetlbOf2GbMax => ("hugetlb.2GB.max", Some(Controller::Hugetlb), Form::Texts, Unknown, Text("max"), Text("0")),
+            LimitFile::HugetlbOf2GbReservedMax => ("hugetlb.2GB.rsvd.max", Some(Controller::Hugetlb), Form::Texts, Unknown, Text("max"), Text("0")),
+            LimitFile::HugetlbOf2MbMax => ("hugetlb.2MB.max", Some(Controller::Hugetlb), Form::Texts, Unknown, Text("max"), Text("0")),
+            LimitFile::HugetlbOf2MbReservedMax => ("hugetlb.2MB.rsvd.max", Some(Controller::Hugetlb), Form::Texts, Unknown, Text("max"), Text("0")),
+            LimitFile::HugetlbOf32MbMax => ("hugetlb.32MB.max", Some(Controller::Hugetlb), Form::Texts, Unknown, Text("max"), Text("0")),
+            LimitFile::HugetlbOf32MbReservedMax => ("hugetlb.32MB.rsvd.max", Some(Controller::Hugetlb), Form::Texts, Unknown, Text("max"), Text("0")),
+            LimitFile::HugetlbOf512MbMax => ("hugetlb.512MB.max", Some(Controller::Hugetlb), Form::Texts, Unknown, Text("max"), Text("0")),
+            LimitFile::HugetlbOf512MbReservedMax => ("hugetlb.512MB.rsvd.max", Some(Controller::Hugetlb), Form::Texts, Unknown, Text("max"), Text("0")),
+            LimitFile::HugetlbOf64KbMax => ("hugetlb.64KB.max", Some(Controller::Hugetlb), Form::Texts, Unknown, Text("max"), Text("0")),
+            LimitFile::HugetlbOf64KbReservedMax => ("hugetlb.64KB.rsvd.max", Some(Controller::Hugetlb), Form::Texts, Unknown, Text("max"), Text("0")),
+            LimitFile::IoBfqWeight => ("io.bfq.weight", Some(Controller::Io), Form::Texts, Unknown, Text("default 1000"), Text("default 999")),
+            LimitFile::IoLatency => ("io.latency", Some(Controller::Io), Form::DeviceTexts, Unknown, Text("target=max"), Text("target=1")),
+            LimitFile::IoMax => ("io.max", Some(Controller::Io), Form::DeviceTexts, Unknown, Text("rbps=max wbps=max riops=max wiops=max"), Text("rbps=2 wbps=2 riops=2 wiops=2")),
+            LimitFile::IoPrioClass => ("io.prio.class", Some(Controller::Io), Form::Texts, Unknown, Text("no-change"), Text("none-to-rt")),
+            LimitFile::IoWeight => ("io.weight", Some(Controller::Io), Form::Texts, Unknown, Text("default 10000"), Text("default 9999")),
+            LimitFile::MemorySwapHigh => ("memory.swap.high", Some(Controller::Memory), Form::Texts, Unknown, Text("max"), Text("0")),
+            LimitFile::MemorySwapMax => ("memory.swap.max", Some(Controller::Memory), Form::Texts, Unknown, Text("max"), Text("0")),
+            LimitFile::MemoryZswapMax => ("memory.zswap.max", Some(Controller::Memory), Form::Texts, Unknown, Text("max"), Text("0")),
+            LimitFile::MemoryZswapWriteback => ("memory.zswap.writeback", Some(Controller::Memory), Form::Texts, Unknown, Text("1"), Text("0")),
+            LimitFile::MiscMax => ("misc.max", Some(Controller::Misc), Form::DeviceTexts, Unknown, Text("max"), Text("0")),
+            LimitFile::RdmaMax => ("rdma.max", Some(Controller::Rdma), Form::DeviceTexts, Unknown, Text("hca_handle=max hca_object=max"), Text("hca_handle=0 hca_object=0")),
+        };
+        Row {
+            name,
+            controller,
+            form,
+            default,
+            loose,
+            other,
         }
     }
 
-    /// The place of a file that a controller brings among `BROUGHT`.
-    pub fn place(self) -> usize
-        requires { 2 ≤ (kind_of self).number }
-        ensures place { result ≡ place_of self }
-        ensures within { result < length brought_files }
+    /// The number, among them all.
+    pub fn number(self) -> usize
+        ensures number { result ≡ (kind_of self).number }
+        ensures within { result < length all_files }
     {
-        self as usize - 2
+        self as usize
+    }
+
+    /// Whether it is the same file.
+    pub fn is_same(self, other: LimitFile) -> bool
+        ensures { result ≡ same_file self other }
+    {
+        self.number() == other.number()
+    }
+
+    /// Whether it is one of those that come first, whose values are numbers.
+    pub(crate) fn is_number_place(self) -> bool
+        ensures { result ≡ is_number_place self }
+    {
+        self.number() < NUMBER_COUNT
     }
 
     /// The name.
     pub fn name(self) -> &'static str
         ensures { result.now ≡ file_name self }
     {
-        self.kind().name
+        self.row().name
     }
 
     /// The limit file of a name, where it is one.
@@ -315,11 +476,21 @@ impl LimitFile {
         file_of_name(text, &Self::ALL)
     }
 
-    /// The controller that brings the file; `None` for the two that stand at every cgroup.
+    /// The controller that brings the file; `None` for those of the core.
     pub fn controller(self) -> Option<Controller>
         ensures { result ≡ controller_of self }
     {
-        self.kind().controller
+        self.row().controller
+    }
+
+    /// Whether one of these controllers brings it.
+    pub fn is_brought_by(self, controllers: ControllerSet) -> bool
+        ensures { result ≡ is_brought_by controllers self }
+    {
+        match self.controller() {
+            None => false,
+            Some(controller) => controllers.contains(controller),
+        }
     }
 
     /// Whether the file stands at a child of a cgroup that enables these controllers.
@@ -332,22 +503,76 @@ impl LimitFile {
         }
     }
 
-    /// The value of a file that has just been made.
-    pub fn default_value(self) -> Limit
-        ensures { result ≡ default_value self }
+    /// Whether the file stands at each cgroup but the root.
+    fn is_below_root(self) -> bool
+        ensures { result ≡ (kind_of self).below_root }
     {
-        self.kind().default
+        match self {
+            LimitFile::Freeze => true,
+            _ => false,
+        }
     }
 
-    /// Whether the file takes a value: `cpu.weight` takes 1 to 10000, each other file `max` and 0 to `GREATEST`.
-    pub fn accepts(self, value: Limit) -> bool
-        ensures { result ≡ accepts self value }
+    /// Whether the file stands at the root, or at a child of a cgroup that enables these controllers.
+    pub fn stands_at(self, root: bool, above: ControllerSet) -> bool
+        ensures { result ≡ stands_at root above self }
     {
-        let kind = self.kind();
-        match value {
-            Limit::Max => kind.takes_max,
-            Limit::At(amount) => kind.least <= amount && amount <= kind.greatest,
+        if self.is_below_root() {
+            return !root;
         }
+        self.stands_under(above)
+    }
+
+    /// Of which form its values are.
+    pub fn form(self) -> Form
+        ensures { result ≡ (kind_of self).form }
+    {
+        self.row().form
+    }
+
+    /// Whether its values are texts.
+    pub fn is_text(self) -> bool
+        ensures { result ≡ is_text self }
+    {
+        self.form().is_text()
+    }
+
+    /// Whether each line of its values begins with the name of a device or of a resource.
+    pub fn is_of_devices(self) -> bool
+        ensures { result ≡ is_of_devices self }
+    {
+        match self.form() {
+            Form::DeviceTexts => true,
+            _ => false,
+        }
+    }
+
+    /// The value of a file that has just been made.
+    pub fn default_value(self) -> ValueRef<'static>
+        ensures { value_now result ≡ default_value self }
+    {
+        self.row().default
+    }
+
+    /// Whether the file takes a value.
+    pub fn accepts(self, value: ValueRef<'_>) -> bool
+        ensures { result ≡ accepts self (value_now value.entry) }
+    {
+        self.form().fits(value)
+    }
+
+    /// A value that loosens the file; a text behind the name of a device where each of its lines begins with one.
+    pub fn loose(self) -> ValueRef<'static>
+        ensures { value_now result ≡ (kind_of self).loose }
+    {
+        self.row().loose
+    }
+
+    /// Another value than that, for a file that has it already.
+    pub fn other(self) -> ValueRef<'static>
+        ensures { value_now result ≡ (kind_of self).other }
+    {
+        self.row().other
     }
 }
 
@@ -365,7 +590,6 @@ pub enum EntryName {
     Procs,
     SubtreeControl,
     File(LimitFile),
-    Other(OtherFile),
 }
 
 impl EntryName {
@@ -378,7 +602,6 @@ impl EntryName {
             EntryName::Procs => "cgroup.procs",
             EntryName::SubtreeControl => "cgroup.subtree_control",
             EntryName::File(file) => file.name(),
-            EntryName::Other(file) => file.name(),
         }
     }
 
@@ -388,29 +611,55 @@ impl EntryName {
         ensures named { IfSome result (λ name. text.now ≡ entry_text name) }
         ensures unnamed { IfNone result ((name : EntryName) → text.now ≢ entry_text name) }
     {
-        match EntryName::in_format_2(text) {
-            Some(entry) => Some(entry),
-            None => EntryName::beyond(text),
-        }
-    }
-
-    /// The limit file beyond `LimitFile` of a name, where it is one.
-    fn beyond(text: &str) -> Option<EntryName>
-        ensures { result ≡ option_map Other (other_named text.now) }
-    {
-        OtherFile::from_name(text).map(EntryName::Other)
+        Vocabulary::Format4.entry(text)
     }
 
     /// The entry of a name that texts of formats 1 and 2 have, where it is one.
     pub fn in_format_2(text: &str) -> Option<EntryName>
         ensures found { result ≡ entry_known_as Vocabulary.Format2 text.now }
     {
-        match text {
-            "dir" => Some(EntryName::Dir),
-            "cgroup.procs" => Some(EntryName::Procs),
-            "cgroup.subtree_control" => Some(EntryName::SubtreeControl),
-            _ => LimitFile::from_name(text).map(EntryName::File),
+        Vocabulary::Format2.entry(text)
+    }
+}
+
+impl Vocabulary {
+    /// The limit file that a name means there, where it means one.
+    pub fn file(self, text: &str) -> Option<LimitFile>
+        ensures { result ≡ file_known_as self text.now }
+    {
+        match self {
+            Vocabulary::Format2 => file_of_name(text, &LimitFile::IN_FORMAT_2),
+            Vocabulary::Format4 => file_of_name(text, &LimitFile::ALL),
         }
+    }
+
+    /// The entry that a name means there, where it means one.
+    pub fn entry(self, text: &str) -> Option<EntryName>
+        ensures { result ≡ entry_known_as self text.now }
+    {
+        match control_entry(text) {
+            Some(entry) => Some(entry),
+            None => self.file_entry(text),
+        }
+    }
+
+    /// The limit file that a name means there, as an entry.
+    fn file_entry(self, text: &str) -> Option<EntryName>
+        ensures { result ≡ option_map File (file_known_as self text.now) }
+    {
+        self.file(text).map(EntryName::File)
+    }
+}
+
+/// The entry of a name that is no limit file, where it is one.
+fn control_entry(text: &str) -> Option<EntryName>
+    ensures { result ≡ control_named text.now }
+{
+    match text {
+        "dir" => Some(EntryName::Dir),
+        "cgroup.procs" => Some(EntryName::Procs),
+        "cgroup.subtree_control" => Some(EntryName::SubtreeControl),
+        _ => None,
     }
 }
 
@@ -419,7 +668,7 @@ pub fn all_are_listed()
     ensures controllers { Controller.ALL ≡ all_controllers }
     ensures in_format_2 { Controller.IN_FORMAT_2 ≡ format_2_controllers }
     ensures files { LimitFile.ALL ≡ all_files }
-    ensures brought { LimitFile.BROUGHT ≡ brought_files }
+    ensures files_in_format_2 { LimitFile.IN_FORMAT_2 ≡ format_2_files }
 {}
 
 /// The law of names: a controller, a limit file and an entry is found by its name, what is found has the name that was

@@ -1,4 +1,4 @@
-use Rattle.std.proofs.Common.{◌∙◌, Some}
+use Rattle.std.proofs.Common.{◌∙◌}
 use Rattle.cg_cgroup.specs.Cgroups.{with_files_of}
 use Rattle.cg_cgroup.proofs.cgroup.Cgroup.made_by.Goals as goal
 
@@ -8,10 +8,6 @@ returns c =
       dir = c.made_by.ensures i;
       procs = c.made_by-2.ensures i;
       subtree_control = c.made_by-3.ensures i;
-      max_descendants = c.made_by-4.ensures i;
-      max_depth = c.made_by-5.ensures i;
-      freeze = Some (c.made_by-6.ensures i);
       files = c.none.ensures i;
-      others = c.none-2.ensures i;
-      enabled = c.none-3.ensures i;
+      enabled = c.none-2.ensures i;
     }))
