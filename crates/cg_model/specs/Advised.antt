@@ -3,23 +3,22 @@ use Rattle.std.specs.Prelude.{◌≡◌, ◌≤◌, Bool, cond, List}
 use Rattle.std.specs.List.{list_any}
 use Rattle.std.specs.Option.{option_map}
 use Rattle.cg_cgroup.specs.Paths.{Names, same_path}
-use Rattle.cg_cgroup.specs.declared.files.Limit.{Limit}
-use Rattle.cg_cgroup.specs.declared.files.Limit.TheVariants.{At}
+use Rattle.cg_cgroup.specs.declared.value.Value.{Value}
+use Rattle.cg_cgroup.specs.declared.value.Value.TheVariants.{Number}
 use Rattle.cg_cgroup.specs.declared.files.LimitFile.{LimitFile}
 use Rattle.cg_cgroup.specs.declared.files.LimitFile.TheVariants.{MaxDescendants, MaxDepth}
 use Rattle.cg_cgroup.specs.declared.files.EntryName.{EntryName}
-use Rattle.cg_cgroup.specs.declared.other_file.OtherFile.{OtherFile}
-use Rattle.cg_model.specs.States.{State, entry_at, value_at, told_text, paths_of, count_below, depth_below}
+use Rattle.cg_model.specs.States.{State, entry_at, value_at, paths_of, count_below, depth_below}
 use Rattle.cg_model.specs.WellFormed.{enabled_at}
 use Rattle.cg_model.specs.Limits.{fits_descendants, fits_depth}
 use Rattle.cg_model.specs.Mended.{mended}
 use Rattle.cg_model.specs.Mends.{Pair, entrants, users_at}
 
 -- a limit of a subtree, raised where the subtree is over it
-abbrev pub raised : State → Names → LimitFile → Limit → Limit
-raised st subtree MaxDescendants limit = cond (fits_descendants st subtree) limit (At (count_below st subtree))
-raised st subtree MaxDepth limit = cond (fits_depth st subtree) limit (At (depth_below st subtree))
-raised st subtree file limit = limit
+abbrev pub raised : State → Names → LimitFile → Value → Value
+raised st subtree MaxDescendants value = cond (fits_descendants st subtree) value (Number (count_below st subtree))
+raised st subtree MaxDepth value = cond (fits_depth st subtree) value (Number (depth_below st subtree))
+raised st subtree file value = value
 
 -- a pair names this subtree
 abbrev pub is_named : List Pair → Names → Bool
@@ -31,7 +30,6 @@ pub record IsAdvised (st new : State) (pairs : List Pair) : Type 0 where
       → entry_at new path name ≡ option_map (mended (users_at path name (entrants st pairs))) (entry_at st path name)
   pub values : (path : Names) (file : LimitFile)
       → value_at new path file ≡ cond (is_named pairs path) (option_map (raised st path file) (value_at st path file)) (value_at st path file)
-  pub texts : (path : Names) (file : OtherFile) → told_text new path file ≡ told_text st path file
   -- what each cgroup enables, which cgroups there are, the processes, the used PIDs and the root's controllers
   pub enabled : (path : Names) → enabled_at new path ≡ enabled_at st path
   pub paths : paths_of new ≡ paths_of st

@@ -4,22 +4,22 @@ use Rattle.cg_cgroup.specs.Paths.{Names, common, is_root, parent}
 use Rattle.cg_cgroup.specs.Identity.{Identity}
 use Rattle.cg_cgroup.specs.Users.{writes, owns}
 use Rattle.cg_cgroup.specs.Files.{all_controllers, enables, enables_nothing, is_within, accepts}
-use Rattle.cg_cgroup.specs.Cgroups.{file_of}
-use Rattle.cg_model.specs.States.{State, row_at, place_at, owner_at, file_at, file_told, entry_at, is_used, has_child, has_live, child_enables, count_below}
+use Rattle.cg_cgroup.specs.Cgroups.{file_of, most_in}
+use Rattle.cg_model.specs.States.{State, row_at, place_at, owner_at, file_at, entry_at, is_used, has_child, has_live, child_enables, count_below}
 use Rattle.cg_model.specs.WellFormed.{available_at}
 use Rattle.cg_model.specs.Limits.{is_under}
 use Rattle.cg_cgroup.specs.declared.files.Controller.{Controller}
 use Rattle.cg_cgroup.specs.declared.files.LimitFile.{LimitFile}
-use Rattle.cg_cgroup.specs.declared.files.Limit.{Limit}
+use Rattle.cg_cgroup.specs.declared.files.LimitFile.TheVariants.{MaxDescendants, MaxDepth}
+use Rattle.cg_cgroup.specs.declared.value.Value.{Value}
 use Rattle.cg_cgroup.specs.declared.files.EntryName.{EntryName}
-use Rattle.cg_cgroup.specs.declared.files.EntryName.TheVariants.{Dir, Procs, SubtreeControl, File, Other}
-use Rattle.cg_cgroup.specs.declared.other_file.OtherFile.{OtherFile}
+use Rattle.cg_cgroup.specs.declared.files.EntryName.TheVariants.{Dir, Procs, SubtreeControl, File}
 use Rattle.cg_cgroup.specs.declared.cgroup.Cgroup.{Cgroup}
 use Rattle.cg_model.specs.Clauses.{unless, absent, present}
 use Rattle.cg_model.specs.Changes.{effective, enabled_after}
 use Rattle.cg_model.specs.declared.changes.Change.{Change}
 use Rattle.cg_model.specs.declared.operation.Op.{Op}
-use Rattle.cg_model.specs.declared.operation.Op.TheVariants.{Move, Control, Mkdir, Rmdir, Set, SetOther, Fork, Exit, Chmod}
+use Rattle.cg_model.specs.declared.operation.Op.TheVariants.{Move, Control, Mkdir, Rmdir, Set, Fork, Exit, Chmod}
 use Rattle.cg_model.specs.declared.outcome.Refusal.{Refusal}
 use Rattle.cg_model.specs.declared.outcome.Refusal.TheVariants.{NoSuchCgroup, NoAccess, NoSuchProcess, InternalProcess, NotAvailable, ChildUses, Exists, DescendantLimit, DepthLimit, RootCgroup, HasChildren, HasProcesses, NoSuchFile, BadValue, NotYours, PidUsed, NotOwner}
 
@@ -79,8 +79,8 @@ writes_above st user path = elim (row_above st path) [ None ↦ true | Some row 
 -- above it, of which the one of `len` names lies that many names fewer above the parent.
 abbrev pub level_bars : State → Names → ℕ → List Refusal
 level_bars st path len = present (row_at st (take len path)) (λ row.
-    unless (is_under (count_below st (take len path)) row.max_descendants.value) (DescendantLimit len)
-    ++ unless (is_under (length path - 1 - len) row.max_depth.value) (DepthLimit len))
+    unless (is_under (count_below st (take len path)) (most_in row MaxDescendants)) (DescendantLimit len)
+    ++ unless (is_under (length path - 1 - len) (most_in row MaxDepth)) (DepthLimit len))
 
 -- from the cgroup of one name less than `len` up to the root, the nearest first
 abbrev pub limit_bars : State → Names → ℕ → List Refusal
@@ -107,22 +107,13 @@ rmdir_bars st user path =
 
 -- ---- set
 
--- Model of Delegation: write access to the file. Core Interface Files, CPU, Memory, PID: its values.
-abbrev pub set_bars : State → Identity → Names → LimitFile → Limit → List Refusal
+-- Model of Delegation: write access to the file. Core Interface Files, CPU, Memory, PID: its values. Own: any text.
+abbrev pub set_bars : State → Identity → Names → LimitFile → Value → List Refusal
 set_bars st user at file value =
     absent (row_at st at) (NoSuchCgroup (length at))
     ++ present (row_at st at) (λ row. absent (file_of row file) (NoSuchFile (File file)))
     ++ present (file_at st at file) (λ held. unless (writes user held.entry) (NoAccess (length at) (File file)))
     ++ present (file_at st at file) (λ held. unless (accepts file value) (BadValue file))
-
--- ---- set of a limit file beyond `LimitFile`
-
--- Model of Delegation: write access to the file. Own: it takes any value.
-abbrev pub set_other_bars : State → Identity → Names → OtherFile → List Refusal
-set_other_bars st user at file =
-    absent (row_at st at) (NoSuchCgroup (length at))
-    ++ present (row_at st at) (λ row. absent (file_told st at file) (NoSuchFile (Other file)))
-    ++ present (file_told st at file) (λ told. unless (writes user told.entry) (NoAccess (length at) (Other file)))
 
 -- ---- fork and exit
 
@@ -139,16 +130,15 @@ fork_bars st user parent child = exit_bars st user parent ++ unless (not (is_use
 -- ---- chmod
 
 -- only a limit file may be missing from a cgroup
-abbrev pub missing_bars : State → Names → Cgroup → EntryName → List Refusal
-missing_bars st at row (File file) = absent (file_of row file) (NoSuchFile (File file))
-missing_bars st at row (Other file) = absent (file_told st at file) (NoSuchFile (Other file))
-missing_bars st at row name = []
+abbrev pub missing_bars : Cgroup → EntryName → List Refusal
+missing_bars row (File file) = absent (file_of row file) (NoSuchFile (File file))
+missing_bars row name = []
 
 -- Own: the owner of an entry may set its mode, whatever its bits are.
 abbrev pub chmod_bars : State → Identity → Names → EntryName → List Refusal
 chmod_bars st user at name =
     absent (row_at st at) (NoSuchCgroup (length at))
-    ++ present (row_at st at) (λ row. missing_bars st at row name)
+    ++ present (row_at st at) (λ row. missing_bars row name)
     ++ present (entry_at st at name) (λ entry. unless (owns user entry) (NotOwner name))
 
 abbrev pub bars : State → Identity → Op → List Refusal
@@ -160,4 +150,3 @@ bars st user (Set at file value) = set_bars st user at file value
 bars st user (Fork parent child) = fork_bars st user parent child
 bars st user (Exit pid) = exit_bars st user pid
 bars st user (Chmod at name mode) = chmod_bars st user at name
-bars st user (SetOther at file value) = set_other_bars st user at file

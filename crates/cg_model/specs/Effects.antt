@@ -2,13 +2,12 @@
 -- What an operation may change, whoever carries it out: all else stays as it was.
 use Rattle.std.specs.Prelude.{ℕ, Bool, false, ◌&&◌, nat_eq, is_some}
 use Rattle.cg_cgroup.specs.Paths.{Names, same_path, is_child}
-use Rattle.cg_cgroup.specs.Files.{controller_of, brought_by, same_file, same_other, same_entry}
+use Rattle.cg_cgroup.specs.Files.{controller_of, same_file, same_entry}
 use Rattle.cg_cgroup.specs.declared.files.LimitFile.{LimitFile}
 use Rattle.cg_cgroup.specs.declared.files.EntryName.{EntryName}
-use Rattle.cg_cgroup.specs.declared.files.EntryName.TheVariants.{File, Other}
-use Rattle.cg_cgroup.specs.declared.other_file.OtherFile.{OtherFile}
+use Rattle.cg_cgroup.specs.declared.files.EntryName.TheVariants.{File}
 use Rattle.cg_model.specs.declared.operation.Op.{Op}
-use Rattle.cg_model.specs.declared.operation.Op.TheVariants.{Move, Control, Mkdir, Rmdir, Set, SetOther, Fork, Exit, Chmod}
+use Rattle.cg_model.specs.declared.operation.Op.TheVariants.{Move, Control, Mkdir, Rmdir, Set, Fork, Exit, Chmod}
 
 -- whether a cgroup is there
 abbrev pub alters_row : Op → Names → Bool
@@ -19,7 +18,6 @@ alters_row op q = false
 -- Enabling and Disabling: the files that a controller brings come and go at the children.
 abbrev pub is_brought : EntryName → Bool
 is_brought (File file) = is_some (controller_of file)
-is_brought (Other file) = is_some (brought_by file)
 is_brought name = false
 
 -- the owner, the group and the mode of an entry
@@ -37,20 +35,6 @@ alters_value (Mkdir path) q file = same_path path q
 alters_value (Rmdir path) q file = same_path path q
 alters_value (Set at written value) q file = same_path at q && same_file written file
 alters_value op q file = false
-
--- what is told of the value of a limit file beyond `LimitFile`
-abbrev pub alters_text : Op → Names → OtherFile → Bool
-alters_text (Control at changes) q file = is_child at q && is_some (brought_by file)
-alters_text (Rmdir path) q file = same_path path q
-alters_text (SetOther at written value) q file = same_path at q && same_other written file
-alters_text op q file = false
-
--- the other files that controllers bring
-abbrev pub alters_others : Op → Names → Bool
-alters_others (Control at changes) q = is_child at q
-alters_others (Mkdir path) q = same_path path q
-alters_others (Rmdir path) q = same_path path q
-alters_others op q = false
 
 -- what a cgroup enables
 abbrev pub alters_enabled : Op → Names → Bool

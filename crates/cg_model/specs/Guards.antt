@@ -4,10 +4,10 @@ use Rattle.std.specs.List.{list_any, flat_map}
 use Rattle.cg_cgroup.specs.Paths.{Names, same_path, is_root}
 use Rattle.cg_cgroup.specs.Identity.{Identity}
 use Rattle.cg_cgroup.specs.Users.{reaches}
-use Rattle.cg_cgroup.specs.Files.{all_files, all_others, same_entry}
+use Rattle.cg_cgroup.specs.Files.{all_files, same_entry}
 use Rattle.cg_cgroup.specs.declared.user.Entry.{Entry}
 use Rattle.cg_cgroup.specs.declared.files.EntryName.{EntryName}
-use Rattle.cg_cgroup.specs.declared.files.EntryName.TheVariants.{Dir, Procs, SubtreeControl, File, Other}
+use Rattle.cg_cgroup.specs.declared.files.EntryName.TheVariants.{Dir, Procs, SubtreeControl, File}
 use Rattle.cg_model.specs.States.{State, entry_at}
 use Rattle.cg_model.specs.Clauses.{unless, present, first}
 use Rattle.cg_model.specs.declared.operation.Op.{Op}
@@ -41,7 +41,7 @@ abbrev pub limit_file : ℕ → EntryName → Guarded
 limit_file len name = record { guard = LimitFileGuard name; len = len; name = name }
 
 abbrev pub limit_files : ℕ → List Guarded
-limit_files len = map (limit_file len) (map File all_files ++ map Other all_others)
+limit_files len = map (limit_file len) (map File all_files)
 
 -- Enabling and Disabling: the parent's cgroup.subtree_control brings and takes limit files.
 abbrev pub parent_control : Names → Guarded

@@ -5,19 +5,15 @@ use Rattle.cg_cgroup.specs.Paths.{Names, same_path}
 use Rattle.cg_cgroup.specs.Identity.{Identity}
 use Rattle.cg_cgroup.specs.Users.{owns, reaches}
 use Rattle.cg_cgroup.specs.Files.{same_entry}
-use Rattle.cg_cgroup.specs.Cgroups.{with_file}
+use Rattle.cg_cgroup.specs.Cgroups.{Held, with_file}
 use Rattle.cg_cgroup.specs.declared.user.Entry.{Entry}
-use Rattle.cg_cgroup.specs.declared.files.Limit.TheVariants.{At}
+use Rattle.cg_cgroup.specs.declared.value.Value.TheVariants.{Number}
 use Rattle.cg_cgroup.specs.declared.files.LimitFile.TheVariants.{MaxDescendants, MaxDepth}
 use Rattle.cg_cgroup.specs.declared.files.EntryName.{EntryName}
-use Rattle.cg_cgroup.specs.declared.files.EntryName.TheVariants.{Dir, Procs, SubtreeControl, File, Other}
-use Rattle.cg_cgroup.specs.declared.told.ToldFile.{ToldFile}
-use Rattle.cg_cgroup.specs.declared.told.ToldFiles.{ToldFiles}
+use Rattle.cg_cgroup.specs.declared.files.EntryName.TheVariants.{Dir, Procs, SubtreeControl, File}
 use Rattle.std.specs.FinMap.{FinMap}
-use Rattle.cg_cgroup.specs.Paths.{path_cmp}
-use Rattle.cg_cgroup.specs.declared.cgroup.LimitEntry.{LimitEntry}
 use Rattle.cg_cgroup.specs.declared.cgroup.Cgroup.{Cgroup}
-use Rattle.cg_model.specs.States.{State, count_below, depth_below, change_at, telling_at, with_mode, with_value}
+use Rattle.cg_model.specs.States.{State, count_below, depth_below, change_at, with_mode, with_value}
 use Rattle.cg_model.specs.Clauses.{unless, present}
 use Rattle.cg_model.specs.Once.{once}
 use Rattle.cg_model.specs.Limits.{fits_descendants, fits_depth}
@@ -93,10 +89,10 @@ entry_mends users at = chown_of users at ++ chmod_of users at
 
 -- a limit of the subtree that is exceeded raised to what is there
 abbrev pub descendants_of : State → Names → List Mend
-descendants_of st subtree = unless (fits_descendants st subtree) (Set (length subtree) MaxDescendants (At (count_below st subtree)))
+descendants_of st subtree = unless (fits_descendants st subtree) (Set (length subtree) MaxDescendants (count_below st subtree))
 
 abbrev pub depth_of : State → Names → List Mend
-depth_of st subtree = unless (fits_depth st subtree) (Set (length subtree) MaxDepth (At (depth_below st subtree)))
+depth_of st subtree = unless (fits_depth st subtree) (Set (length subtree) MaxDepth (depth_below st subtree))
 
 abbrev pub limit_mends : State → Names → List Mend
 limit_mends st subtree = descendants_of st subtree ++ depth_of st subtree
@@ -131,30 +127,22 @@ mends st pairs = flat_map (entry_changes (entrants st pairs)) (met st pairs) ++ 
 abbrev pub owned_by : ℕ → ℕ → Entry → Entry
 owned_by uid gid entry = record entry { uid = uid; gid = gid }
 
-abbrev pub with_file_owned_by : ℕ → ℕ → LimitEntry → LimitEntry
-with_file_owned_by uid gid file = record file { entry = owned_by uid gid file.entry }
+abbrev pub with_file_owned_by : ℕ → ℕ → Held → Held
+with_file_owned_by uid gid held = record held { entry = owned_by uid gid held.entry }
 
 abbrev pub with_owner_in : EntryName → ℕ → ℕ → Cgroup → Cgroup
 with_owner_in Dir uid gid row = record row { dir = owned_by uid gid row.dir }
 with_owner_in Procs uid gid row = record row { procs = owned_by uid gid row.procs }
 with_owner_in SubtreeControl uid gid row = record row { subtree_control = owned_by uid gid row.subtree_control }
 with_owner_in (File file) uid gid row = with_file file (with_file_owned_by uid gid) row
-with_owner_in (Other file) uid gid row = row
-
-abbrev pub told_owned_by : ℕ → ℕ → ToldFile → ToldFile
-told_owned_by uid gid told = record told { entry = owned_by uid gid told.entry }
-
-abbrev pub told_with_owner : State → Names → EntryName → ℕ → ℕ → FinMap path_cmp ToldFiles
-told_with_owner st path (Other file) uid gid = telling_at st path file (told_owned_by uid gid)
-told_with_owner st path name uid gid = st.told
 
 abbrev pub with_owner : State → Names → EntryName → ℕ → ℕ → State
-with_owner st path name uid gid = record (change_at path (with_owner_in name uid gid) st) { told = told_with_owner st path name uid gid }
+with_owner st path name uid gid = change_at path (with_owner_in name uid gid) st
 
 abbrev pub made_one : Names → Mend → State → State
 made_one subtree (Chown len name uid gid) st = with_owner st (take len subtree) name uid gid
 made_one subtree (Chmod len name mode) st = with_mode st (take len subtree) name mode
-made_one subtree (Set len file value) st = with_value st (take len subtree) file value
+made_one subtree (Set len file number) st = with_value st (take len subtree) file (Number number)
 
 -- one change after another
 abbrev pub made : List Change → State → State

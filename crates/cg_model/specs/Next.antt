@@ -3,11 +3,11 @@ use Rattle.std.specs.Prelude.{ℕ, Some, None}
 use Rattle.cg_cgroup.specs.Paths.{parent}
 use Rattle.cg_cgroup.specs.Identity.{Identity}
 use Rattle.cg_cgroup.specs.Cgroups.{cgroup_made_by}
-use Rattle.cg_model.specs.States.{State, process_at, with_row, without_row, with_value, with_text, with_mode, with_enabled, with_place, with_process, without_process}
+use Rattle.cg_model.specs.States.{State, process_at, with_row, without_row, with_value, with_mode, with_enabled, with_place, with_process, without_process}
 use Rattle.cg_model.specs.WellFormed.{enabled_at}
 use Rattle.cg_model.specs.Changes.{enabled_after}
 use Rattle.cg_model.specs.declared.operation.Op.{Op}
-use Rattle.cg_model.specs.declared.operation.Op.TheVariants.{Move, Control, Mkdir, Rmdir, Set, SetOther, Fork, Exit, Chmod}
+use Rattle.cg_model.specs.declared.operation.Op.TheVariants.{Move, Control, Mkdir, Rmdir, Set, Fork, Exit, Chmod}
 
 -- Organizing Processes: a process is born into the cgroup of its parent. Own: it has its parent's uid.
 abbrev pub with_fork : State → ℕ → ℕ → State
@@ -23,4 +23,3 @@ next st user (Set at file value) = with_value st at file value
 next st user (Fork parent child) = with_fork st parent child
 next st user (Exit pid) = without_process st pid
 next st user (Chmod at name mode) = with_mode st at name mode
-next st user (SetOther at file value) = with_text st at file value

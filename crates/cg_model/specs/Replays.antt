@@ -1,9 +1,8 @@
 -- A replay: a run and its verdict, as they stand after the steps so far.
-use Rattle.std.specs.Prelude.{Option, ℕ, suc, List}
+use Rattle.std.specs.Prelude.{ℕ, suc, List}
 use Rattle.cg_cgroup.specs.Paths.{Names}
 use Rattle.cg_cgroup.specs.Identity.{Identity}
 use Rattle.cg_cgroup.specs.declared.cgroup.Cgroup.{Cgroup}
-use Rattle.cg_cgroup.specs.declared.told.ToldFiles.{ToldFiles}
 use Rattle.cg_model.specs.States.{State}
 use Rattle.cg_model.specs.Steps.{after}
 use Rattle.cg_model.specs.Limits.{limits_in}
@@ -13,11 +12,10 @@ use Rattle.cg_model.specs.declared.verdict.Clause.{Clause}
 use Rattle.cg_model.specs.declared.verdict.Verdict.{Verdict}
 use Rattle.cg_model.specs.declared.verdict.Verdict.TheVariants.{Kept, Broken}
 
--- The cgroup of the subtree at the start, what was told of its files, the state now, how many steps led to it, and the verdict on them.
+-- The cgroup of the subtree at the start, the state now, how many steps led to it, and the verdict on them.
 pub record Progress : Type 0 where
   pub subtree : Names
   pub original : Cgroup
-  pub told : Option ToldFiles
   pub state : State
   pub steps : ℕ
   pub verdict : Verdict
@@ -32,5 +30,5 @@ abbrev pub stepped : Progress → Identity → Op → Progress
 stepped run user op = record run {
   state = after run.state user op;
   steps = suc run.steps;
-  verdict = or_broken run.verdict (broken_since (limits_in run.original run.told) run.state (after run.state user op) run.subtree) (suc run.steps);
+  verdict = or_broken run.verdict (broken_since (limits_in run.original) run.state (after run.state user op) run.subtree) (suc run.steps);
 }

@@ -1,5 +1,5 @@
 -- The state of a tree: what every call of `Hierarchy` reads or changes.
-use Rattle.std.specs.Prelude.{ℕ, ◌-◌, Bool, ◌&&◌, cond, List, length, map as map_list, filter, fold, count_by, max, unwrap_or, Option, Some, None, option_and_then}
+use Rattle.std.specs.Prelude.{ℕ, ◌-◌, Bool, ◌&&◌, cond, List, length, map as map_list, filter, fold, count_by, max, Option, Some, None, option_and_then}
 use Rattle.std.specs.List.{list_any}
 use Rattle.std.specs.Option.{option_map}
 use Rattle.std.specs.Ordering.{nat_cmp}
@@ -8,27 +8,19 @@ use Rattle.std.specs.FinSet as set
 use Rattle.cg_cgroup.specs.Paths.{Names, path_cmp, same_path, below, is_child}
 use Rattle.cg_cgroup.specs.Identity.{Identity}
 use Rattle.cg_cgroup.specs.Files.{enables}
-use Rattle.cg_cgroup.specs.Told.{told_in, telling, nothing_told, told_under, file_untold, with_mode_told, with_value_told}
-use Rattle.cg_cgroup.specs.Cgroups.{file_of, other_in, untold_in, entry_in, value_in, with_value_in, with_mode_in, with_files_of}
+use Rattle.cg_cgroup.specs.Cgroups.{Held, file_of, entry_in, value_in, with_value_in, with_mode_in, with_files_of}
 use Rattle.cg_cgroup.specs.declared.user.Entry.{Entry}
-use Rattle.cg_cgroup.specs.declared.files.Limit.{Limit}
+use Rattle.cg_cgroup.specs.declared.value.Value.{Value}
 use Rattle.cg_cgroup.specs.declared.files.Controller.{Controller}
 use Rattle.cg_cgroup.specs.declared.controllers.ControllerSet.{ControllerSet}
 use Rattle.cg_cgroup.specs.declared.files.LimitFile.{LimitFile}
 use Rattle.cg_cgroup.specs.declared.files.EntryName.{EntryName}
-use Rattle.cg_cgroup.specs.declared.files.EntryName.TheVariants.{Other}
-use Rattle.cg_cgroup.specs.declared.other_file.OtherFile.{OtherFile}
-use Rattle.cg_cgroup.specs.declared.told.FileText.{FileText}
-use Rattle.cg_cgroup.specs.declared.told.ToldFile.{ToldFile}
-use Rattle.cg_cgroup.specs.declared.told.ToldFiles.{ToldFiles}
 use Rattle.cg_cgroup.specs.declared.cgroup.Cgroup.{Cgroup}
-use Rattle.cg_cgroup.specs.declared.cgroup.LimitEntry.{LimitEntry}
 use Rattle.cg_cgroup.specs.declared.process.Process.{Process}
 
--- The cgroups by path, what is told of their limit files beyond `LimitFile`, the live processes by PID, the PIDs that were ever used, and the controllers that the root has.
+-- The cgroups by path, the live processes by PID, the PIDs that were ever used, and the controllers that the root has.
 pub record State : Type 0 where
   pub rows : map.FinMap path_cmp Cgroup
-  pub told : map.FinMap path_cmp ToldFiles
   pub live : map.FinMap nat_cmp Process
   pub used : set.FinSet nat_cmp
   pub controllers : ControllerSet
@@ -50,30 +42,13 @@ owner_at st pid = option_map (λ process. process.uid) (process_at st pid)
 abbrev pub is_used : State → ℕ → Bool
 is_used st pid = set.contains st.used pid
 
-abbrev pub file_at : State → Names → LimitFile → Option LimitEntry
+abbrev pub file_at : State → Names → LimitFile → Option Held
 file_at st path file = option_and_then (λ row. file_of row file) (row_at st path)
 
-abbrev pub other_at : State → Names → Controller → Option Entry
-other_at st path controller = option_and_then (λ row. other_in row controller) (row_at st path)
-
--- what is told of a limit file beyond `LimitFile`, and else whose those are of which nothing is
-abbrev pub told_at : State → Names → OtherFile → Option ToldFile
-told_at st path file = option_and_then (λ files. told_in files file) (map.get st.told path)
-
-abbrev pub untold_at : State → Names → OtherFile → Option Entry
-untold_at st path file = option_and_then (λ row. untold_in row file) (row_at st path)
-
-abbrev pub file_told : State → Names → OtherFile → Option ToldFile
-file_told st path file = elim (told_at st path file) [ None ↦ option_map file_untold (untold_at st path file) | Some told ↦ Some told ]
-
-abbrev pub told_text : State → Names → OtherFile → Option FileText
-told_text st path file = option_and_then (λ told. told.value) (told_at st path file)
-
 abbrev pub entry_at : State → Names → EntryName → Option Entry
-entry_at st path (Other file) = option_map (λ told. told.entry) (file_told st path file)
 entry_at st path name = option_and_then (λ row. entry_in row name) (row_at st path)
 
-abbrev pub value_at : State → Names → LimitFile → Option Limit
+abbrev pub value_at : State → Names → LimitFile → Option Value
 value_at st path file = option_and_then (λ row. value_in row file) (row_at st path)
 
 abbrev pub pids_of : State → List ℕ
@@ -105,43 +80,21 @@ depth_below st path = fold max 0 (map_list (λ q. length q - length path) (filte
 abbrev pub change_at : Names → (Cgroup → Cgroup) → State → State
 change_at path f st = record st { rows = elim (row_at st path) [ None ↦ st.rows | Some row ↦ map.insert st.rows path (f row) ] }
 
--- each row, or what is told of its files, changed by its path
-abbrev pub change_each : {A : Type 0} → (Names → A → A) → map.FinMap path_cmp A → map.FinMap path_cmp A
+-- each row changed by its path
+abbrev pub change_each : (Names → Cgroup → Cgroup) → map.FinMap path_cmp Cgroup → map.FinMap path_cmp Cgroup
 change_each f rows = map.from_sorted (map_list (λ e. (e.0, f e.0 e.1)) (map.entries rows))
 
 abbrev pub with_row : State → Names → Cgroup → State
 with_row st path row = record st { rows = map.insert st.rows path row }
 
 abbrev pub without_row : State → Names → State
-without_row st path = record st { rows = map.remove st.rows path; told = map.remove st.told path }
+without_row st path = record st { rows = map.remove st.rows path }
 
-abbrev pub with_value : State → Names → LimitFile → Limit → State
+abbrev pub with_value : State → Names → LimitFile → Value → State
 with_value st path file value = change_at path (with_value_in file value) st
 
--- what is told once this is of a limit file beyond `LimitFile`
-abbrev pub told_as : State → Names → OtherFile → ToldFile → map.FinMap path_cmp ToldFiles
-told_as st path file told = map.insert st.told path (telling file (Some told) (unwrap_or (map.get st.told path) nothing_told))
-
-abbrev pub telling_of : State → Names → OtherFile → ToldFile → State
-telling_of st path file told = record st { told = told_as st path file told }
-
--- what is told once it is changed of one, where that stands
-abbrev pub telling_at : State → Names → OtherFile → (ToldFile → ToldFile) → map.FinMap path_cmp ToldFiles
-telling_at st path file f = elim (file_told st path file) [
-  | None ↦ st.told
-  | Some told ↦ told_as st path file (f told)
-]
-
--- Own: a set replaces the value whole.
-abbrev pub with_text : State → Names → OtherFile → FileText → State
-with_text st path file value = record st { told = telling_at st path file (with_value_told value) }
-
-abbrev pub told_with_mode : State → Names → EntryName → ℕ → map.FinMap path_cmp ToldFiles
-told_with_mode st path (Other file) mode = telling_at st path file (with_mode_told mode)
-told_with_mode st path name mode = st.told
-
 abbrev pub with_mode : State → Names → EntryName → ℕ → State
-with_mode st path name mode = record (change_at path (with_mode_in name mode) st) { told = told_with_mode st path name mode }
+with_mode st path name mode = change_at path (with_mode_in name mode) st
 
 abbrev pub enabling_these : ControllerSet → Cgroup → Cgroup
 enabling_these enabled row = record row { enabled = enabled }
@@ -153,10 +106,7 @@ enabling path enabled user q row =
 
 -- Enabling and Disabling: what a path enables, and with it the files of its children.
 abbrev pub with_enabled : State → Names → ControllerSet → Identity → State
-with_enabled st path enabled user = record st {
-  rows = change_each (enabling path enabled user) st.rows;
-  told = change_each (λ q files. cond (is_child path q) (told_under enabled files) files) st.told;
-}
+with_enabled st path enabled user = record st { rows = change_each (enabling path enabled user) st.rows }
 
 abbrev pub placed_at : Names → Process → Process
 placed_at path process = record process { place = path }

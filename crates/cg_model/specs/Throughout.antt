@@ -1,7 +1,7 @@
 -- What it is for a subtree to be held over a run, said of the states of the run one by one.
 use Rattle.std.specs.Prelude.{◌≡◌, ℕ, suc, ◌<◌, ◌≤◌, true, List, length, take, Some}
 use Rattle.cg_cgroup.specs.Paths.{Names, inside}
-use Rattle.cg_cgroup.specs.declared.files.Limit.TheVariants.{At}
+use Rattle.cg_cgroup.specs.declared.value.Value.TheVariants.{Number}
 use Rattle.cg_cgroup.specs.declared.files.LimitFile.TheVariants.{MaxDescendants, MaxDepth}
 use Rattle.cg_model.specs.States.{State, place_at, count_below, depth_below}
 use Rattle.cg_model.specs.WellFormed.{has_row}
@@ -17,8 +17,8 @@ state_after start deeds steps = after_all start (take steps deeds)
 pub record IsAsSet (had : Limits) (st : State) (subtree : Names) : Type 0 where
   pub there : has_row st subtree ≡ true
   pub limits : limits st subtree ≡ had
-  pub descendants : (most : ℕ) → had.values MaxDescendants ≡ Some (At most) → count_below st subtree ≤ most
-  pub depth : (most : ℕ) → had.values MaxDepth ≡ Some (At most) → depth_below st subtree ≤ most
+  pub descendants : (most : ℕ) → had MaxDescendants ≡ Some (Number most) → count_below st subtree ≤ most
+  pub depth : (most : ℕ) → had MaxDepth ≡ Some (Number most) → depth_below st subtree ≤ most
 
 -- Delegation Containment: a process that is live in both states is inside the subtree in both or in neither.
 abbrev pub NoneCrosses : State → State → Names → Type 0

@@ -1,62 +1,48 @@
 -- The tries: lists of operations among which one that breaks a subtree is looked for. Own.
-use Rattle.std.specs.Prelude.{ℕ, zero, suc, ◌+◌, Bool, true, false, cond, not, ◌&&◌, ◌||◌, nat_eq, nat_le, List, [], ◌∷◌, ◌++◌, map, filter, find, length, take, Option, Some, None, option_and_then, codes}
-use Rattle.std.specs.Option.{option_map_or}
+use Rattle.std.specs.Prelude.{ℕ, zero, suc, ◌+◌, Bool, true, false, cond, not, ◌&&◌, ◌||◌, nat_le, List, [], ◌∷◌, ◌++◌, map, filter, find, length, take, Option, Some, None, codes}
 use Rattle.std.specs.List.{flat_map}
 use Rattle.std.specs.Fmt.{decimal}
 use Rattle.cg_cgroup.specs.Paths.{Names, inside, parent, path_text}
 use Rattle.cg_cgroup.specs.Identity.{Identity}
 use Rattle.cg_cgroup.specs.Users.{writes, owns, opened}
-use Rattle.cg_cgroup.specs.Values.{has_value_line, device_in}
-use Rattle.cg_cgroup.specs.Files.{all_files, all_others, other_kind, all_controllers, is_in_format_2, enables}
-use Rattle.cg_cgroup.specs.declared.files.Limit.{Limit}
-use Rattle.cg_cgroup.specs.declared.files.Limit.TheVariants.{Max, At}
+use Rattle.cg_cgroup.specs.Values.{has_already, device_in}
+use Rattle.cg_cgroup.specs.Files.{all_files, kind_of, is_of_devices, all_controllers, is_in_format_2, enables}
+use Rattle.cg_cgroup.specs.declared.value.Value.{Value}
+use Rattle.cg_cgroup.specs.declared.value.Value.TheVariants.{Text}
 use Rattle.cg_cgroup.specs.declared.files.LimitFile.{LimitFile}
-use Rattle.cg_cgroup.specs.declared.files.LimitFile.TheVariants.{CpuWeight}
 use Rattle.cg_cgroup.specs.declared.files.Controller.{Controller}
-use Rattle.cg_model.specs.States.{State, place_at, paths_of, pids_of, value_at, file_told}
+use Rattle.cg_model.specs.States.{State, place_at, paths_of, pids_of, value_at}
 use Rattle.cg_model.specs.WellFormed.{has_row}
-use Rattle.cg_cgroup.specs.declared.other_file.OtherFile.{OtherFile}
-use Rattle.cg_cgroup.specs.declared.told.FileText.{FileText}
 use Rattle.cg_model.specs.Clauses.{present}
 use Rattle.cg_model.specs.declared.changes.Change.{Change}
 use Rattle.cg_model.specs.declared.operation.Op.{Op}
-use Rattle.cg_model.specs.declared.operation.Op.TheVariants.{Move, Control, Mkdir, Rmdir, Set, SetOther, Chmod}
+use Rattle.cg_model.specs.declared.operation.Op.TheVariants.{Move, Control, Mkdir, Rmdir, Set, Chmod}
 use Rattle.cg_model.specs.Guards.{Guarded, guarded_entries, guarded_entry}
 
--- another value that the file accepts
-abbrev pub other_value : LimitFile → Limit → Limit
-other_value CpuWeight (At value) = cond (nat_eq value 100) (At 1) (At 100)
-other_value CpuWeight Max = At 100
-other_value file (At value) = Max
-other_value file Max = At 0
+-- the device or resource that is named first in the value of a file whose lines begin with one
+abbrev pub device_of : LimitFile → Value → Option (List ℕ)
+device_of file (Text had) = cond (is_of_devices file) (device_in had) None
+device_of file had = None
 
--- the device or resource that is told in the value of a file whose lines begin with one
-abbrev pub device_of : OtherFile → Option FileText → Option (List ℕ)
-device_of file had = cond (other_kind file).of_devices (option_and_then device_in had) None
+abbrev pub on_device : Option (List ℕ) → Value → Value
+on_device (Some device) (Text text) = Text (device ++ 32 ∷ text)
+on_device device value = value
 
-abbrev pub on_device : Option (List ℕ) → List ℕ → FileText
-on_device None text = text
-on_device (Some device) text = device ++ 32 ∷ text
-
--- the second text where the first is a line of the file's
-abbrev pub text_besides : Option FileText → FileText → FileText → FileText
-text_besides had first second = cond (option_map_or (λ value. has_value_line value first) had false) second first
-
--- another text than the file's, the one that loosens it where it has no such line
-abbrev pub other_text : OtherFile → Option FileText → FileText
-other_text file had =
-    text_besides had (on_device (device_of file had) (other_kind file).loose) (on_device (device_of file had) (other_kind file).other)
+-- another value than the file's: the one that loosens it, where neither the value nor one of its lines is that
+abbrev pub other_value : LimitFile → Value → Value
+other_value file had =
+    let loose : Value = on_device (device_of file had) (kind_of file).loose in
+    cond (has_already had loose) (on_device (device_of file had) (kind_of file).other) loose
 
 -- each limit of the subtree to another value
 abbrev pub set_tries : State → Names → List (List Op)
 set_tries st subtree =
     flat_map (λ file. present (value_at st subtree file) (λ value. (Set subtree file (other_value file value) ∷ []) ∷ [])) all_files
-    ++ flat_map (λ file. present (file_told st subtree file) (λ told. (SetOther subtree file (other_text file told.value) ∷ []) ∷ [])) all_others
 
 abbrev pub change_of : Bool → Controller → Change
 change_of on controller = record { on = on; controller = controller }
 
--- those that bring a `LimitFile` are told of, and what else the root has
+-- those that bring a limit file of format 1 are told of, and what else the root has
 abbrev pub is_told : State → Controller → Bool
 is_told st controller = is_in_format_2 controller || enables st.controllers controller
 

@@ -1,20 +1,14 @@
 -- What holds of every tree.
 use Rattle.std.specs.Prelude.{◌≡◌, ℕ, ◌≤◌, Bool, true, false, ◌||◌, not, cond, [], Some, None, is_some}
 use Rattle.cg_cgroup.specs.Paths.{Names, is_root, parent}
-use Rattle.std.specs.FinMap as map
-use Rattle.cg_cgroup.specs.Told.{told_in}
-use Rattle.cg_cgroup.specs.declared.other_file.OtherFile.{OtherFile}
-use Rattle.cg_cgroup.specs.declared.told.ToldFile.{ToldFile}
-use Rattle.cg_cgroup.specs.declared.told.ToldFiles.{ToldFiles}
-use Rattle.cg_cgroup.specs.Files.{stands_by, brought_by, enables, no_controllers, stands_under, accepts, enables_nothing, is_within}
-use Rattle.cg_cgroup.specs.Cgroups.{file_of, other_in, entry_in}
+use Rattle.cg_cgroup.specs.Files.{enables, no_controllers, stands_at, may_have, enables_nothing, is_within}
+use Rattle.cg_cgroup.specs.Cgroups.{Held, file_of, entry_in}
 use Rattle.cg_model.specs.States.{State, row_at, process_at, is_used, has_live, child_enables}
 use Rattle.cg_cgroup.specs.declared.user.Entry.{Entry}
 use Rattle.cg_cgroup.specs.declared.files.Controller.{Controller}
 use Rattle.cg_cgroup.specs.declared.controllers.ControllerSet.{ControllerSet}
 use Rattle.cg_cgroup.specs.declared.files.LimitFile.{LimitFile}
 use Rattle.cg_cgroup.specs.declared.files.EntryName.{EntryName}
-use Rattle.cg_cgroup.specs.declared.cgroup.LimitEntry.{LimitEntry}
 use Rattle.cg_cgroup.specs.declared.cgroup.Cgroup.{Cgroup}
 use Rattle.cg_cgroup.specs.declared.process.Process.{Process}
 
@@ -44,20 +38,14 @@ pub record MayEnable (st : State) (path : Names) (enabled : ControllerSet) : Typ
   pub children : (controller : Controller) → child_enables st path controller ≡ true → enables enabled controller ≡ true
   pub no_internal : (is_root path || (enables_nothing enabled || not (has_live st path))) ≡ true
 
--- A row under a cgroup that enables these.
-pub record IsFormedRow (above : ControllerSet) (row : Cgroup) : Type 0 where
-  -- Enabling and Disabling: limit files stand exactly where they belong
-  pub files : (file : LimitFile) → is_some (file_of row file) ≡ stands_under above file
-  pub others : (controller : Controller) → is_some (other_in row controller) ≡ enables above controller
-  -- Own: with accepted values
-  pub values : (file : LimitFile) (held : LimitEntry) → file_of row file ≡ Some held → accepts file held.value ≡ true
+-- A row that is the root's, or under a cgroup that enables these.
+pub record IsFormedRow (root : Bool) (above : ControllerSet) (row : Cgroup) : Type 0 where
+  -- Enabling and Disabling; Core Interface Files: limit files stand exactly where they belong
+  pub files : (file : LimitFile) → is_some (file_of row file) ≡ stands_at root above file
+  -- Own: with values that they may have
+  pub values : (file : LimitFile) (held : Held) → file_of row file ≡ Some held → may_have file held.value ≡ true
   -- Own: modes are permission bits, at most 0o777
   pub modes : (name : EntryName) (entry : Entry) → entry_in row name ≡ Some entry → entry.mode ≤ 511
-
--- What is told of the files of a cgroup under one that enables these: they stand, and modes are permission bits. Own.
-pub record IsFormedTold (above : ControllerSet) (files : ToldFiles) : Type 0 where
-  pub stand : (file : OtherFile) (told : ToldFile) → told_in files file ≡ Some told → stands_by above (brought_by file) ≡ true
-  pub modes : (file : OtherFile) (told : ToldFile) → told_in files file ≡ Some told → told.entry.mode ≤ 511
 
 pub record IsWellFormed (st : State) : Type 0 where
   -- Organizing Processes: one tree, in which each cgroup but the root is a directory of another
@@ -65,13 +53,7 @@ pub record IsWellFormed (st : State) : Type 0 where
   pub parents : (path : Names) → has_row st path ≡ true → has_row st (parent path) ≡ true
   -- Top-down Constraint
   pub top_down : (path : Names) (row : Cgroup) → row_at st path ≡ Some row → is_within row.enabled (available_at st path) ≡ true
-  pub rows : (path : Names) (row : Cgroup) → row_at st path ≡ Some row → IsFormedRow (enabled_above st path) row
-  -- Core Interface Files: cgroup.freeze stands at each cgroup but the root
-  pub freeze : (path : Names) (row : Cgroup) → row_at st path ≡ Some row → is_some row.freeze ≡ not (is_root path)
-  -- Own: it is told of the files of cgroups that are there, and of none of the root's, where none stands
-  pub told : (path : Names) (files : ToldFiles) → map.get st.told path ≡ Some files
-      → (has_row st path ≡ true) × IsFormedTold (enabled_above st path) files
-  pub told_below_root : (path : Names) (files : ToldFiles) → map.get st.told path ≡ Some files → is_root path ≡ false
+  pub rows : (path : Names) (row : Cgroup) → row_at st path ≡ Some row → IsFormedRow (is_root path) (enabled_above st path) row
   -- No Internal Process Constraint. Organizing Processes: each live process is in one cgroup.
   pub places : (pid : ℕ) (process : Process) → process_at st pid ≡ Some process → may_hold st process.place ≡ true
   -- Own: a PID is used once, so each live one counts as used

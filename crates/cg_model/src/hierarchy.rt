@@ -1,20 +1,19 @@
 //! `Hierarchy`: a tree of cgroups with its processes, however it is kept.
 ghost use Rattle.std.specs.Prelude.{◌≡◌, ◌≤◌, true, false, length, take, OnOk, OnErr, IfOk, MatchOption, option_copied, is_some};
-ghost use Rattle.cg_model.specs.States.{State, row_at, process_at, place_at, owner_at, is_used, has_child, has_live, child_enables, count_below, depth_below, paths_of, pids_of, file_at, entry_at, telling_of, with_row, without_row, with_value, with_mode, with_enabled, with_place, with_process, without_process};
+ghost use Rattle.cg_model.specs.States.{State, row_at, process_at, place_at, owner_at, is_used, has_child, has_live, child_enables, count_below, depth_below, paths_of, pids_of, file_at, entry_at, with_row, without_row, with_value, with_mode, with_enabled, with_place, with_process, without_process};
 ghost use Rattle.cg_model.specs.WellFormed.{IsWellFormed, has_row, may_hold, MayEnable};
 ghost use Rattle.cg_model.specs.NearestFull.{NoneIsFull, IsNearestFull};
 ghost use Rattle.cg_cgroup.specs.Paths.{is_root};
-ghost use Rattle.std.specs.FinMap as map;
-ghost use Rattle.cg_cgroup.specs.Files.{accepts, is_beyond};
+ghost use Rattle.cg_cgroup.specs.Files.{accepts, is_text, is_text_entry};
+ghost use Rattle.cg_cgroup.specs.Values.{value_now};
 
 use cg_cgroup::cgroup::Cgroup;
-use cg_cgroup::files::{Controller, ControllerSet, EntryName, Limit, LimitFile};
+use cg_cgroup::files::{Controller, ControllerSet, EntryName, LimitFile};
 use cg_cgroup::memory::NoMemory;
-use cg_cgroup::other_file::OtherFile;
 use cg_cgroup::path::Path;
 use cg_cgroup::process::Pid;
-use cg_cgroup::told::{ToldFile, ToldFiles};
 use cg_cgroup::user::{Mode, User};
+use cg_cgroup::value::ValueRef;
 use std::alloc::Global;
 
 /// A tree of cgroups with its live processes, the PIDs that were ever used and the root's controllers.
@@ -28,12 +27,6 @@ pub trait Hierarchy {
     fn get(&self, path: &Path, len: usize) -> Option<&Cgroup>
         requires { len ≤ length path.now }
         ensures row { option_copied result ≡ row_at (state self.now) (take len path.now) }
-        ensures formed { IsWellFormed (state self.now) };
-
-    /// What is told of the limit files beyond `LimitFile` of the cgroup of the first `len` names of `path`.
-    fn told(&self, path: &Path, len: usize) -> Option<&ToldFiles>
-        requires { len ≤ length path.now }
-        ensures told { option_copied result ≡ map.get (state self.now).told (take len path.now) }
         ensures formed { IsWellFormed (state self.now) };
 
     /// Where a live process is.
@@ -93,24 +86,12 @@ pub trait Hierarchy {
             (NoneIsFull (state self.now) path.now len)
             (IsNearestFull (state self.now) path.now len) };
 
-    /// Sets the value of a limit file that stands and accepts it.
-    fn set_limit(&mut self, path: &Path, file: LimitFile, value: Limit)
-        requires there { is_some (file_at (state self.old) path.now file) ≡ true }
-        requires accepted { accepts file value ≡ true }
-        ensures { state self.new ≡ with_value (state self.old) path.now file value };
-
     /// Sets what a cgroup enables for its children, and makes and removes their limit files.
     /// A file that stays is kept as it is; a new one belongs to the user and their primary group, or group 0.
     fn set_enabled(&mut self, path: &Path, enabled: ControllerSet, user: &User)
         requires there { has_row (state self.old) path.now ≡ true }
         requires keeps { MayEnable (state self.old) path.now enabled }
         ensures { state self.new ≡ with_enabled (state self.old) path.now enabled user.now };
-
-    /// Sets the mode of an entry that is there and no limit file beyond `LimitFile`.
-    fn set_mode(&mut self, path: &Path, name: EntryName, mode: Mode)
-        requires there { is_some (entry_at (state self.old) path.now name) ≡ true }
-        requires listed { is_beyond name ≡ false }
-        ensures { state self.new ≡ with_mode (state self.old) path.now name mode };
 
     /// Removes a cgroup that isn't the root and has no child and no live process.
     fn remove(&mut self, path: &Path)
@@ -144,17 +125,32 @@ pub trait Hierarchy {
         ensures ok { OnOk result (state self.new ≡ with_row (state self.old) path.now cgroup) }
         ensures err { OnErr result (state self.new ≡ state self.old) };
 
-    /// Tells of a limit file beyond `LimitFile` of a cgroup that is there.
-    fn tell(
+    /// Sets the value of a limit file that stands and accepts it. Only a text can fail for want of memory.
+    fn set_value(
         &mut self,
         alloc: Global,
         path: &Path,
-        file: OtherFile,
-        told: ToldFile,
+        file: LimitFile,
+        value: ValueRef<'_>,
     ) -> Result<(), NoMemory>
-        requires { IsWellFormed (telling_of (state self.old) path.now file told) }
-        ensures ok { OnOk result (state self.new ≡ telling_of (state self.old) path.now file told) }
-        ensures err { OnErr result (state self.new ≡ state self.old) };
+        requires there { is_some (file_at (state self.old) path.now file) ≡ true }
+        requires accepted { accepts file (value_now value) ≡ true }
+        ensures ok { OnOk result (state self.new ≡ with_value (state self.old) path.now file (value_now value.entry)) }
+        ensures err { OnErr result (state self.new ≡ state self.old) }
+        ensures memory { OnErr result (is_text file ≡ true) };
+
+    /// Sets the mode of an entry that is there. Only a limit file whose value is a text can fail for want of memory.
+    fn set_mode(
+        &mut self,
+        alloc: Global,
+        path: &Path,
+        name: EntryName,
+        mode: Mode,
+    ) -> Result<(), NoMemory>
+        requires { is_some (entry_at (state self.old) path.now name) ≡ true }
+        ensures ok { OnOk result (state self.new ≡ with_mode (state self.old) path.now name mode) }
+        ensures err { OnErr result (state self.new ≡ state self.old) }
+        ensures memory { OnErr result (is_text_entry name ≡ true) };
 
     /// Moves a live process to a cgroup that may hold processes.
     fn set_place(&mut self, alloc: Global, pid: Pid, path: &Path) -> Result<(), NoMemory>

@@ -2,15 +2,14 @@
 ghost use Rattle.std.specs.Prelude.{◌≡◌, ℕ, true, false, List, [], ◌∷◌};
 ghost use Rattle.cg_cgroup.specs.Paths.{Names};
 ghost use Rattle.cg_cgroup.specs.Identity.{Identity};
-ghost use Rattle.cg_model.specs.States.{State, process_at, is_used, entry_at, value_at, other_at};
+ghost use Rattle.cg_model.specs.States.{State, process_at, is_used, entry_at, value_at};
 ghost use Rattle.cg_model.specs.WellFormed.{IsWellFormed, has_row, enabled_at};
-ghost use Rattle.cg_cgroup.specs.declared.files.Controller.{Controller};
 ghost use Rattle.cg_cgroup.specs.declared.files.LimitFile.{LimitFile};
 ghost use Rattle.cg_cgroup.specs.declared.files.EntryName.{EntryName};
 ghost use Rattle.cg_model.specs.Bars.{bars};
 ghost use Rattle.cg_model.specs.Next.{next};
 ghost use Rattle.cg_model.specs.Steps.{after, after_all, Deed, HasMode, HaveModes};
-ghost use Rattle.cg_model.specs.Effects.{alters_row, alters_entry, alters_value, alters_others, alters_enabled, alters_process, alters_used};
+ghost use Rattle.cg_model.specs.Effects.{alters_row, alters_entry, alters_value, alters_enabled, alters_process, alters_used};
 ghost use Rattle.cg_model.specs.declared.operation.Op.{Op};
 ghost use Rattle.cg_model.specs.declared.outcome.Refusal.{Refusal};
 
@@ -37,7 +36,7 @@ pub fn run_keeps_form()
 {}
 
 /// A step leaves the cgroups that its operation doesn't name: they are there or not as before, with their entries, the
-/// values of their limits, the other files that controllers bring, and what they enable.
+/// values of their limits and what they enable.
 pub fn step_leaves_cgroups()
     ensures rows { (st : State) (user : Identity) (op : Op) (q : Names)
         → alters_row op q ≡ false → has_row (after st user op) q ≡ has_row st q }
@@ -45,8 +44,6 @@ pub fn step_leaves_cgroups()
         → alters_entry op q name ≡ false → entry_at (after st user op) q name ≡ entry_at st q name }
     ensures values { (st : State) (user : Identity) (op : Op) (q : Names) (file : LimitFile)
         → alters_value op q file ≡ false → value_at (after st user op) q file ≡ value_at st q file }
-    ensures others { (st : State) (user : Identity) (op : Op) (q : Names) (controller : Controller)
-        → alters_others op q ≡ false → other_at (after st user op) q controller ≡ other_at st q controller }
     ensures enabled { (st : State) (user : Identity) (op : Op) (q : Names)
         → alters_enabled op q ≡ false → enabled_at (after st user op) q ≡ enabled_at st q }
     ensures controllers { (st : State) (user : Identity) (op : Op)

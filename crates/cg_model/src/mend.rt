@@ -1,5 +1,5 @@
 //! The changes that mend a guard that fails.
-use cg_cgroup::files::{EntryName, Limit, LimitFile};
+use cg_cgroup::files::{EntryName, LimitFile};
 use cg_cgroup::user::Mode;
 
 /// By what a user reaches an entry: the first class that they belong to.
@@ -26,10 +26,10 @@ pub enum Mend {
         name: EntryName,
         mode: Mode,
     },
-    /// A limit file gets this value.
+    /// A limit file gets this number for a value.
     Set {
         len: usize,
         file: LimitFile,
-        value: Limit,
+        value: u64,
     },
 }

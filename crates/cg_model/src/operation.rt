@@ -1,11 +1,10 @@
 //! What a user does to a tree.
 use crate::changes::Changes;
-use cg_cgroup::files::{EntryName, Limit, LimitFile};
-use cg_cgroup::other_file::OtherFile;
+use cg_cgroup::files::{EntryName, LimitFile};
 use cg_cgroup::path::Path;
 use cg_cgroup::process::Pid;
-use cg_cgroup::told::FileText;
 use cg_cgroup::user::Mode;
+use cg_cgroup::value::Value;
 
 /// An operation. Paths are cgroups, and PIDs processes.
 #[derive(Debug, PartialEq, Drop)]
@@ -32,7 +31,7 @@ pub enum Op {
     Set {
         at: Path,
         file: LimitFile,
-        value: Limit,
+        value: Value,
     },
     /// The process `parent` makes the process `child`.
     Fork {
@@ -42,12 +41,6 @@ pub enum Op {
     /// The process `pid` ends.
     Exit {
         pid: Pid,
-    },
-    /// Writes `value` to the limit file `file` of `at`, one beyond `LimitFile`.
-    SetOther {
-        at: Path,
-        file: OtherFile,
-        value: FileText,
     },
     /// Sets the mode of `entry` at `at`.
     Chmod {

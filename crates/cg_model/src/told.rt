@@ -5,7 +5,7 @@ ghost use Rattle.cg_model.specs.Tries.{is_told};
 use crate::hierarchy::Hierarchy;
 use cg_cgroup::files::Controller;
 
-/// Whether a controller is told of: those that bring a `LimitFile` are, and what else the root has.
+/// Whether a controller is told of: those that bring a limit file of format 1 are, and what else the root has.
 pub fn is_told<H: Hierarchy>(tree: &H, controller: Controller) -> bool
     ensures { result ≡ is_told (H.state tree.now) controller }
 {
