@@ -3,7 +3,7 @@ use Rattle.std.proofs.Common.{◌≡◌, ℕ, Bool, true, false, cond, refl, sym
 use Rattle.std.specs.Prelude.{Option, Some, None, is_some, unwrap_or}
 use Rattle.std.specs.Option.{option_map}
 use Rattle.cg_cgroup.specs.Identity.{Identity}
-use Rattle.cg_cgroup.specs.Files.{all_files, kind_of, may_have, default_value, stands_under, stands_at, same_file, same_entry}
+use Rattle.cg_cgroup.specs.Files.{all_files, kind_of, may_have, default_value, controller_of, enables, stands_by, stands_under, stands_at, same_file, same_entry}
 use Rattle.cg_cgroup.specs.Users.{entry_made_by}
 use Rattle.cg_cgroup.specs.Cgroups.{Held, FileMap, file_of, entry_in, value_in, with_file, with_value_of, with_value_in, with_mode_of, with_file_mode_of, with_mode_in, untouched, file_made_by, refitted, with_files_of, cgroup_made_by}
 use Rattle.cg_cgroup.specs.declared.user.Entry.{Entry}
@@ -161,14 +161,21 @@ stands-below enabled MaxDescendants = refl
 stands-below enabled file = refl
 
 pub file_of-with_files_of : (enabled : ControllerSet) (user : Identity) (row : Cgroup) (file : LimitFile)
-    → file_of (with_files_of enabled user row) file ≡ refitted false enabled (entry_made_by user 420) file (file_of row file)
+    → file_of (with_files_of enabled user row) file ≡ refitted enabled (entry_made_by user 420) file (file_of row file)
 file_of-with_files_of enabled user row file = refl
 
--- limit files stand exactly where they belong
+-- limit files stand exactly where they belong, if those of the core do
 pub stands-with_files_of : (enabled : ControllerSet) (user : Identity) (row : Cgroup) (file : LimitFile)
-    → is_some (file_of (with_files_of enabled user row) file) ≡ stands_under enabled file
-stands-with_files_of enabled user row file =
-    is_some-cond (stands_at false enabled file) (unwrap_or (file_of row file) (file_made_by user file)) ∙ stands-below enabled file
+    → (controller_of file ≡ None → is_some (file_of row file) ≡ true) → is_some (file_of (with_files_of enabled user row) file) ≡ stands_under enabled file
+stands-with_files_of enabled user row file core =
+    elim (controller_of file) as (λ by. (by ≡ None → is_some (file_of row file) ≡ true) → is_some (elim by [
+      | None ↦ file_of row file
+      | Some controller ↦ cond (enables enabled controller) (Some (unwrap_or (file_of row file) (file_made_by user file))) None
+    ])
+    ≡ stands_by enabled by) [
+      | None ↦ λ core. core refl
+      | Some controller ↦ λ _. is_some-cond (enables enabled controller) (unwrap_or (file_of row file) (file_made_by user file))
+    ] core
 
 stays : {A : Type 0} (o : Option A) (b : Bool) (new : A) → is_some o ≡ b → cond b (Some (unwrap_or o new)) None ≡ o
 stays None true new h = cc
@@ -180,7 +187,24 @@ stays (Some x) false new h = cc
 pub same-with_files_of : (enabled : ControllerSet) (user : Identity) (row : Cgroup) (file : LimitFile)
     → is_some (file_of row file) ≡ stands_under enabled file → file_of (with_files_of enabled user row) file ≡ file_of row file
 same-with_files_of enabled user row file h =
-    stays (file_of row file) (stands_at false enabled file) (file_made_by user file) (h ∙ sym (stands-below enabled file))
+    elim (controller_of file) as (λ by. is_some (file_of row file) ≡ stands_by enabled by → elim by [
+      | None ↦ file_of row file
+      | Some controller ↦ cond (enables enabled controller) (Some (unwrap_or (file_of row file) (file_made_by user file))) None
+    ]
+    ≡ file_of row file) [
+      | None ↦ λ _. refl
+      | Some controller ↦ λ h. stays (file_of row file) (enables enabled controller) (file_made_by user file) h
+    ] h
+
+-- a file that no controller brings stays as it is
+pub core-with_files_of : (enabled : ControllerSet) (user : Identity) (row : Cgroup) (file : LimitFile) → is_some (controller_of file) ≡ false
+    → file_of (with_files_of enabled user row) file ≡ file_of row file
+core-with_files_of enabled user row file free =
+    elim (controller_of file) as (λ by. is_some by ≡ false → elim by [
+      | None ↦ file_of row file
+      | Some controller ↦ cond (enables enabled controller) (Some (unwrap_or (file_of row file) (file_made_by user file))) None
+    ]
+    ≡ file_of row file) [ None ↦ λ _. refl | Some controller ↦ λ brought. cc ] free
 
 -- where each file already stands as it belongs, nothing changes
 pub with_files_of-same : (enabled : ControllerSet) (user : Identity) (row : Cgroup)

@@ -6,10 +6,10 @@ use Rattle.std.proofs.lemmas.List.{get_or-set_same, get_or-set_other}
 use Rattle.std.proofs.lemmas.Option.{same_Some}
 use Rattle.std.proofs.Math.Bool.{or-true}
 use Rattle.cg_cgroup.specs.Kinds.{all_controllers, controller_kind, all_files, format_2_files, kind_of}
-use Rattle.cg_cgroup.specs.Files.{is_text_form, is_text, fits, accepts, may_have, default_value, controller_of, enables, stands_at, is_brought_by, same_file}
+use Rattle.cg_cgroup.specs.Files.{is_text_form, is_text, fits, accepts, may_have, default_value, controller_of, enables, stands_by, stands_under, stands_at, is_brought_by, same_file}
 use Rattle.cg_cgroup.specs.Values.{most_of}
-use Rattle.cg_cgroup.specs.Cgroups.{Held, FileMap, no_files, with_held, with_value_of, with_mode_of, with_file_mode_of, untouched, refitted, refitted_files, taken_files, is_plain}
-use Rattle.cg_cgroup.specs.Kept.{kept, number_held, number_value, number_in, text_value, text_of, text_held, text_in, said_text, unnamed_held, named_or, owner_in, brought_owner, is_number_place, with_at, refitted_number, refitted_owner, AreOwners}
+use Rattle.cg_cgroup.specs.Cgroups.{Held, FileMap, no_files, with_held, with_value_of, with_mode_of, with_file_mode_of, untouched, standing, standing_files, refitted, refitted_files, taken_files, is_plain}
+use Rattle.cg_cgroup.specs.Kept.{kept, number_held, number_value, number_in, text_value, text_of, text_held, text_in, said_text, unnamed_held, named_or, owner_in, brought_owner, is_number_place, with_at, untouched_number, standing_number, refitted_number, refitted_owner, AreOwners}
 use Rattle.cg_cgroup.specs.declared.user.Entry.{Entry}
 use Rattle.cg_cgroup.specs.declared.value.Value.{Value}
 use Rattle.cg_cgroup.specs.declared.value.Value.TheVariants.{Unknown, Max, Number, Text}
@@ -23,7 +23,7 @@ use Rattle.cg_cgroup.specs.declared.held.numbers.NumberFile.{NumberFile}
 use Rattle.cg_cgroup.specs.declared.held.texts.TextFile.{TextFile}
 use Rattle.cg_cgroup.proofs.ControllerLaws.{mapped_at}
 use Rattle.cg_cgroup.proofs.AllFiles.{each_passes, all_pass}
-use Rattle.cg_cgroup.proofs.CgroupLaws.{same_file-refl, same_file-true, same_files}
+use Rattle.cg_cgroup.proofs.CgroupLaws.{same_file-refl, same_file-true, same_files, stands-below}
 use Rattle.cg_cgroup.proofs.TextLaws.{found-filter}
 
 -- ---- the table
@@ -52,7 +52,7 @@ text_form PidsMax h = cc
 text_form file h = refl
 
 made_number : (entry : Entry) (file : LimitFile) → is_number_place file ≡ true
-    → number_held (record { entry = entry; most = most_of (default_value file) }) ≡ untouched entry file
+    → number_held (untouched_number entry file) ≡ untouched entry file
 made_number entry MaxDescendants h = refl
 made_number entry MaxDepth h = refl
 made_number entry CpuWeight h = refl
@@ -290,27 +290,27 @@ text_said (Some text) owner held is = ap (λ (held : Held). held.value) (same_So
 
 -- ---- files made and removed
 
-refit_number : (stands : Bool) (entry : Entry) (file : LimitFile) (had : Option NumberFile) → is_number_place file ≡ true
-    → option_map number_held (cond stands (Some (unwrap_or had (record { entry = entry; most = most_of (default_value file) }))) None)
+fit_number : (stands : Bool) (entry : Entry) (file : LimitFile) (had : Option NumberFile) → is_number_place file ≡ true
+    → option_map number_held (cond stands (Some (unwrap_or had (untouched_number entry file))) None)
     ≡ cond stands (Some (unwrap_or (option_map number_held had) (untouched entry file))) None
-refit_number false entry file had place = refl
-refit_number true entry file None place = ap Some (made_number entry file place)
-refit_number true entry file (Some held) place = refl
+fit_number false entry file had place = refl
+fit_number true entry file None place = ap Some (made_number entry file place)
+fit_number true entry file (Some held) place = refl
 
-refit_text : (stands : Bool) (entry : Entry) (file : LimitFile) (said : Option TextFile) (owner : Option Entry)
+fit_text : (stands : Bool) (entry : Entry) (file : LimitFile) (said : Option TextFile) (owner : Option Entry)
     → is_number_place file ≡ false → named_or (cond stands said None) (refitted_owner stands entry owner)
     ≡ cond stands (Some (unwrap_or (named_or said owner) (untouched entry file))) None
-refit_text false entry file said owner place = refl
-refit_text true entry file (Some text) owner place = refl
-refit_text true entry file None None place = ap Some (made_text entry file place)
-refit_text true entry file None (Some held) place = refl
+fit_text false entry file said owner place = refl
+fit_text true entry file (Some text) owner place = refl
+fit_text true entry file None None place = ap Some (made_text entry file place)
+fit_text true entry file None (Some held) place = refl
 
 module _ (root : Bool) (enabled : ControllerSet) (entry : Entry) where
-  refit_owner : (core : Option Entry) (owners : List (Option Entry)) (file : LimitFile)
+  fit_owner : (core : Option Entry) (owners : List (Option Entry)) (file : LimitFile)
       → owner_in (refitted_owner (not root) entry core)
       (map (λ controller. refitted_owner (enables enabled controller) entry (brought_owner owners controller)) all_controllers) file
       ≡ refitted_owner (owner_stands root enabled file) entry (owner_in core owners file)
-  refit_owner core owners file =
+  fit_owner core owners file =
       elim (controller_of file) as
       (λ by. elim by [
         | None ↦ refitted_owner (not root) entry core
@@ -325,19 +325,19 @@ module _ (root : Bool) (enabled : ControllerSet) (entry : Entry) where
             mapped_at (λ controller. refitted_owner (enables enabled controller) entry (brought_owner owners controller)) None controller
       ]
 
-  pub refit_kept : (numbers new_numbers : List (Option NumberFile)) (core new_core : Option Entry) (owners new_owners : List (Option Entry))
+  pub fit_kept : (numbers new_numbers : List (Option NumberFile)) (core new_core : Option Entry) (owners new_owners : List (Option Entry))
       (texts new_texts : List TextFile)
-      → new_numbers ≡ map (λ file. refitted_number root enabled entry file (number_in numbers file)) format_2_files
+      → new_numbers ≡ map (λ file. standing_number root enabled entry file (number_in numbers file)) format_2_files
       → new_core ≡ refitted_owner (not root) entry core
       → new_owners ≡ map (λ controller. refitted_owner (enables enabled controller) entry (brought_owner owners controller)) all_controllers
       → new_texts ≡ filter (λ text. stands_at root enabled text.file) texts
-      → all_kept new_numbers new_core new_owners new_texts ≡ refitted_files root enabled entry (all_kept numbers core owners texts)
-  refit_kept numbers new_numbers core new_core owners new_owners texts new_texts numbers_are core_is owners_are texts_are =
+      → all_kept new_numbers new_core new_owners new_texts ≡ standing_files root enabled entry (all_kept numbers core owners texts)
+  fit_kept numbers new_numbers core new_core owners new_owners texts new_texts numbers_are core_is owners_are texts_are =
       (λ i. all_kept (numbers_are i) (core_is i) (owners_are i) (texts_are i))
-      ∙ same_files (refitted_files root enabled entry (all_kept numbers core owners texts)) (all_kept made_numbers made_core made_owners made_texts) one
+      ∙ same_files (standing_files root enabled entry (all_kept numbers core owners texts)) (all_kept made_numbers made_core made_owners made_texts) one
     where
       abbrev made_numbers : List (Option NumberFile)
-      made_numbers = map (λ file. refitted_number root enabled entry file (number_in numbers file)) format_2_files
+      made_numbers = map (λ file. standing_number root enabled entry file (number_in numbers file)) format_2_files
 
       abbrev made_core : Option Entry
       made_core = refitted_owner (not root) entry core
@@ -349,24 +349,101 @@ module _ (root : Bool) (enabled : ControllerSet) (entry : Entry) where
       made_texts = filter (λ text. stands_at root enabled text.file) texts
 
       one : (file : LimitFile) → kept made_numbers made_core made_owners made_texts file
-          ≡ refitted root enabled entry file (kept numbers core owners texts file)
+          ≡ standing root enabled entry file (kept numbers core owners texts file)
       one file =
           elim (is_number_place file) as
           (λ b. is_number_place file ≡ b → kept made_numbers made_core made_owners made_texts file
-          ≡ refitted root enabled entry file (kept numbers core owners texts file)) [
+          ≡ standing root enabled entry file (kept numbers core owners texts file)) [
             | true ↦ λ place.
                 kept_number made_numbers made_core made_owners made_texts file place
                 ∙ ap (option_map number_held)
-                (numbers_at (λ file. refitted_number root enabled entry file (number_in numbers file)) file place)
-                ∙ refit_number (stands_at root enabled file) entry file (number_in numbers file) place
-                ∙ sym (ap (refitted root enabled entry file) (kept_number numbers core owners texts file place))
+                (numbers_at (λ file. standing_number root enabled entry file (number_in numbers file)) file place)
+                ∙ fit_number (stands_at root enabled file) entry file (number_in numbers file) place
+                ∙ sym (ap (standing root enabled entry file) (kept_number numbers core owners texts file place))
             | false ↦ λ place.
                 kept_text made_numbers made_core made_owners made_texts file place
                 ∙ (λ i. named_or (found-filter (stands_at root enabled) texts file i)
-                ((refit_owner core owners file ∙ ap (λ stands. refitted_owner stands entry (owner_in core owners file))
+                ((fit_owner core owners file ∙ ap (λ stands. refitted_owner stands entry (owner_in core owners file))
                 (sym (text_stands root enabled file place))) i))
-                ∙ refit_text (stands_at root enabled file) entry file (text_in texts file) (owner_in core owners file) place
-                ∙ sym (ap (refitted root enabled entry file) (kept_text numbers core owners texts file place))
+                ∙ fit_text (stands_at root enabled file) entry file (text_in texts file) (owner_in core owners file) place
+                ∙ sym (ap (standing root enabled entry file) (kept_text numbers core owners texts file place))
+          ] refl
+
+module _ (enabled : ControllerSet) (entry : Entry) where
+  refit_number : (file : LimitFile) (had : Option NumberFile) → is_number_place file ≡ true
+      → option_map number_held (refitted_number enabled entry file had) ≡ refitted enabled entry file (option_map number_held had)
+  refit_number file had place =
+      elim (controller_of file) as
+      (λ by. option_map number_held (elim by [
+        | None ↦ had
+        | Some controller ↦ cond (enables enabled controller) (Some (unwrap_or had (untouched_number entry file))) None
+      ])
+      ≡ elim by [
+        | None ↦ option_map number_held had
+        | Some controller ↦ cond (enables enabled controller) (Some (unwrap_or (option_map number_held had) (untouched entry file))) None
+      ]) [ None ↦ refl | Some controller ↦ fit_number (enables enabled controller) entry file had place ]
+
+  abbrev new_owners : List (Option Entry) → List (Option Entry)
+  new_owners owners =
+      map (λ controller. refitted_owner (enables enabled controller) entry (brought_owner owners controller)) all_controllers
+
+  refit_text : (core : Option Entry) (owners : List (Option Entry)) (file : LimitFile) (said : Option TextFile)
+      → is_number_place file ≡ false
+      → named_or (cond (stands_under enabled file) said None) (owner_in core (new_owners owners) file)
+      ≡ refitted enabled entry file (named_or said (owner_in core owners file))
+  refit_text core owners file said place =
+      elim (controller_of file) as
+      (λ by. named_or (cond (stands_by enabled by) said None) (elim by [
+        | None ↦ core
+        | Some controller ↦ brought_owner (new_owners owners) controller
+      ])
+      ≡ elim by [
+        | None ↦ named_or said (elim by [ None ↦ core | Some controller ↦ brought_owner owners controller ])
+        | Some controller ↦ cond (enables enabled controller)
+            (Some (unwrap_or (named_or said (elim by [ None ↦ core | Some controller ↦ brought_owner owners controller ])) (untouched entry file)))
+            None
+      ]) [
+        | None ↦ refl
+        | Some controller ↦
+            ap (named_or (cond (enables enabled controller) said None))
+            (mapped_at (λ controller. refitted_owner (enables enabled controller) entry (brought_owner owners controller)) None controller)
+            ∙ fit_text (enables enabled controller) entry file said (brought_owner owners controller) place
+      ]
+
+  pub refit_kept : (numbers new_numbers : List (Option NumberFile)) (core : Option Entry) (owners owners_now : List (Option Entry))
+      (texts new_texts : List TextFile)
+      → new_numbers ≡ map (λ file. refitted_number enabled entry file (number_in numbers file)) format_2_files
+      → owners_now ≡ new_owners owners
+      → new_texts ≡ filter (λ text. stands_at false enabled text.file) texts
+      → all_kept new_numbers core owners_now new_texts ≡ refitted_files enabled entry (all_kept numbers core owners texts)
+  refit_kept numbers new_numbers core owners owners_now texts new_texts numbers_are owners_are texts_are =
+      (λ i. all_kept (numbers_are i) core (owners_are i) (texts_are i))
+      ∙ same_files (refitted_files enabled entry (all_kept numbers core owners texts)) (all_kept made_numbers core (new_owners owners) made_texts) one
+    where
+      abbrev made_numbers : List (Option NumberFile)
+      made_numbers = map (λ file. refitted_number enabled entry file (number_in numbers file)) format_2_files
+
+      abbrev made_texts : List TextFile
+      made_texts = filter (λ text. stands_at false enabled text.file) texts
+
+      one : (file : LimitFile) → kept made_numbers core (new_owners owners) made_texts file
+          ≡ refitted enabled entry file (kept numbers core owners texts file)
+      one file =
+          elim (is_number_place file) as
+          (λ b. is_number_place file ≡ b → kept made_numbers core (new_owners owners) made_texts file
+          ≡ refitted enabled entry file (kept numbers core owners texts file)) [
+            | true ↦ λ place.
+                kept_number made_numbers core (new_owners owners) made_texts file place
+                ∙ ap (option_map number_held) (numbers_at (λ file. refitted_number enabled entry file (number_in numbers file)) file place)
+                ∙ refit_number file (number_in numbers file) place
+                ∙ sym (ap (refitted enabled entry file) (kept_number numbers core owners texts file place))
+            | false ↦ λ place.
+                kept_text made_numbers core (new_owners owners) made_texts file place
+                ∙ ap (λ said. named_or said (owner_in core (new_owners owners) file))
+                (found-filter (stands_at false enabled) texts file
+                ∙ ap (λ stands. cond stands (text_in texts file) None) (stands-below enabled file))
+                ∙ refit_text core owners file (text_in texts file) place
+                ∙ sym (ap (refitted enabled entry file) (kept_text numbers core owners texts file place))
           ] refl
 
 -- ---- none

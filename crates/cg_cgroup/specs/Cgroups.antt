@@ -6,7 +6,7 @@ pub use Rattle.cg_cgroup.specs.Users.{entry_made_by}
 pub use Rattle.cg_cgroup.specs.FileMap.{Held, FileMap}
 use Rattle.cg_cgroup.specs.Identity.{Identity}
 use Rattle.cg_cgroup.specs.Values.{most_of}
-use Rattle.cg_cgroup.specs.Files.{all_files, is_text, is_brought_by, default_value, stands_at, same_file, no_controllers}
+use Rattle.cg_cgroup.specs.Files.{all_files, is_text, controller_of, is_brought_by, enables, default_value, stands_at, same_file, no_controllers}
 use Rattle.cg_cgroup.specs.declared.user.Entry.{Entry}
 use Rattle.cg_cgroup.specs.declared.value.Value.{Value}
 use Rattle.cg_cgroup.specs.declared.controllers.ControllerSet.{ControllerSet}
@@ -89,26 +89,35 @@ root_file = record { uid = 0; gid = 0; mode = 420 }
 abbrev pub file_made_by : Identity → LimitFile → Held
 file_made_by user file = untouched (entry_made_by user 420) file
 
--- Those that stand at the root, or at a child of a cgroup that enables these: as they were, and new ones with this entry.
-abbrev pub refitted : Bool → ControllerSet → Entry → LimitFile → Option Held → Option Held
-refitted root enabled entry file had = cond (stands_at root enabled file) (Some (unwrap_or had (untouched entry file))) None
+-- Those that stand at the root, or at a child of a cgroup that enables these: as they were, and the others with this entry.
+abbrev pub standing : Bool → ControllerSet → Entry → LimitFile → Option Held → Option Held
+standing root above entry file had = cond (stands_at root above file) (Some (unwrap_or had (untouched entry file))) None
 
-abbrev pub refitted_files : Bool → ControllerSet → Entry → FileMap → FileMap
-refitted_files root enabled entry files = record { at = λ file. refitted root enabled entry file (files.at file) }
+abbrev pub standing_files : Bool → ControllerSet → Entry → FileMap → FileMap
+standing_files root above entry files = record { at = λ file. standing root above entry file (files.at file) }
 
 -- Enabling and Disabling: a controller brings its files to the children of the cgroup that enables it, and takes them away. A file that stays is kept as it is.
+abbrev pub refitted : ControllerSet → Entry → LimitFile → Option Held → Option Held
+refitted enabled entry file had = elim (controller_of file) [
+  | None ↦ had
+  | Some controller ↦ cond (enables enabled controller) (Some (unwrap_or had (untouched entry file))) None
+]
+
+abbrev pub refitted_files : ControllerSet → Entry → FileMap → FileMap
+refitted_files enabled entry files = record { at = λ file. refitted enabled entry file (files.at file) }
+
 abbrev pub with_files_of : ControllerSet → Identity → Cgroup → Cgroup
-with_files_of enabled user row = record row { files = refitted_files false enabled (entry_made_by user 420) row.files }
+with_files_of enabled user row = record row { files = refitted_files enabled (entry_made_by user 420) row.files }
 
 -- A new cgroup of a user under a parent that enables these. Own: its directory has mode 0o755, its files 0o644.
 abbrev pub cgroup_made_by : Identity → ControllerSet → Cgroup
-cgroup_made_by user enabled = with_files_of enabled user (record {
+cgroup_made_by user enabled = record {
   dir = entry_made_by user 493;
   procs = entry_made_by user 420;
   subtree_control = entry_made_by user 420;
-  files = no_files;
+  files = standing_files false enabled (entry_made_by user 420) no_files;
   enabled = no_controllers;
-})
+}
 
 -- those that these controllers bring as they are elsewhere
 abbrev pub taken_files : ControllerSet → FileMap → FileMap → FileMap

@@ -3,7 +3,7 @@
 use Rattle.std.specs.Prelude.{◌≡◌, ℕ, Bool, true, false, nat_lt, cond, get_or, List, Option, Some, None, unwrap_or, option_and_then}
 use Rattle.std.specs.Option.{option_map}
 use Rattle.std.specs.List.{find}
-use Rattle.cg_cgroup.specs.Files.{kind_of, controller_kind, controller_of, default_value, stands_at, same_file}
+use Rattle.cg_cgroup.specs.Files.{kind_of, controller_kind, controller_of, enables, default_value, stands_at, same_file}
 use Rattle.cg_cgroup.specs.Values.{most_of}
 use Rattle.cg_cgroup.specs.FileMap.{Held, FileMap}
 use Rattle.cg_cgroup.specs.declared.user.Entry.{Entry}
@@ -75,9 +75,17 @@ pub record AreOwners (files : FileMap) (core : Option Entry) (owners : List (Opt
 
 -- ---- made and removed
 
-abbrev pub refitted_number : Bool → ControllerSet → Entry → LimitFile → Option NumberFile → Option NumberFile
-refitted_number root enabled entry file had =
-    cond (stands_at root enabled file) (Some (unwrap_or had (record { entry = entry; most = most_of (default_value file) }))) None
+abbrev pub untouched_number : Entry → LimitFile → NumberFile
+untouched_number entry file = record { entry = entry; most = most_of (default_value file) }
+
+abbrev pub standing_number : Bool → ControllerSet → Entry → LimitFile → Option NumberFile → Option NumberFile
+standing_number root above entry file had = cond (stands_at root above file) (Some (unwrap_or had (untouched_number entry file))) None
+
+abbrev pub refitted_number : ControllerSet → Entry → LimitFile → Option NumberFile → Option NumberFile
+refitted_number enabled entry file had = elim (controller_of file) [
+  | None ↦ had
+  | Some controller ↦ cond (enables enabled controller) (Some (unwrap_or had (untouched_number entry file))) None
+]
 
 abbrev pub refitted_owner : Bool → Entry → Option Entry → Option Entry
 refitted_owner stands entry had = cond stands (Some (unwrap_or had entry)) None

@@ -28,15 +28,14 @@ impl Cgroup {
     pub fn made_by(user: &User, enabled: ControllerSet) -> Cgroup
         ensures { result ≡ cgroup_made_by user.now enabled }
     {
-        let mut cgroup = Cgroup {
+        let file = Entry::made_by(user, Mode::FILE);
+        Cgroup {
             dir: Entry::made_by(user, Mode::DIRECTORY),
-            procs: Entry::made_by(user, Mode::FILE),
-            subtree_control: Entry::made_by(user, Mode::FILE),
-            files: Files::none(),
+            procs: file,
+            subtree_control: file,
+            files: Files::made(false, enabled, file),
             enabled: ControllerSet::none(),
-        };
-        cgroup.refit(enabled, user);
-        cgroup
+        }
     }
 
     /// The owner, group and mode of an entry, where it is there.
@@ -107,7 +106,7 @@ impl Cgroup {
     pub fn refit(&mut self, enabled: ControllerSet, user: &User)
         ensures { self.new ≡ with_files_of enabled user.now self.old }
     {
-        self.files.refit(false, enabled, Entry::made_by(user, Mode::FILE));
+        self.files.refit(enabled, Entry::made_by(user, Mode::FILE));
     }
 
     /// An equal cgroup. Fails where memory is wanted.

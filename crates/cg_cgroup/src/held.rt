@@ -5,7 +5,7 @@ ghost use Rattle.std.specs.List.{list_all};
 ghost use Rattle.cg_cgroup.specs.Kinds.{all_controllers, all_files, format_2_files};
 ghost use Rattle.cg_cgroup.specs.Files.{is_text, accepts, may_have, is_brought_by, enables};
 ghost use Rattle.cg_cgroup.specs.Values.{same_value, value_now};
-ghost use Rattle.cg_cgroup.specs.Kept.{number_held, number_in, text_of, text_value, said_text, named_or, brought_owner, owner_in, refitted_number, refitted_owner};
+ghost use Rattle.cg_cgroup.specs.Kept.{number_held, number_in, text_of, text_value, said_text, named_or, brought_owner, owner_in, untouched_number, standing_number, refitted_number, refitted_owner};
 ghost use Rattle.cg_cgroup.specs.Cgroups.{with_mode_of};
 
 pub mod numbers;
@@ -47,7 +47,7 @@ impl Model for Files {
 }
 
 impl Files {
-    ghost use Rattle.cg_cgroup.specs.Cgroups.{no_files, with_held, with_value_of, with_file_mode_of, with_named, refitted_files, taken_files, is_plain};
+    ghost use Rattle.cg_cgroup.specs.Cgroups.{no_files, with_held, with_value_of, with_file_mode_of, with_named, standing_files, refitted_files, taken_files, is_plain};
     ghost use Rattle.cg_cgroup.specs.FileMap.{Held};
     ghost use Rattle.cg_cgroup.specs.Kept.{AreOwners, is_number_place, number_held, text_held, text_value, with_at};
 
@@ -213,15 +213,35 @@ impl Files {
         copied_text(alloc, self.texts.get(file))
     }
 
+    /// Those that stand at the root, or at a child of a cgroup that enables these controllers, all with this owner, group and
+    /// mode.
+    pub fn made(root: bool, above: ControllerSet, entry: Entry) -> Files
+        ensures { result ≡ standing_files root above entry no_files }
+    {
+        let mut files = Files::none();
+        files.fit(root, above, entry);
+        files
+    }
+
     /// Makes and removes files as they stand at the root, or at a child of a cgroup that enables these controllers. A file that
     /// stays is kept as it is; a new one has this owner, group and mode.
-    pub fn refit(&mut self, root: bool, enabled: ControllerSet, entry: Entry)
-        ensures { self.new ≡ refitted_files root enabled entry self.old }
+    pub fn fit(&mut self, root: bool, above: ControllerSet, entry: Entry)
+        ensures { self.new ≡ standing_files root above entry self.old }
     {
-        self.numbers = refitted_numbers(&self.numbers, root, enabled, entry);
+        self.numbers = standing_numbers(&self.numbers, root, above, entry);
         self.core = refitted_owner(!root, entry, self.core);
+        self.owners = refitted_owners(&self.owners, above, entry);
+        self.texts.keep(root, above);
+    }
+
+    /// Makes and removes the files that controllers bring to a child of a cgroup that enables these. A file that stays is kept as
+    /// it is; a new one has this owner, group and mode.
+    pub fn refit(&mut self, enabled: ControllerSet, entry: Entry)
+        ensures { self.new ≡ refitted_files enabled entry self.old }
+    {
+        self.numbers = refitted_numbers(&self.numbers, enabled, entry);
         self.owners = refitted_owners(&self.owners, enabled, entry);
-        self.texts.keep(root, enabled);
+        self.texts.keep(false, enabled);
     }
 
     /// Takes the files that these controllers bring as they are elsewhere, where nobody speaks of one whose value is a text.
@@ -423,35 +443,75 @@ fn number_in(numbers: &[Option<NumberFile>], file: LimitFile) -> Option<NumberFi
     }
 }
 
+fn untouched_number(file: LimitFile, entry: Entry) -> NumberFile
+    ensures { result ≡ untouched_number entry file }
+{
+    NumberFile {
+        entry,
+        most: file.default_value().most(),
+    }
+}
+
 /// A file that stays, a new one, or none.
-fn refitted_number(
+fn standing_number(
     held: Option<NumberFile>,
     file: LimitFile,
     root: bool,
+    above: ControllerSet,
+    entry: Entry,
+) -> Option<NumberFile>
+    ensures { result ≡ standing_number root above entry file held }
+{
+    if !file.stands_at(root, above) {
+        return None;
+    }
+    Some(held.unwrap_or(untouched_number(file, entry)))
+}
+
+fn standing_numbers(
+    numbers: &[Option<NumberFile>],
+    root: bool,
+    above: ControllerSet,
+    entry: Entry,
+) -> [Option<NumberFile>; NUMBER_COUNT]
+    ensures { result ≡ map (λ file. standing_number root above entry file (number_in numbers.now file)) format_2_files }
+{
+    LimitFile::IN_FORMAT_2.map(|file| standing_number(
+        number_in(numbers, file),
+        file,
+        root,
+        above,
+        entry,
+    ))
+}
+
+/// A file of the core as it is; a file that a controller brings and that stays, a new one, or none.
+fn refitted_number(
+    held: Option<NumberFile>,
+    file: LimitFile,
     enabled: ControllerSet,
     entry: Entry,
 ) -> Option<NumberFile>
-    ensures { result ≡ refitted_number root enabled entry file held }
+    ensures { result ≡ refitted_number enabled entry file held }
 {
-    if !file.stands_at(root, enabled) {
-        return None;
+    match file.controller() {
+        None => held,
+        Some(controller) if enabled.contains(controller) =>
+            Some(held.unwrap_or(untouched_number(file, entry))),
+        Some(_) => None,
     }
-    let most = file.default_value().most();
-    Some(held.unwrap_or(NumberFile { entry, most }))
 }
 
 fn refitted_numbers(
     numbers: &[Option<NumberFile>],
-    root: bool,
     enabled: ControllerSet,
     entry: Entry,
 ) -> [Option<NumberFile>; NUMBER_COUNT]
-    ensures { result ≡ map (λ file. refitted_number root enabled entry file (number_in numbers.now file)) format_2_files }
+    ensures { result ≡ map (λ file. refitted_number enabled entry file (number_in numbers.now file)) format_2_files }
 {
     LimitFile::IN_FORMAT_2.map(|file| refitted_number(
         number_in(numbers, file),
         file,
-        root,
         enabled,
         entry,
     ))

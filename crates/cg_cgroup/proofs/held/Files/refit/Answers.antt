@@ -5,6 +5,6 @@ use Rattle.cg_cgroup.proofs.held.Files.refit.Goals as goal
 
 pub returns : goal.returns
 returns c =
-    refit_kept c.args.root c.args.enabled c.args.entry c.self.inside.numbers _ c.self.inside.core _ c.self.inside.owners _ c.self.inside.texts _
-    c.refitted_numbers.ensures c.refitted_owner.ensures c.refitted_owners.ensures c.keep.ensures
-    ∙ ap (refitted_files c.args.root c.args.enabled c.args.entry) c.self.view_is
+    refit_kept c.args.enabled c.args.entry c.self.inside.numbers _ c.self.inside.core c.self.inside.owners _ c.self.inside.texts _
+    c.refitted_numbers.ensures c.refitted_owners.ensures c.keep.ensures
+    ∙ ap (refitted_files c.args.enabled c.args.entry) c.self.view_is
