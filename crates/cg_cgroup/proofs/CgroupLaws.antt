@@ -1,13 +1,16 @@
 -- What the entries, files and values of a cgroup are after each change, and those of a new cgroup.
-use Rattle.std.proofs.Common.{◌≡◌, ℕ, Bool, true, false, cond, refl, sym, ap, ◌∙◌, eqb-true, get_or}
+use Rattle.std.proofs.Common.{◌≡◌, ℕ, Bool, true, false, cond, refl, sym, ap, ◌∙◌, eqb-true, true≢false, get_or}
 use Rattle.std.specs.Prelude.{Option, Some, None, is_some, unwrap_or}
 use Rattle.std.specs.Option.{option_map}
 use Rattle.cg_cgroup.specs.Identity.{Identity}
-use Rattle.cg_cgroup.specs.Files.{all_files, kind_of, may_have, default_value, controller_of, enables, stands_by, stands_under, stands_at, same_file, same_entry}
+use Rattle.cg_cgroup.specs.Files.{all_files, kind_of, fits, accepts, may_have, default_value, controller_of, enables, stands_by, stands_under, stands_at, same_file, same_entry}
 use Rattle.cg_cgroup.specs.Users.{entry_made_by}
 use Rattle.cg_cgroup.specs.Cgroups.{Held, FileMap, file_of, entry_in, value_in, with_file, with_value_of, with_value_in, with_mode_of, with_file_mode_of, with_mode_in, untouched, file_made_by, refitted, with_files_of, cgroup_made_by}
 use Rattle.cg_cgroup.specs.declared.user.Entry.{Entry}
 use Rattle.cg_cgroup.specs.declared.value.Value.{Value}
+use Rattle.cg_cgroup.specs.declared.value.Value.TheVariants.{Unknown, Max, Number, Text}
+use Rattle.cg_cgroup.specs.declared.files.Form.{Form}
+use Rattle.cg_cgroup.specs.declared.files.Form.TheVariants.{Numbers, Texts, DeviceTexts}
 use Rattle.cg_cgroup.specs.declared.controllers.ControllerSet.{ControllerSet}
 use Rattle.cg_cgroup.specs.declared.files.LimitFile.{LimitFile}
 use Rattle.cg_cgroup.specs.declared.files.LimitFile.TheVariants.{MaxDescendants, CpuWeight}
@@ -229,3 +232,14 @@ stands-cgroup_made_by user enabled file =
 pub may_have-default_value : (file : LimitFile) → may_have file (default_value file) ≡ true
 may_have-default_value MaxDescendants = refl
 may_have-default_value file = refl
+
+fits-known : (form : Form) → fits form Unknown ≡ true → ⊥
+fits-known (Numbers least greatest takes_max) h = true≢false (sym h)
+fits-known Texts h = true≢false (sym h)
+fits-known DeviceTexts h = true≢false (sym h)
+
+pub may_have-accepted : (file : LimitFile) (value : Value) → accepts file value ≡ true → may_have file value ≡ true
+may_have-accepted file Unknown h = absurd (fits-known (kind_of file).form h)
+may_have-accepted file Max h = h
+may_have-accepted file (Number number) h = h
+may_have-accepted file (Text text) h = h

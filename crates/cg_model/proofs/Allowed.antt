@@ -4,20 +4,18 @@ use Rattle.cg_cgroup.specs.Paths.{Names, is_root, parent}
 use Rattle.cg_cgroup.specs.Identity.{Identity}
 use Rattle.cg_cgroup.specs.Files.{enables_nothing, accepts}
 use Rattle.cg_cgroup.specs.Cgroups.{file_of, cgroup_made_by}
-use Rattle.cg_model.specs.States.{State, row_at, file_told, process_at, owner_at, has_child, has_live, is_used, with_row}
+use Rattle.cg_model.specs.States.{State, row_at, process_at, owner_at, has_child, has_live, is_used, with_row}
 use Rattle.cg_model.specs.WellFormed.{IsWellFormed, has_row, enabled_at, may_hold}
 use Rattle.cg_model.proofs.FormedParts.{enabled_at-row}
 use Rattle.cg_model.proofs.FormedLaws.{formed-with_made_row}
-use Rattle.cg_cgroup.specs.declared.files.Limit.{Limit}
+use Rattle.cg_cgroup.specs.declared.value.Value.{Value}
 use Rattle.cg_cgroup.specs.declared.files.LimitFile.{LimitFile}
-use Rattle.cg_cgroup.specs.declared.files.EntryName.TheVariants.{File, Other}
-use Rattle.cg_cgroup.specs.declared.other_file.OtherFile.{OtherFile}
-use Rattle.cg_cgroup.specs.declared.told.ToldFile.{ToldFile}
+use Rattle.cg_cgroup.specs.declared.files.EntryName.TheVariants.{File}
 use Rattle.cg_cgroup.specs.declared.cgroup.Cgroup.{Cgroup}
 use Rattle.cg_cgroup.proofs.Options.{is_some-mapped}
 use Rattle.cg_model.specs.declared.changes.Change.{Change}
 use Rattle.cg_model.specs.Clauses.{unless, absent, present}
-use Rattle.cg_model.specs.Bars.{row_above, move_bars, mkdir_bars, rmdir_bars, set_bars, set_other_bars, fork_bars, control_bars}
+use Rattle.cg_model.specs.Bars.{row_above, move_bars, mkdir_bars, rmdir_bars, set_bars, fork_bars, control_bars}
 use Rattle.cg_model.specs.declared.outcome.Refusal.{Refusal}
 use Rattle.cg_model.specs.declared.outcome.Refusal.TheVariants.{NoSuchCgroup, NoSuchProcess, InternalProcess, RootCgroup, HasChildren, HasProcesses, NoSuchFile, BadValue}
 use Rattle.cg_model.proofs.Prefixes.{take_parent}
@@ -99,7 +97,7 @@ accepted (Some row) file ok gone missing bad there stands h =
       | Some held ↦ λ stands h. no_unless ok bad h
     ] stands h
 
-pub allowed_set : (st : State) (user : Identity) (at : Names) (file : LimitFile) (value : Limit) → set_bars st user at file value ≡ []
+pub allowed_set : (st : State) (user : Identity) (at : Names) (file : LimitFile) (value : Value) → set_bars st user at file value ≡ []
     → accepts file value ≡ true
 allowed_set st user at file value h =
     let value_part = no_parts _ _ h in
@@ -107,20 +105,6 @@ allowed_set st user at file value h =
     let row = no_parts _ _ access.0 in
     accepted (row_at st at) file (accepts file value) (NoSuchCgroup (length at)) (NoSuchFile (File file)) (BadValue file) row.0 row.1
     value_part.1
-
-stands_told : (found : Option Cgroup) (told : Option ToldFile) (gone missing : Refusal) → absent found gone ≡ []
-    → present found (λ row. absent told missing) ≡ [] → is_some told ≡ true
-stands_told None told gone missing there h = cc
-stands_told (Some row) None gone missing there h = cc
-stands_told (Some row) (Some told) gone missing there h = refl
-
--- a set of a limit file beyond `LimitFile` is of one that stands
-pub allowed_set_other : (st : State) (user : Identity) (at : Names) (file : OtherFile) → set_other_bars st user at file ≡ []
-    → is_some (file_told st at file) ≡ true
-allowed_set_other st user at file h =
-    let access = no_parts _ _ h in
-    let row = no_parts _ _ access.0 in
-    stands_told (row_at st at) (file_told st at file) (NoSuchCgroup (length at)) (NoSuchFile (Other file)) row.0 row.1
 
 pub allowed_fork : (st : State) (user : Identity) (parent child : ℕ) → fork_bars st user parent child ≡ [] → is_used st child ≡ false
 allowed_fork st user parent child h = not_false (is_used st child) (no_unless _ _ (no_parts _ _ h).1)

@@ -3,17 +3,10 @@ use Rattle.std.proofs.Common.{◌≡◌, ℕ, Bool, true, false, cond, not, ◌|
 use Rattle.std.proofs.lemmas.Bool.{false_from_ne_true}
 use Rattle.cg_cgroup.specs.Paths.{Names, same_path, is_root, parent, is_child}
 use Rattle.cg_cgroup.specs.Identity.{Identity}
-use Rattle.cg_cgroup.specs.Files.{no_controllers, stands_by, brought_by, enables_nothing, is_within}
+use Rattle.cg_cgroup.specs.Files.{no_controllers, enables_nothing, is_within}
 use Rattle.cg_cgroup.specs.Cgroups.{with_files_of}
 use Rattle.cg_model.specs.States.{State, row_at, process_at, has_live, enabling_these, enabling, with_enabled}
-use Rattle.cg_model.specs.WellFormed.{has_row, enabled_at, enabled_above, available_at, may_hold, MayEnable, IsFormedRow, IsFormedTold, IsWellFormed}
-use Rattle.std.specs.FinMap as finite
-use Rattle.cg_cgroup.specs.Told.{told_in, told_under}
-use Rattle.cg_cgroup.specs.declared.other_file.OtherFile.{OtherFile}
-use Rattle.cg_cgroup.specs.declared.told.ToldFile.{ToldFile}
-use Rattle.cg_cgroup.specs.declared.told.ToldFiles.{ToldFiles}
-use Rattle.cg_cgroup.proofs.ToldLaws.{told_in-under}
-use Rattle.cg_model.proofs.StateTold.{get-told-with_enabled}
+use Rattle.cg_model.specs.WellFormed.{has_row, enabled_at, enabled_above, available_at, may_hold, MayEnable, IsFormedRow, IsWellFormed}
 use Rattle.cg_cgroup.specs.declared.controllers.ControllerSet.{ControllerSet}
 use Rattle.cg_cgroup.specs.declared.cgroup.Cgroup.{Cgroup}
 use Rattle.cg_cgroup.specs.declared.process.Process.{Process}
@@ -125,19 +118,24 @@ module _ (st : State) (path : Names) (enabled : ControllerSet) (user : Identity)
         (λ _ other. ap (is_within row.enabled) (above_other st.controllers q other) ∙ whole.top_down q row is)
 
     -- what a row enables is no part of its files
-    enabling_row : (above : ControllerSet) (row : Cgroup) → IsFormedRow above row → IsFormedRow above (enabling_these enabled row)
-    enabling_row above row formed = record { files = formed.files; others = formed.others; values = formed.values; modes = formed.modes }
+    enabling_row : (root : Bool) (above : ControllerSet) (row : Cgroup) → IsFormedRow root above row
+        → IsFormedRow root above (enabling_these enabled row)
+    enabling_row root above row formed = record { files = formed.files; values = formed.values; modes = formed.modes }
 
     stays_formed : (q : Names) (row : Cgroup) → row_at st q ≡ Some row
-        → IsFormedRow (enabled_above (with_enabled st path enabled user) q) (enabling path enabled user q row)
+        → IsFormedRow (is_root q) (enabled_above (with_enabled st path enabled user) q) (enabling path enabled user q row)
     stays_formed q row is =
         let formed = whole.rows q row is in
-        enabling-by path enabled user (IsFormedRow (enabled_above (with_enabled st path enabled user) q)) q row
-        (λ same. subst (λ set. IsFormedRow set (enabling_these enabled row)) (sym (above_same no_controllers q same))
-        (enabling_row (enabled_above st q) row formed))
-        (λ child. subst (λ set. IsFormedRow set (with_files_of enabled user row)) (sym (above_child there no_controllers q child))
-        (formed_row-with_files_of (enabled_above st q) enabled user row formed))
-        (λ _ other. subst (λ set. IsFormedRow set row) (sym (above_other no_controllers q other)) formed)
+        enabling-by path enabled user (IsFormedRow (is_root q) (enabled_above (with_enabled st path enabled user) q)) q row
+        (λ same. subst (λ set. IsFormedRow (is_root q) set (enabling_these enabled row)) (sym (above_same no_controllers q same))
+        (enabling_row (is_root q) (enabled_above st q) row formed))
+        (λ child.
+        subst (λ root. IsFormedRow root (enabled_above (with_enabled st path enabled user) q) (with_files_of enabled user row))
+        (sym (is_root-is_child path q child))
+        (subst (λ set. IsFormedRow false set (with_files_of enabled user row)) (sym (above_child there no_controllers q child))
+        (formed_row-with_files_of (enabled_above st q) enabled user row
+        (subst (λ root. IsFormedRow root (enabled_above st q) row) (is_root-is_child path q child) formed))))
+        (λ _ other. subst (λ set. IsFormedRow (is_root q) set row) (sym (above_other no_controllers q other)) formed)
 
     -- where a process is, nothing is enabled, or it is the root
     held_here : (pid : ℕ) (process : Process) → process_at st pid ≡ Some process → same_path path process.place ≡ true
@@ -161,53 +159,12 @@ module _ (st : State) (path : Names) (enabled : ControllerSet) (user : Identity)
         (enabling-by path enabled user (λ r. (is_root process.place || enables_nothing r.enabled) ≡ true) process.place held.0
         (held_here pid process is) (λ _. held.2) (λ _ _. held.2))
 
-    -- what is left of what is told is told of files that stand
-    told_below : (above : ControllerSet) (files : ToldFiles) → IsFormedTold above files → IsFormedTold enabled (told_under enabled files)
-    told_below above files formed = record {
-      stand = λ file told is. (brought file told (sym (told_in-under enabled files file) ∙ is)).0;
-      modes = λ file told is. formed.modes file told (brought file told (sym (told_in-under enabled files file) ∙ is)).1;
-    }
-      where
-        brought : (file : OtherFile) (told : ToldFile) → cond (stands_by enabled (brought_by file)) (told_in files file) None ≡ Some told
-            → (stands_by enabled (brought_by file) ≡ true) × (told_in files file ≡ Some told)
-        brought file told is =
-            elim (stands_by enabled (brought_by file)) as
-            (λ b. stands_by enabled (brought_by file) ≡ b → cond b (told_in files file) None ≡ Some told
-            → (stands_by enabled (brought_by file) ≡ true) × (told_in files file ≡ Some told)) [
-              | true ↦ λ e is. (e, is)
-              | false ↦ λ e none. absurd (true≢false (sym (ap is_some none)))
-            ] refl is
-
-    stays_told : (q : Names) (files : ToldFiles) → IsFormedTold (enabled_above st q) files
-        → IsFormedTold (enabled_above (with_enabled st path enabled user) q) (cond (is_child path q) (told_under enabled files) files)
-    stays_told q files formed =
-        elim (is_child path q) as (λ b. is_child path q ≡ b
-        → IsFormedTold (enabled_above (with_enabled st path enabled user) q) (cond b (told_under enabled files) files)) [
-          | true ↦ λ child. subst (λ set. IsFormedTold set (told_under enabled files)) (sym (above_child there no_controllers q child))
-              (told_below (enabled_above st q) files formed)
-          | false ↦ λ other. subst (λ set. IsFormedTold set files) (sym (above_other no_controllers q other)) formed
-        ] refl
-
     pub formed-with_enabled : IsWellFormed (with_enabled st path enabled user)
     formed-with_enabled = record {
       root = has_row-with_enabled [] ∙ whole.root;
       parents = λ q h. has_row-with_enabled (parent q) ∙ whole.parents q (sym (has_row-with_enabled q) ∙ h);
       top_down = each_row (λ q row. is_within row.enabled (available_at (with_enabled st path enabled user) q) ≡ true) stays_top_down;
-      rows = each_row (λ q row. IsFormedRow (enabled_above (with_enabled st path enabled user) q) row) stays_formed;
-      freeze = each_row (λ q row. is_some row.freeze ≡ not (is_root q)) (λ q row is.
-          enabling-by path enabled user (λ r. is_some r.freeze ≡ not (is_root q)) q row
-          (λ _. whole.freeze q row is) (λ _. whole.freeze q row is) (λ _ _. whole.freeze q row is));
-      told = λ q files is.
-          let old = mapped_from (λ files. cond (is_child path q) (told_under enabled files) files) (finite.get st.told q) files
-          (sym (get-told-with_enabled st path enabled user q) ∙ is) in
-          let formed = whole.told q old.0 old.1 in (
-            has_row-with_enabled q ∙ formed.0,
-            subst (IsFormedTold (enabled_above (with_enabled st path enabled user) q)) old.2 (stays_told q old.0 formed.1),
-          );
-      told_below_root = λ q files is.
-          let old = mapped_from (λ files. cond (is_child path q) (told_under enabled files) files) (finite.get st.told q) files
-          (sym (get-told-with_enabled st path enabled user q) ∙ is) in
-          whole.told_below_root q old.0 old.1;
+      rows = each_row (λ q row. IsFormedRow (is_root q) (enabled_above (with_enabled st path enabled user) q) row) stays_formed;
       places = stays_held;
       used = whole.used;
     }

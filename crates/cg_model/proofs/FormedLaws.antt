@@ -2,30 +2,24 @@
 use Rattle.cg_cgroup.proofs.Options.{mapped_from}
 pub use Rattle.cg_model.proofs.FormedTree.{IsNewRow, new_row-cgroup_made_by, formed-with_row, formed-with_made_row, formed-without_row}
 pub use Rattle.cg_model.proofs.FormedEnabled.{formed-with_enabled}
-use Rattle.std.proofs.Common.{◌≡◌, ℕ, ◌≤◌, Bool, true, false, cond, ◌||◌, refl, sym, ap, ◌∙◌, subst, true≢false, Option, Some, None, is_some, option_map, option_and_then, nat_eq, unwrap_or}
+use Rattle.std.proofs.Common.{◌≡◌, ℕ, ◌≤◌, Bool, true, false, cond, ◌||◌, refl, sym, ap, ◌∙◌, subst, true≢false, Option, Some, None, is_some, option_map, nat_eq, unwrap_or}
 use Rattle.std.specs.Ordering.{nat_cmp}
 use Rattle.std.specs.FinMap as finite
 use Rattle.std.specs.FinSet as set
 use Rattle.std.proofs.Math.Bool.{or-true}
 use Rattle.cg_cgroup.specs.Paths.{Names, same_path}
 use Rattle.cg_cgroup.specs.Files.{accepts}
-use Rattle.cg_cgroup.specs.Cgroups.{untold_in, with_value_in, with_mode_in}
-use Rattle.cg_model.specs.States.{State, row_at, untold_at, process_at, is_used, change_at, with_value, with_text, with_mode, placed_at, with_place, with_process, without_process}
+use Rattle.cg_cgroup.specs.Cgroups.{with_value_in, with_mode_in}
+use Rattle.cg_model.specs.States.{State, row_at, process_at, is_used, change_at, with_value, with_mode, placed_at, with_place, with_process, without_process}
 use Rattle.cg_model.specs.WellFormed.{may_hold, IsFormedRow, IsWellFormed}
-use Rattle.cg_cgroup.specs.declared.files.Limit.{Limit}
+use Rattle.cg_cgroup.specs.declared.value.Value.{Value}
 use Rattle.cg_cgroup.specs.declared.controllers.ControllerSet.{ControllerSet}
 use Rattle.cg_cgroup.specs.declared.files.LimitFile.{LimitFile}
 use Rattle.cg_cgroup.specs.declared.files.EntryName.{EntryName}
-use Rattle.cg_cgroup.specs.declared.files.EntryName.TheVariants.{Dir, Other}
-use Rattle.cg_cgroup.specs.Told.{telling, nothing_told, with_mode_told, with_value_told}
-use Rattle.cg_cgroup.specs.declared.other_file.OtherFile.{OtherFile}
-use Rattle.cg_cgroup.specs.declared.told.FileText.{FileText}
-use Rattle.cg_model.proofs.StateTold.{file_told-same}
-use Rattle.cg_model.proofs.FormedTold.{formed-telling}
 use Rattle.cg_cgroup.specs.declared.cgroup.Cgroup.{Cgroup}
 use Rattle.cg_cgroup.specs.declared.process.Process.{Process}
 use Rattle.cg_model.proofs.StateLaws.{row_at-change_at, process_at-with_place, process_at-with_process, process_at-without_process, is_used-with_process}
-use Rattle.cg_cgroup.proofs.CgroupLaws.{enabled-with_value_in, enabled-with_mode_in, freeze-with_value_in, freeze-with_mode_in}
+use Rattle.cg_cgroup.proofs.CgroupLaws.{enabled-with_value_in, enabled-with_mode_in}
 use Rattle.cg_model.proofs.FormedRows.{formed_row-with_value_in, formed_row-with_mode_in}
 use Rattle.cg_model.proofs.FormedReshaped.{formed-reshaped}
 
@@ -46,58 +40,26 @@ cond_kept P false x y p q = q
 
 -- one row changed, that enables what it enabled
 pub formed-change_at : (st : State) (path : Names) (g : Cgroup → Cgroup) → ((row : Cgroup) → (g row).enabled ≡ row.enabled)
-    → ((row : Cgroup) → (g row).freeze ≡ row.freeze)
-    → ((above : ControllerSet) (row : Cgroup) → IsFormedRow above row → IsFormedRow above (g row))
+    → ((root : Bool) (above : ControllerSet) (row : Cgroup) → IsFormedRow root above row → IsFormedRow root above (g row))
     → IsWellFormed st → IsWellFormed (change_at path g st)
 unfolding at_path
-formed-change_at st path g same freeze keeps =
+formed-change_at st path g same keeps =
     formed-reshaped st (change_at path g st).rows (at_path path g)
     (λ q. row_at-change_at path g st q ∙ cond_map (same_path path q) g (row_at st q))
     (λ q row. cond_kept (λ (r : Cgroup). r.enabled ≡ row.enabled) (same_path path q) (g row) row (same row) refl)
-    (λ q row. cond_kept (λ (r : Cgroup). r.freeze ≡ row.freeze) (same_path path q) (g row) row (freeze row) refl)
-    (λ above q row formed. cond_kept (IsFormedRow above) (same_path path q) (g row) row (keeps above row formed) formed)
+    (λ root above q row formed. cond_kept (IsFormedRow root above) (same_path path q) (g row) row (keeps root above row formed) formed)
 
-pub formed-with_value : (st : State) (path : Names) (file : LimitFile) (value : Limit) → accepts file value ≡ true → IsWellFormed st
+pub formed-with_value : (st : State) (path : Names) (file : LimitFile) (value : Value) → accepts file value ≡ true → IsWellFormed st
     → IsWellFormed (with_value st path file value)
 formed-with_value st path file value accepted =
     formed-change_at st path (with_value_in file value) (λ row. enabled-with_value_in file value row)
-    (λ row. freeze-with_value_in file value row)
-    (λ above row formed. formed_row-with_value_in above file value row accepted formed)
-
-formed-row-with_mode : (st : State) (path : Names) (name : EntryName) (mode : ℕ) → mode ≤ 511 → IsWellFormed st
-    → IsWellFormed (change_at path (with_mode_in name mode) st)
-formed-row-with_mode st path name mode small =
-    formed-change_at st path (with_mode_in name mode) (λ row. enabled-with_mode_in name mode row)
-    (λ row. freeze-with_mode_in name mode row)
-    (λ above row formed. formed_row-with_mode_in above name mode row small formed)
-
-same_reading : (b : Bool) (r : Option Cgroup) (file : OtherFile) (mode : ℕ)
-    → option_and_then (λ row. untold_in row file) (cond b (option_map (with_mode_in (Other file) mode) r) r)
-    ≡ option_and_then (λ row. untold_in row file) r
-same_reading true None file mode = refl
-same_reading true (Some row) file mode = refl
-same_reading false r file mode = refl
+    (λ root above row formed. formed_row-with_value_in root above file value row accepted formed)
 
 pub formed-with_mode : (st : State) (path : Names) (name : EntryName) (mode : ℕ) → mode ≤ 511 → IsWellFormed st
     → IsWellFormed (with_mode st path name mode)
-formed-with_mode st path (Other file) mode small whole =
-    let changed = change_at path (with_mode_in (Other file) mode) st in
-    let untold : untold_at changed path file ≡ untold_at st path file =
-    ap (option_and_then (λ row. untold_in row file)) (row_at-change_at path (with_mode_in (Other file) mode) st path)
-    ∙ same_reading (same_path path path) (row_at st path) file mode in
-    subst (λ told. IsWellFormed (record changed { told = told }))
-    (ap (λ known. elim known [
-      | None ↦ st.told
-      | Some told ↦
-          finite.insert st.told path (telling file (Some (with_mode_told mode told)) (unwrap_or (finite.get st.told path) nothing_told))
-    ]) (file_told-same st changed path file refl untold))
-    (formed-telling changed (formed-row-with_mode st path (Other file) mode small whole) path file (with_mode_told mode) (λ told _. small))
-formed-with_mode st path Dir mode small whole = formed-row-with_mode st path Dir mode small whole
-formed-with_mode st path name mode small whole = formed-row-with_mode st path name mode small whole
-
-pub formed-with_text : (st : State) (path : Names) (file : OtherFile) (value : FileText) → IsWellFormed st
-    → IsWellFormed (with_text st path file value)
-formed-with_text st path file value whole = formed-telling st whole path file (with_value_told value) (λ told mode. mode)
+formed-with_mode st path name mode small =
+    formed-change_at st path (with_mode_in name mode) (λ row. enabled-with_mode_in name mode row)
+    (λ root above row formed. formed_row-with_mode_in root above name mode row small formed)
 
 -- ---- processes
 
@@ -111,9 +73,6 @@ with_live st live used places used_too formed = record {
   parents = formed.parents;
   top_down = formed.top_down;
   rows = formed.rows;
-  freeze = formed.freeze;
-  told = formed.told;
-  told_below_root = formed.told_below_root;
   places = places;
   used = used_too;
 }

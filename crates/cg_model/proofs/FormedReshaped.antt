@@ -1,10 +1,10 @@
 -- Well-formedness where each row is changed by its path and enables what it enabled.
-use Rattle.std.proofs.Common.{◌≡◌, true, cond, ◌||◌, [], refl, sym, ap, ◌∙◌, subst, Some, None, is_some, option_map}
+use Rattle.std.proofs.Common.{◌≡◌, Bool, true, cond, ◌||◌, [], refl, sym, ap, ◌∙◌, subst, Some, None, is_some, option_map}
 use Rattle.std.specs.FinMap as finite
 use Rattle.cg_cgroup.specs.Paths.{Names, path_cmp, is_root, parent}
 use Rattle.cg_cgroup.specs.Files.{no_controllers, enables_nothing, is_within}
 use Rattle.cg_model.specs.States.{State, row_at}
-use Rattle.cg_model.specs.WellFormed.{has_row, enabled_at, enabled_above, may_hold, IsFormedRow, IsFormedTold, IsWellFormed}
+use Rattle.cg_model.specs.WellFormed.{has_row, enabled_at, enabled_above, may_hold, IsFormedRow, IsWellFormed}
 use Rattle.cg_cgroup.specs.declared.controllers.ControllerSet.{ControllerSet}
 use Rattle.cg_cgroup.specs.declared.cgroup.Cgroup.{Cgroup}
 use Rattle.cg_cgroup.proofs.Options.{mapped_from, is_some-mapped}
@@ -15,8 +15,7 @@ with_rows st rows = record st { rows = rows }
 
 module _ (st : State) (m : finite.FinMap path_cmp Cgroup) (f : Names → Cgroup → Cgroup)
     (rows : (q : Names) → row_at (with_rows st m) q ≡ option_map (f q) (row_at st q))
-    (enables_same : (q : Names) (row : Cgroup) → (f q row).enabled ≡ row.enabled)
-    (freeze_same : (q : Names) (row : Cgroup) → (f q row).freeze ≡ row.freeze) where
+    (enables_same : (q : Names) (row : Cgroup) → (f q row).enabled ≡ row.enabled) where
   same_row : (q : Names) → has_row (with_rows st m) q ≡ has_row st q
   same_row q = ap is_some (rows q) ∙ is_some-mapped (f q) (row_at st q)
 
@@ -36,7 +35,7 @@ module _ (st : State) (m : finite.FinMap path_cmp Cgroup) (f : Names → Cgroup 
       row-may_hold (with_rows st m) q (f q held.0) (rows q ∙ ap (option_map (f q)) held.1)
       (ap (λ set. is_root q || enables_nothing set) (enables_same q held.0) ∙ held.2)
 
-  pub formed-reshaped : ((above : ControllerSet) (q : Names) (row : Cgroup) → IsFormedRow above row → IsFormedRow above (f q row))
+  pub formed-reshaped : ((root : Bool) (above : ControllerSet) (q : Names) (row : Cgroup) → IsFormedRow root above row → IsFormedRow root above (f q row))
       → IsWellFormed st → IsWellFormed (with_rows st m)
   formed-reshaped keeps formed = record {
     root = same_row [] ∙ formed.root;
@@ -47,15 +46,9 @@ module _ (st : State) (m : finite.FinMap path_cmp Cgroup) (f : Names → Cgroup 
         (λ i. is_within (enabled i) (same_above st.controllers q i)) ∙ formed.top_down q old.0 old.1;
     rows = λ q row is.
         let old = mapped_from (f q) (row_at st q) row (sym (rows q) ∙ is) in
-        subst (λ set. IsFormedRow set row) (sym (same_above no_controllers q))
-        (subst (IsFormedRow (enabled_above st q)) old.2 (keeps (enabled_above st q) q old.0 (formed.rows q old.0 old.1)));
-    freeze = λ q row is.
-        let old = mapped_from (f q) (row_at st q) row (sym (rows q) ∙ is) in
-        ap (λ (r : Cgroup). is_some r.freeze) (sym old.2) ∙ ap is_some (freeze_same q old.0) ∙ formed.freeze q old.0 old.1;
-    told = λ q files is.
-        let old = formed.told q files is in
-        (same_row q ∙ old.0, subst (λ set. IsFormedTold set files) (sym (same_above no_controllers q)) old.1);
-    told_below_root = formed.told_below_root;
+        subst (λ set. IsFormedRow (is_root q) set row) (sym (same_above no_controllers q))
+        (subst (IsFormedRow (is_root q) (enabled_above st q)) old.2
+        (keeps (is_root q) (enabled_above st q) q old.0 (formed.rows q old.0 old.1)));
     places = λ pid process is. same_hold process.place (formed.places pid process is);
     used = formed.used;
   }

@@ -6,10 +6,7 @@ use Rattle.cg_cgroup.specs.Identity.{Identity}
 use Rattle.cg_cgroup.specs.Files.{no_controllers, is_within}
 use Rattle.cg_cgroup.specs.Cgroups.{cgroup_made_by}
 use Rattle.cg_model.specs.States.{State, row_at, has_child, has_live, with_row, without_row}
-use Rattle.cg_model.specs.WellFormed.{has_row, enabled_at, enabled_above, available_at, IsFormedRow, IsFormedTold, IsWellFormed}
-use Rattle.std.specs.FinMap as finite
-use Rattle.cg_cgroup.specs.declared.told.ToldFiles.{ToldFiles}
-use Rattle.cg_model.proofs.StateTold.{get-told-without_row}
+use Rattle.cg_model.specs.WellFormed.{has_row, enabled_at, enabled_above, available_at, IsFormedRow, IsWellFormed}
 use Rattle.cg_cgroup.specs.declared.controllers.ControllerSet.{ControllerSet}
 use Rattle.cg_cgroup.specs.declared.cgroup.Cgroup.{Cgroup}
 use Rattle.cg_cgroup.proofs.Options.{some_value}
@@ -40,8 +37,7 @@ pub record IsNewRow (st : State) (path : Names) (row : Cgroup) : Type 0 where
   pub absent : has_row st path ≡ false
   pub parent_there : has_row st (parent path) ≡ true
   pub within : is_within row.enabled (enabled_at st (parent path)) ≡ true
-  pub formed : IsFormedRow (enabled_at st (parent path)) row
-  pub freeze : is_some row.freeze ≡ true
+  pub formed : IsFormedRow false (enabled_at st (parent path)) row
 
 module _ (st : State) (path : Names) (row : Cgroup) (new_row : IsNewRow st path row) (whole : IsWellFormed st) where
   not_root : is_root path ≡ false
@@ -87,15 +83,10 @@ module _ (st : State) (path : Names) (row : Cgroup) (new_row : IsNewRow st path 
     top_down = one_row (λ q r. is_within r.enabled (available_at (with_row st path row) q) ≡ true)
         (ap (is_within row.enabled) (above_new st.controllers) ∙ new_row.within)
         (λ q r is. ap (is_within r.enabled) (above_kept st.controllers q r is) ∙ whole.top_down q r is);
-    rows = one_row (λ q r. IsFormedRow (enabled_above (with_row st path row) q) r)
-        (subst (λ set. IsFormedRow set row) (sym (above_new no_controllers)) new_row.formed)
-        (λ q r is. subst (λ set. IsFormedRow set r) (sym (above_kept no_controllers q r is)) (whole.rows q r is));
-    freeze = one_row (λ q r. is_some r.freeze ≡ not (is_root q)) (new_row.freeze ∙ ap not (sym not_root)) whole.freeze;
-    told = λ q files is.
-        let old = whole.told q files is in
-        let row = some_value (row_at st q) old.0 in
-        (there_still q old.0, subst (λ set. IsFormedTold set files) (sym (above_kept no_controllers q row.0 row.1)) old.1);
-    told_below_root = whole.told_below_root;
+    rows = one_row (λ q r. IsFormedRow (is_root q) (enabled_above (with_row st path row) q) r)
+        (subst (λ root. IsFormedRow root (enabled_above (with_row st path row) path) row) (sym not_root)
+        (subst (λ set. IsFormedRow false set row) (sym (above_new no_controllers)) new_row.formed))
+        (λ q r is. subst (λ set. IsFormedRow (is_root q) set r) (sym (above_kept no_controllers q r is)) (whole.rows q r is));
     places = λ pid process is.
         let held = may_hold-row st process.place (whole.places pid process is) in
         row-may_hold (with_row st path row) process.place held.0 (kept_row process.place (ap is_some held.1) ∙ held.1) held.2;
@@ -109,7 +100,6 @@ new_row-cgroup_made_by st path user absent there = record {
   parent_there = there;
   within = refl;
   formed = formed_row-cgroup_made_by user (enabled_at st (parent path));
-  freeze = refl;
 }
 
 -- Making a directory makes a child.
@@ -146,16 +136,6 @@ module _ (st : State) (path : Names) (not_root : is_root path ≡ false) (no_chi
   root_other q root =
       false_from_ne_true (same_path path q) (λ same. true≢false (sym root ∙ ap is_root (sym (same_path-is path q same)) ∙ not_root))
 
-  left_told : (q : Names) (files : ToldFiles) → finite.get (without_row st path).told q ≡ Some files
-      → (same_path path q ≡ false) × (finite.get st.told q ≡ Some files)
-  left_told q files is =
-      elim (same_path path q) as
-      (λ b. same_path path q ≡ b → cond b None (finite.get st.told q) ≡ Some files
-      → (same_path path q ≡ false) × (finite.get st.told q ≡ Some files)) [
-        | true ↦ λ _ none. absurd (true≢false (sym (ap is_some none)))
-        | false ↦ λ other is. (other, is)
-      ] refl (sym (get-told-without_row st path q) ∙ is)
-
   pub formed-without_row : IsWellFormed (without_row st path)
   formed-without_row = record {
     root = ap is_some (row_at-without_row-other path st [] (root_other [] refl)) ∙ whole.root;
@@ -172,16 +152,7 @@ module _ (st : State) (path : Names) (not_root : is_root path ≡ false) (no_chi
         ∙ whole.top_down q r left.1;
     rows =
         λ q r is. let left =
-        left_row q r is in subst (λ set. IsFormedRow set r) (sym (above_left no_controllers q r left.1)) (whole.rows q r left.1);
-    freeze = λ q r is. whole.freeze q r (left_row q r is).1;
-    told = λ q files is.
-        let left = left_told q files is in
-        let old = whole.told q files left.1 in
-        let row = some_value (row_at st q) old.0 in (
-          ap is_some (row_at-without_row-other path st q left.0) ∙ old.0,
-          subst (λ set. IsFormedTold set files) (sym (above_left no_controllers q row.0 row.1)) old.1,
-        );
-    told_below_root = λ q files is. whole.told_below_root q files (left_told q files is).1;
+        left_row q r is in subst (λ set. IsFormedRow (is_root q) set r) (sym (above_left no_controllers q r left.1)) (whole.rows q r left.1);
     places = λ pid process is.
         let held = may_hold-row st process.place (whole.places pid process is) in
         let other =

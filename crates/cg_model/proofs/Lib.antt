@@ -6,11 +6,9 @@ pub mod StateCounts
 pub mod FormedRows
 pub mod FormedParts
 pub mod FormedReshaped
-pub mod FormedTold
 pub mod FormedTree
 pub mod FormedEnabled
 pub mod RootControllers
-pub mod StateTold
 pub mod StateEntries
 pub mod FormedLaws
 pub mod TreeLaws

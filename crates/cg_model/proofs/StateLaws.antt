@@ -8,7 +8,7 @@ use Rattle.cg_cgroup.specs.Paths.{Names, path_cmp, same_path}
 use Rattle.cg_cgroup.specs.Identity.{Identity}
 use Rattle.cg_cgroup.specs.Cgroups.{with_value_in, with_mode_in}
 use Rattle.cg_model.specs.States.{State, row_at, process_at, is_used, change_at, enabling, with_row, without_row, with_value, with_mode, with_enabled, placed_at, with_place, with_process, without_process}
-use Rattle.cg_cgroup.specs.declared.files.Limit.{Limit}
+use Rattle.cg_cgroup.specs.declared.value.Value.{Value}
 use Rattle.cg_cgroup.specs.declared.controllers.ControllerSet.{ControllerSet}
 use Rattle.cg_cgroup.specs.declared.files.LimitFile.{LimitFile}
 use Rattle.cg_cgroup.specs.declared.files.EntryName.{EntryName}
@@ -37,7 +37,7 @@ pub row_at-change_at : (p : Names) (f : Cgroup → Cgroup) (st : State) (q : Nam
 row_at-change_at p f st q =
     get-change_value path_cmp_total st.rows p f q ∙ ap (λ b. cond b (option_map f (row_at st q)) (row_at st q)) (sym (same_path-ties p q))
 
-pub row_at-with_value : (st : State) (p : Names) (file : LimitFile) (value : Limit) (q : Names)
+pub row_at-with_value : (st : State) (p : Names) (file : LimitFile) (value : Value) (q : Names)
     → row_at (with_value st p file value) q ≡ cond (same_path p q) (option_map (with_value_in file value) (row_at st q)) (row_at st q)
 row_at-with_value st p file value q = row_at-change_at p (with_value_in file value) st q
 

@@ -2,29 +2,26 @@
 use Rattle.std.proofs.Common.{◌≡◌, ℕ, Bool, true, false, ◌&&◌, ◌||◌, cond, nat_eq, refl, sym, ap, subst, ◌∙◌, true≢false, [], Option, Some, None, is_some, option_map, option_and_then}
 use Rattle.cg_cgroup.specs.Paths.{Names, same_path, is_child, parent}
 use Rattle.cg_cgroup.specs.Identity.{Identity}
-use Rattle.cg_cgroup.specs.Files.{controller_of, stands_under, same_file, same_entry}
-use Rattle.cg_cgroup.specs.Cgroups.{file_of, cgroup_made_by}
-use Rattle.cg_model.specs.States.{State, row_at, process_at, is_used, file_at, other_at, entry_at, value_at, told_text, with_enabled, with_process}
+use Rattle.cg_cgroup.specs.Files.{controller_of, same_file, same_entry}
+use Rattle.cg_cgroup.specs.Cgroups.{cgroup_made_by}
+use Rattle.cg_model.specs.States.{State, row_at, process_at, is_used, file_at, entry_at, value_at, with_enabled, with_process}
 use Rattle.cg_model.specs.WellFormed.{has_row, enabled_at}
 use Rattle.cg_cgroup.specs.declared.controllers.ControllerSet.{ControllerSet}
-use Rattle.cg_cgroup.specs.declared.files.Controller.{Controller}
 use Rattle.cg_cgroup.specs.declared.files.LimitFile.{LimitFile}
-use Rattle.cg_cgroup.specs.declared.files.LimitFile.TheVariants.{MaxDescendants, MaxDepth, CpuWeight}
 use Rattle.cg_cgroup.specs.declared.files.EntryName.{EntryName}
-use Rattle.cg_cgroup.specs.declared.files.EntryName.TheVariants.{Dir, Procs, SubtreeControl, File, Other}
-use Rattle.cg_cgroup.specs.declared.other_file.OtherFile.{OtherFile}
+use Rattle.cg_cgroup.specs.declared.files.EntryName.TheVariants.{Dir, Procs, SubtreeControl, File}
 use Rattle.cg_cgroup.specs.declared.cgroup.Cgroup.{Cgroup}
 use Rattle.cg_cgroup.specs.declared.process.Process.{Process}
 use Rattle.cg_model.proofs.StateLaws.{row_at-with_row, row_at-without_row, row_at-with_value, row_at-with_mode, process_at-with_place-other, process_at-with_process-other, process_at-without_process-other, is_used-with_process}
-use Rattle.cg_model.proofs.StateEntries.{entry_at-with_value, value_at-with_value, enabled_at-with_value, entry_at-with_mode, value_at-with_mode, enabled_at-with_mode, entry_at-with_enabled-beyond, entry_at-with_text, told_text-with_enabled, told_text-with_text, told_text-with_mode, told_text-without_row, entry_at-with_row, value_at-with_row, enabled_at-with_row, entry_at-without_row, value_at-without_row, enabled_at-without_row, entry_at-file, value_at-file, entry_at-with_enabled-dir, entry_at-with_enabled-procs, entry_at-with_enabled-subtree_control, file_at-with_enabled-other, file_at-with_enabled-same, other_at-with_value, other_at-with_mode, other_at-with_row, other_at-without_row, other_at-with_enabled-other}
+use Rattle.cg_model.proofs.StateEntries.{entry_at-with_value, value_at-with_value, enabled_at-with_value, entry_at-with_mode, value_at-with_mode, enabled_at-with_mode, entry_at-with_row, value_at-with_row, enabled_at-with_row, entry_at-without_row, value_at-without_row, enabled_at-without_row, entry_at-file, value_at-file, entry_at-with_enabled-dir, entry_at-with_enabled-procs, entry_at-with_enabled-subtree_control, file_at-with_enabled-other, file_at-with_enabled-core}
 use Rattle.cg_model.proofs.FormedEnabled.{has_row-with_enabled, enabled_at-with_enabled-other}
 use Rattle.cg_model.specs.Changes.{enabled_after}
 use Rattle.cg_model.specs.Next.{next}
 use Rattle.cg_model.specs.Steps.{after}
 use Rattle.cg_model.specs.Limits.{limits}
-use Rattle.cg_model.specs.Effects.{alters_row, alters_entry, alters_value, alters_text, alters_others, alters_enabled, alters_process, alters_used}
+use Rattle.cg_model.specs.Effects.{alters_row, alters_entry, alters_value, alters_enabled, alters_process, alters_used}
 use Rattle.cg_model.specs.declared.operation.Op.{Op}
-use Rattle.cg_model.specs.declared.operation.Op.TheVariants.{Move, Control, Mkdir, Rmdir, Set, SetOther, Fork, Exit, Chmod}
+use Rattle.cg_model.specs.declared.operation.Op.TheVariants.{Move, Control, Mkdir, Rmdir, Set, Fork, Exit, Chmod}
 use Rattle.cg_model.proofs.StepFormed.{after-by}
 
 not_taken : {A : Type 0} (b : Bool) (x y : A) → b ≡ false → cond b x y ≡ y
@@ -50,7 +47,6 @@ has_row-next st user (Control at changes) q h = has_row-with_enabled st at _ use
 has_row-next st user (Mkdir path) q h = ap is_some (row_at-with_row st path _ q ∙ not_taken (same_path path q) _ _ h)
 has_row-next st user (Rmdir path) q h = ap is_some (row_at-without_row st path q ∙ not_taken (same_path path q) _ _ h)
 has_row-next st user (Set at file value) q h = ap is_some (row_at-with_value st at file value q) ∙ is_some-changed (same_path at q) _ _
-has_row-next st user (SetOther at file value) q h = refl
 has_row-next st user (Fork parent child) q h =
     fork-by (λ s. has_row s q ≡ has_row st q) st child (process_at st parent) refl (λ process. refl)
 has_row-next st user (Exit pid) q h = refl
@@ -58,22 +54,12 @@ has_row-next st user (Chmod at name mode) q h = ap is_some (row_at-with_mode st 
 
 -- ---- the files of a cgroup's children
 
--- a file that no controller brings stands wherever there is a cgroup
-stands_everywhere : (enabled : ControllerSet) (file : LimitFile) (found : Option Cgroup) → is_some (controller_of file) ≡ false
-    → is_some found ≡ true → is_some (option_and_then (λ row. file_of row file) found) ≡ stands_under enabled file
-stands_everywhere enabled file None free there = absurd (true≢false (sym there))
-stands_everywhere enabled MaxDescendants (Some row) free there = refl
-stands_everywhere enabled MaxDepth (Some row) free there = refl
-stands_everywhere enabled file (Some row) free there = absurd (true≢false free)
-
 file_at-with_enabled-kept : (st : State) (at : Names) (enabled : ControllerSet) (user : Identity) (q : Names) (file : LimitFile)
     → (is_child at q && is_some (controller_of file)) ≡ false → file_at (with_enabled st at enabled user) q file ≡ file_at st q file
 file_at-with_enabled-kept st at enabled user q file h =
     elim (is_child at q) as (λ b. is_child at q ≡ b → (b && is_some (controller_of file)) ≡ false
     → file_at (with_enabled st at enabled user) q file ≡ file_at st q file) [
-      | true ↦
-          λ child free.
-          file_at-with_enabled-same st at enabled user q file (λ there. stands_everywhere enabled file (row_at st q) free there)
+      | true ↦ λ child free. file_at-with_enabled-core st at enabled user q file free
       | false ↦ λ other free. file_at-with_enabled-other st at enabled user q other file
     ] refl h
 
@@ -84,7 +70,6 @@ entry_at-with_enabled-kept : (st : State) (at : Names) (enabled : ControllerSet)
 entry_at-with_enabled-kept st at enabled user q Dir h = entry_at-with_enabled-dir st at enabled user q
 entry_at-with_enabled-kept st at enabled user q Procs h = entry_at-with_enabled-procs st at enabled user q
 entry_at-with_enabled-kept st at enabled user q SubtreeControl h = entry_at-with_enabled-subtree_control st at enabled user q
-entry_at-with_enabled-kept st at enabled user q (Other file) h = entry_at-with_enabled-beyond st at enabled user q file h
 entry_at-with_enabled-kept st at enabled user q (File file) h =
     entry_at-file (with_enabled st at enabled user) q file
     ∙ ap (option_map (λ f. f.entry)) (file_at-with_enabled-kept st at enabled user q file h) ∙ sym (entry_at-file st q file)
@@ -96,7 +81,6 @@ entry_at-next st user (Control at changes) q name h = entry_at-with_enabled-kept
 entry_at-next st user (Mkdir path) q name h = entry_at-with_row st path _ q name h
 entry_at-next st user (Rmdir path) q name h = entry_at-without_row st path q name ∙ not_taken (same_path path q) _ _ h
 entry_at-next st user (Set at file value) q name h = entry_at-with_value st at file value q name
-entry_at-next st user (SetOther at file value) q name h = entry_at-with_text st at file value q name
 entry_at-next st user (Fork parent child) q name h =
     fork-by (λ s. entry_at s q name ≡ entry_at st q name) st child (process_at st parent) refl (λ process. refl)
 entry_at-next st user (Exit pid) q name h = refl
@@ -116,54 +100,10 @@ value_at-next st user (Mkdir path) q file h = value_at-with_row st path _ q file
 value_at-next st user (Rmdir path) q file h = value_at-without_row st path q file ∙ not_taken (same_path path q) _ _ h
 value_at-next st user (Set at written value) q file h = value_at-with_value st at written value q file
     ∙ not_taken (same_path at q && same_file written file) _ _ h
-value_at-next st user (SetOther at written value) q file h = refl
 value_at-next st user (Fork parent child) q file h =
     fork-by (λ s. value_at s q file ≡ value_at st q file) st child (process_at st parent) refl (λ process. refl)
 value_at-next st user (Exit pid) q file h = refl
 value_at-next st user (Chmod at entry mode) q file h = value_at-with_mode st at entry mode q file
-
--- ---- the other files that controllers bring
-
-other_at-next : (st : State) (user : Identity) (op : Op) (q : Names) (controller : Controller) → alters_others op q ≡ false
-    → other_at (next st user op) q controller ≡ other_at st q controller
-other_at-next st user (Move pid to) q controller h = refl
-other_at-next st user (Control at changes) q controller h =
-    other_at-with_enabled-other st at (enabled_after (enabled_at st at) changes) user q h controller
-other_at-next st user (Mkdir path) q controller h = other_at-with_row st path _ q controller ∙ not_taken (same_path path q) _ _ h
-other_at-next st user (Rmdir path) q controller h = other_at-without_row st path q controller ∙ not_taken (same_path path q) _ _ h
-other_at-next st user (Set at file value) q controller h = other_at-with_value st at file value q controller
-other_at-next st user (SetOther at file value) q controller h = refl
-other_at-next st user (Fork parent child) q controller h =
-    fork-by (λ s. other_at s q controller ≡ other_at st q controller) st child (process_at st parent) refl (λ process. refl)
-other_at-next st user (Exit pid) q controller h = refl
-other_at-next st user (Chmod at entry mode) q controller h = other_at-with_mode st at entry mode q controller
-
--- ---- what is told of the values of limit files beyond `LimitFile`
-
-told_text-next : (st : State) (user : Identity) (op : Op) (q : Names) (file : OtherFile) → alters_text op q file ≡ false
-    → told_text (next st user op) q file ≡ told_text st q file
-told_text-next st user (Move pid to) q file h = refl
-told_text-next st user (Control at changes) q file h =
-    told_text-with_enabled st at (enabled_after (enabled_at st at) changes) user q file h
-told_text-next st user (Mkdir path) q file h = refl
-told_text-next st user (Rmdir path) q file h = told_text-without_row st path q file ∙ not_taken (same_path path q) _ _ h
-told_text-next st user (Set at written value) q file h = refl
-told_text-next st user (SetOther at written value) q file h = told_text-with_text st at written value q file h
-told_text-next st user (Fork parent child) q file h =
-    fork-by (λ s. told_text s q file ≡ told_text st q file) st child (process_at st parent) refl (λ process. refl)
-told_text-next st user (Exit pid) q file h = refl
-told_text-next st user (Chmod at entry mode) q file h = told_text-with_mode st at entry mode q file
-
-and_true : (b : Bool) → (b && true) ≡ false → b ≡ false
-and_true true h = h
-and_true false h = refl
-
--- who alters the value of no file alters no other file either
-others_unaltered : (op : Op) (q : Names) → ((file : LimitFile) → alters_value op q file ≡ false) → alters_others op q ≡ false
-others_unaltered (Control at changes) q h = and_true (is_child at q) (h CpuWeight)
-others_unaltered (Mkdir path) q h = h CpuWeight
-others_unaltered (Rmdir path) q h = h CpuWeight
-others_unaltered op q h = refl
 
 -- ---- controllers
 
@@ -175,7 +115,6 @@ enabled_at-next st user (Mkdir path) q h = enabled_at-with_row st path (cgroup_m
     ∙ not_taken (same_path path q) _ _ h
 enabled_at-next st user (Rmdir path) q h = enabled_at-without_row st path q ∙ not_taken (same_path path q) _ _ h
 enabled_at-next st user (Set at file value) q h = enabled_at-with_value st at file value q
-enabled_at-next st user (SetOther at file value) q h = refl
 enabled_at-next st user (Fork parent child) q h =
     fork-by (λ s. enabled_at s q ≡ enabled_at st q) st child (process_at st parent) refl (λ process. refl)
 enabled_at-next st user (Exit pid) q h = refl
@@ -190,7 +129,6 @@ process_at-next st user (Control at changes) pid h = refl
 process_at-next st user (Mkdir path) pid h = refl
 process_at-next st user (Rmdir path) pid h = refl
 process_at-next st user (Set at file value) pid h = refl
-process_at-next st user (SetOther at file value) pid h = refl
 process_at-next st user (Fork parent child) pid h =
     fork-by (λ s. process_at s pid ≡ process_at st pid) st child (process_at st parent) refl
     (λ process. process_at-with_process-other st child process.uid process.place pid h)
@@ -205,7 +143,6 @@ used-by Q st user (Control at changes) pid same made = same
 used-by Q st user (Mkdir path) pid same made = same
 used-by Q st user (Rmdir path) pid same made = same
 used-by Q st user (Set at file value) pid same made = same
-used-by Q st user (SetOther at file value) pid same made = same
 used-by Q st user (Fork parent child) pid same made =
     fork-by (λ s. Q (is_used s pid)) st child (process_at st parent) same
     (λ process. subst Q (sym (is_used-with_process st child process.uid process.place pid)) (made (nat_eq child pid) refl))
@@ -229,7 +166,6 @@ controllers-next st user (Control at changes) = refl
 controllers-next st user (Mkdir path) = refl
 controllers-next st user (Rmdir path) = refl
 controllers-next st user (Set at file value) = refl
-controllers-next st user (SetOther at file value) = refl
 controllers-next st user (Fork parent child) =
     fork-by (λ s. s.controllers ≡ st.controllers) st child (process_at st parent) refl (λ process. refl)
 controllers-next st user (Exit pid) = refl
@@ -249,25 +185,8 @@ module _ (st : State) (user : Identity) (op : Op) where
       → value_at (after st user op) q file ≡ value_at st q file
   value_at-after q file h = after-by st user op (λ s. value_at s q file ≡ value_at st q file) (λ _. value_at-next st user op q file h) refl
 
-  pub other_at-after : (q : Names) (controller : Controller) → alters_others op q ≡ false
-      → other_at (after st user op) q controller ≡ other_at st q controller
-  other_at-after q controller h =
-      after-by st user op (λ s. other_at s q controller ≡ other_at st q controller) (λ _. other_at-next st user op q controller h) refl
-
-  pub told_text-after : (q : Names) (file : OtherFile) → alters_text op q file ≡ false
-      → told_text (after st user op) q file ≡ told_text st q file
-  told_text-after q file h =
-      after-by st user op (λ s. told_text s q file ≡ told_text st q file) (λ _. told_text-next st user op q file h) refl
-
-  pub limits-after : (q : Names) → ((file : LimitFile) → alters_value op q file ≡ false)
-      → ((file : OtherFile) → alters_text op q file ≡ false) → limits (after st user op) q ≡ limits st q
-  limits-after q h texts =
-      let others = others_unaltered op q h in
-      λ i. record {
-        values = λ file. value_at-after q file (h file) i;
-        others = λ controller. is_some (other_at-after q controller others i);
-        told = λ file. told_text-after q file (texts file) i;
-      }
+  pub limits-after : (q : Names) → ((file : LimitFile) → alters_value op q file ≡ false) → limits (after st user op) q ≡ limits st q
+  limits-after q h = λ i file. value_at-after q file (h file) i
 
   pub enabled_at-after : (q : Names) → alters_enabled op q ≡ false → enabled_at (after st user op) q ≡ enabled_at st q
   enabled_at-after q h = after-by st user op (λ s. enabled_at s q ≡ enabled_at st q) (λ _. enabled_at-next st user op q h) refl

@@ -7,14 +7,14 @@ use Rattle.cg_model.specs.WellFormed.{IsWellFormed, MayEnable, enabled_at, has_r
 use Rattle.cg_cgroup.specs.declared.process.Process.{Process}
 use Rattle.cg_cgroup.proofs.Options.{some_value}
 use Rattle.cg_model.proofs.FormedParts.{enabled_at-row}
-use Rattle.cg_model.proofs.FormedLaws.{formed-with_made_row, formed-without_row, formed-with_enabled, formed-with_value, formed-with_text, formed-with_mode, formed-with_place, formed-with_process, formed-without_process}
+use Rattle.cg_model.proofs.FormedLaws.{formed-with_made_row, formed-without_row, formed-with_enabled, formed-with_value, formed-with_mode, formed-with_place, formed-with_process, formed-without_process}
 use Rattle.cg_model.specs.Changes.{enabled_after}
 use Rattle.cg_model.specs.Bars.{control_bars, bars}
 use Rattle.cg_model.specs.Next.{next}
 use Rattle.cg_model.specs.Steps.{after, Deed, after_all, HasMode, HaveModes}
 use Rattle.cg_model.specs.declared.changes.Change.{Change}
 use Rattle.cg_model.specs.declared.operation.Op.{Op}
-use Rattle.cg_model.specs.declared.operation.Op.TheVariants.{Move, Control, Mkdir, Rmdir, Set, SetOther, Fork, Exit, Chmod}
+use Rattle.cg_model.specs.declared.operation.Op.TheVariants.{Move, Control, Mkdir, Rmdir, Set, Fork, Exit, Chmod}
 use Rattle.cg_model.specs.declared.outcome.Refusal.{Refusal}
 use Rattle.cg_model.proofs.ClauseLaws.{no_parts, no_absent}
 use Rattle.cg_model.proofs.Allowed.{allowed_move, allowed_mkdir, allowed_rmdir, allowed_set}
@@ -67,7 +67,6 @@ formed-next st user (Mkdir path) whole mode h =
 formed-next st user (Rmdir path) whole mode h =
     let old = allowed_rmdir st user path h in formed-without_row st path old.not_root old.no_child old.no_process whole
 formed-next st user (Set at file value) whole mode h = formed-with_value st at file value (allowed_set st user at file value h) whole
-formed-next st user (SetOther at file value) whole mode h = formed-with_text st at file value whole
 formed-next st user (Fork parent child) whole mode h =
     formed_fork st child (process_at st parent)
     (λ process is. formed-with_process st child process.uid process.place (whole.places parent process is) whole) whole

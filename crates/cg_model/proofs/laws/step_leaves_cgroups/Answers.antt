@@ -1,4 +1,4 @@
-use Rattle.cg_model.proofs.StepEffects.{has_row-after, entry_at-after, value_at-after, other_at-after, enabled_at-after, controllers-after}
+use Rattle.cg_model.proofs.StepEffects.{has_row-after, entry_at-after, value_at-after, enabled_at-after, controllers-after}
 use Rattle.cg_model.proofs.laws.step_leaves_cgroups.Goals as goal
 
 pub returns : goal.returns
@@ -7,7 +7,6 @@ returns c =
       rows = has_row-after;
       entries = entry_at-after;
       values = value_at-after;
-      others = other_at-after;
       enabled = enabled_at-after;
       controllers = controllers-after;
     }
