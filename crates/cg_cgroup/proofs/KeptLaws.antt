@@ -1,15 +1,15 @@
 -- The limit files of a cgroup as they are kept, read and changed.
-use Rattle.std.proofs.Common.{◌≡◌, ℕ, ◌<◌, Bool, true, false, not, ◌||◌, cond, List, [], ◌∷◌, length, map, get_or, set, refl, sym, ap, subst, ◌∙◌, arith, true≢false}
+use Rattle.std.proofs.Common.{◌≡◌, ◌≢◌, ℕ, ◌<◌, Bool, true, false, not, ◌||◌, cond, List, [], ◌∷◌, length, map, get_or, set, refl, sym, ap, subst, ◌∙◌, arith, true≢false}
 use Rattle.std.specs.Prelude.{Option, Some, None, is_some, unwrap_or, filter}
 use Rattle.std.specs.Option.{option_map, option_map_or}
 use Rattle.std.proofs.lemmas.List.{get_or-set_same, get_or-set_other}
-use Rattle.std.proofs.lemmas.Option.{same_Some}
+use Rattle.std.proofs.lemmas.Option.{same_Some, none-some}
 use Rattle.std.proofs.Math.Bool.{or-true}
 use Rattle.cg_cgroup.specs.Kinds.{all_controllers, controller_kind, all_files, format_2_files, kind_of}
 use Rattle.cg_cgroup.specs.Files.{is_text_form, is_text, fits, accepts, may_have, default_value, controller_of, enables, stands_by, stands_under, stands_at, is_brought_by, same_file}
 use Rattle.cg_cgroup.specs.Values.{most_of}
 use Rattle.cg_cgroup.specs.Cgroups.{Held, FileMap, no_files, with_held, with_value_of, with_mode_of, with_file_mode_of, untouched, standing, standing_files, refitted, refitted_files, taken_files, is_plain}
-use Rattle.cg_cgroup.specs.Kept.{kept, number_held, number_value, number_in, text_value, text_of, text_held, text_in, said_text, unnamed_held, named_or, owner_in, brought_owner, is_number_place, with_at, untouched_number, standing_number, refitted_number, refitted_owner, AreOwners}
+use Rattle.cg_cgroup.specs.Kept.{kept, number_held, number_value, number_in, text_value, text_of, text_held, text_in, said_text, unnamed_held, named_or, HasNoNumbers, owner_in, brought_owner, is_number_place, with_at, untouched_number, standing_number, refitted_number, refitted_owner, AreOwners}
 use Rattle.cg_cgroup.specs.declared.user.Entry.{Entry}
 use Rattle.cg_cgroup.specs.declared.value.Value.{Value}
 use Rattle.cg_cgroup.specs.declared.value.Value.TheVariants.{Unknown, Max, Number, Text}
@@ -518,6 +518,52 @@ plain_alike numbers core owners texts others here there =
           ∙ ap (λ said. named_or said (owner_in core owners file)) (here file place ∙ sym (there file place))
           ∙ sym (kept_text numbers core owners others file place)
     ] refl)
+
+-- ---- those whose values are texts alone
+
+pub no_numbers-put : (texts new : List TextFile) (text : TextFile) → HasNoNumbers texts → is_number_place text.file ≡ false
+    → ((file : LimitFile) → text_in new file ≡ cond (same_file text.file file) (Some text) (text_in texts file)) → HasNoNumbers new
+no_numbers-put texts new text none place found file number =
+    found file ∙ (elim (same_file text.file file) as
+    (λ b. same_file text.file file ≡ b → cond b (Some text) (text_in texts file) ≡ None) [
+      | true ↦ λ same.
+          absurd (true≢false (sym number ∙ sym (ap is_number_place (same_file-true text.file file same)) ∙ place))
+      | false ↦ λ _. none file number
+    ] refl)
+
+pub no_numbers-filter : (test : LimitFile → Bool) (texts new : List TextFile) → HasNoNumbers texts
+    → new ≡ filter (λ text. test text.file) texts → HasNoNumbers new
+no_numbers-filter test texts new none is file number =
+    ap (λ texts. text_in texts file) is ∙ found-filter test texts file
+    ∙ ap (λ said. cond (test file) said None) (none file number) ∙ none_either (test file)
+  where
+    none_either : (b : Bool) → cond b None None ≡ None
+    none_either true = refl
+    none_either false = refl
+
+number_or_text : (texts : List TextFile) (text : TextFile) → HasNoNumbers (text ∷ texts) → is_number_place text.file ≡ false
+number_or_text texts text none =
+    elim (is_number_place text.file) as (λ b. is_number_place text.file ≡ b → b ≡ false) [
+      | true ↦ λ number.
+          absurd (none-some text
+          (sym (none text.file number) ∙ ap (λ b. cond b (Some text) (text_in texts text.file)) (same_file-refl text.file)))
+      | false ↦ λ _. refl
+    ] refl
+
+says_of_first : (texts : List TextFile) (text : TextFile) → text_in (text ∷ texts) text.file ≡ Some text
+says_of_first texts text = ap (λ b. cond b (Some text) (text_in texts text.file)) (same_file-refl text.file)
+
+pub not_plain : (numbers : List (Option NumberFile)) (core : Option Entry) (owners : List (Option Entry)) (texts : List TextFile)
+    → HasNoNumbers texts → texts ≢ [] → is_plain (all_kept numbers core owners texts) ≡ false
+not_plain numbers core owners [] none some = absurd (some refl)
+not_plain numbers core owners (text ∷ texts) none some =
+    elim (is_plain (all_kept numbers core owners (text ∷ texts))) as
+    (λ b. is_plain (all_kept numbers core owners (text ∷ texts)) ≡ b → b ≡ false) [
+      | true ↦ λ plain.
+          absurd (none-some text
+          (sym (plain_says numbers core owners (text ∷ texts) plain text.file (number_or_text texts text none)) ∙ says_of_first texts text))
+      | false ↦ λ _. refl
+    ] refl
 
 -- ---- owners
 

@@ -50,15 +50,19 @@ brought_owner owners controller = get_or owners (controller_kind controller).num
 abbrev pub owner_in : Option Entry → List (Option Entry) → LimitFile → Option Entry
 owner_in core owners file = elim (controller_of file) [ None ↦ core | Some controller ↦ brought_owner owners controller ]
 
+abbrev pub is_number_place : LimitFile → Bool
+is_number_place file = nat_lt (kind_of file).number 8
+
 abbrev pub text_in : List TextFile → LimitFile → Option TextFile
 text_in texts file = find (λ text. same_file text.file file) texts
+
+-- those whose values are numbers aren't among them
+abbrev pub HasNoNumbers : List TextFile → Type 0
+HasNoNumbers texts = (file : LimitFile) → is_number_place file ≡ true → text_in texts file ≡ None
 
 abbrev pub named_or : Option TextFile → Option Entry → Option Held
 named_or (Some text) owner = Some (text_held text)
 named_or None owner = option_map unnamed_held owner
-
-abbrev pub is_number_place : LimitFile → Bool
-is_number_place file = nat_lt (kind_of file).number 8
 
 abbrev pub kept : List (Option NumberFile) → Option Entry → List (Option Entry) → List TextFile → LimitFile → Option Held
 kept numbers core owners texts file =

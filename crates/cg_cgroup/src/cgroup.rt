@@ -1,9 +1,9 @@
 //! One cgroup: its entries, its limit files and what it enables for its children.
-ghost use Rattle.std.specs.Prelude.{◌≡◌, true, IfOk, OnOk, OnErr};
+ghost use Rattle.std.specs.Prelude.{◌≡◌, true, false, IfOk, OnOk, OnErr};
 ghost use Rattle.std.specs.Option.{option_map};
 ghost use Rattle.cg_cgroup.specs.Files.{is_text, is_text_entry, accepts};
 ghost use Rattle.cg_cgroup.specs.Values.{value_now};
-ghost use Rattle.cg_cgroup.specs.Cgroups.{entry_in, value_in, most_in, is_named_in, with_value_in, with_mode_in, with_files_of, cgroup_made_by};
+ghost use Rattle.cg_cgroup.specs.Cgroups.{entry_in, value_in, most_in, is_named_in, with_value_in, with_mode_in, with_files_of, cgroup_made_by, is_plain};
 
 use crate::files::{ControllerSet, EntryName, LimitFile};
 use crate::held::Files;
@@ -109,9 +109,10 @@ impl Cgroup {
         self.files.refit(enabled, Entry::made_by(user, Mode::FILE));
     }
 
-    /// An equal cgroup. Fails where memory is wanted.
+    /// An equal cgroup. Where nobody speaks of a file whose value is a text that takes no memory.
     pub fn try_clone(&self, alloc: Global) -> Result<Cgroup, NoMemory>
-        ensures { IfOk result (λ copy. copy ≡ self.now) }
+        ensures ok { IfOk result (λ copy. copy ≡ self.now) }
+        ensures err { OnErr result (is_plain self.now.files ≡ false) }
     {
         Ok(Cgroup {
             dir: self.dir,

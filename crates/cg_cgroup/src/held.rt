@@ -37,13 +37,15 @@ pub struct Files {
 impl Model for Files {
     ghost use Rattle.std.specs.Coded.{codes};
     ghost use Rattle.cg_cgroup.specs.FileMap.{FileMap, file_map_code};
-    ghost use Rattle.cg_cgroup.specs.Kept.{kept};
+    ghost use Rattle.cg_cgroup.specs.Kept.{kept, HasNoNumbers};
 
     ghost Value = { FileMap };
 
     ghost coded = { Prim.hlevel (codes, file_map_code) };
 
     ghost view = { λ f. record { at = kept f.numbers f.core f.owners f.texts } };
+
+    ghost invariant = { λ f. HasNoNumbers f.texts };
 }
 
 impl Files {
@@ -265,9 +267,10 @@ impl Files {
         self.owners = from.owners;
     }
 
-    /// Equal ones. Fails where memory is wanted.
+    /// Equal ones. Where nobody speaks of a file whose value is a text that takes no memory.
     pub fn try_clone(&self, alloc: Global) -> Result<Files, NoMemory>
-        ensures { IfOk result (λ copy. copy ≡ self.now) }
+        ensures ok { IfOk result (λ copy. copy ≡ self.now) }
+        ensures err { OnErr result (is_plain self.now ≡ false) }
     {
         Ok(Files {
             numbers: self.numbers,

@@ -1,5 +1,5 @@
 //! Limit files whose values are texts, as far as anybody speaks of them, in any order.
-ghost use Rattle.std.specs.Prelude.{◌≡◌, [], ◌∷◌, true, cond, filter, not, IfOk, OnOk, OnErr, Some, option_copied};
+ghost use Rattle.std.specs.Prelude.{◌≡◌, ◌≢◌, [], ◌∷◌, true, cond, filter, not, IfOk, OnOk, OnErr, Some, option_copied};
 ghost use Rattle.std.specs.List.{position};
 ghost use Rattle.cg_cgroup.specs.Files.{same_file, stands_at, is_brought_by};
 ghost use Rattle.cg_cgroup.specs.Kept.{text_in};
@@ -114,15 +114,19 @@ impl Texts {
         }
     }
 
-    /// Equal ones. Fails where memory is wanted.
+    /// Equal ones. Where there is none that takes no memory.
     pub fn try_clone(&self, alloc: Global) -> Result<Texts, NoMemory>
-        ensures { IfOk result (λ copy. copy ≡ self.now) }
+        ensures ok { IfOk result (λ copy. copy ≡ self.now) }
+        ensures err { OnErr result (self.now ≢ []) }
     {
-        let files = match &self.files {
-            Some(files) => Some(copies(files, alloc)?),
-            None => None,
+        let Some(files) = &self.files else {
+            return Ok(Texts { files: None });
         };
-        Ok(Texts { files })
+        if files.is_empty() {
+            return Ok(Texts { files: None });
+        }
+        let files = copies(files, alloc)?;
+        Ok(Texts { files: Some(files) })
     }
 }
 
