@@ -112,7 +112,7 @@ impl Files {
     pub fn owners(&self) -> (Option<Entry>, &[Option<Entry>])
         ensures { AreOwners self.now result.0 result.1.now }
     {
-        (self.core, &self.owners)
+        (self.core, self.owners.as_slice())
     }
 
     /// The file at a number's place, where it stands.
@@ -156,9 +156,27 @@ impl Files {
             self.put_number(file, held);
             return Ok(());
         }
-        let Some(entry) = self.entry(file) else {
-            return Ok(());
-        };
+        match self.entry(file) {
+            Some(entry) => self.set_text(alloc, file, entry, value),
+            None => Ok(()),
+        }
+    }
+
+    /// Sets the value of a file that has this entry.
+    fn set_text(
+        &mut self,
+        alloc: Global,
+        file: LimitFile,
+        entry: Entry,
+        value: ValueRef<'_>,
+    ) -> Result<(), NoMemory>
+        requires place { is_number_place file ≡ false }
+        requires accepted { accepts file (value_now value) ≡ true }
+        requires there { Some entry ≡ option_map (λ held. held.entry) (self.old.at file) }
+        ensures ok { OnOk result (self.new ≡ with_held file (with_value_of (value_now value.entry)) self.old) }
+        ensures err { OnErr result (self.new ≡ self.old) }
+        ensures memory { OnErr result (is_text file ≡ true) }
+    {
         let text = lines_of(alloc, value)?;
         self.put_text(alloc, TextFile { file, entry, text })?;
         Ok(())
@@ -175,9 +193,26 @@ impl Files {
             self.put_number(file, held);
             return Ok(());
         }
-        let Some(entry) = self.entry(file) else {
-            return Ok(());
-        };
+        match self.entry(file) {
+            Some(entry) => self.set_text_mode(alloc, file, entry, mode),
+            None => Ok(()),
+        }
+    }
+
+    /// Sets the mode of a file that has this entry.
+    fn set_text_mode(
+        &mut self,
+        alloc: Global,
+        file: LimitFile,
+        entry: Entry,
+        mode: Mode,
+    ) -> Result<(), NoMemory>
+        requires place { is_number_place file ≡ false }
+        requires there { Some entry ≡ option_map (λ held. held.entry) (self.old.at file) }
+        ensures ok { OnOk result (self.new ≡ with_held file (with_file_mode_of mode) self.old) }
+        ensures err { OnErr result (self.new ≡ self.old) }
+        ensures memory { OnErr result (is_text file ≡ true) }
+    {
         let text = self.text_copy(alloc, file)?;
         let entry = with_bits(entry, mode);
         self.put_text(alloc, TextFile { file, entry, text })?;
@@ -212,7 +247,8 @@ impl Files {
         requires { is_number_place file ≡ false }
         ensures { IfOk result (λ text. (held : Held) → self.now.at file ≡ Some held → text_value text ≡ held.value) }
     {
-        copied_text(alloc, self.texts.get(file))
+        let text = copied_text(alloc, self.texts.get(file))?;
+        Ok(text)
     }
 
     /// Those that stand at the root, or at a child of a cgroup that enables these controllers, all with this owner, group and

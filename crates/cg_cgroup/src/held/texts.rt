@@ -87,13 +87,11 @@ impl Texts {
             ≡ cond (same_file text.file file) (Some text) (text_in self.old file)) }
         ensures err { OnErr result (self.new ≡ self.old) }
     {
-        match &mut self.files {
-            Some(files) => put(files, text),
-            None => {
-                self.files = Some(alone(alloc, text)?);
-                Ok(())
-            }
+        if let Some(files) = &mut self.files {
+            return put(files, text);
         }
+        self.files = Some(alone(alloc, text)?);
+        Ok(())
     }
 
     /// Keeps those that stand at the root, or at a child of a cgroup that enables these controllers.
