@@ -81,7 +81,7 @@ abbrev pub change_at : Names → (Cgroup → Cgroup) → State → State
 change_at path f st = record st { rows = elim (row_at st path) [ None ↦ st.rows | Some row ↦ map.insert st.rows path (f row) ] }
 
 -- each row changed by its path
-abbrev pub change_each : (Names → Cgroup → Cgroup) → map.FinMap path_cmp Cgroup → map.FinMap path_cmp Cgroup
+abbrev pub change_each : {A : Type 0} → (Names → A → A) → map.FinMap path_cmp A → map.FinMap path_cmp A
 change_each f rows = map.from_sorted (map_list (λ e. (e.0, f e.0 e.1)) (map.entries rows))
 
 abbrev pub with_row : State → Names → Cgroup → State

@@ -59,7 +59,7 @@ fn is_reserved(name: &[u8]) -> bool
     ensures { result ≡ is_reserved name.now }
 {
     // each of these names has a dot, and most others have none
-    name.contains(&b'.') && (is_listed(name, &RESERVED) || is_file(name, &LimitFile::ALL))
+    name.contains(&b'.') && (is_listed(name, &RESERVED) || is_file(name, &LimitFile::IN_FORMAT_2))
 }
 
 /// Whether a text is a name of a cgroup.
