@@ -3,6 +3,7 @@ ghost use Rattle.std.specs.Prelude.{◌≡◌, ◌≤◌, length, IfOk};
 ghost use Rattle.std.specs.Coded.{codes};
 ghost use Rattle.std.specs.FinMap as map;
 ghost use Rattle.std.specs.FinSet as set;
+ghost use Rattle.cg_cgroup.specs.FileMap.{file_map_code};
 ghost use Rattle.cg_model.specs.States.{State};
 ghost use Rattle.cg_rows.specs.RowsForm.{IsRoot, state_of_root, state_of_tables};
 ghost use Rattle.cg_model.specs.WellFormed.{IsWellFormed};
@@ -13,13 +14,12 @@ mod below;
 use crate::processes::Processes;
 use crate::tables::path_table::PathTable;
 use cg_cgroup::cgroup::Cgroup;
-use cg_cgroup::files::{Controller, ControllerSet, EntryName, Limit, LimitFile};
+use cg_cgroup::files::{Controller, ControllerSet, EntryName, LimitFile};
 use cg_cgroup::memory::NoMemory;
-use cg_cgroup::other_file::OtherFile;
 use cg_cgroup::path::Path;
 use cg_cgroup::process::{Pid, Process};
-use cg_cgroup::told::{ToldFile, ToldFiles};
 use cg_cgroup::user::{Mode, User};
+use cg_cgroup::value::ValueRef;
 use cg_model::hierarchy::Hierarchy;
 use cg_model::limits::bars_child;
 use std::alloc::Global;
@@ -33,19 +33,17 @@ use std::marker::Model;
 pub struct Rows {
     rows: PathTable<Cgroup>,
     processes: Processes,
-    /// What is told of limit files beyond `LimitFile`, by cgroup.
-    told: PathTable<ToldFiles>,
     controllers: ControllerSet,
 }
 
 impl Model for Rows {
     ghost Value = { State };
 
-    ghost coded = { Prim.hlevel (codes, map.code, set.code) };
+    ghost coded = { Prim.hlevel (codes, file_map_code, map.code, set.code) };
 
-    ghost view = { λ t. state_of_tables t.rows t.processes t.told t.controllers };
+    ghost view = { λ t. state_of_tables t.rows t.processes t.controllers };
 
-    ghost invariant = { λ t. IsWellFormed (state_of_tables t.rows t.processes t.told t.controllers) };
+    ghost invariant = { λ t. IsWellFormed (state_of_tables t.rows t.processes t.controllers) };
 }
 
 impl Rows {
@@ -59,26 +57,22 @@ impl Rows {
         Ok(Rows {
             rows,
             processes: Processes::new(alloc),
-            told: PathTable::new(alloc),
             controllers,
         })
     }
 
-    /// The tree of these cgroups and processes, and of what is told of limit files beyond `LimitFile`, where the root
-    /// has the controllers that are available.
+    /// The tree of these cgroups and processes, where the root has the controllers that are available.
     pub fn from_tables(
         rows: PathTable<Cgroup>,
         processes: Processes,
-        told: PathTable<ToldFiles>,
         available: ControllerSet,
     ) -> Rows
-        requires { IsWellFormed (state_of_tables rows processes told available) }
-        ensures { result ≡ state_of_tables rows processes told available }
+        requires { IsWellFormed (state_of_tables rows processes available) }
+        ensures { result ≡ state_of_tables rows processes available }
     {
         Rows {
             rows,
             processes,
-            told,
             controllers: available,
         }
     }
@@ -91,13 +85,12 @@ impl Rows {
         &self.processes
     }
 
-    /// The processes, and what is told of limit files beyond `LimitFile`, of a tree that is done with.
-    pub fn into_parts(self) -> (Processes, PathTable<ToldFiles>)
-        ensures live { result.0.live ≡ self.live }
-        ensures used { result.0.used ≡ self.used }
-        ensures told { result.1 ≡ self.told }
+    /// The processes of a tree that is done with.
+    pub fn into_processes(self) -> Processes
+        ensures live { result.live ≡ self.live }
+        ensures used { result.used ≡ self.used }
     {
-        (self.processes, self.told)
+        self.processes
     }
 
     /// The cgroups, in the order of their paths.
@@ -105,13 +98,6 @@ impl Rows {
         ensures { result.now ≡ map.entries self.now.rows }
     {
         self.rows.entries()
-    }
-
-    /// What is told of limit files beyond `LimitFile`, by cgroup, in the order of the paths.
-    pub fn told_entries(&self) -> &[(Path, ToldFiles)]
-        ensures { result.now ≡ map.entries self.now.told }
-    {
-        self.told.entries()
     }
 
     /// Whether the cgroup of the first `at` names bars a child of that of the first `len` names, by its limits.
@@ -125,9 +111,9 @@ impl Rows {
         };
         bars_child(
             self.count_below(path, at),
-            cgroup.max_descendants.value,
+            cgroup.most(LimitFile::MaxDescendants),
             (len - at) as u64,
-            cgroup.max_depth.value,
+            cgroup.most(LimitFile::MaxDepth),
         )
     }
 }
@@ -137,10 +123,6 @@ impl Hierarchy for Rows {
 
     fn get(&self, path: &Path, len: usize) -> Option<&Cgroup> {
         self.rows.get(path, len)
-    }
-
-    fn told(&self, path: &Path, len: usize) -> Option<&ToldFiles> {
-        self.told.get(path, len)
     }
 
     fn place(&self, pid: Pid) -> Option<&Path> {
@@ -191,34 +173,12 @@ impl Hierarchy for Rows {
         None
     }
 
-    fn set_limit(&mut self, path: &Path, file: LimitFile, value: Limit) {
-        let Some(row) = self.rows.get(path, path.depth()) else {
-            unreachable!()
-        };
-        let mut row = *row;
-        row.set_value(file, value);
-        self.rows.set(path, row);
-    }
-
     fn set_enabled(&mut self, path: &Path, enabled: ControllerSet, user: &User) {
         self.rows.enable(path, enabled, user);
-        self.told.keep(path, enabled);
-    }
-
-    fn set_mode(&mut self, path: &Path, name: EntryName, mode: Mode) {
-        let Some(row) = self.rows.get(path, path.depth()) else {
-            unreachable!()
-        };
-        let mut row = *row;
-        // What `get` says of a mode's range keeps the tree well-formed.
-        let _bits = mode.get();
-        row.set_mode(name, mode);
-        self.rows.set(path, row);
     }
 
     fn remove(&mut self, path: &Path) {
         self.rows.remove(path);
-        self.told.forget(path);
     }
 
     fn end_process(&mut self, pid: Pid) {
@@ -241,7 +201,6 @@ impl Hierarchy for Rows {
         Ok(Rows {
             rows: self.rows.try_clone(alloc)?,
             processes: self.processes.try_clone(alloc)?,
-            told: self.told.try_clone(alloc)?,
             controllers: self.controllers,
         })
     }
@@ -251,14 +210,26 @@ impl Hierarchy for Rows {
         self.rows.insert(path, cgroup)
     }
 
-    fn tell(
+    fn set_value(
         &mut self,
         alloc: Global,
         path: &Path,
-        file: OtherFile,
-        told: ToldFile,
+        file: LimitFile,
+        value: ValueRef<'_>,
     ) -> Result<(), NoMemory> {
-        self.told.tell(alloc, path, file, told)
+        self.rows.set_value(alloc, path, file, value)
+    }
+
+    fn set_mode(
+        &mut self,
+        alloc: Global,
+        path: &Path,
+        name: EntryName,
+        mode: Mode,
+    ) -> Result<(), NoMemory> {
+        // What `get` says of a mode's range keeps the tree well-formed.
+        let _bits = mode.get();
+        self.rows.set_mode(alloc, path, name, mode)
     }
 
     fn set_place(&mut self, alloc: Global, pid: Pid, path: &Path) -> Result<(), NoMemory> {

@@ -8,7 +8,6 @@ pub mod path_table;
 use cg_cgroup::cgroup::Cgroup;
 use cg_cgroup::memory::NoMemory;
 use cg_cgroup::process::Process;
-use cg_cgroup::told::ToldFiles;
 use std::alloc::Global;
 use std::collections::BTreeMap;
 
@@ -20,8 +19,8 @@ pub trait TryClone: Drop {
 }
 
 impl TryClone for Cgroup {
-    fn try_clone(&self, _alloc: Global) -> Result<Self, NoMemory> {
-        Ok(*self)
+    fn try_clone(&self, alloc: Global) -> Result<Self, NoMemory> {
+        self.try_clone(alloc)
     }
 }
 
@@ -31,12 +30,6 @@ impl TryClone for Process {
             uid: self.uid,
             place: self.place.try_clone(alloc)?,
         })
-    }
-}
-
-impl TryClone for ToldFiles {
-    fn try_clone(&self, alloc: Global) -> Result<Self, NoMemory> {
-        self.try_clone(alloc)
     }
 }
 

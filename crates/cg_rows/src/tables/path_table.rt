@@ -6,8 +6,8 @@ ghost use Rattle.std.specs.FinMap.{is_sorted};
 ghost use Rattle.cg_cgroup.specs.Paths.{path_cmp, below};
 ghost use Rattle.cg_rows.specs.Places.{IsPlace, IsGap, IsRange};
 
+pub mod changes;
 pub mod enable;
-pub mod tell;
 
 use crate::tables::{TryClone, entries_of};
 use cg_cgroup::memory::NoMemory;

@@ -8,8 +8,7 @@ insert-requires c = no_keys _ _ c.new-rows.ensures
 
 pub returns : goal.returns
 returns c =
-    tables_of_root c.args.controllers c.args.root _ _ _ _ _ c.new-rows.ensures c.root.ensures c.in_ok-insert.ensures.ok c.new.ensures
-    c.new-2.ensures
+    tables_of_root c.args.controllers c.args.root _ _ _ _ c.new-rows.ensures c.root.ensures c.in_ok-insert.ensures.ok c.new.ensures
 
 pub invariant_of-result : goal.invariant_of-result
 invariant_of-result c = subst IsWellFormed (sym (returns c)) (formed_root c.args.controllers c.args.root c.requires)

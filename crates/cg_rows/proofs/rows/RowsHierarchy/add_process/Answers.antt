@@ -15,19 +15,19 @@ insert-requires c = ap (λ s. is_used s c.args.pid) c.self.view_is ∙ c.require
 pub returns-clause-ok : goal.returns-clause-ok
 returns-clause-ok c =
     on_ok_weaker c.insert.result (λ new.
-    ap (λ p. state_of_tables c.self.inside.rows p c.self.inside.told c.self.inside.controllers)
+    ap (λ p. state_of_tables c.self.inside.rows p c.self.inside.controllers)
     (new ∙ ap (λ (q : Names). with_new c.self.inside.processes c.args.pid (record { uid = c.args.uid; place = q })) c.in_ok-place.ensures)
     ∙ ap (λ s. with_process s c.args.pid c.args.uid c.args.path.now) c.self.view_is) c.insert.ensures.ok
 
 pub invariant_of-self : goal.invariant_of-self
 invariant_of-self c =
     let formed = subst IsWellFormed c.self.view_is c.self.invariant in
-    let new = state_of_tables c.self.inside.rows c.insert.new.self c.self.inside.told c.self.inside.controllers in
+    let new = state_of_tables c.self.inside.rows c.insert.new.self c.self.inside.controllers in
     elim c.insert.result as (λ r. OnOk r (new ≡ with_process c.args.self.now c.args.pid c.args.uid c.args.path.now)
     → OnErr r (c.insert.new.self ≡ c.self.inside.processes) → IsWellFormed new) [
       | Ok x ↦ λ ok err. subst IsWellFormed (sym ok) (formed-with_process _ _ _ _ c.requires.may_hold formed)
       | Err f ↦
           λ ok err.
-          subst IsWellFormed (λ i. state_of_tables c.self.inside.rows (sym err i) c.self.inside.told c.self.inside.controllers)
+          subst IsWellFormed (λ i. state_of_tables c.self.inside.rows (sym err i) c.self.inside.controllers)
           c.self.invariant
     ] (returns-clause-ok c) c.insert.ensures.err

@@ -7,7 +7,7 @@ use Rattle.cg_rows.proofs.rows.RowsHierarchy.remove.Goals as goal
 
 pub returns : goal.returns
 returns c =
-    (λ t. state_of_tables (c.remove.ensures t) c.self.inside.processes (c.forget.ensures t) c.self.inside.controllers)
+    (λ t. state_of_tables (c.remove.ensures t) c.self.inside.processes c.self.inside.controllers)
     ∙ ap (λ s. without_row s c.args.path.now) c.self.view_is
 
 pub invariant_of-self : goal.invariant_of-self

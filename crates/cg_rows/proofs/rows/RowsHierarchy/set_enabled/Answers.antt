@@ -7,7 +7,7 @@ use Rattle.cg_rows.proofs.rows.RowsHierarchy.set_enabled.Goals as goal
 
 pub returns : goal.returns
 returns c =
-    (λ t. state_of_tables (c.enable.ensures t) c.self.inside.processes (c.keep.ensures t) c.self.inside.controllers)
+    (λ t. state_of_tables (c.enable.ensures t) c.self.inside.processes c.self.inside.controllers)
     ∙ ap (λ s. with_enabled s c.args.path.now c.args.enabled c.args.user.now) c.self.view_is
 
 pub invariant_of-self : goal.invariant_of-self

@@ -1,18 +1,27 @@
-use Rattle.std.proofs.Common.{◌≤◌, sym, subst, ◌∙◌, arith}
-use Rattle.std.proofs.lemmas.List.{take_all}
+use Rattle.std.proofs.Common.{◌≡◌, ◌≤◌, sym, subst, Ok, Err}
+use Rattle.std.proofs.lemmas.Result.{on_ok_weaker}
+use Rattle.std.specs.Prelude.{OnOk, OnErr}
 use Rattle.cg_cgroup.specs.Cgroups.{with_mode_in}
+use Rattle.cg_model.specs.States.{with_mode}
 use Rattle.cg_model.specs.WellFormed.{IsWellFormed}
 use Rattle.cg_model.proofs.FormedLaws.{formed-with_mode}
-use Rattle.cg_rows.proofs.TablesState.{tables_changed, row_with_mode}
+use Rattle.cg_rows.specs.RowsForm.{state_of_tables}
+use Rattle.cg_rows.proofs.TablesState.{tables_changed}
 use Rattle.cg_rows.proofs.rows.RowsHierarchy.set_mode.Goals as goal
 
-pub returns : goal.returns
-returns c =
-    tables_changed c.args.self.now _ _ _ _ _ c.args.path.now _ (with_mode_in c.args.name c.args.mode) _ _
-    c.self.view_is c.in-Some.ensures (take_all c.depth.result c.args.path.now (omega arith)) c.set_mode.ensures c.set.ensures
-    ∙ row_with_mode c.args.self.now c.args.path.now c.args.name c.args.mode c.requires.listed
+pub returns-clause-ok : goal.returns-clause-ok
+returns-clause-ok c =
+    on_ok_weaker c.set_mode.result
+    (tables_changed c.args.self.now c.self.inside.rows c.set_mode.new.self c.self.inside.processes c.self.inside.controllers c.args.path.now
+    (with_mode_in c.args.name c.args.mode) c.self.view_is) c.set_mode.ensures.ok
 
 pub invariant_of-self : goal.invariant_of-self
 invariant_of-self c =
-    subst IsWellFormed (sym (returns c)) (formed-with_mode _ _ _ _ (subst (λ n. n ≤ 511) c.get-bits.ensures.value c.get-bits.ensures.range)
-    (subst IsWellFormed c.self.view_is c.self.invariant))
+    let formed = subst IsWellFormed c.self.view_is c.self.invariant in
+    let new = state_of_tables c.set_mode.new.self c.self.inside.processes c.self.inside.controllers in
+    elim c.set_mode.result as (λ r. OnOk r (new ≡ with_mode c.args.self.now c.args.path.now c.args.name c.args.mode)
+    → OnErr r (c.set_mode.new.self ≡ c.self.inside.rows) → IsWellFormed new) [
+      | Ok x ↦ λ ok err. subst IsWellFormed (sym ok) (formed-with_mode _ _ _ _ (subst (λ n. n ≤ 511) c.get-bits.ensures.value c.get-bits.ensures.range) formed)
+      | Err f ↦ λ ok err.
+          subst IsWellFormed (λ i. state_of_tables (sym err i) c.self.inside.processes c.self.inside.controllers) c.self.invariant
+    ] (returns-clause-ok c) c.set_mode.ensures.err

@@ -11,7 +11,7 @@ set_place-requires c = ap (λ s. is_some (process_at s c.args.pid)) c.self.view_
 
 pub returns-clause-ok : goal.returns-clause-ok
 returns-clause-ok c =
-    ap (λ p. state_of_tables c.self.inside.rows p c.self.inside.told c.self.inside.controllers)
+    ap (λ p. state_of_tables c.self.inside.rows p c.self.inside.controllers)
     (c.set_place.ensures ∙ ap (with_place_of c.self.inside.processes c.args.pid) c.in_ok-place.ensures)
     ∙ ap (λ s. with_place s c.args.pid c.args.path.now) c.self.view_is
 
