@@ -2,6 +2,8 @@
 use Rattle.std.proofs.Common.{◌≡◌, ◌≢◌, ℕ, zero, suc, ◌+◌, ◌-◌, ◌<◌, Bool, true, false, ◌&&◌, not, Some, None, ◌++◌, length, take, ap, sym, refl, ◌∙◌, true≢false, arith, ⊎_elim}
 use Rattle.std.proofs.lemmas.Bool.{cases_eq}
 use Rattle.cg_cgroup.specs.Paths.{Names}
+use Rattle.cg_cgroup.specs.Cgroups.{most_in}
+use Rattle.cg_cgroup.specs.declared.files.LimitFile.TheVariants.{MaxDescendants, MaxDepth}
 use Rattle.cg_model.specs.States.{State, row_at, count_below}
 use Rattle.cg_model.specs.Limits.{is_under}
 use Rattle.cg_model.specs.NearestFull.{bars_child, is_full, NoneIsFull, IsNearestFull}
@@ -32,12 +34,12 @@ module _ (st : State) (path : Names) where
   level_free : (k : ℕ) → is_full st path top k ≡ false → first (level_bars st path k) ≡ None
   level_free k free =
       elim (row_at st (take k path)) as (λ r. elim r as (λ _. Bool)
-      [ None ↦ false | Some row ↦ bars_child (count k) row.max_descendants.value (top - k) row.max_depth.value ] ≡ false
-      → first (present r (λ row. unless (is_under (count k) row.max_descendants.value) (DescendantLimit k)
-      ++ unless (is_under (top - k) row.max_depth.value) (DepthLimit k))) ≡ None) [
+      [ None ↦ false | Some row ↦ bars_child (count k) (most_in row MaxDescendants) (top - k) (most_in row MaxDepth) ] ≡ false
+      → first (present r (λ row. unless (is_under (count k) (most_in row MaxDescendants)) (DescendantLimit k)
+      ++ unless (is_under (top - k) (most_in row MaxDepth)) (DepthLimit k))) ≡ None) [
         | None ↦ λ h. refl
         | Some row ↦
-            λ h. both_pass (is_under (count k) row.max_descendants.value) (is_under (top - k) row.max_depth.value) (DescendantLimit k)
+            λ h. both_pass (is_under (count k) (most_in row MaxDescendants)) (is_under (top - k) (most_in row MaxDepth)) (DescendantLimit k)
             (DepthLimit k) h
       ] free
 
@@ -45,12 +47,12 @@ module _ (st : State) (path : Names) where
   level_full : (k : ℕ) → is_full st path top k ≡ true → (r : Refusal) × (first (level_bars st path k) ≡ Some r)
   level_full k full =
       elim (row_at st (take k path)) as (λ r. elim r as (λ _. Bool)
-      [ None ↦ false | Some row ↦ bars_child (count k) row.max_descendants.value (top - k) row.max_depth.value ] ≡ true
-      → (refusal : Refusal) × (first (present r (λ row. unless (is_under (count k) row.max_descendants.value) (DescendantLimit k)
-      ++ unless (is_under (top - k) row.max_depth.value) (DepthLimit k))) ≡ Some refusal)) [
+      [ None ↦ false | Some row ↦ bars_child (count k) (most_in row MaxDescendants) (top - k) (most_in row MaxDepth) ] ≡ true
+      → (refusal : Refusal) × (first (present r (λ row. unless (is_under (count k) (most_in row MaxDescendants)) (DescendantLimit k)
+      ++ unless (is_under (top - k) (most_in row MaxDepth)) (DepthLimit k))) ≡ Some refusal)) [
         | None ↦ λ h. absurd (true≢false (sym h))
         | Some row ↦
-            λ h. one_fails (is_under (count k) row.max_descendants.value) (is_under (top - k) row.max_depth.value) (DescendantLimit k)
+            λ h. one_fails (is_under (count k) (most_in row MaxDescendants)) (is_under (top - k) (most_in row MaxDepth)) (DescendantLimit k)
             (DepthLimit k) h
       ] full
 

@@ -1,4 +1,3 @@
 pub mod LevelBars
 mod FirstOfMapped
 mod ChangesLeft
-pub mod Tellings

@@ -12,7 +12,6 @@ mod limits;
 mod make_remove;
 mod modes;
 pub mod moves;
-mod other_limits;
 mod process_events;
 mod procs_rule;
 mod subtree_control;
@@ -33,8 +32,7 @@ pub fn refusal<H: Hierarchy>(tree: &H, user: &User, op: &Op) -> Option<Refusal>
         Op::Control { at, changes } => subtree_control::refusal(tree, user, at, changes),
         Op::Mkdir { path } => make_remove::mkdir_refusal(tree, user, path),
         Op::Rmdir { path } => make_remove::rmdir_refusal(tree, user, path),
-        Op::Set { at, file, value } => limits::refusal(tree, user, at, *file, *value),
-        Op::SetOther { at, file, .. } => other_limits::refusal(tree, user, at, *file),
+        Op::Set { at, file, value } => limits::refusal(tree, user, at, *file, value),
         Op::Fork { parent, child } => process_events::fork_refusal(tree, user, *parent, *child),
         Op::Exit { pid } => process_events::exit_refusal(tree, user, *pid),
         Op::Chmod { at, entry, .. } => modes::refusal(tree, user, at, *entry),
@@ -43,7 +41,7 @@ pub fn refusal<H: Hierarchy>(tree: &H, user: &User, op: &Op) -> Option<Refusal>
 
 /// Carries out an operation of a user where nothing refuses it. Where something does, or where it answers `NoMemory`,
 /// nothing has changed. Out of memory comes after all refusals, and only a move, a mkdir, a fork and what is done to a
-/// limit file beyond `LimitFile` can meet it.
+/// limit file whose value is a text can meet it.
 pub fn apply<H: Hierarchy>(
     alloc: Global,
     tree: &mut H,
@@ -67,8 +65,7 @@ pub fn apply<H: Hierarchy>(
         Op::Control { at, changes } => subtree_control::carry_out(tree, user, at, changes),
         Op::Mkdir { path } => make_remove::mkdir(alloc, tree, user, path)?,
         Op::Rmdir { path } => tree.remove(path),
-        Op::Set { at, file, value } => tree.set_limit(at, *file, *value),
-        Op::SetOther { at, file, value } => other_limits::set(alloc, tree, user, at, *file, value)?,
+        Op::Set { at, file, value } => limits::set(alloc, tree, user, at, *file, value)?,
         Op::Fork { parent, child } => process_events::fork(alloc, tree, user, *parent, *child)?,
         Op::Exit { pid } => tree.end_process(*pid),
         Op::Chmod { at, entry, mode } => modes::set_mode(alloc, tree, user, at, *entry, *mode)?,

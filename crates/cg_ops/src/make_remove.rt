@@ -5,7 +5,7 @@ ghost use Rattle.cg_model.specs.Bars.{row_above, writes_above, level_bars, limit
 ghost use Rattle.cg_model.specs.Next.{next};
 
 use cg_cgroup::cgroup::Cgroup;
-use cg_cgroup::files::EntryName;
+use cg_cgroup::files::{EntryName, LimitFile};
 use cg_cgroup::memory::NoMemory;
 use cg_cgroup::path::Path;
 use cg_cgroup::user::User;
@@ -70,10 +70,10 @@ fn level_refusal<H: Hierarchy>(tree: &H, path: &Path, len: usize) -> Option<Refu
     ensures { result ≡ first (level_bars (H.state tree.now) path.now len) }
 {
     let cgroup = tree.get(path, len)?;
-    if !is_under(tree.count_below(path, len), cgroup.max_descendants.value) {
+    if !is_under(tree.count_below(path, len), cgroup.most(LimitFile::MaxDescendants)) {
         return Some(Refusal::DescendantLimit { len });
     }
-    if !is_under((path.parent_len() - len) as u64, cgroup.max_depth.value) {
+    if !is_under((path.parent_len() - len) as u64, cgroup.most(LimitFile::MaxDepth)) {
         return Some(Refusal::DepthLimit { len });
     }
     None

@@ -1,16 +1,14 @@
 //! Setting the mode of a directory or a file.
 ghost use Rattle.std.specs.Prelude.{◌≡◌, true, [], OnOk, OnErr};
-ghost use Rattle.cg_cgroup.specs.Files.{is_beyond};
+ghost use Rattle.cg_cgroup.specs.Files.{is_text_entry};
 ghost use Rattle.cg_model.specs.States.{with_mode};
 ghost use Rattle.cg_model.specs.Clauses.{first};
 ghost use Rattle.cg_model.specs.Bars.{chmod_bars};
 
-use crate::other_limits;
 use cg_cgroup::files::EntryName;
 use cg_cgroup::memory::NoMemory;
 use cg_cgroup::path::Path;
 use cg_cgroup::user::{Mode, User};
-use cg_model::files::entry_at;
 use cg_model::hierarchy::Hierarchy;
 use cg_model::outcome::Refusal;
 use std::alloc::Global;
@@ -23,11 +21,7 @@ pub fn refusal<H: Hierarchy>(tree: &H, user: &User, at: &Path, name: EntryName) 
     let Some(cgroup) = tree.get(at, len) else {
         return Some(Refusal::NoSuchCgroup { len });
     };
-    let held = match name {
-        EntryName::Other(_) => entry_at(tree, at, len, name),
-        _ => cgroup.entry(name),
-    };
-    let Some(entry) = held else {
+    let Some(entry) = cgroup.entry(name) else {
         return Some(Refusal::NoSuchFile { entry: name });
     };
     if !user.owns(&entry) {
@@ -36,7 +30,8 @@ pub fn refusal<H: Hierarchy>(tree: &H, user: &User, at: &Path, name: EntryName) 
     None
 }
 
-/// Sets a mode, which nothing refuses. Nothing has changed where memory is wanted.
+/// Sets a mode, which nothing refuses. Only a limit file whose value is a text can fail for want of memory, and then nothing
+/// has changed.
 pub fn set_mode<H: Hierarchy>(
     alloc: Global,
     tree: &mut H,
@@ -48,11 +43,7 @@ pub fn set_mode<H: Hierarchy>(
     requires { chmod_bars (H.state tree.old) user.now at.now name ≡ [] }
     ensures ok { OnOk result (H.state tree.new ≡ with_mode (H.state tree.old) at.now name mode) }
     ensures err { OnErr result (H.state tree.new ≡ H.state tree.old) }
-    ensures memory { OnErr result (is_beyond name ≡ true) }
+    ensures memory { OnErr result (is_text_entry name ≡ true) }
 {
-    if let EntryName::Other(file) = name {
-        return other_limits::set_mode(alloc, tree, user, at, file, mode);
-    }
-    tree.set_mode(at, name, mode);
-    Ok(())
+    tree.set_mode(alloc, at, name, mode)
 }

@@ -3,7 +3,7 @@ use Rattle.std.proofs.lemmas.Option.{none-some}
 use Rattle.cg_model.specs.Clauses.{first}
 use Rattle.cg_model.specs.Bars.{bars}
 use Rattle.cg_model.specs.Next.{next}
-use Rattle.cg_ops.proofs.apply.Goals.{in-Move+in_ok-set_place-in-Move, in-Control, in-Mkdir+in_ok-mkdir-in-Mkdir, in-Rmdir, in-Set, in-Fork+in_ok-fork-in-Fork, in-Exit, in-SetOther+in_ok-set-in-SetOther, in-Chmod+in_ok-set_mode-in-Chmod}
+use Rattle.cg_ops.proofs.apply.Goals.{in-Move+in_ok-set_place-in-Move, in-Control, in-Mkdir+in_ok-mkdir-in-Mkdir, in-Rmdir, in-Set+in_ok-set-in-Set, in-Fork+in_ok-fork-in-Fork, in-Exit, in-Chmod+in_ok-set_mode-in-Chmod}
 use Rattle.cg_ops.proofs.apply.Goals as goal
 
 none_first : {A : Type 0} (xs : List A) → None ≡ first xs → xs ≡ []
@@ -23,12 +23,11 @@ returns-clause-done g c =
         | in-Mkdir+in_ok-mkdir-in-Mkdir w ↦
             ap g.H.Hierarchy.state w.tree-is ∙ (w.in_ok-mkdir-in-Mkdir.ensures.ok ∙ ap (next st user) (sym w.in-Mkdir.is))
         | in-Rmdir w ↦ ap g.H.Hierarchy.state w.tree-is ∙ (w.remove.ensures ∙ ap (next st user) (sym w.in-Rmdir.is))
-        | in-Set w ↦ ap g.H.Hierarchy.state w.tree-is ∙ (w.set_limit.ensures ∙ ap (next st user) (sym w.in-Set.is))
+        | in-Set+in_ok-set-in-Set w ↦
+            ap g.H.Hierarchy.state w.tree-is ∙ (w.in_ok-set-in-Set.ensures.ok ∙ ap (next st user) (sym w.in-Set.is))
         | in-Fork+in_ok-fork-in-Fork w ↦
             ap g.H.Hierarchy.state w.tree-is ∙ (w.in_ok-fork-in-Fork.ensures.ok ∙ ap (next st user) (sym w.in-Fork.is))
         | in-Exit w ↦ ap g.H.Hierarchy.state w.tree-is ∙ (w.end_process.ensures ∙ ap (next st user) (sym w.in-Exit.is))
-        | in-SetOther+in_ok-set-in-SetOther w ↦
-            ap g.H.Hierarchy.state w.tree-is ∙ (w.in_ok-set-in-SetOther.ensures.ok ∙ ap (next st user) (sym w.in-SetOther.is))
         | in-Chmod+in_ok-set_mode-in-Chmod w ↦
             ap g.H.Hierarchy.state w.tree-is ∙ (w.in_ok-set_mode-in-Chmod.ensures.ok ∙ ap (next st user) (sym w.in-Chmod.is))
       ],
