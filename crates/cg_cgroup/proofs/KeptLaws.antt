@@ -96,7 +96,7 @@ place_within MemoryLow h = omega arith
 place_within MemoryHigh h = omega arith
 place_within MemoryMax h = omega arith
 place_within PidsMax h = omega arith
-place_within file h = cc
+place_within file h = absurd (true≢false (sym h))
 
 -- the others stand with what brings them, or below the root
 abbrev owner_stands : Bool → ControllerSet → LimitFile → Bool
@@ -633,29 +633,29 @@ pub take_kept : (controllers : ControllerSet) (numbers from_numbers : List (Opti
 take_kept controllers numbers from_numbers core from_core owners from_owners texts from_texts plain =
     same_files
     (taken_files controllers (all_kept from_numbers from_core from_owners from_texts) (all_kept numbers core owners texts))
-    (all_kept new_numbers core new_owners new_texts) one
+    (all_kept taken_numbers_now core taken_owners_now taken_texts_now) one
   where
-    abbrev new_numbers : List (Option NumberFile)
-    new_numbers = map (λ file. cond (is_brought_by controllers file) (number_in from_numbers file) (number_in numbers file)) format_2_files
+    abbrev taken_numbers_now : List (Option NumberFile)
+    taken_numbers_now = map (λ file. cond (is_brought_by controllers file) (number_in from_numbers file) (number_in numbers file)) format_2_files
 
-    abbrev new_owners : List (Option Entry)
-    new_owners =
+    abbrev taken_owners_now : List (Option Entry)
+    taken_owners_now =
         map (λ controller. cond (enables controllers controller) (brought_owner from_owners controller) (brought_owner owners controller))
         all_controllers
 
-    abbrev new_texts : List TextFile
-    new_texts = filter (λ text. not (is_brought_by controllers text.file)) texts
+    abbrev taken_texts_now : List TextFile
+    taken_texts_now = filter (λ text. not (is_brought_by controllers text.file)) texts
 
-    one : (file : LimitFile) → kept new_numbers core new_owners new_texts file
+    one : (file : LimitFile) → kept taken_numbers_now core taken_owners_now taken_texts_now file
         ≡ cond (is_brought_by controllers file) (kept from_numbers from_core from_owners from_texts file)
         (kept numbers core owners texts file)
     one file =
         elim (is_number_place file) as
-        (λ b. is_number_place file ≡ b → kept new_numbers core new_owners new_texts file
+        (λ b. is_number_place file ≡ b → kept taken_numbers_now core taken_owners_now taken_texts_now file
         ≡ cond (is_brought_by controllers file) (kept from_numbers from_core from_owners from_texts file)
         (kept numbers core owners texts file)) [
           | true ↦ λ place.
-              kept_number new_numbers core new_owners new_texts file place
+              kept_number taken_numbers_now core taken_owners_now taken_texts_now file place
               ∙ ap (option_map number_held)
               (numbers_at (λ file. cond (is_brought_by controllers file) (number_in from_numbers file) (number_in numbers file)) file place)
               ∙ take_either (option_map number_held) (is_brought_by controllers file) (number_in from_numbers file) (number_in numbers file)
@@ -663,7 +663,7 @@ take_kept controllers numbers from_numbers core from_core owners from_owners tex
               (sym (kept_number from_numbers from_core from_owners from_texts file place) i)
               (sym (kept_number numbers core owners texts file place) i))
           | false ↦ λ place.
-              kept_text new_numbers core new_owners new_texts file place
+              kept_text taken_numbers_now core taken_owners_now taken_texts_now file place
               ∙ (λ i. named_or (found-filter (λ file. not (is_brought_by controllers file)) texts file i)
               (take_owner controllers core from_core owners from_owners file i))
               ∙ take_text (is_brought_by controllers file) (text_in texts file) (text_in from_texts file) (owner_in core owners file)
