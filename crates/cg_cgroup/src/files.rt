@@ -13,6 +13,7 @@ use crate::controllers::CONTROLLER_COUNT;
 pub use crate::controllers::ControllerSet;
 use crate::held::numbers::NUMBER_COUNT;
 use crate::value::ValueRef;
+use crate::value::ValueRef::{Max, Number, Text, Unknown};
 
 /// The controllers of the profile, in the order used everywhere.
 #[derive(Clone, Copy, Debug, PartialEq, Eq)]
@@ -374,7 +375,6 @@ impl LimitFile {
         ensures loose { value_now result.loose ≡ (kind_of self).loose }
         ensures other { value_now result.other ≡ (kind_of self).other }
     {
-        use ValueRef::{Max, Number, Text, Unknown};
         let (name, controller, form, default, loose, other) = match self {
             LimitFile::MaxDescendants => ("cgroup.max.descendants", None, Form::NUMBERS, Max, Max, Number(0)),
             LimitFile::MaxDepth => ("cgroup.max.depth", None, Form::NUMBERS, Max, Max, Number(0)),

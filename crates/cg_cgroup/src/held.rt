@@ -7,6 +7,7 @@ ghost use Rattle.cg_cgroup.specs.Files.{is_text, accepts, may_have, is_brought_b
 ghost use Rattle.cg_cgroup.specs.Values.{same_value, value_now};
 ghost use Rattle.cg_cgroup.specs.Kept.{number_held, number_in, text_of, text_value, said_text, named_or, brought_owner, owner_in, untouched_number, standing_number, refitted_number, refitted_owner};
 ghost use Rattle.cg_cgroup.specs.Cgroups.{with_mode_of};
+ghost use Rattle.cg_cgroup.specs.declared.held.numbers.NumberFile.{NumberFile};
 
 pub mod numbers;
 pub mod texts;
@@ -41,7 +42,7 @@ impl Model for Files {
 
     ghost Value = { FileMap };
 
-    ghost coded = { Prim.hlevel (codes, file_map_code) };
+    ghost coded = { file_map_code (Prim.hlevel codes) };
 
     ghost view = { λ f. record { at = kept f.numbers f.core f.owners f.texts } };
 
@@ -452,7 +453,7 @@ fn copied_text(alloc: Global, text: Option<&TextFile>) -> Result<Option<Lines>, 
 }
 
 fn with_most(held: Option<NumberFile>, most: Option<u64>) -> Option<NumberFile>
-    ensures { result ≡ option_map (λ held. record held { most = most }) held }
+    ensures { result ≡ option_map (λ (held : NumberFile). record held { most = most }) held }
 {
     match held {
         Some(held) => Some(NumberFile { most, ..held }),
@@ -461,7 +462,7 @@ fn with_most(held: Option<NumberFile>, most: Option<u64>) -> Option<NumberFile>
 }
 
 fn with_mode(held: Option<NumberFile>, mode: Mode) -> Option<NumberFile>
-    ensures { result ≡ option_map (λ held. record held { entry = with_mode_of mode held.entry }) held }
+    ensures { result ≡ option_map (λ (held : NumberFile). record held { entry = with_mode_of mode held.entry }) held }
 {
     match held {
         Some(held) => Some(NumberFile {

@@ -3,7 +3,7 @@ ghost use Rattle.std.specs.Prelude.{◌≡◌, ◌≤◌, length, IfOk};
 ghost use Rattle.std.specs.Coded.{codes};
 ghost use Rattle.std.specs.FinMap as map;
 ghost use Rattle.std.specs.FinSet as set;
-ghost use Rattle.cg_cgroup.specs.FileMap.{file_map_code};
+ghost use Rattle.cg_cgroup.specs.contracts.held.Files as files;
 ghost use Rattle.cg_model.specs.States.{State};
 ghost use Rattle.cg_rows.specs.RowsForm.{IsRoot, state_of_root, state_of_tables};
 ghost use Rattle.cg_model.specs.WellFormed.{IsWellFormed};
@@ -39,7 +39,7 @@ pub struct Rows {
 impl Model for Rows {
     ghost Value = { State };
 
-    ghost coded = { Prim.hlevel (codes, file_map_code, map.code, set.code) };
+    ghost coded = { Prim.hlevel (codes, files.the_row.coded, map.code, set.code) };
 
     ghost view = { λ t. state_of_tables t.rows t.processes t.controllers };
 
