@@ -8,7 +8,7 @@ use Rattle.cg_cgroup.specs.Identity.{Identity}
 use Rattle.cg_cgroup.specs.Cgroups.{with_value_in, with_mode_in}
 use Rattle.cg_model.specs.States.{State, row_at, paths_of, has_child, count_below, depth_below, enabling, with_row, without_row, with_value, with_mode, with_enabled}
 use Rattle.cg_model.specs.WellFormed.{has_row}
-use Rattle.cg_cgroup.specs.declared.files.Limit.{Limit}
+use Rattle.cg_cgroup.specs.declared.value.Value.{Value}
 use Rattle.cg_cgroup.specs.declared.controllers.ControllerSet.{ControllerSet}
 use Rattle.cg_cgroup.specs.declared.files.LimitFile.{LimitFile}
 use Rattle.cg_cgroup.specs.declared.files.EntryName.{EntryName}
@@ -20,7 +20,7 @@ use Rattle.cg_model.proofs.MapFolds.{gathered, Commutes, gathered-insert, gather
 
 -- ---- the same paths and PIDs
 
-pub paths_of-with_value : (st : State) (p : Names) (file : LimitFile) (value : Limit) → paths_of (with_value st p file value) ≡ paths_of st
+pub paths_of-with_value : (st : State) (p : Names) (file : LimitFile) (value : Value) → paths_of (with_value st p file value) ≡ paths_of st
 paths_of-with_value st p file value = keys-change_value path_cmp_total st.rows p (with_value_in file value)
 
 pub paths_of-with_mode : (st : State) (p : Names) (name : EntryName) (mode : ℕ) → paths_of (with_mode st p name mode) ≡ paths_of st
