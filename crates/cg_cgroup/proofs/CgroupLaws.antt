@@ -5,8 +5,7 @@ use Rattle.std.specs.Option.{option_map}
 use Rattle.cg_cgroup.specs.Identity.{Identity}
 use Rattle.cg_cgroup.specs.Files.{all_files, kind_of, fits, accepts, may_have, default_value, controller_of, enables, stands_by, stands_under, stands_at, same_file, same_entry}
 use Rattle.cg_cgroup.specs.Users.{entry_made_by}
-use Rattle.cg_cgroup.specs.Cgroups.{Held, FileMap, file_of, entry_in, value_in, with_file, with_value_of, with_value_in, with_mode_of, with_file_mode_of, with_mode_in, untouched, file_made_by, refitted, with_files_of, cgroup_made_by}
-use Rattle.cg_cgroup.specs.declared.user.Entry.{Entry}
+use Rattle.cg_cgroup.specs.Cgroups.{Held, FileMap, file_of, entry_in, value_in, with_file, with_value_of, with_value_in, with_mode_of, with_file_mode_of, with_mode_in, file_made_by, refitted, with_files_of, cgroup_made_by}
 use Rattle.cg_cgroup.specs.declared.value.Value.{Value}
 use Rattle.cg_cgroup.specs.declared.value.Value.TheVariants.{Unknown, Max, Number, Text}
 use Rattle.cg_cgroup.specs.declared.files.Form.{Form}

@@ -1,19 +1,18 @@
 -- The limit files of a cgroup as they are kept, read and changed.
-use Rattle.std.proofs.Common.{◌≡◌, ◌≢◌, ℕ, ◌<◌, Bool, true, false, not, ◌||◌, cond, List, [], ◌∷◌, length, map, get_or, set, refl, sym, ap, subst, ◌∙◌, arith, true≢false}
+use Rattle.std.proofs.Common.{◌≡◌, ◌≢◌, ◌<◌, Bool, true, false, not, ◌||◌, cond, List, [], ◌∷◌, length, map, set, refl, sym, ap, ◌∙◌, arith, true≢false}
 use Rattle.std.specs.Prelude.{Option, Some, None, is_some, unwrap_or, filter}
 use Rattle.std.specs.Option.{option_map, option_map_or}
 use Rattle.std.proofs.lemmas.List.{get_or-set_same, get_or-set_other}
 use Rattle.std.proofs.lemmas.Option.{same_Some, none-some}
 use Rattle.std.proofs.Math.Bool.{or-true}
-use Rattle.cg_cgroup.specs.Kinds.{all_controllers, controller_kind, all_files, format_2_files, kind_of}
-use Rattle.cg_cgroup.specs.Files.{is_text_form, is_text, fits, accepts, may_have, default_value, controller_of, enables, stands_by, stands_under, stands_at, is_brought_by, same_file}
+use Rattle.cg_cgroup.specs.Kinds.{all_controllers, all_files, format_2_files, kind_of}
+use Rattle.cg_cgroup.specs.Files.{is_text_form, is_text, fits, accepts, may_have, controller_of, enables, stands_by, stands_under, stands_at, is_brought_by, same_file}
 use Rattle.cg_cgroup.specs.Values.{most_of}
-use Rattle.cg_cgroup.specs.Cgroups.{Held, FileMap, no_files, with_held, with_value_of, with_mode_of, with_file_mode_of, untouched, standing, standing_files, refitted, refitted_files, taken_files, is_plain}
+use Rattle.cg_cgroup.specs.Cgroups.{Held, FileMap, no_files, with_held, untouched, standing, standing_files, refitted, refitted_files, taken_files, is_plain}
 use Rattle.cg_cgroup.specs.Kept.{kept, number_held, number_value, number_in, text_value, text_of, text_held, text_in, said_text, unnamed_held, named_or, HasNoNumbers, owner_in, brought_owner, is_number_place, with_at, untouched_number, standing_number, refitted_number, refitted_owner, AreOwners}
 use Rattle.cg_cgroup.specs.declared.user.Entry.{Entry}
 use Rattle.cg_cgroup.specs.declared.value.Value.{Value}
 use Rattle.cg_cgroup.specs.declared.value.Value.TheVariants.{Unknown, Max, Number, Text}
-use Rattle.cg_cgroup.specs.declared.files.Controller.{Controller}
 use Rattle.cg_cgroup.specs.declared.files.Form.{Form}
 use Rattle.cg_cgroup.specs.declared.files.Form.TheVariants.{Numbers, Texts, DeviceTexts}
 use Rattle.cg_cgroup.specs.declared.controllers.ControllerSet.{ControllerSet}

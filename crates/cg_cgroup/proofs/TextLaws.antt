@@ -1,17 +1,17 @@
 -- Lists of limit files whose values are texts: what is found once one is put there, and of those that are kept.
-use Rattle.std.proofs.Common.{◌≡◌, ℕ, ◌<◌, ◌≤◌, Bool, true, false, cond, List, [], ◌∷◌, ◌++◌, length, get_or, set, refl, sym, ap, subst, ◌∙◌, arith}
+use Rattle.std.proofs.Common.{◌≡◌, ℕ, ◌≤◌, Bool, true, false, cond, List, [], ◌∷◌, ◌++◌, length, get_or, set, refl, sym, ap, ◌∙◌, arith}
 use Rattle.std.specs.Prelude.{Option, Some, None, nat_lt, filter}
 use Rattle.std.specs.Option.{option_or}
-use Rattle.std.specs.List.{find, position, position_or_len, slice_get}
+use Rattle.std.specs.List.{find, position, position_or_len}
 use Rattle.std.proofs.lemmas.Bool.Decides.{nat_tests}
-use Rattle.std.proofs.lemmas.Option.{slice_get_past, same_Some, none-some}
+use Rattle.std.proofs.lemmas.Option.{slice_get_past, same_Some}
 use Rattle.std.proofs.lemmas.List.Folds.{find_at, find-set, find_past, find-append}
 use Rattle.std.proofs.lemmas.List.Quantifiers.{position-Some}
-use Rattle.cg_cgroup.specs.Files.{kind_of, same_file}
+use Rattle.cg_cgroup.specs.Files.{same_file}
 use Rattle.cg_cgroup.specs.Kept.{text_in}
 use Rattle.cg_cgroup.specs.declared.files.LimitFile.{LimitFile}
 use Rattle.cg_cgroup.specs.declared.held.texts.TextFile.{TextFile}
-use Rattle.cg_cgroup.proofs.CgroupLaws.{same_file-refl, same_file-true}
+use Rattle.cg_cgroup.proofs.CgroupLaws.{same_file-true}
 
 abbrev is_of : LimitFile → TextFile → Bool
 is_of file text = same_file text.file file

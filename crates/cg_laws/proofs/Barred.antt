@@ -6,23 +6,22 @@ use Rattle.std.proofs.lemmas.List.Folds.{list_any_none}
 use Rattle.cg_cgroup.specs.Paths.{Names, is_root, same_path, parent, is_child}
 use Rattle.cg_cgroup.specs.Identity.{Identity}
 use Rattle.cg_cgroup.specs.Users.{writes, owns}
-use Rattle.cg_cgroup.specs.Files.{same_entry, is_beyond}
+use Rattle.cg_cgroup.specs.Files.{same_entry}
 use Rattle.cg_cgroup.specs.Cgroups.{file_of, entry_in}
 use Rattle.cg_cgroup.specs.declared.user.Entry.{Entry}
-use Rattle.cg_cgroup.specs.declared.files.Limit.{Limit}
+use Rattle.cg_cgroup.specs.declared.value.Value.{Value}
 use Rattle.cg_cgroup.specs.declared.files.LimitFile.{LimitFile}
 use Rattle.cg_cgroup.specs.declared.files.EntryName.{EntryName}
-use Rattle.cg_cgroup.specs.declared.files.EntryName.TheVariants.{Dir, Procs, SubtreeControl, File, Other}
-use Rattle.cg_cgroup.specs.declared.other_file.OtherFile.{OtherFile}
+use Rattle.cg_cgroup.specs.declared.files.EntryName.TheVariants.{Dir, Procs, SubtreeControl, File}
 use Rattle.cg_cgroup.specs.declared.cgroup.Cgroup.{Cgroup}
 use Rattle.cg_cgroup.proofs.Options.{some_value}
 use Rattle.cg_cgroup.proofs.PathOrder.{same_path-is}
 use Rattle.cg_cgroup.proofs.PathParents.{parent-is_child}
 use Rattle.cg_cgroup.proofs.CgroupLaws.{same_entry-true}
-use Rattle.cg_model.specs.States.{State, row_at, file_at, file_told, entry_at}
-use Rattle.cg_model.proofs.StateEntries.{entry_at-file, entry_at-row}
+use Rattle.cg_model.specs.States.{State, row_at, file_at, entry_at}
+use Rattle.cg_model.proofs.StateEntries.{entry_at-file}
 use Rattle.cg_model.specs.Clauses.{unless, absent}
-use Rattle.cg_model.specs.Bars.{control_bars, rmdir_bars, set_bars, set_other_bars, chmod_bars, missing_bars}
+use Rattle.cg_model.specs.Bars.{control_bars, rmdir_bars, set_bars, chmod_bars, missing_bars}
 use Rattle.cg_model.specs.declared.changes.Change.{Change}
 use Rattle.cg_model.specs.declared.operation.Op.TheVariants.{Chmod}
 use Rattle.cg_model.specs.declared.outcome.Refusal.TheVariants.{NoSuchCgroup, NoSuchFile, NoAccess, NotOwner}
@@ -30,7 +29,7 @@ use Rattle.cg_model.proofs.ClauseLaws.{no_parts, no_unless, no_absent, no_presen
 use Rattle.cg_model.specs.Guards.{limit_file, limit_files, parent_control, parent_dir, guarded_entries, guarded_entry, is_chmod_of, sets_guarded_mode, IsSubtree}
 use Rattle.cg_laws.specs.Guarding.{AreUnreached}
 use Rattle.cg_laws.specs.Sound.{IsSound}
-use Rattle.cg_laws.proofs.GuardedEntries.{contains-alone, limit_files-has, limit_files-has_other, never_written, never_owned}
+use Rattle.cg_laws.proofs.GuardedEntries.{contains-alone, limit_files-has, never_written, never_owned}
 
 module _ (st : State) (user : Identity) (subtree : Names) (sound : IsSound st) (sub : IsSubtree st subtree) where
   row_here : (row : Cgroup) × (row_at st subtree ≡ Some row)
@@ -65,7 +64,7 @@ module _ (st : State) (user : Identity) (subtree : Names) (sound : IsSound st) (
       (ap (option_and_then (λ r. entry_in r Dir)) row.1) can)
 
   -- a set is at another cgroup
-  pub set-other : (at : Names) (file : LimitFile) (value : Limit) → AreUnreached st user subtree (limit_files (length subtree))
+  pub set-other : (at : Names) (file : LimitFile) (value : Value) → AreUnreached st user subtree (limit_files (length subtree))
       → set_bars st user at file value ≡ [] → same_path at subtree ≡ false
   set-other at file value unreached free = false_from_ne_true (same_path at subtree) (λ same.
       let row = row_here in
@@ -84,43 +83,20 @@ module _ (st : State) (user : Identity) (subtree : Names) (sound : IsSound st) (
       (ap (λ p. entry_at st p (File file)) whole ∙ entry_at-file st subtree file
       ∙ ap (λ r. option_map (λ f. f.entry) (option_and_then (λ r. file_of r file) r)) row.1 ∙ ap (option_map (λ f. f.entry)) held.1) can)
 
-  -- nor one of a limit file beyond `LimitFile`
-  pub set_other-other : (at : Names) (file : OtherFile) → AreUnreached st user subtree (limit_files (length subtree))
-      → set_other_bars st user at file ≡ [] → same_path at subtree ≡ false
-  set_other-other at file unreached free = false_from_ne_true (same_path at subtree) (λ same.
-      let row = row_here in
-      let whole : take (length subtree) subtree ≡ subtree = take_all (length subtree) subtree (omega arith) in
-      let access = no_parts _ _ free in
-      let stands =
-      no_absent (file_told st at file) _
-      (no_present (row_at st at) (λ r. absent (file_told st at file) (NoSuchFile (Other file))) (no_parts _ _ access.0).1 row.0
-      (ap (row_at st) (same_path-is at subtree same) ∙ row.1)) in
-      let held = some_value (file_told st at file) stands in
-      let can =
-      no_unless _ _ (no_present (file_told st at file) (λ told. unless (writes user told.entry) (NoAccess (length at) (Other file)))
-      access.1 held.0 held.1) in
-      never_written st user subtree (limit_files (length subtree)) unreached (limit_file (length subtree) (Other file))
-      (limit_files-has_other subtree file) held.0.entry
-      (ap (λ p. entry_at st p (Other file)) (whole ∙ sym (same_path-is at subtree same)) ∙ ap (option_map (λ told. told.entry)) held.1) can)
-
 -- ---- a chmod
 
-row-entry : (st : State) (at : Names) (row : Cgroup) (name : EntryName) → is_beyond name ≡ false → row_at st at ≡ Some row
-    → is_some (entry_in row name) ≡ true → is_some (entry_at st at name) ≡ true
-row-entry st at row name listed is there =
-    ap is_some (entry_at-row st at name listed ∙ ap (option_and_then (λ r. entry_in r name)) is) ∙ there
-
-entry-there : (st : State) (at : Names) (row : Cgroup) (name : EntryName) → row_at st at ≡ Some row → missing_bars st at row name ≡ []
+row-entry : (st : State) (at : Names) (row : Cgroup) (name : EntryName) → row_at st at ≡ Some row → is_some (entry_in row name) ≡ true
     → is_some (entry_at st at name) ≡ true
-entry-there st at row Dir is h = row-entry st at row Dir refl is refl
-entry-there st at row Procs is h = row-entry st at row Procs refl is refl
-entry-there st at row SubtreeControl is h = row-entry st at row SubtreeControl refl is refl
+row-entry st at row name is there = ap (λ found. is_some (option_and_then (λ r. entry_in r name) found)) is ∙ there
+
+entry-there : (st : State) (at : Names) (row : Cgroup) (name : EntryName) → row_at st at ≡ Some row → missing_bars row name ≡ []
+    → is_some (entry_at st at name) ≡ true
+entry-there st at row Dir is h = row-entry st at row Dir is refl
+entry-there st at row Procs is h = row-entry st at row Procs is refl
+entry-there st at row SubtreeControl is h = row-entry st at row SubtreeControl is refl
 entry-there st at row (File file) is h =
     let held = some_value (file_of row file) (no_absent (file_of row file) (NoSuchFile (File file)) h) in
-    row-entry st at row (File file) refl is (ap (λ f. is_some (option_map (λ f. f.entry) f)) held.1)
-entry-there st at row (Other file) is h =
-    let held = some_value (file_told st at file) (no_absent (file_told st at file) (NoSuchFile (Other file)) h) in
-    ap (λ told. is_some (option_map (λ told. told.entry) told)) held.1
+    row-entry st at row (File file) is (ap (λ f. is_some (option_map (λ f. f.entry) f)) held.1)
 
 -- the entry that a chmod sets is there, and is the user's own
 pub chmod-owned : (st : State) (user : Identity) (at : Names) (name : EntryName) → chmod_bars st user at name ≡ []
@@ -131,7 +107,7 @@ chmod-owned st user at name free =
     let row = some_value (row_at st at) (no_absent (row_at st at) (NoSuchCgroup (length at)) there.0) in
     let entry =
     some_value (entry_at st at name)
-    (entry-there st at row.0 name row.1 (no_present (row_at st at) (λ r. missing_bars st at r name) there.1 row.0 row.1)) in (
+    (entry-there st at row.0 name row.1 (no_present (row_at st at) (λ r. missing_bars r name) there.1 row.0 row.1)) in (
       entry.0,
       entry.1,
       no_unless _ _ (no_present (entry_at st at name) (λ e. unless (owns user e) (NotOwner name)) parts.1 entry.0 entry.1),

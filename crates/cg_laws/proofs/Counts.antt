@@ -3,9 +3,10 @@ use Rattle.std.proofs.Common.{◌≡◌, ℕ, zero, suc, ◌+◌, ◌-◌, ◌<�
 use Rattle.std.proofs.lemmas.Bool.{cases_lt, and_parts}
 use Rattle.cg_cgroup.specs.Paths.{Names, inside, below, parent}
 use Rattle.cg_cgroup.specs.Identity.{Identity}
-use Rattle.cg_cgroup.specs.Cgroups.{value_in}
-use Rattle.cg_cgroup.specs.declared.files.Limit.{Limit}
-use Rattle.cg_cgroup.specs.declared.files.Limit.TheVariants.{Max, At}
+use Rattle.cg_cgroup.specs.Cgroups.{value_in, most_in}
+use Rattle.cg_cgroup.specs.Values.{most_of}
+use Rattle.cg_cgroup.specs.declared.value.Value.{Value}
+use Rattle.cg_cgroup.specs.declared.value.Value.TheVariants.{Number}
 use Rattle.cg_cgroup.specs.declared.files.LimitFile.{LimitFile}
 use Rattle.cg_cgroup.specs.declared.files.LimitFile.TheVariants.{MaxDescendants, MaxDepth}
 use Rattle.cg_cgroup.specs.declared.cgroup.Cgroup.{Cgroup}
@@ -21,7 +22,7 @@ use Rattle.cg_model.specs.Limits.{is_under, limits, fits_descendants, fits_depth
 use Rattle.cg_model.specs.Next.{next}
 use Rattle.cg_model.specs.Steps.{after}
 use Rattle.cg_model.specs.declared.operation.Op.{Op}
-use Rattle.cg_model.specs.declared.operation.Op.TheVariants.{Move, Control, Mkdir, Rmdir, Set, SetOther, Fork, Exit, Chmod}
+use Rattle.cg_model.specs.declared.operation.Op.TheVariants.{Move, Control, Mkdir, Rmdir, Set, Fork, Exit, Chmod}
 use Rattle.cg_model.specs.declared.outcome.Refusal.TheVariants.{DescendantLimit, DepthLimit}
 use Rattle.cg_model.proofs.ClauseLaws.{no_parts, no_unless, no_present}
 use Rattle.cg_model.proofs.LimitLaws.{fits_in, descendants-limit, depth-limit}
@@ -31,51 +32,52 @@ use Rattle.cg_model.proofs.StepEffects.{fork-by}
 
 -- ---- limits that may stand or not
 
-abbrev FitIn : State → Names → (LimitFile → Option Limit) → Type 0
+abbrev FitIn : State → Names → (LimitFile → Option Value) → Type 0
 FitIn st subtree values =
     (fits_in (count_below st subtree) (values MaxDescendants) ≡ true) × (fits_in (depth_below st subtree) (values MaxDepth) ≡ true)
 
-in-most : (count : ℕ) (limit : Option Limit) → fits_in count limit ≡ true → (most : ℕ) → limit ≡ Some (At most) → count ≤ most
+in-most : (count : ℕ) (limit : Option Value) → fits_in count limit ≡ true → (most : ℕ) → limit ≡ Some (Number most) → count ≤ most
 in-most count limit h most is = leb-true count most (sym (ap (fits_in count) is) ∙ h)
 
-most-in : (count : ℕ) (limit : Option Limit) → ((most : ℕ) → limit ≡ Some (At most) → count ≤ most) → fits_in count limit ≡ true
+most-in : (count : ℕ) (limit : Option Value) → ((most : ℕ) → limit ≡ Some (Number most) → count ≤ most) → fits_in count limit ≡ true
 most-in count None within = refl
-most-in count (Some Max) within = refl
-most-in count (Some (At most)) within = le-leb count most (within most refl)
+most-in count (Some (Number most)) within = le-leb count most (within most refl)
+most-in count (Some value) within = refl
 
 -- a count fits exactly where it is no more than a limit that is a number
 module _ (st : State) (subtree : Names) where
-  pub descendants-most : fits_descendants st subtree ≡ true → (most : ℕ) → value_at st subtree MaxDescendants ≡ Some (At most)
+  pub descendants-most : fits_descendants st subtree ≡ true → (most : ℕ) → value_at st subtree MaxDescendants ≡ Some (Number most)
       → count_below st subtree ≤ most
   descendants-most h = in-most (count_below st subtree) (value_at st subtree MaxDescendants) (sym (descendants-limit st subtree) ∙ h)
 
-  pub most-descendants : ((most : ℕ) → value_at st subtree MaxDescendants ≡ Some (At most) → count_below st subtree ≤ most)
+  pub most-descendants : ((most : ℕ) → value_at st subtree MaxDescendants ≡ Some (Number most) → count_below st subtree ≤ most)
       → fits_descendants st subtree ≡ true
   most-descendants within = descendants-limit st subtree ∙ most-in (count_below st subtree) (value_at st subtree MaxDescendants) within
 
-  pub depth-most : fits_depth st subtree ≡ true → (most : ℕ) → value_at st subtree MaxDepth ≡ Some (At most)
+  pub depth-most : fits_depth st subtree ≡ true → (most : ℕ) → value_at st subtree MaxDepth ≡ Some (Number most)
       → depth_below st subtree ≤ most
   depth-most h = in-most (depth_below st subtree) (value_at st subtree MaxDepth) (sym (depth-limit st subtree) ∙ h)
 
-  pub most-depth : ((most : ℕ) → value_at st subtree MaxDepth ≡ Some (At most) → depth_below st subtree ≤ most)
+  pub most-depth : ((most : ℕ) → value_at st subtree MaxDepth ≡ Some (Number most) → depth_below st subtree ≤ most)
       → fits_depth st subtree ≡ true
   most-depth within = depth-limit st subtree ∙ most-in (depth_below st subtree) (value_at st subtree MaxDepth) within
 
-fewer : (less count : ℕ) (limit : Option Limit) → less ≤ count → fits_in count limit ≡ true → fits_in less limit ≡ true
+fewer : (less count : ℕ) (limit : Option Value) → less ≤ count → fits_in count limit ≡ true → fits_in less limit ≡ true
 fewer less count None le h = refl
-fewer less count (Some Max) le h = refl
-fewer less count (Some (At most)) le h = let within = leb-true count most h in le-leb less most (omega arith)
+fewer less count (Some (Number most)) le h = let within = leb-true count most h in le-leb less most (omega arith)
+fewer less count (Some value) le h = refl
 
-one_more : (count : ℕ) (limit : Limit) → is_under count limit ≡ true → fits_in (1 + count) (Some limit) ≡ true
-one_more count Max h = refl
-one_more count (At most) h = let under = ltb-true count most h in le-leb (1 + count) most (omega arith)
+one_more : (count : ℕ) (limit : Option Value) → is_under count (option_and_then most_of limit) ≡ true → fits_in (1 + count) limit ≡ true
+one_more count None h = refl
+one_more count (Some (Number most)) h = let under = ltb-true count most h in le-leb (1 + count) most (omega arith)
+one_more count (Some value) h = refl
 
-greater : (count other : ℕ) (limit : Option Limit) → fits_in count limit ≡ true → fits_in other limit ≡ true
+greater : (count other : ℕ) (limit : Option Value) → fits_in count limit ≡ true → fits_in other limit ≡ true
     → fits_in (max count other) limit ≡ true
 greater count other None h k = refl
-greater count other (Some Max) h k = refl
-greater count other (Some (At most)) h k =
+greater count other (Some (Number most)) h k =
     let first = leb-true count most h in let second = leb-true other most k in le-leb (max count other) most (omega arith)
+greater count other (Some value) h k = refl
 
 -- ---- a mkdir
 
@@ -104,8 +106,8 @@ module _ (st : State) (user : Identity) (subtree path : Names) (there : has_row 
 
     -- the subtree's own limits have room, where the new cgroup is below it
     room : (row : Cgroup) → row_at st subtree ≡ Some row → below subtree path ≡ true
-        → (is_under (count_below st subtree) row.max_descendants.value ≡ true)
-        × (is_under (length path - 1 - length subtree) row.max_depth.value ≡ true)
+        → (is_under (count_below st subtree) (most_in row MaxDescendants) ≡ true)
+        × (is_under (length path - 1 - length subtree) (most_in row MaxDepth) ≡ true)
     room row is lower =
         let parts = and_parts (inside subtree path) _ lower in
         let at = inside-is subtree path parts.0 in
@@ -115,22 +117,22 @@ module _ (st : State) (user : Identity) (subtree path : Names) (there : has_row 
         (ap (row_at st) at ∙ is) in
         let both =
         no_parts
-        (unless (is_under (count_below st (take (length subtree) path)) row.max_descendants.value) (DescendantLimit (length subtree)))
-        (unless (is_under (length path - 1 - length subtree) row.max_depth.value) (DepthLimit (length subtree))) level in
-        (ap (λ p. is_under (count_below st p) row.max_descendants.value) (sym at) ∙ no_unless _ _ both.0, no_unless _ _ both.1)
+        (unless (is_under (count_below st (take (length subtree) path)) (most_in row MaxDescendants)) (DescendantLimit (length subtree)))
+        (unless (is_under (length path - 1 - length subtree) (most_in row MaxDepth)) (DepthLimit (length subtree))) level in
+        (ap (λ p. is_under (count_below st p) (most_in row MaxDescendants)) (sym at) ∙ no_unless _ _ both.0, no_unless _ _ both.1)
 
     fits-with_row : (made : Cgroup) → FitIn st subtree (value_at st subtree) → FitIn (with_row st path made) subtree (value_at st subtree)
     fits-with_row made fits =
         let row = some_value (row_at st subtree) there in
-        let most : value_at st subtree MaxDescendants ≡ Some row.0.max_descendants.value =
+        let most : value_at st subtree MaxDescendants ≡ value_in row.0 MaxDescendants =
         ap (option_and_then (λ r. value_in r MaxDescendants)) row.1 in
-        let deepest : value_at st subtree MaxDepth ≡ Some row.0.max_depth.value = ap (option_and_then (λ r. value_in r MaxDepth)) row.1 in (
+        let deepest : value_at st subtree MaxDepth ≡ value_in row.0 MaxDepth = ap (option_and_then (λ r. value_in r MaxDepth)) row.1 in (
           ap (λ n. fits_in n (value_at st subtree MaxDescendants)) (count_below-with_row st path made absent subtree)
               ∙ elim (below subtree path) as (λ b. below subtree path ≡ b
               → fits_in (cond b (1 + count_below st subtree) (count_below st subtree)) (value_at st subtree MaxDescendants) ≡ true) [
                 | true ↦
                     λ lower. ap (fits_in (1 + count_below st subtree)) most
-                    ∙ one_more (count_below st subtree) row.0.max_descendants.value (room row.0 row.1 lower).0
+                    ∙ one_more (count_below st subtree) (value_in row.0 MaxDescendants) (room row.0 row.1 lower).0
                 | false ↦ λ _. fits.0
               ] refl,
           ap (λ n. fits_in n (value_at st subtree MaxDepth)) (depth_below-with_row st path made absent subtree)
@@ -141,15 +143,15 @@ module _ (st : State) (user : Identity) (subtree path : Names) (there : has_row 
                     let longer = ltb-true (length subtree) (length path) (and_parts (inside subtree path) _ lower).1 in
                     let level : 1 + (length path - 1 - length subtree) ≡ length path - length subtree = omega arith in
                     greater (depth_below st subtree) (length path - length subtree) (value_at st subtree MaxDepth) fits.1
-                    (ap (fits_in (length path - length subtree)) deepest ∙ ap (λ n. fits_in n (Some row.0.max_depth.value)) (sym level)
-                    ∙ one_more (length path - 1 - length subtree) row.0.max_depth.value (room row.0 row.1 lower).1)
+                    (ap (fits_in (length path - length subtree)) deepest ∙ ap (λ n. fits_in n (value_in row.0 MaxDepth)) (sym level)
+                    ∙ one_more (length path - 1 - length subtree) (value_in row.0 MaxDepth) (room row.0 row.1 lower).1)
                 | false ↦ λ _. fits.1
               ] refl,
         )
 
 -- ---- an rmdir
 
-fits-without_row : (st : State) (subtree path : Names) (values : LimitFile → Option Limit) → has_row st path ≡ true
+fits-without_row : (st : State) (subtree path : Names) (values : LimitFile → Option Value) → has_row st path ≡ true
     → FitIn st subtree values
     → FitIn (without_row st path) subtree values
 fits-without_row st subtree path values there fits =
@@ -184,7 +186,6 @@ module _ (st : State) (user : Identity) (subtree : Names) (fits : FitIn st subtr
   fits-next (Mkdir path) there free = fits-with_row st user subtree path there free _ fits
   fits-next (Rmdir path) there free = fits-without_row st subtree path (value_at st subtree) (allowed_rmdir st user path free).there fits
   fits-next (Set at file value) there free = same_paths (next st user (Set at file value)) (paths_of-with_value st at file value)
-  fits-next (SetOther at file value) there free = fits
   fits-next (Fork parent child) there free =
       fork-by (λ new. FitIn new subtree (value_at st subtree)) st child (process_at st parent) fits (λ process. fits)
   fits-next (Exit pid) there free = fits
@@ -200,6 +201,6 @@ fits-after st user subtree op there free same descendants depth =
     let fits =
     fits-next st user subtree (sym (descendants-limit st subtree) ∙ descendants, sym (depth-limit st subtree) ∙ depth) op there free in
     let moved = after-allowed st user op free in (
-      descendants-limit new subtree ∙ (λ i. fits_in (count_below (moved i) subtree) ((same i).values MaxDescendants)) ∙ fits.0,
-      depth-limit new subtree ∙ (λ i. fits_in (depth_below (moved i) subtree) ((same i).values MaxDepth)) ∙ fits.1,
+      descendants-limit new subtree ∙ (λ i. fits_in (count_below (moved i) subtree) (same i MaxDescendants)) ∙ fits.0,
+      depth-limit new subtree ∙ (λ i. fits_in (depth_below (moved i) subtree) (same i MaxDepth)) ∙ fits.1,
     )

@@ -17,7 +17,7 @@ use Rattle.cg_model.specs.Bars.{bars, move_bars, passes}
 use Rattle.cg_model.specs.Steps.{after}
 use Rattle.cg_model.specs.Effects.{alters_process}
 use Rattle.cg_model.specs.declared.operation.Op.{Op}
-use Rattle.cg_model.specs.declared.operation.Op.TheVariants.{Move, Control, Mkdir, Rmdir, Set, SetOther, Fork, Exit, Chmod}
+use Rattle.cg_model.specs.declared.operation.Op.TheVariants.{Move, Control, Mkdir, Rmdir, Set, Fork, Exit, Chmod}
 use Rattle.cg_model.specs.declared.outcome.Refusal.TheVariants.{NoAccess}
 use Rattle.cg_model.proofs.ClauseLaws.{no_parts, no_unless, no_present}
 use Rattle.cg_model.proofs.Allowed.{allowed_fork}
@@ -132,7 +132,6 @@ module _ (st : State) (user : Identity) (subtree : Names) (sound : IsSound st) w
   crosses-by (Mkdir path) side free q = kept st user subtree (Mkdir path) q refl
   crosses-by (Rmdir path) side free q = kept st user subtree (Rmdir path) q refl
   crosses-by (Set at file value) side free q = kept st user subtree (Set at file value) q refl
-  crosses-by (SetOther at file value) side free q = kept st user subtree (SetOther at file value) q refl
   crosses-by (Fork parent child) side free q = fork-crosses st user subtree sound parent child q free
   crosses-by (Exit pid) side free q =
       ap (λ new. is_crossed subtree (place_at st q) (place_at new q)) (after-allowed st user (Exit pid) free)

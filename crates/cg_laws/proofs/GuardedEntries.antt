@@ -1,23 +1,18 @@
 -- Which entries are guarded, and what guards that hold say of them.
 use Rattle.std.proofs.Common.{◌≡◌, ℕ, zero, suc, ◌<◌, true, false, not, List, [], ◌∷◌, ◌++◌, length, map, get_or, sym, ap, ◌∙◌, refl, subst, true≢false, Some, ⊎_elim, arith}
-use Rattle.std.specs.List.{All, AllByRecursion, Contains, flat_map, list_any}
+use Rattle.std.specs.List.{All, AllByRecursion, Contains, flat_map}
 use Rattle.std.proofs.lemmas.Bool.{not-true, or_parts, and_parts, cases_lt}
-use Rattle.std.proofs.lemmas.List.Elements.{All-from_recursion, recursion_from_All, All-contains, All-contains_itself, All-append, All-map, Contains-append_left, Contains-append_right}
-use Rattle.std.proofs.lemmas.Map.Views.{Contains-from_any}
+use Rattle.std.proofs.lemmas.List.Elements.{All-from_recursion, recursion_from_All, All-contains, All-contains_itself, All-append, All-map, Contains-append_right}
 use Rattle.std.proofs.lemmas.List.{length-map, get_or-map}
 use Rattle.std.proofs.lemmas.List.Concat.{flat_map-append}
 use Rattle.cg_cgroup.specs.Paths.{Names}
 use Rattle.cg_cgroup.specs.Identity.{Identity}
 use Rattle.cg_cgroup.specs.Users.{writes, owns, reaches}
-use Rattle.cg_cgroup.specs.Files.{all_files, all_others, same_other}
+use Rattle.cg_cgroup.specs.Files.{all_files}
 use Rattle.cg_cgroup.specs.declared.user.Entry.{Entry}
 use Rattle.cg_cgroup.specs.declared.files.LimitFile.{LimitFile}
-use Rattle.cg_cgroup.specs.declared.files.EntryName.{EntryName}
-use Rattle.cg_cgroup.specs.declared.files.EntryName.TheVariants.{File, Other}
-use Rattle.cg_cgroup.specs.declared.other_file.OtherFile.{OtherFile}
+use Rattle.cg_cgroup.specs.declared.files.EntryName.TheVariants.{File}
 use Rattle.cg_cgroup.proofs.AllFiles.{each_file}
-use Rattle.cg_cgroup.proofs.AllOthers.{each_other}
-use Rattle.cg_cgroup.proofs.CgroupLaws.{same_other-true}
 use Rattle.cg_model.specs.States.{State}
 use Rattle.cg_model.specs.Clauses.{unless, present}
 use Rattle.cg_model.proofs.ClauseLaws.{no_parts, no_unless, no_present, none_each, each_none}
@@ -47,15 +42,7 @@ pub limit_files-has : (subtree : Names) (file : LimitFile)
     → Contains (limit_files (length subtree)) (limit_file (length subtree) (File file))
 limit_files-has subtree file =
     let listed = each_file (Contains all_files) (recursion_from_All (Contains all_files) all_files (All-contains_itself all_files)) file in
-    contains-map (limit_file (length subtree)) (map File all_files ++ map Other all_others) (File file)
-    (Contains-append_left (map File all_files) (map Other all_others) (File file) (contains-map File all_files file listed))
-
-pub limit_files-has_other : (subtree : Names) (file : OtherFile)
-    → Contains (limit_files (length subtree)) (limit_file (length subtree) (Other file))
-limit_files-has_other subtree file =
-    let listed = Contains-from_any same_other-true file all_others (each_other (λ f. list_any (same_other f) all_others) refl file) in
-    contains-map (limit_file (length subtree)) (map File all_files ++ map Other all_others) (Other file)
-    (Contains-append_right (map File all_files) (map Other all_others) (Other file) (contains-map Other all_others file listed))
+    contains-map (limit_file (length subtree)) (map File all_files) (File file) (contains-map File all_files file listed)
 
 -- what holds of each kind holds of all
 module _ (subtree : Names) (P : Guarded → Type 0) where
@@ -63,23 +50,18 @@ module _ (subtree : Names) (P : Guarded → Type 0) where
   all_ancestors zero each = tt
   all_ancestors (suc m) each = (each m, all_ancestors m each)
 
-  all_limit_files : ((file : LimitFile) → P (limit_file (length subtree) (File file)))
-      → ((file : OtherFile) → P (limit_file (length subtree) (Other file))) → All P (limit_files (length subtree))
-  all_limit_files file other =
-      let of_name : EntryName → Type 0 = λ name. P (limit_file (length subtree) name) in
-      All-map P (limit_file (length subtree)) (map File all_files ++ map Other all_others)
-      (All-append of_name (map File all_files) (map Other all_others)
-      (All-map of_name File all_files (λ k d _. file (get_or all_files k d)))
-      (All-map of_name Other all_others (λ k d _. other (get_or all_others k d))))
+  all_limit_files : ((file : LimitFile) → P (limit_file (length subtree) (File file))) → All P (limit_files (length subtree))
+  all_limit_files file =
+      All-map P (limit_file (length subtree)) (map File all_files)
+      (All-map (λ name. P (limit_file (length subtree) name)) File all_files (λ k d _. file (get_or all_files k d)))
 
   pub all_guarded : ((n : ℕ) → P (ancestor n)) → ((file : LimitFile) → P (limit_file (length subtree) (File file)))
-      → ((file : OtherFile) → P (limit_file (length subtree) (Other file))) → P (parent_control subtree)
-      → P (parent_dir subtree) → All P (guarded_entries subtree)
-  all_guarded each file other control dir =
+      → P (parent_control subtree) → P (parent_dir subtree) → All P (guarded_entries subtree)
+  all_guarded each file control dir =
       All-append P (ancestors (length subtree) ++ limit_files (length subtree)) (parent_control subtree ∷ parent_dir subtree ∷ [])
       (All-append P (ancestors (length subtree)) (limit_files (length subtree))
       (All-from_recursion P (ancestors (length subtree)) (all_ancestors (length subtree) each))
-      (all_limit_files file other))
+      (all_limit_files file))
       (All-from_recursion P (parent_control subtree ∷ parent_dir subtree ∷ []) (control, (dir, tt)))
 
 -- ---- entries that a user doesn't reach

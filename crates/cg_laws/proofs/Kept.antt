@@ -5,15 +5,14 @@ use Rattle.std.proofs.lemmas.List.Folds.{list_any_none}
 use Rattle.cg_cgroup.specs.Paths.{Names}
 use Rattle.cg_cgroup.specs.Identity.{Identity}
 use Rattle.cg_cgroup.specs.declared.files.LimitFile.{LimitFile}
-use Rattle.cg_cgroup.specs.declared.other_file.OtherFile.{OtherFile}
 use Rattle.cg_model.specs.States.{State}
 use Rattle.cg_model.specs.WellFormed.{has_row}
 use Rattle.cg_model.specs.Bars.{bars}
 use Rattle.cg_model.specs.Clauses.{unless}
 use Rattle.cg_model.specs.Steps.{after}
-use Rattle.cg_model.specs.Effects.{alters_row, alters_value, alters_text}
+use Rattle.cg_model.specs.Effects.{alters_row, alters_value}
 use Rattle.cg_model.specs.declared.operation.Op.{Op}
-use Rattle.cg_model.specs.declared.operation.Op.TheVariants.{Move, Control, Mkdir, Rmdir, Set, SetOther, Fork, Exit, Chmod}
+use Rattle.cg_model.specs.declared.operation.Op.TheVariants.{Move, Control, Mkdir, Rmdir, Set, Fork, Exit, Chmod}
 use Rattle.cg_model.proofs.Allowed.{allowed_mkdir}
 use Rattle.cg_model.proofs.StepEffects.{has_row-after, limits-after}
 use Rattle.cg_model.specs.Limits.{limits, fits_descendants, fits_depth}
@@ -24,7 +23,7 @@ use Rattle.cg_model.specs.declared.guard.Guard.TheVariants.{AlreadyOver}
 use Rattle.cg_laws.specs.Sound.{IsSound}
 use Rattle.cg_laws.proofs.GuardedEntries.{Holding, holding, hold-untouched}
 use Rattle.cg_laws.proofs.Untouched.{after-cases, there-other, untouched-after, untouched-unopened}
-use Rattle.cg_laws.proofs.Barred.{control-other, rmdir-other, set-other, set_other-other, chmod-other}
+use Rattle.cg_laws.proofs.Barred.{control-other, rmdir-other, set-other, chmod-other}
 use Rattle.cg_model.proofs.Edges.{none-crosses, none-crosses-same}
 use Rattle.cg_laws.proofs.Crossing.{crosses}
 use Rattle.cg_laws.proofs.Counts.{fits-after}
@@ -42,7 +41,6 @@ module _ (st : State) (user : Identity) (subtree : Names) (sound : IsSound st) (
     row_stays (Mkdir path) free = there-other st path subtree (allowed_mkdir st user path free).0 sub.0
     row_stays (Rmdir path) free = rmdir-other st user subtree sound sub path held.parent_dir free
     row_stays (Set at file value) free = refl
-    row_stays (SetOther at file value) free = refl
     row_stays (Fork parent child) free = refl
     row_stays (Exit pid) free = refl
     row_stays (Chmod at name mode) free = refl
@@ -53,17 +51,9 @@ module _ (st : State) (user : Identity) (subtree : Names) (sound : IsSound st) (
     value_stays (Mkdir path) free file = row_stays (Mkdir path) free
     value_stays (Rmdir path) free file = row_stays (Rmdir path) free
     value_stays (Set at written value) free file = and_left _ _ (set-other st user subtree sound sub at written value held.limit_files free)
-    value_stays (SetOther at written value) free file = refl
     value_stays (Fork parent child) free file = refl
     value_stays (Exit pid) free file = refl
     value_stays (Chmod at name mode) free file = refl
-
-    text_stays : (op : Op) → bars st user op ≡ [] → (file : OtherFile) → alters_text op subtree file ≡ false
-    text_stays (Control at changes) free file = and_left _ _ (control-other st user subtree sound sub at changes held.parent_control free)
-    text_stays (Rmdir path) free file = row_stays (Rmdir path) free
-    text_stays (SetOther at written value) free file =
-        and_left _ _ (set_other-other st user subtree sound sub at written held.limit_files free)
-    text_stays op free file = refl
 
     no_chmod : (op : Op) → ((guarded : Guarded) → is_chmod_of subtree op guarded ≡ false) → sets_guarded_mode subtree op ≡ false
     no_chmod op other = list_any_none (is_chmod_of subtree op) (guarded_entries subtree) (λ k d _. other _)
@@ -74,7 +64,6 @@ module _ (st : State) (user : Identity) (subtree : Names) (sound : IsSound st) (
     modes_stay (Mkdir path) free = no_chmod (Mkdir path) (λ guarded. refl)
     modes_stay (Rmdir path) free = no_chmod (Rmdir path) (λ guarded. refl)
     modes_stay (Set at file value) free = no_chmod (Set at file value) (λ guarded. refl)
-    modes_stay (SetOther at file value) free = no_chmod (SetOther at file value) (λ guarded. refl)
     modes_stay (Fork parent child) free = no_chmod (Fork parent child) (λ guarded. refl)
     modes_stay (Exit pid) free = no_chmod (Exit pid) (λ guarded. refl)
     modes_stay (Chmod at name mode) free = chmod-other st user subtree at name mode held.all free
@@ -84,7 +73,7 @@ module _ (st : State) (user : Identity) (subtree : Names) (sound : IsSound st) (
       there_after = has_row-after st user op subtree (row_stays op free) ∙ sub.0
 
       limits_after : limits (after st user op) subtree ≡ limits st subtree
-      limits_after = limits-after st user op subtree (value_stays op free) (text_stays op free)
+      limits_after = limits-after st user op subtree (value_stays op free)
 
       untouched : AreUntouched st (after st user op) subtree
       untouched = untouched-after st user subtree op sound sub there_after limits_after (modes_stay op free)

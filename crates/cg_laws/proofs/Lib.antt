@@ -1,5 +1,4 @@
 pub mod GuardedEntries
-pub mod Standing
 pub mod Sound
 pub mod Untouched
 pub mod Barred

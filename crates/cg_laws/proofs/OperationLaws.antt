@@ -3,19 +3,17 @@ use Rattle.std.proofs.Common.{◌≡◌, ℕ, true, false, List, [], ◌∷◌, 
 use Rattle.std.proofs.lemmas.Bool.{and_left}
 use Rattle.cg_cgroup.specs.Paths.{Names}
 use Rattle.cg_cgroup.specs.Identity.{Identity}
-use Rattle.cg_cgroup.specs.declared.files.Limit.{Limit}
+use Rattle.cg_cgroup.specs.declared.value.Value.{Value}
 use Rattle.cg_cgroup.specs.declared.files.LimitFile.{LimitFile}
 use Rattle.cg_cgroup.specs.declared.files.EntryName.{EntryName}
-use Rattle.cg_cgroup.specs.declared.other_file.OtherFile.{OtherFile}
-use Rattle.cg_cgroup.specs.declared.told.FileText.{FileText}
 use Rattle.cg_model.specs.States.{State, place_at}
 use Rattle.cg_model.specs.WellFormed.{IsWellFormed, has_row}
 use Rattle.cg_model.specs.Bars.{bars}
 use Rattle.cg_model.specs.Steps.{after}
-use Rattle.cg_model.specs.Effects.{alters_value, alters_text}
+use Rattle.cg_model.specs.Effects.{alters_value}
 use Rattle.cg_model.specs.declared.changes.Change.{Change}
 use Rattle.cg_model.specs.declared.operation.Op.{Op}
-use Rattle.cg_model.specs.declared.operation.Op.TheVariants.{Move, Control, Mkdir, Rmdir, Set, SetOther, Fork, Exit, Chmod}
+use Rattle.cg_model.specs.declared.operation.Op.TheVariants.{Move, Control, Mkdir, Rmdir, Set, Fork, Exit, Chmod}
 use Rattle.cg_model.proofs.Allowed.{allowed_mkdir}
 use Rattle.cg_model.proofs.StepFormed.{after-allowed}
 use Rattle.cg_model.proofs.StepEffects.{has_row-after, limits-after}
@@ -25,7 +23,7 @@ use Rattle.cg_model.specs.Guards.{ancestors, limit_files, parent_control, parent
 use Rattle.cg_laws.specs.Guarding.{AreUnreached, AreUntouched}
 use Rattle.cg_laws.proofs.Sound.{sound-formed}
 use Rattle.cg_laws.proofs.Untouched.{after-cases, there-other, untouched-after}
-use Rattle.cg_laws.proofs.Barred.{control-other, rmdir-other, set-other, set_other-other, chmod-other}
+use Rattle.cg_laws.proofs.Barred.{control-other, rmdir-other, set-other, chmod-other}
 use Rattle.cg_model.proofs.Edges.{none-crosses, none-crosses-same}
 use Rattle.cg_laws.proofs.Crossing.{crosses, fork-crosses, exit-crosses}
 use Rattle.cg_laws.proofs.Counts.{fits-after}
@@ -60,32 +58,22 @@ exit-crosses-nothing st user subtree pid =
 
 limits-kept : (st : State) (user : Identity) (subtree : Names) (op : Op)
     → (bars st user op ≡ [] → (file : LimitFile) → alters_value op subtree file ≡ false)
-    → (bars st user op ≡ [] → (file : OtherFile) → alters_text op subtree file ≡ false)
     → limits (after st user op) subtree ≡ limits st subtree
-limits-kept st user subtree op kept texts =
-    after-cases st user op (λ new. limits new subtree ≡ limits st subtree)
-    (λ free. limits-after st user op subtree (kept free) (texts free)) refl
+limits-kept st user subtree op kept =
+    after-cases st user op (λ new. limits new subtree ≡ limits st subtree) (λ free. limits-after st user op subtree (kept free)) refl
 
-pub set-leaves : (st : State) (user : Identity) (subtree at : Names) (file : LimitFile) (value : Limit) → IsWellFormed st
+pub set-leaves : (st : State) (user : Identity) (subtree at : Names) (file : LimitFile) (value : Value) → IsWellFormed st
     → IsSubtree st subtree → AreUnreached st user subtree (limit_files (length subtree))
     → limits (after st user (Set at file value)) subtree ≡ limits st subtree
 set-leaves st user subtree at file value whole sub unreached =
     limits-kept st user subtree (Set at file value)
-    (λ free other. and_left _ _ (set-other st user subtree (sound-formed st whole) sub at file value unreached free)) (λ _ other. refl)
-
-pub set_other-leaves : (st : State) (user : Identity) (subtree at : Names) (file : OtherFile) (value : FileText) → IsWellFormed st
-    → IsSubtree st subtree → AreUnreached st user subtree (limit_files (length subtree))
-    → limits (after st user (SetOther at file value)) subtree ≡ limits st subtree
-set_other-leaves st user subtree at file value whole sub unreached =
-    limits-kept st user subtree (SetOther at file value) (λ _ other. refl)
-    (λ free other. and_left _ _ (set_other-other st user subtree (sound-formed st whole) sub at file unreached free))
+    (λ free other. and_left _ _ (set-other st user subtree (sound-formed st whole) sub at file value unreached free))
 
 pub control-leaves : (st : State) (user : Identity) (subtree at : Names) (changes : List Change) → IsWellFormed st → IsSubtree st subtree
     → AreUnreached st user subtree (parent_control subtree ∷ [])
     → limits (after st user (Control at changes)) subtree ≡ limits st subtree
 control-leaves st user subtree at changes whole sub unreached =
     limits-kept st user subtree (Control at changes)
-    (λ free file. and_left _ _ (control-other st user subtree (sound-formed st whole) sub at changes unreached free))
     (λ free file. and_left _ _ (control-other st user subtree (sound-formed st whole) sub at changes unreached free))
 
 -- ---- the directory
@@ -102,7 +90,6 @@ pub rmdir-leaves : (st : State) (user : Identity) (subtree path : Names) → IsW
     → limits (after st user (Rmdir path)) subtree ≡ limits st subtree
 rmdir-leaves st user subtree path whole sub unreached =
     limits-kept st user subtree (Rmdir path) (λ free file. rmdir-other st user subtree (sound-formed st whole) sub path unreached free)
-    (λ free file. rmdir-other st user subtree (sound-formed st whole) sub path unreached free)
 
 pub mkdir-fits : (st : State) (user : Identity) (subtree path : Names) → has_row st subtree ≡ true → fits_descendants st subtree ≡ true
     → fits_depth st subtree ≡ true
@@ -111,8 +98,7 @@ mkdir-fits st user subtree path there descendants depth =
     after-cases st user (Mkdir path) (λ new. (fits_descendants new subtree ≡ true) × (fits_depth new subtree ≡ true))
     (λ free.
     let kept =
-    limits-kept st user subtree (Mkdir path) (λ free file. there-other st path subtree (allowed_mkdir st user path free).0 there)
-    (λ free file. refl) in
+    limits-kept st user subtree (Mkdir path) (λ free file. there-other st path subtree (allowed_mkdir st user path free).0 there) in
     fits-after st user subtree (Mkdir path) there free kept descendants depth)
     (descendants, depth)
 
@@ -125,5 +111,5 @@ chmod-opens st user subtree at name mode whole sub unreached =
     let op = Chmod at name mode in
     after-cases st user op (λ new. AreUntouched st new subtree)
     (λ free. untouched-after st user subtree op (sound-formed st whole) sub (has_row-after st user op subtree refl ∙ sub.0)
-    (limits-kept st user subtree op (λ _ file. refl) (λ _ file. refl)) (chmod-other st user subtree at name mode unreached free))
+    (limits-kept st user subtree op (λ _ file. refl)) (chmod-other st user subtree at name mode unreached free))
     (λ k d _. refl)

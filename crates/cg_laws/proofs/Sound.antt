@@ -16,12 +16,11 @@ use Rattle.cg_model.proofs.TreeLaws.{take-there-by_parents}
 use Rattle.cg_model.specs.Steps.{after}
 use Rattle.cg_model.specs.Effects.{alters_row, alters_process}
 use Rattle.cg_model.specs.declared.operation.Op.{Op}
-use Rattle.cg_model.specs.declared.operation.Op.TheVariants.{Move, Control, Mkdir, Rmdir, Set, SetOther, Fork, Exit, Chmod}
+use Rattle.cg_model.specs.declared.operation.Op.TheVariants.{Move, Control, Mkdir, Rmdir, Set, Fork, Exit, Chmod}
 use Rattle.cg_model.proofs.Allowed.{allowed_mkdir, allowed_rmdir}
 use Rattle.cg_model.proofs.StepFormed.{after-by}
 use Rattle.cg_model.proofs.StepEffects.{fork-by, has_row-after, process_at-after, used-after}
 use Rattle.cg_laws.specs.Sound.{IsSound}
-use Rattle.cg_laws.proofs.Standing.{standing-formed, standing-after}
 
 abbrev HasParents : State → Type 0
 HasParents st = (path : Names) → has_row st path ≡ true → has_row st (parent path) ≡ true
@@ -32,7 +31,6 @@ AreUsed st = (pid : ℕ) → is_some (process_at st pid) ≡ true → is_used st
 pub sound-formed : (st : State) → IsWellFormed st → IsSound st
 sound-formed st whole = record {
   parents = whole.parents;
-  told = standing-formed st whole;
   used = λ pid live. let found = some_value (process_at st pid) live in whole.used pid found.0 found.1;
 }
 
@@ -87,7 +85,6 @@ parents-after st user (Rmdir path) parents =
     after-by st user (Rmdir path) HasParents (λ free. parents-without_row st path (allowed_rmdir st user path free).no_child parents)
     parents
 parents-after st user (Set at file value) parents = parents_stay st user (Set at file value) (λ q. refl) parents
-parents-after st user (SetOther at file value) parents = parents_stay st user (SetOther at file value) (λ q. refl) parents
 parents-after st user (Fork parent child) parents = parents_stay st user (Fork parent child) (λ q. refl) parents
 parents-after st user (Exit pid) parents = parents_stay st user (Exit pid) (λ q. refl) parents
 parents-after st user (Chmod at name mode) parents = parents_stay st user (Chmod at name mode) (λ q. refl) parents
@@ -130,7 +127,6 @@ all_used-after st user (Control at changes) used = used_stay st user (Control at
 all_used-after st user (Mkdir path) used = used_stay st user (Mkdir path) (λ q. refl) used
 all_used-after st user (Rmdir path) used = used_stay st user (Rmdir path) (λ q. refl) used
 all_used-after st user (Set at file value) used = used_stay st user (Set at file value) (λ q. refl) used
-all_used-after st user (SetOther at file value) used = used_stay st user (SetOther at file value) (λ q. refl) used
 all_used-after st user (Fork parent child) used =
     after-by st user (Fork parent child) AreUsed
     (λ _. fork-by AreUsed st child (process_at st parent) used (λ process. used-with_process st child process.uid process.place used)) used
@@ -140,7 +136,6 @@ all_used-after st user (Chmod at name mode) used = used_stay st user (Chmod at n
 pub sound-after : (st : State) (user : Identity) (op : Op) → IsSound st → IsSound (after st user op)
 sound-after st user op sound = record {
   parents = parents-after st user op sound.parents;
-  told = standing-after st user op sound.told;
   used = all_used-after st user op sound.used;
 }
 

@@ -1,31 +1,28 @@
 -- A step that leaves a subtree there, with its limits, touches no entry on which a guard of it stands, but for a chmod of one.
-use Rattle.std.proofs.Common.{◌≡◌, Bool, true, false, cond, ◌&&◌, List, [], ◌∷◌, length, take, get_or, refl, sym, ap, ◌∙◌, true≢false, Option, Some, None, is_some, option_map, option_and_then, unwrap_or, take_all, arith, subst, ◌-◌}
+use Rattle.std.proofs.Common.{◌≡◌, Bool, true, false, cond, List, [], ◌∷◌, length, take, get_or, refl, sym, ap, ◌∙◌, true≢false, Option, Some, None, is_some, option_map, option_and_then, unwrap_or, take_all, arith, subst, ◌-◌}
 use Rattle.std.specs.List.{AllByRecursion, list_any}
 use Rattle.std.proofs.lemmas.Bool.{false_from_ne_true, or_parts}
 use Rattle.std.proofs.lemmas.List.Elements.{All-from_recursion, All-weaker}
 use Rattle.cg_cgroup.specs.Paths.{Names, same_path, is_child}
 use Rattle.cg_cgroup.specs.Identity.{Identity}
-use Rattle.cg_cgroup.specs.Files.{stands_under, stands_by, brought_by, enables}
-use Rattle.cg_cgroup.specs.Cgroups.{file_of, other_in, refitted, file_made_by}
+use Rattle.cg_cgroup.specs.Files.{controller_of, enables}
+use Rattle.cg_cgroup.specs.Cgroups.{Held, file_of, refitted, untouched, entry_made_by}
 use Rattle.cg_cgroup.specs.declared.controllers.ControllerSet.{ControllerSet}
-use Rattle.cg_cgroup.specs.declared.files.Controller.{Controller}
 use Rattle.cg_cgroup.specs.declared.files.LimitFile.{LimitFile}
-use Rattle.cg_cgroup.specs.declared.other_file.OtherFile.{OtherFile}
-use Rattle.cg_cgroup.specs.declared.files.EntryName.TheVariants.{File, Other}
-use Rattle.cg_cgroup.specs.declared.cgroup.LimitEntry.{LimitEntry}
+use Rattle.cg_cgroup.specs.declared.files.EntryName.TheVariants.{File}
+use Rattle.cg_cgroup.specs.declared.user.Entry.{Entry}
 use Rattle.cg_cgroup.proofs.Options.{some_value}
 use Rattle.cg_cgroup.proofs.PathOrder.{same_path-is}
-use Rattle.cg_model.specs.States.{State, row_at, file_at, other_at, told_at, file_told, entry_at, value_at, with_enabled}
+use Rattle.cg_model.specs.States.{State, row_at, file_at, entry_at, value_at, with_enabled}
 use Rattle.cg_model.specs.WellFormed.{has_row, enabled_at}
 use Rattle.cg_model.proofs.StateLaws.{row_at-without_row-same}
-use Rattle.cg_model.proofs.StateEntries.{entry_at-file, value_at-file, entry_at-with_enabled-dir, entry_at-with_enabled-procs, entry_at-with_enabled-subtree_control, entry_at-with_enabled-beyond, file_at-with_enabled-other, file_at-with_enabled-child, other_at-with_enabled-same}
-use Rattle.cg_model.proofs.StateTold.{file_told-same, told_at-with_enabled}
+use Rattle.cg_model.proofs.StateEntries.{entry_at-file, value_at-file, entry_at-with_enabled-dir, entry_at-with_enabled-procs, entry_at-with_enabled-subtree_control, file_at-with_enabled-other, file_at-with_enabled-child}
 use Rattle.cg_model.specs.Changes.{enabled_after}
 use Rattle.cg_model.specs.Bars.{bars}
 use Rattle.cg_model.specs.Steps.{after}
 use Rattle.cg_model.specs.Effects.{alters_entry}
 use Rattle.cg_model.specs.declared.operation.Op.{Op}
-use Rattle.cg_model.specs.declared.operation.Op.TheVariants.{Move, Control, Mkdir, Rmdir, Set, SetOther, Fork, Exit, Chmod}
+use Rattle.cg_model.specs.declared.operation.Op.TheVariants.{Move, Control, Mkdir, Rmdir, Set, Fork, Exit, Chmod}
 use Rattle.cg_model.proofs.Allowed.{allowed_mkdir}
 use Rattle.cg_model.proofs.StepFormed.{after-by, after-allowed}
 use Rattle.cg_model.proofs.StepEffects.{entry_at-after}
@@ -33,8 +30,7 @@ use Rattle.cg_model.specs.Limits.{Limits, limits}
 use Rattle.cg_model.specs.Guards.{Guarded, guarded_entries, guarded_entry, is_chmod_of, sets_guarded_mode, IsSubtree}
 use Rattle.cg_laws.specs.Guarding.{AreUntouched}
 use Rattle.cg_model.specs.Strangers.{OpensGuarded}
-use Rattle.cg_laws.specs.Sound.{IsSound, file_stands}
-use Rattle.cg_laws.proofs.Standing.{stands-child}
+use Rattle.cg_laws.specs.Sound.{IsSound}
 use Rattle.cg_laws.proofs.Sound.{sound-after, take-there}
 use Rattle.cg_laws.proofs.GuardedEntries.{all_guarded}
 
@@ -61,26 +57,28 @@ by_alters st user subtree op kept k d _ =
 -- ---- a control
 
 -- a file that has its value still has neither gone nor come
-refitted-same : (enabled : ControllerSet) (user : Identity) (file : LimitFile) (had : Option LimitEntry)
-    → option_map (λ f. f.value) (refitted enabled user file had) ≡ option_map (λ f. f.value) had → refitted enabled user file had ≡ had
-refitted-same enabled user file had = by_cases (stands_under enabled file) had
+refitted-same : (enabled : ControllerSet) (entry : Entry) (file : LimitFile) (had : Option Held)
+    → option_map (λ f. f.value) (refitted enabled entry file had) ≡ option_map (λ f. f.value) had → refitted enabled entry file had ≡ had
+refitted-same enabled entry file had =
+    elim (controller_of file) as (λ by.
+    option_map (λ f. f.value) (elim by [
+      | None ↦ had
+      | Some controller ↦ cond (enables enabled controller) (Some (unwrap_or had (untouched entry file))) None
+    ]) ≡ option_map (λ f. f.value) had
+    → elim by [ None ↦ had | Some controller ↦ cond (enables enabled controller) (Some (unwrap_or had (untouched entry file))) None ] ≡ had) [
+      | None ↦ λ _. refl
+      | Some controller ↦ by_cases (enables enabled controller) had
+    ]
   where
-    by_cases : (stands : Bool) (had : Option LimitEntry)
-        → option_map (λ f. f.value) (cond stands (Some (unwrap_or had (file_made_by user file))) None) ≡ option_map (λ f. f.value) had
-        → cond stands (Some (unwrap_or had (file_made_by user file))) None ≡ had
+    by_cases : (stands : Bool) (had : Option Held)
+        → option_map (λ f. f.value) (cond stands (Some (unwrap_or had (untouched entry file))) None) ≡ option_map (λ f. f.value) had
+        → cond stands (Some (unwrap_or had (untouched entry file))) None ≡ had
     by_cases true None h = absurd (true≢false (ap is_some h))
     by_cases true (Some held) h = refl
     by_cases false None h = refl
     by_cases false (Some held) h = absurd (true≢false (sym (ap is_some h)))
 
--- what is told only where it stays
-told-same : {A : Type 0} (stays : Bool) (told : Option A) → (is_some told ≡ true → stays ≡ true) → cond stays told None ≡ told
-told-same true told h = refl
-told-same false None h = refl
-told-same false (Some x) h = absurd (true≢false (sym (h refl)))
-
-module _ (st : State) (at : Names) (enabled : ControllerSet) (user : Identity) (subtree : Names) (there : has_row st subtree ≡ true)
-    (standing : (file : OtherFile) → is_some (told_at st subtree file) ≡ true → file_stands st subtree file ≡ true) where
+module _ (st : State) (at : Names) (enabled : ControllerSet) (user : Identity) (subtree : Names) (there : has_row st subtree ≡ true) where
   file-with_enabled : (file : LimitFile) → value_at (with_enabled st at enabled user) subtree file ≡ value_at st subtree file
       → file_at (with_enabled st at enabled user) subtree file ≡ file_at st subtree file
   file-with_enabled file same =
@@ -89,60 +87,15 @@ module _ (st : State) (at : Names) (enabled : ControllerSet) (user : Identity) (
         | true ↦ λ child.
             let row = some_value (row_at st subtree) there in
             let was : file_at st subtree file ≡ file_of row.0 file = ap (option_and_then (λ row. file_of row file)) row.1 in
-            let now : file_at (with_enabled st at enabled user) subtree file ≡ refitted enabled user file (file_of row.0 file) =
+            let now : file_at (with_enabled st at enabled user) subtree file ≡ refitted enabled (entry_made_by user 420) file (file_of row.0 file) =
             file_at-with_enabled-child st at enabled user subtree child file
-            ∙ ap (option_and_then (λ row. refitted enabled user file (file_of row file))) row.1 in
+            ∙ ap (option_and_then (λ row. refitted enabled (entry_made_by user 420) file (file_of row file))) row.1 in
             let values =
             ap (option_map (λ f. f.value)) (sym now) ∙ sym (value_at-file (with_enabled st at enabled user) subtree file) ∙ same
             ∙ value_at-file st subtree file ∙ ap (option_map (λ f. f.value)) was in
-            now ∙ refitted-same enabled user file (file_of row.0 file) values ∙ sym was
+            now ∙ refitted-same enabled (entry_made_by user 420) file (file_of row.0 file) values ∙ sym was
         | false ↦ λ other. file_at-with_enabled-other st at enabled user subtree other file
       ] refl
-
-  -- what is told of one beyond `LimitFile`, where those of the controller that brings it have neither gone nor come
-  module _ (file : OtherFile) (stand : (controller : Controller) → brought_by file ≡ Some controller → is_child at subtree ≡ true
-      → is_some (other_at st subtree controller) ≡ enables enabled controller) where
-    pub told-with_enabled : told_at (with_enabled st at enabled user) subtree file ≡ told_at st subtree file
-    told-with_enabled =
-        told_at-with_enabled st at enabled user subtree file
-        ∙ elim (is_child at subtree) as (λ b. is_child at subtree ≡ b
-        → cond b (cond (stands_by enabled (brought_by file)) (told_at st subtree file) None) (told_at st subtree file)
-        ≡ told_at st subtree file) [
-          | false ↦ λ _. refl
-          | true ↦ λ child. told-same (stands_by enabled (brought_by file)) (told_at st subtree file)
-              (λ told. brought child (standing file told))
-        ] refl
-      where
-        brought : is_child at subtree ≡ true → file_stands st subtree file ≡ true → stands_by enabled (brought_by file) ≡ true
-        brought child = elim (brought_by file) as (λ by. brought_by file ≡ by
-            → elim by [ None ↦ has_row st subtree | Some controller ↦ is_some (other_at st subtree controller) ] ≡ true
-            → stands_by enabled by ≡ true)
-            [ None ↦ λ _ _. refl | Some controller ↦ λ by stands. sym (stand controller by child) ∙ stands ] refl
-
-    brought-with_enabled : (controller : Controller) → brought_by file ≡ Some controller → is_child at subtree ≡ true
-        → file_told (with_enabled st at enabled user) subtree file ≡ file_told st subtree file
-    brought-with_enabled controller by child =
-        let untold = λ (s : State). ap (λ by. option_and_then (λ row. elim by [
-          | None ↦ row.freeze
-          | Some controller ↦ other_in row controller
-        ]) (row_at s subtree)) by in
-        file_told-same st (with_enabled st at enabled user) subtree file told-with_enabled
-        (untold (with_enabled st at enabled user)
-        ∙ other_at-with_enabled-same st at enabled user subtree controller (λ _. stand controller by child) ∙ sym (untold st))
-
-    pub beyond-with_enabled : entry_at (with_enabled st at enabled user) subtree (Other file) ≡ entry_at st subtree (Other file)
-    beyond-with_enabled =
-        let kept = entry_at-with_enabled-beyond st at enabled user subtree file in
-        elim (is_child at subtree) as (λ b. is_child at subtree ≡ b
-        → entry_at (with_enabled st at enabled user) subtree (Other file) ≡ entry_at st subtree (Other file)) [
-          | false ↦ λ other. kept (ap (λ b. b && is_some (brought_by file)) other)
-          | true ↦ λ child.
-              elim (brought_by file) as (λ by. brought_by file ≡ by
-              → entry_at (with_enabled st at enabled user) subtree (Other file) ≡ entry_at st subtree (Other file)) [
-                | None ↦ λ by. kept (λ i. child i && is_some (by i))
-                | Some controller ↦ λ by. ap (option_map (λ told. told.entry)) (brought-with_enabled controller by child)
-              ] refl
-        ] refl
 
   untouched-with_enabled : limits (with_enabled st at enabled user) subtree ≡ limits st subtree
       → AreUntouched st (with_enabled st at enabled user) subtree
@@ -152,11 +105,8 @@ module _ (st : State) (at : Names) (enabled : ControllerSet) (user : Identity) (
       (λ file. subst (λ path. entry_at (with_enabled st at enabled user) path (File file) ≡ entry_at st path (File file))
       (sym (take_all (length subtree) subtree (omega arith)))
       (entry_at-file (with_enabled st at enabled user) subtree file
-      ∙ ap (option_map (λ f. f.entry)) (file-with_enabled file (ap (λ (these : Limits). these.values file) same))
+      ∙ ap (option_map (λ f. f.entry)) (file-with_enabled file (ap (λ (these : Limits). these file) same))
       ∙ sym (entry_at-file st subtree file)))
-      (λ file. subst (λ path. entry_at (with_enabled st at enabled user) path (Other file) ≡ entry_at st path (Other file))
-      (sym (take_all (length subtree) subtree (omega arith))) (beyond-with_enabled file (λ controller _ child.
-      sym (ap (λ (these : Limits). these.others controller) same) ∙ stands-child st at enabled user subtree controller child there)))
       (entry_at-with_enabled-subtree_control st at enabled user (take (length subtree - 1) subtree))
       (entry_at-with_enabled-dir st at enabled user (take (length subtree - 1) subtree))
 
@@ -173,7 +123,7 @@ pub untouched-after : (st : State) (user : Identity) (subtree : Names) (op : Op)
 untouched-after st user subtree (Move pid to) sound sub there same shut = by_alters st user subtree (Move pid to) (λ guarded. refl)
 untouched-after st user subtree (Control at changes) sound sub there same shut =
     after-by st user (Control at changes) (λ new. limits new subtree ≡ limits st subtree → AreUntouched st new subtree)
-    (λ _ same. untouched-with_enabled st at (enabled_after (enabled_at st at) changes) user subtree sub.0 (sound.told subtree) same)
+    (λ _ same. untouched-with_enabled st at (enabled_after (enabled_at st at) changes) user subtree sub.0 same)
     (λ _. stays st subtree) same
 untouched-after st user subtree (Mkdir path) sound sub there same shut =
     after-cases st user (Mkdir path) (λ new. AreUntouched st new subtree)
@@ -191,8 +141,6 @@ untouched-after st user subtree (Rmdir path) sound sub there same shut =
     (stays st subtree)
 untouched-after st user subtree (Set at file value) sound sub there same shut =
     by_alters st user subtree (Set at file value) (λ guarded. refl)
-untouched-after st user subtree (SetOther at file value) sound sub there same shut =
-    by_alters st user subtree (SetOther at file value) (λ guarded. refl)
 untouched-after st user subtree (Fork parent child) sound sub there same shut =
     by_alters st user subtree (Fork parent child) (λ guarded. refl)
 untouched-after st user subtree (Exit pid) sound sub there same shut = by_alters st user subtree (Exit pid) (λ guarded. refl)

@@ -2,19 +2,18 @@
 use Rattle.std.proofs.Common.{◌≡◌, ℕ, ◌≤◌, Bool, true, false, cond, refl, sym, ap, ◌∙◌, subst, true≢false, Option, Some, None, is_some, option_map, unwrap_or, arith}
 use Rattle.cg_cgroup.specs.Identity.{Identity}
 use Rattle.cg_cgroup.specs.Users.{entry_made_by}
-use Rattle.cg_cgroup.specs.Files.{controller_of, enables, stands_by, stands_under, stands_at, accepts, may_have, same_file, same_entry}
+use Rattle.cg_cgroup.specs.Files.{controller_of, enables, stands_by, stands_under, accepts, may_have, same_file, same_entry}
 use Rattle.cg_cgroup.specs.Cgroups.{Held, file_of, entry_in, with_value_of, with_value_in, with_mode_of, with_file_mode_of, with_mode_in, file_made_by, refitted, with_files_of, cgroup_made_by}
 use Rattle.cg_model.specs.WellFormed.{IsFormedRow}
 use Rattle.cg_cgroup.specs.declared.user.Entry.{Entry}
 use Rattle.cg_cgroup.specs.declared.value.Value.{Value}
-use Rattle.cg_cgroup.specs.declared.value.Value.TheVariants.{Unknown, Max, Number, Text}
 use Rattle.cg_cgroup.specs.declared.controllers.ControllerSet.{ControllerSet}
 use Rattle.cg_cgroup.specs.declared.files.LimitFile.{LimitFile}
 use Rattle.cg_cgroup.specs.declared.files.EntryName.{EntryName}
 use Rattle.cg_cgroup.specs.declared.files.EntryName.TheVariants.{Dir, Procs, SubtreeControl, File}
 use Rattle.cg_cgroup.specs.declared.cgroup.Cgroup.{Cgroup}
 use Rattle.cg_cgroup.proofs.Options.{mapped_from, is_some-mapped, same_some}
-use Rattle.cg_cgroup.proofs.CgroupLaws.{same_file-true, file_of-with_value_in, entry_in-with_value_in, file_of-with_mode_in, entry_in-with_mode_in, file_of-with_files_of, stands-with_files_of, stands-below, file_of-cgroup_made_by, stands-cgroup_made_by, may_have-default_value, may_have-accepted}
+use Rattle.cg_cgroup.proofs.CgroupLaws.{same_file-true, file_of-with_value_in, entry_in-with_value_in, file_of-with_mode_in, entry_in-with_mode_in, stands-with_files_of, stands-below, file_of-cgroup_made_by, stands-cgroup_made_by, may_have-default_value, may_have-accepted}
 
 is_some-changed : {A : Type 0} (b : Bool) (g : A → A) (o : Option A) → is_some (cond b (option_map g o) o) ≡ is_some o
 is_some-changed true g o = is_some-mapped g o

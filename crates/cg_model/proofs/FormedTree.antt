@@ -1,5 +1,5 @@
 -- Well-formedness once a cgroup is made and once one is removed.
-use Rattle.std.proofs.Common.{◌≡◌, true, false, cond, not, [], refl, sym, ap, ◌∙◌, subst, true≢false, Some, None, is_some, unwrap_or}
+use Rattle.std.proofs.Common.{◌≡◌, true, false, cond, [], refl, sym, ap, ◌∙◌, subst, true≢false, Some, None, is_some, unwrap_or}
 use Rattle.std.proofs.lemmas.Bool.{false_from_ne_true}
 use Rattle.cg_cgroup.specs.Paths.{Names, same_path, is_root, parent, is_child}
 use Rattle.cg_cgroup.specs.Identity.{Identity}

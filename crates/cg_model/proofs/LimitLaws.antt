@@ -10,7 +10,6 @@ use Rattle.cg_cgroup.specs.Cgroups.{value_in, most_in}
 use Rattle.cg_cgroup.proofs.AllFiles.{each_passes, all_pass}
 use Rattle.cg_cgroup.specs.declared.value.Value.{Value}
 use Rattle.cg_cgroup.specs.declared.value.Value.TheVariants.{Unknown, Max, Number, Text}
-use Rattle.cg_cgroup.specs.declared.files.LimitFile.{LimitFile}
 use Rattle.cg_cgroup.specs.declared.files.LimitFile.TheVariants.{MaxDescendants, MaxDepth}
 use Rattle.cg_model.specs.States.{State, row_at, value_at, count_below, depth_below}
 use Rattle.cg_model.specs.Limits.{Limits, same_limits, is_within_limit, fits_descendants, fits_depth}

@@ -4,7 +4,7 @@ use Rattle.cg_cgroup.specs.Paths.{Names, same_path, is_child}
 use Rattle.cg_cgroup.specs.Identity.{Identity}
 use Rattle.cg_cgroup.specs.Users.{entry_made_by}
 use Rattle.cg_cgroup.specs.Files.{controller_of, stands_under, same_file, same_entry, no_controllers}
-use Rattle.cg_cgroup.specs.Cgroups.{Held, file_of, with_files_of, entry_in, value_in, with_value_in, with_mode_of, with_mode_in, refitted}
+use Rattle.cg_cgroup.specs.Cgroups.{Held, file_of, entry_in, value_in, with_value_in, with_mode_of, with_mode_in, refitted}
 use Rattle.cg_model.specs.States.{State, row_at, file_at, entry_at, value_at, enabling, with_row, without_row, with_value, with_mode, with_enabled}
 use Rattle.cg_model.specs.WellFormed.{enabled_at}
 use Rattle.cg_cgroup.specs.declared.value.Value.{Value}

@@ -1,10 +1,10 @@
 -- What a step leaves as it was.
-use Rattle.std.proofs.Common.{◌≡◌, ℕ, Bool, true, false, ◌&&◌, ◌||◌, cond, nat_eq, refl, sym, ap, subst, ◌∙◌, true≢false, [], Option, Some, None, is_some, option_map, option_and_then}
+use Rattle.std.proofs.Common.{◌≡◌, ℕ, Bool, true, false, ◌&&◌, ◌||◌, cond, nat_eq, refl, sym, ap, subst, ◌∙◌, [], Option, Some, None, is_some, option_map}
 use Rattle.cg_cgroup.specs.Paths.{Names, same_path, is_child, parent}
 use Rattle.cg_cgroup.specs.Identity.{Identity}
 use Rattle.cg_cgroup.specs.Files.{controller_of, same_file, same_entry}
 use Rattle.cg_cgroup.specs.Cgroups.{cgroup_made_by}
-use Rattle.cg_model.specs.States.{State, row_at, process_at, is_used, file_at, entry_at, value_at, with_enabled, with_process}
+use Rattle.cg_model.specs.States.{State, process_at, is_used, file_at, entry_at, value_at, with_enabled, with_process}
 use Rattle.cg_model.specs.WellFormed.{has_row, enabled_at}
 use Rattle.cg_cgroup.specs.declared.controllers.ControllerSet.{ControllerSet}
 use Rattle.cg_cgroup.specs.declared.files.LimitFile.{LimitFile}

@@ -11,7 +11,6 @@ use Rattle.cg_cgroup.specs.declared.value.Value.TheVariants.{Number}
 use Rattle.cg_cgroup.specs.declared.files.LimitFile.TheVariants.{MaxDescendants, MaxDepth}
 use Rattle.cg_cgroup.specs.declared.files.EntryName.{EntryName}
 use Rattle.cg_cgroup.specs.declared.files.EntryName.TheVariants.{Dir, Procs, SubtreeControl, File}
-use Rattle.std.specs.FinMap.{FinMap}
 use Rattle.cg_cgroup.specs.declared.cgroup.Cgroup.{Cgroup}
 use Rattle.cg_model.specs.States.{State, count_below, depth_below, change_at, with_mode, with_value}
 use Rattle.cg_model.specs.Clauses.{unless, present}

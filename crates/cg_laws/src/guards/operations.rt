@@ -3,16 +3,14 @@
 ghost use Rattle.std.specs.Prelude.{◌≡◌, ℕ, true, List, [], ◌∷◌, length};
 ghost use Rattle.cg_cgroup.specs.Paths.{Names};
 ghost use Rattle.cg_cgroup.specs.Identity.{Identity};
-ghost use Rattle.cg_cgroup.specs.declared.files.Limit.{Limit};
+ghost use Rattle.cg_cgroup.specs.declared.value.Value.{Value};
 ghost use Rattle.cg_cgroup.specs.declared.files.LimitFile.{LimitFile};
 ghost use Rattle.cg_cgroup.specs.declared.files.EntryName.{EntryName};
-ghost use Rattle.cg_cgroup.specs.declared.other_file.OtherFile.{OtherFile};
-ghost use Rattle.cg_cgroup.specs.declared.told.FileText.{FileText};
 ghost use Rattle.cg_model.specs.States.{State};
 ghost use Rattle.cg_model.specs.WellFormed.{IsWellFormed, has_row};
 ghost use Rattle.cg_model.specs.Steps.{after};
 ghost use Rattle.cg_model.specs.declared.changes.Change.{Change};
-ghost use Rattle.cg_model.specs.declared.operation.Op.TheVariants.{Move, Control, Mkdir, Rmdir, Set, SetOther, Fork, Exit, Chmod};
+ghost use Rattle.cg_model.specs.declared.operation.Op.TheVariants.{Move, Control, Mkdir, Rmdir, Set, Fork, Exit, Chmod};
 ghost use Rattle.cg_model.specs.Limits.{limits, fits_descendants, fits_depth};
 ghost use Rattle.cg_model.specs.Edge.{crossing};
 ghost use Rattle.cg_model.specs.Guards.{ancestors, limit_files, parent_control, parent_dir, guarded_entries, IsSubtree};
@@ -35,12 +33,9 @@ pub fn births_and_ends_cross_nothing()
 
 /// A user who reaches no limit file of a subtree sets none of its limits.
 pub fn set_leaves_limits()
-    ensures set { (st : State) (user : Identity) (subtree at : Names) (file : LimitFile) (value : Limit)
+    ensures { (st : State) (user : Identity) (subtree at : Names) (file : LimitFile) (value : Value)
         → IsWellFormed st → IsSubtree st subtree → AreUnreached st user subtree (limit_files (length subtree))
         → limits (after st user (Set at file value)) subtree ≡ limits st subtree }
-    ensures set_other { (st : State) (user : Identity) (subtree at : Names) (file : OtherFile) (value : FileText)
-        → IsWellFormed st → IsSubtree st subtree → AreUnreached st user subtree (limit_files (length subtree))
-        → limits (after st user (SetOther at file value)) subtree ≡ limits st subtree }
 {}
 
 /// A user who doesn't reach the `cgroup.subtree_control` of a subtree's parent brings it no limit files and takes none.

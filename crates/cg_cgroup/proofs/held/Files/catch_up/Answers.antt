@@ -1,4 +1,4 @@
-use Rattle.std.proofs.Common.{ap, sym, ◌∙◌}
+use Rattle.std.proofs.Common.{ap, ◌∙◌}
 use Rattle.cg_cgroup.specs.Cgroups.{is_plain}
 use Rattle.cg_cgroup.proofs.KeptLaws.{plain_says, plain_alike}
 use Rattle.cg_cgroup.proofs.held.Files.catch_up.Goals as goal

@@ -1,5 +1,5 @@
 use Rattle.std.proofs.Common.{sym, ap, ◌∙◌}
-use Rattle.cg_cgroup.specs.Cgroups.{FileMap, is_plain}
+use Rattle.cg_cgroup.specs.Cgroups.{is_plain}
 use Rattle.cg_cgroup.proofs.KeptLaws.{plain_kept}
 use Rattle.cg_cgroup.proofs.held.Files.is_plain.Goals as goal
 

@@ -1,5 +1,4 @@
 use Rattle.std.proofs.Common.{Some, true, sym, ap, ◌∙◌}
-use Rattle.std.specs.Option.{option_map}
 use Rattle.cg_cgroup.specs.Values.{value_now}
 use Rattle.cg_cgroup.specs.Kept.{number_value, text_value, with_at}
 use Rattle.cg_cgroup.proofs.KeptLaws.{text_form, number_had, text_had}

@@ -1,7 +1,6 @@
-use Rattle.std.proofs.Common.{sym, ap, subst, set, ◌<◌, ◌∙◌, arith}
+use Rattle.std.proofs.Common.{ap, set, ◌∙◌, arith}
 use Rattle.std.specs.Option.{option_map}
-use Rattle.cg_cgroup.specs.Kept.{number_held, with_at, kept}
-use Rattle.cg_cgroup.specs.Cgroups.{FileMap}
+use Rattle.cg_cgroup.specs.Kept.{number_held, with_at}
 use Rattle.cg_cgroup.proofs.KeptLaws.{place_within, all_kept, number_put}
 use Rattle.cg_cgroup.proofs.held.Files.put_number.Goals as goal
 

@@ -1,4 +1,4 @@
-use Rattle.std.proofs.Common.{sym, ap, set, ◌∙◌}
+use Rattle.std.proofs.Common.{sym, ap, ◌∙◌}
 use Rattle.cg_cgroup.specs.Kept.{text_in}
 use Rattle.cg_cgroup.proofs.TextLaws.{put_there, put_behind}
 use Rattle.cg_cgroup.proofs.held.texts.put.Goals as goal

@@ -1,4 +1,4 @@
-use Rattle.std.proofs.Common.{◌≡◌, ◌≤◌, sym, subst, Ok, Err}
+use Rattle.std.proofs.Common.{◌≡◌, sym, subst, Ok, Err}
 use Rattle.std.proofs.lemmas.Result.{on_ok_weaker}
 use Rattle.std.specs.Prelude.{OnOk, OnErr}
 use Rattle.cg_cgroup.specs.Values.{value_now}
