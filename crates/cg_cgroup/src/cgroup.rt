@@ -109,6 +109,18 @@ impl Cgroup {
         self.files.refit(enabled, Entry::made_by(user, Mode::FILE));
     }
 
+    /// Becomes as another one, where nobody speaks of a file of it whose value is a text.
+    pub fn catch_up(&mut self, from: &Cgroup)
+        requires { is_plain from.now.files ≡ true }
+        ensures { self.new ≡ from.now }
+    {
+        self.dir = from.dir;
+        self.procs = from.procs;
+        self.subtree_control = from.subtree_control;
+        self.files.catch_up(&from.files);
+        self.enabled = from.enabled;
+    }
+
     /// An equal cgroup. Where nobody speaks of a file whose value is a text that takes no memory.
     pub fn try_clone(&self, alloc: Global) -> Result<Cgroup, NoMemory>
         ensures ok { IfOk result (λ copy. copy ≡ self.now) }

@@ -293,15 +293,15 @@ impl Files {
         self.texts.forget(controllers);
     }
 
-    /// Takes all files as they are elsewhere, where nobody speaks of one whose value is a text, neither there nor here.
+    /// Takes all files as they are elsewhere, where nobody speaks of one whose value is a text.
     pub fn catch_up(&mut self, from: &Files)
-        requires here { is_plain self.old ≡ true }
-        requires there { is_plain from.now ≡ true }
+        requires { is_plain from.now ≡ true }
         ensures { self.new ≡ from.now }
     {
         self.numbers = from.numbers;
         self.core = from.core;
         self.owners = from.owners;
+        self.texts = Texts::none();
     }
 
     /// Equal ones. Where nobody speaks of a file whose value is a text that takes no memory.

@@ -1,6 +1,7 @@
 -- Lists of entries whose keys rise in a total order: where a key stands, and what looking up, inserting and removing give.
 use Rattle.std.proofs.Common.{◌≡◌, ℕ, zero, suc, ◌<◌, ◌≤◌, Bool, true, false, not, cond, List, [], ◌∷◌, length, set, get_or, refl, sym, ap, subst, ◌∙◌, arith, Option, Some, None, is_some, Result, Ok, Err, MatchResult, inl, inr}
 use lib.Dec.{T}
+use lib.Seq.{set-get_or}
 use Rattle.std.specs.Bool.{passes}
 use Rattle.std.proofs.lemmas.Bool.{and_parts, cases_lt, true≢false}
 use Rattle.std.proofs.Math.Nat.{eq-or-lt_of_le}
@@ -274,6 +275,12 @@ module _ {K X : Type 0} {R : K → K → Ordering} (o : IsTotalOrder R) where
       → e ≡ get_or es i e → gs ≡ set es i (e.0, v) → is_sorted R gs ≡ true
   changed_sorted q v es fs gs i e s same at here new =
       ap (is_sorted R) (new ∙ ap (λ (f : K × X). set es i (f.0, v)) here) ∙ sorted_set q v es i e s (fits_place es fs same at)
+
+  -- where the value is what it was
+  pub unchanged : {m : map.FinMap R X} (v : X) (es gs : List (K × X)) (i : ℕ) (e : K × X) → map.from_sorted es ≡ m → e ≡ get_or es i e
+      → gs ≡ set es i (e.0, v) → v ≡ e.1 → map.from_sorted gs ≡ m
+  unchanged v es gs i e shows here new same =
+      ap map.from_sorted (new ∙ ap (λ x. set es i (e.0, x)) same ∙ ap (set es i) here ∙ set-get_or es i e) ∙ shows
 
   pub changed : {m : map.FinMap R X} (q : K) (v : X) (es fs gs : List (K × X)) (i : ℕ) (e : K × X) → map.from_sorted es ≡ m
       → is_sorted R es ≡ true → fs ≡ es → IsPlace R q fs i → e ≡ get_or es i e → gs ≡ set es i (e.0, v)
