@@ -18,3 +18,4 @@ pub mod DeviceLines
 pub mod NameLaws
 pub mod ControllerLaws
 pub mod UserLaws
+pub mod PlainLaws

@@ -2,7 +2,6 @@ pub mod TextKeys
 pub mod Alike
 pub mod Turns
 pub mod Refits
-pub mod Taken
 pub mod Values
 pub mod Counted
 pub mod Puts

@@ -1,16 +1,20 @@
 -- Nodes as they are kept and as they are seen.
-use Rattle.std.proofs.Common.{◌≡◌, ℕ, ◌<◌, Bool, true, false, cond, ◌&&◌, not, nat_eq, nat_lt, subst, List, [], ◌∷◌, ◌++◌, length, refl, sym, ap, ◌∙◌, true≢false, Option, Some, None, arith, eq-eqb, eqb-true}
+use Rattle.std.proofs.Common.{◌≡◌, ℕ, ◌-◌, ◌<◌, Bool, true, false, cond, ◌&&◌, not, nat_eq, nat_lt, subst, List, [], ◌∷◌, ◌++◌, length, refl, sym, ap, ◌∙◌, true≢false, Option, Some, None, arith, eq-eqb, eqb-true}
 use Rattle.std.specs.Prelude.{slice_set, is_none}
 use Rattle.std.proofs.lemmas.List.{map-set, length-map, length-append, length-set, ext_get_or, get_or_append_left, get_or_at, get_or-set_same, get_or-set_other}
 use Rattle.std.proofs.lemmas.Bool.{ltb-true, ltb-false}
+use lib.Seq.{map-set_same, set-set, set-get_or, get_or-append_right}
+use Rattle.std.proofs.lemmas.List.{append-nil}
 use Rattle.std.proofs.Math.ListN as seq
 use Rattle.std.specs.Global.{Vec}
 use Rattle.std.specs.Vec.{with_items}
 use Rattle.std.specs.Cmp.{first_so}
 use Rattle.cg_cgroup.specs.declared.controllers.ControllerSet.{ControllerSet}
+use Rattle.cg_cgroup.specs.Cgroups.{is_plain}
 use Rattle.cg_cgroup.specs.declared.cgroup.Cgroup.{Cgroup}
+use Rattle.cg_cgroup.proofs.PlainLaws.{plain-taken}
 use Rattle.cg_places.specs.Links.{link_at, put_at}
-use Rattle.cg_places.specs.Nodes.{Node, new_node, no_cgroup, new_slot, node_at, slot_at, shared_at, node_of, nodes_of, AreShared, HasGrown, refitted_node, refitted_shared, refitted_slot, links_to, IsKin, Refits, RefitsShared, RefitsSlots}
+use Rattle.cg_places.specs.Nodes.{Node, new_node, no_cgroup, new_slot, node_at, slot_at, shared_at, node_of, nodes_of, AreShared, HasGrown, with_own, with_cgroup, settled, refitted_node, refitted_shared, refitted_slot, links_to, IsKin, Refits, RefitsShared, RefitsSlots}
 use Rattle.cg_places.specs.declared.links.Link.{Link}
 use Rattle.cg_places.specs.declared.nodes.Shared.{Shared}
 use Rattle.cg_places.specs.declared.nodes.Slot.{Slot}
@@ -22,6 +26,10 @@ node_seen shared slots i = seq.get_or-map (node_of shared) slots i (new_slot no_
 
 pub length_seen : (shared : List Shared) (slots : List Slot) → length (nodes_of shared slots) ≡ length slots
 length_seen shared slots = length-map slots (node_of shared)
+
+pub slot_within : (shared : List Shared) (slots : List Slot) (old : List Node) (i : ℕ) → i < length old → nodes_of shared slots ≡ old
+    → i < length slots
+slot_within shared slots old i l view = omega (arith, l, ap length view, length_seen shared slots)
 
 -- one changed
 pub set_seen : (shared : List Shared) (slots : List Slot) (i : ℕ) (slot : Slot) (f : Node → Node)
@@ -49,6 +57,47 @@ through_seen shared slots now new old i f g view same is long set =
 pub no_share : {A : Type 0} (k : ℕ) → None ≡ Some k → A
 no_share k h = absurd (true≢false (ap is_none h))
 
+-- ---- a place that has its own cgroup again
+
+-- to give it the one that it shares shows nothing
+settled_slot : (shared : List Shared) (row : Cgroup) (live : ℕ) (uses : Uses) (o : Option ℕ)
+    → node_of shared (settled shared (record { cgroup = row; live = live; uses = uses; shared = o }))
+    ≡ node_of shared (record { cgroup = row; live = live; uses = uses; shared = o })
+settled_slot shared row live uses None = refl
+settled_slot shared row live uses (Some k) = refl
+
+pub settled_seen : (shared : List Shared) (slots new : List Slot) (i : ℕ) → new ≡ slice_set slots i (settled shared (slot_at slots i))
+    → nodes_of shared new ≡ nodes_of shared slots
+settled_seen shared slots new i set =
+    ap (nodes_of shared) set
+    ∙ map-set_same (node_of shared) slots i (settled shared (slot_at slots i)) (new_slot no_cgroup None)
+    (let slot = slot_at slots i in settled_slot shared slot.cgroup slot.live slot.uses slot.shared)
+
+-- then it is changed by itself
+pub own_seen : (shared : List Shared) (slots set new : List Slot) (old : List Node) (i : ℕ) (f : Cgroup → Cgroup) → i < length slots
+    → nodes_of shared slots ≡ old → set ≡ slice_set slots i (settled shared (slot_at slots i))
+    → new ≡ slice_set set i (with_own (f (slot_at set i).cgroup) (slot_at set i))
+    → nodes_of shared new ≡ slice_set old i (with_cgroup (f (node_at old i).cgroup) (node_at old i))
+own_seen shared slots set new old i f l view is_set is_new =
+    let own = settled shared (slot_at slots i) in
+    let here : slot_at set i ≡ own = ap (λ xs. slot_at xs i) is_set ∙ get_or-set_same slots i own (new_slot no_cgroup None) l in
+    ap (nodes_of shared)
+    (is_new ∙ (λ t. slice_set (is_set t) i (with_own (f (here t).cgroup) (here t))) ∙ set-set slots i own (with_own (f own.cgroup) own))
+    ∙ set_seen shared slots i (with_own (f own.cgroup) own) (λ node. with_cgroup (f node.cgroup) node) refl
+    ∙ ap (λ nodes. slice_set nodes i (with_cgroup (f (node_at nodes i).cgroup) (node_at nodes i))) view
+
+-- a cgroup set in a slot that was read
+pub own_set : (slots : List Slot) (i : ℕ) (slot : Slot) (row : Cgroup) (f : Cgroup → Cgroup) → slot ≡ slot_at slots i → row ≡ f slot.cgroup
+    → slice_set slots i (with_own row slot) ≡ slice_set slots i (with_own (f (slot_at slots i).cgroup) (slot_at slots i))
+own_set slots i slot row f here same =
+    ap (λ row. slice_set slots i (with_own row slot)) same ∙ ap (λ (s : Slot). slice_set slots i (with_own (f s.cgroup) s)) here
+
+pub own_stays : (slots : List Slot) (i : ℕ) (slot : Slot) (row : Cgroup) → slot ≡ slot_at slots i → row ≡ slot.cgroup
+    → slice_set slots i (record slot { cgroup = row }) ≡ slots
+own_stays slots i slot row here same =
+    ap (λ row. slice_set slots i (record slot { cgroup = row })) same ∙ ap (slice_set slots i) here
+    ∙ set-get_or slots i (new_slot no_cgroup None)
+
 -- ---- what is shared is there
 
 pub are_set : (shared : List Shared) (slots : List Slot) (i : ℕ) (slot : Slot) → AreShared shared slots
@@ -65,13 +114,61 @@ are_set shared slots i slot are new l = record {
             (get_or-set_other slots i j slot (new_slot no_cgroup None) (λ same. true≢false (sym (eq-eqb j i same) ∙ e))))
             ∙ is)
       ] refl;
+  plain = are.plain;
 }
 
-pub are_grown : (old new : List Shared) (slots : List Slot) → AreShared old slots → HasGrown old new → AreShared new slots
-are_grown old new slots are grows = record {
+pub are_settled : (shared : List Shared) (slots new : List Slot) (i : ℕ) → AreShared shared slots → i < length slots
+    → new ≡ slice_set slots i (settled shared (slot_at slots i)) → AreShared shared new
+are_settled shared slots new i are l set =
+    subst (AreShared shared) (sym set)
+    (are_set shared slots i (settled shared (slot_at slots i)) are (λ k is. are.within i k l is) l)
+
+pub are_own : (shared : List Shared) (slots set new : List Slot) (i : ℕ) (f : Cgroup → Cgroup) → AreShared shared slots → i < length slots
+    → set ≡ slice_set slots i (settled shared (slot_at slots i))
+    → new ≡ slice_set set i (with_own (f (slot_at set i).cgroup) (slot_at set i)) → AreShared shared new
+are_own shared slots set new i f are l is_set is_new =
+    let long = ap length is_set ∙ length-set slots i (settled shared (slot_at slots i)) in
+    subst (AreShared shared) (sym is_new)
+    (are_set shared set i (with_own (f (slot_at set i).cgroup) (slot_at set i)) (are_settled shared slots set i are l is_set)
+    (λ k is. no_share k is) (omega (arith, l, long)))
+
+-- more that are shared
+pub grown_none : (row : Cgroup) (old new : List Shared) → new ≡ old → HasGrown row old new
+grown_none row old new same = record { rest = []; grown = same ∙ sym (append-nil old); each = λ k l. absurd (omega (arith, l)) }
+
+pub grown_one : (row : Cgroup) (old new : List Shared) (one : Shared) → new ≡ old ++ one ∷ [] → one.cgroup ≡ row → HasGrown row old new
+grown_one row old new one more same = record {
+  rest = one ∷ [];
+  grown = more;
+  each = λ k l.
+      ap (λ n. (shared_at (one ∷ []) n).cgroup) (let first : k ≡ 0 = omega (arith, l) in first) ∙ same;
+}
+
+grown_plain : (row : Cgroup) (old new : List Shared) → ((k : ℕ) → k < length old → is_plain (shared_at old k).cgroup.files ≡ true)
+    → is_plain row.files ≡ true → HasGrown row old new → (k : ℕ) → k < length new → is_plain (shared_at new k).cgroup.files ≡ true
+grown_plain row old new plain made grows k l =
+    let d : Shared = record { above = 0; cgroup = no_cgroup } in
+    let was = ap (λ xs. is_plain (shared_at xs k).cgroup.files) grows.grown in
+    elim (nat_lt k (length old)) as (λ b. nat_lt k (length old) ≡ b → is_plain (shared_at new k).cgroup.files ≡ true) [
+      | true ↦ λ e.
+          let within = ltb-true k (length old) e in
+          was ∙ ap (λ (x : Shared). is_plain x.cgroup.files) (get_or_append_left old grows.rest d k within) ∙ plain k within
+      | false ↦ λ e.
+          let past = ltb-false k (length old) e in
+          let long = ap length grows.grown ∙ length-append old grows.rest in
+          let at : shared_at (old ++ grows.rest) k ≡ shared_at grows.rest (k - length old) =
+          get_or-append_right old grows.rest k d past in
+          was ∙ ap (λ (x : Shared). is_plain x.cgroup.files) at
+          ∙ ap (λ (row : Cgroup). is_plain row.files) (grows.each (k - length old) (omega (arith, past, l, long))) ∙ made
+    ] refl
+
+pub are_grown : (row : Cgroup) (old new : List Shared) (slots : List Slot) → is_plain row.files ≡ true → AreShared old slots
+    → HasGrown row old new → AreShared new slots
+are_grown row old new slots made are grows = record {
   within = λ i k l is.
       let within = are.within i k l is in
       omega (arith, within, ap length grows.grown, length-append old grows.rest);
+  plain = grown_plain row old new are.plain made grows;
 }
 
 are_more : (shared : List Shared) (slots : List Slot) (slot : Slot) → AreShared shared slots
@@ -90,6 +187,7 @@ are_more shared slots slot are new = record {
             (ap (slot_at (slots ++ slot ∷ [])) last
             ∙ get_or_at slots slot [] (new_slot no_cgroup None) (length slots) refl)) ∙ is)
       ] refl;
+  plain = are.plain;
 }
 
 pub are_put : (shared : List Shared) (slots : List Slot) (i : ℕ) (slot : Slot) → AreShared shared slots
@@ -103,9 +201,9 @@ are_put shared slots i slot are new =
 
 -- ---- a new one at a place
 
-pub seen_grown : (old new : List Shared) (slots : List Slot) → AreShared old slots → HasGrown old new
+pub seen_grown : (row : Cgroup) (old new : List Shared) (slots : List Slot) → AreShared old slots → HasGrown row old new
     → nodes_of new slots ≡ nodes_of old slots
-seen_grown old new slots are grows =
+seen_grown grown_row old new slots are grows =
     ext_get_or (new_node no_cgroup None) (nodes_of new slots) (nodes_of old slots) (length_seen new slots ∙ sym (length_seen old slots)) (λ
     i l.
     let l' : i < length slots = omega (arith, l, length_seen new slots) in
@@ -133,7 +231,7 @@ seen_put shared slots i row above k is =
 -- ---- refits
 
 module _ (links : List Link) (at : ℕ) (changed : ControllerSet) (fresh : Cgroup) (shared shared' : List Shared) (slots slots' : List Slot)
-    (are : AreShared shared slots)
+    (made : is_plain fresh.files ≡ true) (are : AreShared shared slots)
     (rows : RefitsShared at changed fresh shared shared') (own : RefitsSlots links at changed fresh slots slots') where
   share_stays : (i : ℕ) → i < length slots → (slot_at slots' i).shared ≡ (slot_at slots i).shared
   share_stays i l =
@@ -148,6 +246,13 @@ module _ (links : List Link) (at : ℕ) (changed : ControllerSet) (fresh : Cgrou
         let l' : i < length slots = omega (arith, l, own.len) in
         let within = are.within i k l' (sym (share_stays i l') ∙ is) in
         omega (arith, within, rows.len);
+    plain = λ k l.
+        let l' : k < length shared = omega (arith, l, rows.len) in
+        let was = are.plain k l' in
+        ap (λ (x : Shared). is_plain x.cgroup.files) (rows.each k l')
+        ∙ elim (nat_eq (shared_at shared k).above at) as
+        (λ b. is_plain (cond b (refitted_shared changed fresh (shared_at shared k)) (shared_at shared k)).cgroup.files ≡ true)
+        [ true ↦ plain-taken changed fresh.files (shared_at shared k).cgroup.files made was | false ↦ was ];
   }
 
   -- one that is shared is refitted with those that share it

@@ -3,4 +3,3 @@ pub mod Levels
 pub mod Links
 pub mod Nodes
 pub mod Values
-pub mod Taken

@@ -4,7 +4,8 @@ use Rattle.std.specs.Prelude.{◌≡◌, ℕ, zero, suc, ◌+◌, ◌-◌, ◌<�
 use Rattle.std.specs.FinMap as map
 use Rattle.cg_cgroup.specs.Paths.{Names, path_cmp, parent}
 use Rattle.cg_model.specs.NearestFull.{bars_child}
-use Rattle.cg_cgroup.specs.declared.files.Limit.TheVariants.{Max}
+use Rattle.cg_cgroup.specs.Cgroups.{most_in}
+use Rattle.cg_cgroup.specs.declared.files.LimitFile.TheVariants.{MaxDescendants, MaxDepth}
 use Rattle.cg_cgroup.specs.declared.cgroup.Cgroup.{Cgroup}
 use Rattle.cg_places.specs.declared.links.Link.{Link}
 use Rattle.cg_places.specs.declared.links.Tally.{Tally}
@@ -12,17 +13,17 @@ use Rattle.cg_places.specs.declared.links.Tally.TheVariants.{More, Fewer}
 
 -- what is read where there is no place
 abbrev pub no_link : Link
-no_link = record { above = 0; below = 0; max_descendants = Max; max_depth = Max }
+no_link = record { above = 0; below = 0; max_descendants = None; max_depth = None }
 
 abbrev pub link_at : List Link → ℕ → Link
 link_at links i = get_or links i no_link
 
 -- the link of a cgroup with nothing below it
 abbrev pub new_link : ℕ → Cgroup → Link
-new_link above row = record { above = above; below = 0; max_descendants = row.max_descendants.value; max_depth = row.max_depth.value }
+new_link above row = record { above = above; below = 0; max_descendants = most_in row MaxDescendants; max_depth = most_in row MaxDepth }
 
 abbrev pub with_limits : Cgroup → Link → Link
-with_limits row link = record link { max_descendants = row.max_descendants.value; max_depth = row.max_depth.value }
+with_limits row link = record link { max_descendants = most_in row MaxDescendants; max_depth = most_in row MaxDepth }
 
 -- the link of a place that is no cgroup's: no list has such a place
 abbrev pub to_nowhere : Link → Link

@@ -4,13 +4,12 @@ use Rattle.std.specs.Prelude.{◌≡◌, ℕ, ◌<◌, Bool, true, ◌&&◌, not
 use Rattle.std.specs.Option.{option_map}
 use mathlib.Core.Bool.{beq}
 use Rattle.std.proofs.Common.{refl}
-use Rattle.cg_cgroup.specs.Files.{all_controllers, controller_kind, enables, no_controllers, set_by, stands_under}
-use Rattle.cg_cgroup.specs.Cgroups.{file_of, files_by, other_in, others_by, cgroup_made_by}
+use Rattle.cg_cgroup.specs.Files.{all_controllers, controller_kind, enables, no_controllers, set_by}
+use Rattle.cg_cgroup.specs.Cgroups.{taken_files, is_plain, cgroup_made_by}
 use Rattle.cg_model.specs.States.{enabling_these}
 use Rattle.cg_cgroup.specs.declared.files.Controller.{Controller}
 use Rattle.cg_cgroup.specs.declared.controllers.ControllerSet.{ControllerSet}
 use Rattle.cg_cgroup.specs.declared.cgroup.Cgroup.{Cgroup}
-use Rattle.cg_cgroup.specs.declared.user.Entry.{Entry}
 use Rattle.cg_places.specs.Links.{link_at, tallied}
 use Rattle.cg_places.specs.declared.links.Link.{Link}
 use Rattle.cg_places.specs.declared.links.Tally.{Tally}
@@ -63,14 +62,16 @@ node_of shared slot = record {
 abbrev pub nodes_of : List Shared → List Slot → List Node
 nodes_of shared slots = map (node_of shared) slots
 
--- what is shared is there
+-- what is shared is there, and nobody speaks of a limit file of it whose value is a text
 pub record AreShared (shared : List Shared) (slots : List Slot) : Type 0 where
   pub within : (i k : ℕ) → i < length slots → (slot_at slots i).shared ≡ Some k → k < length shared
+  pub plain : (k : ℕ) → k < length shared → is_plain (shared_at shared k).cgroup.files ≡ true
 
--- more are shared, and those that were stay
-pub record HasGrown (old new : List Shared) : Type 0 where
+-- more are shared, all with this cgroup, and those that were stay
+pub record HasGrown (row : Cgroup) (old new : List Shared) : Type 0 where
   pub rest : List Shared
   pub grown : new ≡ old ++ rest
+  pub each : (k : ℕ) → k < length rest → (shared_at rest k).cgroup ≡ row
 
 pub record IsSharedAt (above : ℕ) (row : Cgroup) (shared : List Shared) (k : ℕ) : Type 0 where
   pub within : k < length shared
@@ -78,6 +79,10 @@ pub record IsSharedAt (above : ℕ) (row : Cgroup) (shared : List Shared) (k : �
 
 abbrev pub with_own : Cgroup → Slot → Slot
 with_own row slot = record slot { cgroup = row; shared = None }
+
+-- with the cgroup that it has, or shares, as its own
+abbrev pub settled : List Shared → Slot → Slot
+settled shared slot = record slot { cgroup = (node_of shared slot).cgroup }
 
 -- whose children share the cgroup of a new place
 abbrev pub kin_if : Bool → ℕ → Option ℕ
@@ -132,17 +137,9 @@ differs a b = not (beq a b)
 abbrev pub differing : ControllerSet → ControllerSet → ControllerSet
 differing had has = set_by (λ controller. differs (enables had controller) (enables has controller))
 
--- the other files of a controller, of these as another cgroup has them
-abbrev pub other_from : ControllerSet → Cgroup → Cgroup → Controller → Option Entry
-other_from changed fresh row controller = cond (enables changed controller) (other_in fresh controller) (other_in row controller)
-
 -- a cgroup with the limit files of these controllers as another one has them
-unfoldable pub with_files_from : ControllerSet → Cgroup → Cgroup → Cgroup
-with_files_from changed fresh row =
-    record row {
-      files = files_by (λ file. cond (stands_under changed file) (file_of fresh file) (file_of row file));
-      others = others_by (other_from changed fresh row);
-    }
+abbrev pub with_files_from : ControllerSet → Cgroup → Cgroup → Cgroup
+with_files_from changed fresh row = record row { files = taken_files changed fresh.files row.files }
 
 abbrev pub refitted_node : ControllerSet → Cgroup → Node → Node
 refitted_node changed fresh node = record node { cgroup = with_files_from changed fresh node.cgroup }

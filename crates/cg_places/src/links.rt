@@ -4,7 +4,7 @@ ghost use Rattle.std.specs.Vec.{vec_len, vec_capacity};
 ghost use Rattle.cg_places.specs.Links.{link_at, new_link, with_limits, to_nowhere, is_vacant, place_for, put_at, is_full_link, tallied, tallied_up, climbed};
 
 use cg_cgroup::cgroup::Cgroup;
-use cg_cgroup::files::Limit;
+use cg_cgroup::files::LimitFile;
 use cg_model::limits::bars_child;
 
 /// Where the link of a place leads that is no cgroup's: there is no such place.
@@ -36,10 +36,10 @@ pub struct Link {
     pub above: usize,
     /// How many cgroups lie below.
     pub below: u64,
-    /// The value of `cgroup.max.descendants`.
-    pub max_descendants: Limit,
-    /// The value of `cgroup.max.depth`.
-    pub max_depth: Limit,
+    /// The number in `cgroup.max.descendants`, where it is one.
+    pub max_descendants: Option<u64>,
+    /// The number in `cgroup.max.depth`, where it is one.
+    pub max_depth: Option<u64>,
 }
 
 impl Link {
@@ -50,8 +50,8 @@ impl Link {
         Link {
             above,
             below: 0,
-            max_descendants: cgroup.max_descendants.value,
-            max_depth: cgroup.max_depth.value,
+            max_descendants: cgroup.most(LimitFile::MaxDescendants),
+            max_depth: cgroup.most(LimitFile::MaxDepth),
         }
     }
 
@@ -69,8 +69,8 @@ pub fn put_limits(links: &mut [Link], at: usize, cgroup: &Cgroup)
     ensures { links.new ≡ slice_set links.old at (with_limits cgroup.now (link_at links.old at)) }
 {
     let link = &mut links[at];
-    link.max_descendants = cgroup.max_descendants.value;
-    link.max_depth = cgroup.max_depth.value;
+    link.max_descendants = cgroup.most(LimitFile::MaxDescendants);
+    link.max_depth = cgroup.most(LimitFile::MaxDepth);
 }
 
 /// The place of a new cgroup: one that was left, where it is nobody's, or else the next.

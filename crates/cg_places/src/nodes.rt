@@ -1,26 +1,26 @@
 //! Cgroups at their places, and what is counted of their children and processes.
-ghost use Rattle.std.specs.Prelude.{◌≡◌, true, ◌<◌, length, map, slice_set, [], ◌∷◌, None, IfOk, OnOk, OnErr};
+ghost use Rattle.std.specs.Prelude.{◌≡◌, true, ◌<◌, length, slice_set, [], ◌∷◌, None, IfOk, OnOk, OnErr};
 ghost use Rattle.cg_places.specs.Links.{put_at};
-ghost use Rattle.cg_places.specs.Nodes.{Refits, RefitsShared, RefitsSlots, HasGrown, IsSharedAt, kin_if, new_node, new_slot, node_at, slot_at, with_cgroup, with_own, with_live, with_uses, tallied_node, recounted, enabled_at, differing, other_from, with_files_from};
-ghost use Rattle.cg_cgroup.specs.Files.{all_controllers};
-ghost use Rattle.cg_places.specs.Taken.{Takes};
+ghost use Rattle.cg_places.specs.Nodes.{Refits, RefitsShared, RefitsSlots, AreShared, HasGrown, IsSharedAt, kin_if, new_node, new_slot, node_at, slot_at, with_cgroup, with_own, settled, with_live, with_uses, tallied_node, recounted, enabling_node, enabled_at, differing, with_files_from};
+ghost use Rattle.cg_cgroup.specs.Files.{is_text, is_text_entry, accepts};
+ghost use Rattle.cg_cgroup.specs.Values.{value_now};
+ghost use Rattle.cg_cgroup.specs.Cgroups.{is_plain, with_value_in, with_mode_in};
+ghost use Rattle.cg_model.specs.States.{enabling_these};
 
 use crate::links::{Link, Tally};
 use crate::uses::Uses;
-use cg_cgroup::brought::BroughtFiles;
 use cg_cgroup::cgroup::Cgroup;
-use cg_cgroup::controllers::CONTROLLER_COUNT;
-use cg_cgroup::files::{BROUGHT_COUNT, Controller, ControllerSet, LimitFile};
+use cg_cgroup::files::{Controller, ControllerSet, EntryName, LimitFile};
 use cg_cgroup::memory::NoMemory;
-use cg_cgroup::others::OtherFiles;
-use cg_cgroup::user::Entry;
+use cg_cgroup::user::Mode;
+use cg_cgroup::value::ValueRef;
 use std::alloc::Global;
 use std::marker::Model;
 
 /// What is kept at a place.
-#[derive(Clone, Copy)]
+#[derive(Drop)]
 pub struct Slot {
-    /// The cgroup, where it has one of its own.
+    /// The cgroup, where it has one of its own. Where it shares one it is of no account.
     pub cgroup: Cgroup,
     /// How many live processes are at the cgroup itself.
     pub live: u64,
@@ -42,14 +42,39 @@ impl Slot {
             shared,
         }
     }
+
+    /// What is kept there too. Fails where memory is wanted.
+    fn try_clone(&self, alloc: Global) -> Result<Slot, NoMemory>
+        ensures { IfOk result (λ copy. copy ≡ self.now) }
+    {
+        Ok(Slot {
+            cgroup: self.cgroup.try_clone(alloc)?,
+            live: self.live,
+            uses: self.uses,
+            shared: self.shared,
+        })
+    }
 }
 
-/// A cgroup that children of one parent share as long as none of them changes by itself.
-#[derive(Clone, Copy)]
+/// A cgroup that children of one parent share as long as none of them changes by itself. Nobody speaks of a limit file of it
+/// whose value is a text.
+#[derive(Drop)]
 pub struct Shared {
     /// The place of the parent.
     pub above: usize,
     pub cgroup: Cgroup,
+}
+
+impl Shared {
+    /// An equal one. Fails where memory is wanted.
+    fn try_clone(&self, alloc: Global) -> Result<Shared, NoMemory>
+        ensures { IfOk result (λ copy. copy ≡ self.now) }
+    {
+        Ok(Shared {
+            above: self.above,
+            cgroup: self.cgroup.try_clone(alloc)?,
+        })
+    }
 }
 
 /// Cgroups by their places, and what is counted of their children and processes.
@@ -67,10 +92,11 @@ impl Model for Nodes {
     ghost use Rattle.std.specs.Prelude.{List};
     ghost use Rattle.std.specs.Coded.{codes};
     ghost use Rattle.cg_places.specs.Nodes.{Node, nodes_of, AreShared};
+    ghost use Rattle.cg_cgroup.specs.contracts.held.Files as files;
 
     ghost Value = { List Node };
 
-    ghost coded = { Prim.hlevel codes };
+    ghost coded = { Prim.hlevel (codes, files.the_row.coded) };
 
     ghost view = { λ t. nodes_of t.shared.items t.slots.items };
 
@@ -121,12 +147,52 @@ impl Nodes {
         self.slots[at].uses
     }
 
-    /// Puts a cgroup in the place of another.
-    pub fn put(&mut self, at: usize, cgroup: Cgroup)
-        requires { at < length self.old }
-        ensures { self.new ≡ slice_set self.old at (with_cgroup cgroup (node_at self.old at)) }
+    /// Sets the value of a limit file of the cgroup at a place, which shares it no longer. Only a text can fail for want of
+    /// memory.
+    pub fn set_value(
+        &mut self,
+        alloc: Global,
+        at: usize,
+        file: LimitFile,
+        value: ValueRef<'_>,
+    ) -> Result<(), NoMemory>
+        requires there { at < length self.old }
+        requires accepted { accepts file (value_now value) ≡ true }
+        ensures ok { OnOk result (self.new ≡ slice_set self.old at
+            (with_cgroup (with_value_in file (value_now value.entry) (node_at self.old at).cgroup) (node_at self.old at))) }
+        ensures err { OnErr result (self.new ≡ self.old) }
+        ensures memory { OnErr result (is_text file ≡ true) }
     {
-        put_own(&mut self.slots, at, cgroup);
+        settle(&mut self.slots, &self.shared, at);
+        set_own_value(&mut self.slots, alloc, at, file, value)
+    }
+
+    /// Sets the mode of an entry of the cgroup at a place, which shares it no longer. Only a limit file whose value is a text
+    /// can fail for want of memory.
+    pub fn set_mode(
+        &mut self,
+        alloc: Global,
+        at: usize,
+        name: EntryName,
+        mode: Mode,
+    ) -> Result<(), NoMemory>
+        requires { at < length self.old }
+        ensures ok { OnOk result (self.new ≡ slice_set self.old at
+            (with_cgroup (with_mode_in name mode (node_at self.old at).cgroup) (node_at self.old at))) }
+        ensures err { OnErr result (self.new ≡ self.old) }
+        ensures memory { OnErr result (is_text_entry name ≡ true) }
+    {
+        settle(&mut self.slots, &self.shared, at);
+        set_own_mode(&mut self.slots, alloc, at, name, mode)
+    }
+
+    /// Sets what the cgroup at a place enables, which shares it no longer.
+    fn set_enabled(&mut self, at: usize, enabled: ControllerSet)
+        requires { at < length self.old }
+        ensures { self.new ≡ slice_set self.old at (enabling_node enabled (node_at self.old at)) }
+    {
+        settle(&mut self.slots, &self.shared, at);
+        set_own_enabled(&mut self.slots, at, enabled);
     }
 
     /// Counts so many live processes at a place.
@@ -149,11 +215,13 @@ impl Nodes {
     /// `shares` says so. Fails where memory is wanted.
     pub fn put_new(
         &mut self,
+        alloc: Global,
         at: usize,
         above: usize,
         cgroup: Cgroup,
         shares: bool,
     ) -> Result<(), NoMemory>
+        requires { shares ≡ true → is_plain cgroup.files ≡ true }
         ensures ok { OnOk result (self.new ≡ put_at self.old at (new_node cgroup (kin_if shares above))) }
         ensures err { OnErr result (self.new ≡ self.old) }
     {
@@ -163,7 +231,7 @@ impl Nodes {
             return Ok(());
         }
         let hint = hint_at(&self.hints, above);
-        let index = share(&mut self.shared, hint, above, &cgroup)?;
+        let index = share(&mut self.shared, alloc, hint, above, &cgroup)?;
         note_hint(&mut self.hints, above, index);
         put_slot(&mut self.slots, at, Slot::new(cgroup, Some(index)))?;
         Ok(())
@@ -177,7 +245,8 @@ impl Nodes {
         changed: ControllerSet,
         fresh: &Cgroup,
     )
-        requires { length self.old ≡ length links.now }
+        requires paired { length self.old ≡ length links.now }
+        requires plain { is_plain fresh.now.files ≡ true }
         ensures { Refits links.now at changed fresh.now self.old self.new }
     {
         refit_shared(&mut self.shared, at, changed, fresh);
@@ -189,11 +258,31 @@ impl Nodes {
         ensures { IfOk result (λ copy. copy ≡ self.now) }
     {
         Ok(Nodes {
-            slots: Vec::from_slice(alloc, &self.slots)?,
-            shared: Vec::from_slice(alloc, &self.shared)?,
+            slots: copied_slots(alloc, &self.slots)?,
+            shared: copied_shared(alloc, &self.shared)?,
             hints: Vec::from_slice(alloc, &self.hints)?,
         })
     }
+}
+
+fn copied_slots(alloc: Global, slots: &[Slot]) -> Result<Vec<Slot>, NoMemory>
+    ensures { IfOk result (λ copies. copies.items ≡ slots.now) }
+{
+    let mut copies = Vec::with_capacity(alloc, slots.len())?;
+    for slot in slots {
+        copies.push(slot.try_clone(alloc)?)?;
+    }
+    Ok(copies)
+}
+
+fn copied_shared(alloc: Global, shared: &[Shared]) -> Result<Vec<Shared>, NoMemory>
+    ensures { IfOk result (λ copies. copies.items ≡ shared.now) }
+{
+    let mut copies = Vec::with_capacity(alloc, shared.len())?;
+    for one in shared {
+        copies.push(one.try_clone(alloc)?)?;
+    }
+    Ok(copies)
 }
 
 /// Puts what is kept at a place there, or behind the others. Fails where memory is wanted.
@@ -229,13 +318,16 @@ fn note_hint(hints: &mut [usize], at: usize, index: usize) {
 }
 
 /// The index of such a cgroup among those that are shared: the hint, or that of a new one. Fails where memory is wanted.
+#[tactic(auto, using(crate::proofs::Seen::grown_none, crate::proofs::Seen::grown_one))]
 fn share(
     shared: &mut Vec<Shared>,
+    alloc: Global,
     hint: usize,
     above: usize,
     cgroup: &Cgroup,
 ) -> Result<usize, NoMemory>
-    ensures grows { HasGrown shared.old.items shared.new.items }
+    requires { is_plain cgroup.now.files ≡ true }
+    ensures grows { HasGrown cgroup.now shared.old.items shared.new.items }
     ensures ok { IfOk result (IsSharedAt above cgroup.now shared.new.items) }
 {
     if hint < shared.len()
@@ -245,27 +337,85 @@ fn share(
         return Ok(hint);
     }
     let index = shared.len();
-    shared.push(Shared {
-        above,
-        cgroup: *cgroup,
-    })?;
+    let cgroup = cgroup.try_clone(alloc)?;
+    shared.push(Shared { above, cgroup })?;
     Ok(index)
 }
 
-/// Whether two cgroups are alike in all.
+/// Whether two cgroups are alike in all, and nobody speaks of a limit file of them whose value is a text.
+#[tactic(auto, using(crate::proofs::Alike::all_same))]
 fn are_alike(a: &Cgroup, b: &Cgroup) -> bool
-    ensures same { result ≡ true → a.now ≡ b.now }
-    ensures found { a.now ≡ b.now → result ≡ true }
+    ensures { result ≡ true → a.now ≡ b.now }
 {
-    a == b
+    a.dir == b.dir
+        && a.procs == b.procs
+        && a.subtree_control == b.subtree_control
+        && a.enabled == b.enabled
+        && a.files.is_same_plain(&b.files)
 }
 
-fn put_own(slots: &mut [Slot], at: usize, cgroup: Cgroup)
-    requires { at < length slots.old }
-    ensures { slots.new ≡ slice_set slots.old at (with_own cgroup (slot_at slots.old at)) }
+/// Gives a place the cgroup that it shares, where it shares one, as its own, which is of no account yet.
+fn settle(slots: &mut Vec<Slot>, shared: &[Shared], at: usize)
+    requires there { at < length slots.old.items }
+    requires shared { AreShared shared.now slots.old.items }
+    ensures { slots.new.items ≡ slice_set slots.old.items at (settled shared.now (slot_at slots.old.items at)) }
 {
     let slot = &mut slots[at];
-    slot.cgroup = cgroup;
+    if let Some(index) = slot.shared {
+        slot.cgroup.catch_up(&shared[index].cgroup);
+    }
+}
+
+/// Sets the value of a limit file of the place's own cgroup, which it has then. Only a text can fail for want of memory.
+fn set_own_value(
+    slots: &mut Vec<Slot>,
+    alloc: Global,
+    at: usize,
+    file: LimitFile,
+    value: ValueRef<'_>,
+) -> Result<(), NoMemory>
+    requires there { at < length slots.old.items }
+    requires accepted { accepts file (value_now value) ≡ true }
+    ensures ok { OnOk result (slots.new.items
+        ≡ slice_set slots.old.items at (with_own (with_value_in file (value_now value.entry) (slot_at slots.old.items at).cgroup) (slot_at slots.old.items at))) }
+    ensures err { OnErr result (slots.new.items ≡ slots.old.items) }
+    ensures memory { OnErr result (is_text file ≡ true) }
+{
+    let slot = &mut slots[at];
+    slot.cgroup.set_value(alloc, file, value)?;
+    slot.shared = None;
+    Ok(())
+}
+
+/// Sets the mode of an entry of the place's own cgroup, which it has then. Only a limit file whose value is a text can fail for
+/// want of memory.
+fn set_own_mode(
+    slots: &mut Vec<Slot>,
+    alloc: Global,
+    at: usize,
+    name: EntryName,
+    mode: Mode,
+) -> Result<(), NoMemory>
+    requires { at < length slots.old.items }
+    ensures ok { OnOk result (slots.new.items
+        ≡ slice_set slots.old.items at (with_own (with_mode_in name mode (slot_at slots.old.items at).cgroup) (slot_at slots.old.items at))) }
+    ensures err { OnErr result (slots.new.items ≡ slots.old.items) }
+    ensures memory { OnErr result (is_text_entry name ≡ true) }
+{
+    let slot = &mut slots[at];
+    slot.cgroup.set_mode(alloc, name, mode)?;
+    slot.shared = None;
+    Ok(())
+}
+
+/// Sets what the place's own cgroup enables, which it has then.
+fn set_own_enabled(slots: &mut Vec<Slot>, at: usize, enabled: ControllerSet)
+    requires { at < length slots.old.items }
+    ensures { slots.new.items
+        ≡ slice_set slots.old.items at (with_own (enabling_these enabled (slot_at slots.old.items at).cgroup) (slot_at slots.old.items at)) }
+{
+    let slot = &mut slots[at];
+    slot.cgroup.enabled = enabled;
     slot.shared = None;
 }
 
@@ -309,10 +459,8 @@ pub fn enable(nodes: &mut Nodes, at: usize, above: usize, enabled: ControllerSet
     requires parents { above < length nodes.old }
     ensures { nodes.new ≡ enabled_at nodes.old at above enabled }
 {
-    let mut cgroup = *nodes.cgroup(at);
-    let had = cgroup.enabled;
-    cgroup.enabled = enabled;
-    nodes.put(at, cgroup);
+    let had = nodes.cgroup(at).enabled;
+    nodes.set_enabled(at, enabled);
     if above != at {
         recount(nodes, above, had, enabled);
     }
@@ -328,56 +476,17 @@ pub fn differing(had: ControllerSet, has: ControllerSet) -> ControllerSet
     }
 }
 
-/// Gives the files of these controllers as they are elsewhere. What doesn't change isn't written.
-#[tactic(auto, using(crate::proofs::Taken::taken_one, crate::proofs::Taken::taken_none))]
-fn take_each(files: &mut BroughtFiles, changed: ControllerSet, from: &BroughtFiles)
-    ensures { Takes changed from.now files.old files.new }
-{
-    for place in 0..BROUGHT_COUNT {
-        if LimitFile::BROUGHT[place].stands_under(changed) {
-            files.set(place, from.get(place));
-        }
-    }
-}
-
 /// Gives a cgroup the limit files of these controllers as another one has them.
 fn take_files(cgroup: &mut Cgroup, changed: ControllerSet, from: &Cgroup)
+    requires { is_plain from.now.files ≡ true }
     ensures { cgroup.new ≡ with_files_from changed from.now cgroup.old }
 {
-    take_each(&mut cgroup.files, changed, &from.files);
-    cgroup.others = OtherFiles {
-        entries: taken_others(cgroup, changed, from),
-    };
-}
-
-/// The other files of these controllers as another cgroup has them, and those of the rest as they were.
-fn taken_others(
-    cgroup: &Cgroup,
-    changed: ControllerSet,
-    from: &Cgroup,
-) -> [Option<Entry>; CONTROLLER_COUNT]
-    ensures { result ≡ map (other_from changed from.now cgroup.now) all_controllers }
-{
-    Controller::ALL.map(|controller| taken_other(cgroup, controller, changed, from))
-}
-
-fn taken_other(
-    cgroup: &Cgroup,
-    controller: Controller,
-    changed: ControllerSet,
-    from: &Cgroup,
-) -> Option<Entry>
-    ensures { result ≡ other_from changed from.now cgroup.now controller }
-{
-    if changed.contains(controller) {
-        from.other(controller)
-    } else {
-        cgroup.other(controller)
-    }
+    cgroup.files.take(changed, &from.files);
 }
 
 /// Gives the cgroups that children of a place share the limit files of these controllers as a new one has them.
 fn refit_shared(shared: &mut [Shared], at: usize, changed: ControllerSet, fresh: &Cgroup)
+    requires { is_plain fresh.now.files ≡ true }
     ensures { RefitsShared at changed fresh.now shared.old shared.new }
 {
     for i in 0..shared.len() {
@@ -396,7 +505,8 @@ fn refit_slots(
     changed: ControllerSet,
     fresh: &Cgroup,
 )
-    requires { length slots.old ≡ length links.now }
+    requires paired { length slots.old ≡ length links.now }
+    requires plain { is_plain fresh.now.files ≡ true }
     ensures { RefitsSlots links.now at changed fresh.now slots.old slots.new }
 {
     for i in 0..links.len() {

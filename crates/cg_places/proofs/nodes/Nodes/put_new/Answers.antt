@@ -27,14 +27,19 @@ returns-then-not-shares-clause-ok c =
 
 -- ---- no memory for one that is shared
 
+pub share-requires : goal.share-requires
+share-requires c = c.requires c.if-not-shares.false
+
 pub invariant_of-self-in_err-index : goal.invariant_of-self-in_err-index
 invariant_of-self-in_err-index c =
-    are_grown c.self.inside.shared.items c.share.new.shared.items c.self.inside.slots.items c.self.invariant c.share.ensures.grows
+    are_grown c.args.cgroup c.self.inside.shared.items c.share.new.shared.items c.self.inside.slots.items
+    (c.requires c.if-not-shares.false) c.self.invariant c.share.ensures.grows
 
 pub returns-in_err-index-clause-err : goal.returns-in_err-index-clause-err
 returns-in_err-index-clause-err c =
     let p = err_from_is_err_and c.from_residual-in_err-index.result c.from_residual-in_err-index.ensures.1 in
-    rw p.1 (seen_grown c.self.inside.shared.items c.share.new.shared.items c.self.inside.slots.items c.self.invariant c.share.ensures.grows
+    rw p.1 (seen_grown c.args.cgroup c.self.inside.shared.items c.share.new.shared.items c.self.inside.slots.items c.self.invariant
+    c.share.ensures.grows
     ∙ c.self.view_is)
 
 -- ---- nor for the place
@@ -42,14 +47,17 @@ returns-in_err-index-clause-err c =
 pub invariant_of-self-in_err-put_slot-2 : goal.invariant_of-self-in_err-put_slot-2
 invariant_of-self-in_err-put_slot-2 c =
     subst (AreShared c.share.new.shared.items) (sym c.in_err-put_slot-2.ensures.err)
-    (are_grown c.self.inside.shared.items c.share.new.shared.items c.self.inside.slots.items c.self.invariant c.share.ensures.grows)
+    (are_grown c.args.cgroup c.self.inside.shared.items c.share.new.shared.items c.self.inside.slots.items
+    (c.requires c.if-not-shares.false) c.self.invariant
+    c.share.ensures.grows)
 
 pub returns-in_err-put_slot-2-clause-err : goal.returns-in_err-put_slot-2-clause-err
 returns-in_err-put_slot-2-clause-err c =
     let p = err_from_is_err_and c.from_residual-in_err-put_slot-2.result c.from_residual-in_err-put_slot-2.ensures.1 in
     rw p.1
     (ap (nodes_of c.share.new.shared.items) c.in_err-put_slot-2.ensures.err
-    ∙ seen_grown c.self.inside.shared.items c.share.new.shared.items c.self.inside.slots.items c.self.invariant c.share.ensures.grows
+    ∙ seen_grown c.args.cgroup c.self.inside.shared.items c.share.new.shared.items c.self.inside.slots.items c.self.invariant
+    c.share.ensures.grows
     ∙ c.self.view_is)
 
 -- ---- one that is shared
@@ -65,7 +73,8 @@ invariant_of-self-2 c =
     let index = c.in_ok-index.index in
     subst (AreShared shared) (sym (slots_are c))
     (are_put shared slots c.args.at (new_slot c.args.cgroup (Some index))
-    (are_grown c.self.inside.shared.items shared slots c.self.invariant c.share.ensures.grows)
+    (are_grown c.args.cgroup c.self.inside.shared.items shared slots (c.requires c.if-not-shares.false) c.self.invariant
+    c.share.ensures.grows)
     (λ k is. omega (arith, c.in_ok-index.ensures.ok.within, same_some index k is)))
 
 pub returns-clause-ok : goal.returns-clause-ok
@@ -74,6 +83,7 @@ returns-clause-ok c =
     ∙ seen_put c.share.new.shared.items c.self.inside.slots.items c.args.at c.args.cgroup c.args.above c.in_ok-index.index
     c.in_ok-index.ensures.ok.there
     ∙ ap (λ ns. put_at ns c.args.at (new_node c.args.cgroup (Some c.args.above)))
-    (seen_grown c.self.inside.shared.items c.share.new.shared.items c.self.inside.slots.items c.self.invariant c.share.ensures.grows
+    (seen_grown c.args.cgroup c.self.inside.shared.items c.share.new.shared.items c.self.inside.slots.items c.self.invariant
+    c.share.ensures.grows
     ∙ c.self.view_is)
     ∙ ap (λ b. put_at c.args.self.now c.args.at (new_node c.args.cgroup (kin_if b c.args.above))) (sym c.if-not-shares.false)

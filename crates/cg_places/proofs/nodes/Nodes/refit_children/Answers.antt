@@ -34,13 +34,13 @@ invariant_of-self c =
     (subst (λ xs. AreShared xs (with_items c.self.inside.slots c.refit_slots.new.slots).items) (sym (shared_are c))
     (subst (AreShared c.refit_shared.new.shared) (sym (slots_are c))
     (are_refitted c.args.links.now c.args.at c.args.changed c.args.fresh.now c.self.inside.shared.items c.refit_shared.new.shared
-    c.self.inside.slots.items c.refit_slots.new.slots c.self.invariant (rows c) (own c))))
+    c.self.inside.slots.items c.refit_slots.new.slots c.requires.plain c.self.invariant (rows c) (own c))))
 
 pub returns : goal.returns
 returns c =
     let seen =
     refits_seen c.args.links.now c.args.at c.args.changed c.args.fresh.now c.self.inside.shared.items c.refit_shared.new.shared
-    c.self.inside.slots.items c.refit_slots.new.slots c.self.invariant (rows c) (own c) in
+    c.self.inside.slots.items c.refit_slots.new.slots c.requires.plain c.self.invariant (rows c) (own c) in
     subst (λ old. Refits c.args.links.now c.args.at c.args.changed c.args.fresh.now old
     (nodes_of (with_items c.self.inside.shared c.refit_shared.new.shared).items
     (with_items c.self.inside.slots c.refit_slots.new.slots).items)) c.self.view_is
