@@ -8,6 +8,8 @@ use Rattle.std.proofs.lemmas.List.Sums.{count_by-le-length}
 use Rattle.std.specs.Cmp.{first_so}
 use Rattle.std.specs.FinMap as map
 use Rattle.std.specs.FinMap.{FinMap}
+use Rattle.cg_cgroup.specs.Cgroups.{most_in}
+use Rattle.cg_cgroup.specs.declared.files.LimitFile.TheVariants.{MaxDescendants, MaxDepth}
 use Rattle.cg_cgroup.specs.Paths.{Names, path_cmp, same_path, inside, below, is_child, parent, is_root}
 use Rattle.cg_cgroup.specs.Files.{no_controllers, enables}
 use Rattle.cg_cgroup.specs.declared.files.Controller.{Controller}
@@ -96,9 +98,9 @@ module _ (places : FinMap path_cmp ℕ) (links : List Link) (nodes : List Node) 
       (λ q j has. ap (λ l. l.above) (same_link q j has))
       (λ q j has. ap (λ l. l.below) (same_link q j has))
       (λ q j has. ap (λ l. l.max_descendants) (same_link q j has) ∙ kept.descendants q j has
-      ∙ ap (λ n. n.cgroup.max_descendants.value) (sym (same_node q j has)))
+      ∙ ap (λ n. most_in n.cgroup MaxDescendants) (sym (same_node q j has)))
       (λ q j has. ap (λ l. l.max_depth) (same_link q j has) ∙ kept.depths q j has
-      ∙ ap (λ n. n.cgroup.max_depth.value) (sym (same_node q j has)))
+      ∙ ap (λ n. most_in n.cgroup MaxDepth) (sym (same_node q j has)))
       (λ q j has. ap enabled_of (same_node q j has))
       (λ q j has. ap (λ n. n.uses) (same_node q j has))
       (λ q j has a of. sym (ap (λ n. n.kin) (same_node q j has)) ∙ of)
@@ -332,8 +334,8 @@ module _ (places : FinMap path_cmp ℕ) (links : List Link) (nodes : List Node) 
         ∙ paired_more places links nodes kept k free (new_link i row) (new_node row share)
         ∙ sym (changed_length (tallied_link More) (λ n. refl) (length p) i pushed_links);
     below = λ q j is. ap (λ n. n.below) (link_after q j is) ∙ counts q j is ∙ sym (below-insert places p root k none q);
-    descendants = limit_next (λ l. l.max_descendants) (λ r. r.max_descendants.value) (λ l. refl) refl kept.descendants;
-    depths = limit_next (λ l. l.max_depth) (λ r. r.max_depth.value) (λ l. refl) refl kept.depths;
+    descendants = limit_next (λ l. l.max_descendants) (λ r. most_in r MaxDescendants) (λ l. refl) refl kept.descendants;
+    depths = limit_next (λ l. l.max_depth) (λ r. most_in r MaxDepth) (λ l. refl) refl kept.depths;
     uses = uses_next;
     kin = kin_next;
   }

@@ -2,6 +2,8 @@
 use Rattle.std.proofs.Common.{◌≡◌, ℕ, Bool, true, false, cond, List, [], ◌∷◌, count_by, refl, sym, ap, ◌∙◌, true≢false, Some, None, is_some, option_map, arith}
 use Rattle.std.specs.FinMap as map
 use Rattle.std.specs.FinMap.{FinMap}
+use Rattle.cg_cgroup.specs.Cgroups.{most_in}
+use Rattle.cg_cgroup.specs.declared.files.LimitFile.TheVariants.{MaxDescendants, MaxDepth}
 use Rattle.cg_cgroup.specs.Paths.{Names, path_cmp, same_path, below, is_child, parent}
 use Rattle.cg_cgroup.specs.declared.files.Controller.{Controller}
 use Rattle.cg_cgroup.specs.declared.cgroup.Cgroup.{Cgroup}
@@ -74,11 +76,11 @@ module _ (row : Cgroup) where
     descendants =
         λ q j is. let o =
         only q j is in ap (λ k. (link_at first_links k).max_descendants) o.1
-        ∙ ap (λ k. (node_at first_nodes k).cgroup.max_descendants.value) (sym o.1);
+        ∙ ap (λ k. most_in (node_at first_nodes k).cgroup MaxDescendants) (sym o.1);
     depths =
         λ q j is. let o =
         only q j is in ap (λ k. (link_at first_links k).max_depth) o.1
-        ∙ ap (λ k. (node_at first_nodes k).cgroup.max_depth.value) (sym o.1);
+        ∙ ap (λ k. most_in (node_at first_nodes k).cgroup MaxDepth) (sym o.1);
     uses = λ q j is controller.
         let o = only q j is in
         ap (λ k. uses_of (node_at first_nodes k).uses controller) o.1 ∙ nothing controller

@@ -4,6 +4,8 @@ use Rattle.std.specs.Prelude.{slice_set}
 use Rattle.std.proofs.lemmas.List.{get_or-set_same, get_or-set_other, length-set}
 use Rattle.std.specs.FinMap as map
 use Rattle.std.specs.FinMap.{FinMap}
+use Rattle.cg_cgroup.specs.Cgroups.{most_in}
+use Rattle.cg_cgroup.specs.declared.files.LimitFile.TheVariants.{MaxDescendants, MaxDepth}
 use Rattle.cg_cgroup.specs.Paths.{Names, path_cmp, same_path}
 use Rattle.cg_cgroup.specs.declared.cgroup.Cgroup.{Cgroup}
 use Rattle.cg_cgroup.proofs.PathOrder.{same_path-is, same_path-other, same_path_refl}
@@ -11,7 +13,7 @@ use Rattle.cg_cgroup.proofs.Options.{same_some}
 use Rattle.cg_places.specs.Links.{no_link, link_at, ArePlaced, with_limits}
 use Rattle.cg_places.specs.Nodes.{Node, new_node, no_cgroup, node_at, uses_of, with_cgroup, tallied_node}
 use Rattle.cg_places.specs.Values.{values_of}
-use Rattle.cg_counts.specs.Kept.{Held, held_of, enabled_of, child_uses, AreKept, with_row_of, change_held, tallied_held}
+use Rattle.cg_counts.specs.Kept.{Held, held_of, enabled_of, child_uses, AreKept, change_held, changed_held, tallied_held}
 use Rattle.cg_places.specs.declared.links.Link.{Link}
 use Rattle.cg_places.specs.declared.links.Tally.{Tally}
 use Rattle.cg_counts.proofs.Kin.{kin_of_either}
@@ -78,8 +80,8 @@ module _ (places : FinMap path_cmp ℕ) (links links' : List Link) (nodes nodes'
     (above : (q : Names) (j : ℕ) → map.get places q ≡ Some j → (link_at links' j).above ≡ (link_at links j).above)
     (below : (q : Names) (j : ℕ) → map.get places q ≡ Some j → (link_at links' j).below ≡ (link_at links j).below)
     (descendants : (q : Names) (j : ℕ) → map.get places q ≡ Some j
-    → (link_at links' j).max_descendants ≡ (node_at nodes' j).cgroup.max_descendants.value)
-    (depths : (q : Names) (j : ℕ) → map.get places q ≡ Some j → (link_at links' j).max_depth ≡ (node_at nodes' j).cgroup.max_depth.value)
+    → (link_at links' j).max_descendants ≡ most_in (node_at nodes' j).cgroup MaxDescendants)
+    (depths : (q : Names) (j : ℕ) → map.get places q ≡ Some j → (link_at links' j).max_depth ≡ most_in (node_at nodes' j).cgroup MaxDepth)
     (enabled : (q : Names) (j : ℕ) → map.get places q ≡ Some j → enabled_of (node_at nodes' j) ≡ enabled_of (node_at nodes j))
     (uses : (q : Names) (j : ℕ) → map.get places q ≡ Some j → (node_at nodes' j).uses ≡ (node_at nodes j).uses)
     (kin : (q : Names) (j : ℕ) → map.get places q ≡ Some j → (a : ℕ) → (node_at nodes' j).kin ≡ Some a → (node_at nodes j).kin ≡ Some a)
@@ -111,8 +113,8 @@ module _ (places : FinMap path_cmp ℕ) (links : List Link) (nodes : List Node) 
       let rows = kept_of_node places links kept.placed p i is (λ n. n.cgroup) nodes x kept.paired cgroup in
       kept_reread places links links nodes (slice_set nodes i x) kept (omega arith) (length-set nodes i x ∙ kept.paired) (λ q j has. refl)
       (λ q j has. refl)
-      (λ q j has. kept.descendants q j has ∙ ap (λ r. r.max_descendants.value) (sym (rows q j has)))
-      (λ q j has. kept.depths q j has ∙ ap (λ r. r.max_depth.value) (sym (rows q j has)))
+      (λ q j has. kept.descendants q j has ∙ ap (λ r. most_in r MaxDescendants) (sym (rows q j has)))
+      (λ q j has. kept.depths q j has ∙ ap (λ r. most_in r MaxDepth) (sym (rows q j has)))
       (λ q j has. ap (λ r. r.enabled) (rows q j has))
       (kept_of_node places links kept.placed p i is (λ n. n.uses) nodes x kept.paired uses)
       (λ q j has a of. sym (kept_of_node places links kept.placed p i is (λ n. n.kin) nodes x kept.paired kin q j has) ∙ of)
@@ -140,11 +142,14 @@ module _ (places : FinMap path_cmp ℕ) (links : List Link) (nodes : List Node) 
       ∙ held_node places links nodes kept p i is (tallied_node tally (node_at nodes i)) refl refl refl (tallied_held tally) refl
       ∙ ap (λ m. change_held m p (tallied_held tally)) view
 
--- ---- a cgroup in the place of one that enables the same
+-- ---- a cgroup changed by itself, which enables the same
 
 module _ (places : FinMap path_cmp ℕ) (links : List Link) (nodes : List Node) (kept : AreKept places links nodes) (p : Names) (i : ℕ)
-    (is : map.get places p ≡ Some i) (row : Cgroup)
-    (same : row.enabled ≡ (node_at nodes i).cgroup.enabled) where
+    (is : map.get places p ≡ Some i) (f : Cgroup → Cgroup)
+    (same : (f (node_at nodes i).cgroup).enabled ≡ (node_at nodes i).cgroup.enabled) where
+  abbrev row : Cgroup
+  row = f (node_at nodes i).cgroup
+
   abbrev put_nodes : List Node
   put_nodes = slice_set nodes i (with_cgroup row (node_at nodes i))
 
@@ -167,17 +172,33 @@ module _ (places : FinMap path_cmp ℕ) (links : List Link) (nodes : List Node) 
       (length-set nodes i (with_cgroup row (node_at nodes i)) ∙ kept.paired ∙ sym (length-set links i (with_limits row (link_at links i))))
       (kept_of_link places links kept.placed p i is (λ l. l.above) (with_limits row (link_at links i)) refl)
       (kept_of_link places links kept.placed p i is (λ l. l.below) (with_limits row (link_at links i)) refl)
-      (limit_of (λ l. l.max_descendants) (λ r. r.max_descendants.value) refl kept.descendants)
-      (limit_of (λ l. l.max_depth) (λ r. r.max_depth.value) refl kept.depths)
+      (limit_of (λ l. l.max_descendants) (λ r. most_in r MaxDescendants) refl kept.descendants)
+      (limit_of (λ l. l.max_depth) (λ r. most_in r MaxDepth) refl kept.depths)
       (kept_of_node places links kept.placed p i is enabled_of nodes (with_cgroup row (node_at nodes i)) kept.paired same)
       (kept_of_node places links kept.placed p i is (λ n. n.uses) nodes (with_cgroup row (node_at nodes i)) kept.paired refl)
       (λ q j has a of. kin_of_either (same_path q p) (with_cgroup row (node_at nodes i)) (node_at nodes j) a refl
       (sym (ap (λ n. n.kin) (node_set places links kept.placed p i is nodes (with_cgroup row (node_at nodes i)) kept.paired q j has))
       ∙ of))
 
-  pub held_put : values_of held_of places put_nodes ≡ change_held (values_of held_of places nodes) p (with_row_of row)
+  pub held_put : values_of held_of places put_nodes ≡ change_held (values_of held_of places nodes) p (changed_held f)
   held_put =
-      values_change held_of places nodes put_nodes p i (with_row_of row) is
+      values_change held_of places nodes put_nodes p i (changed_held f) is
       (ap held_of (node_here places links kept.placed p i is nodes (with_cgroup row (node_at nodes i)) kept.paired))
       (λ q j apart has.
       ap held_of (node_past places links kept.placed p i is nodes (with_cgroup row (node_at nodes i)) kept.paired q j apart has))
+
+  -- by what the calls ensure
+  module _ (links' : List Link) (nodes' : List Node) (row' : Cgroup) (set : nodes' ≡ put_nodes) (read : row' ≡ (node_at nodes' i).cgroup)
+      (limits : links' ≡ slice_set links i (with_limits row' (link_at links i))) where
+    links_are : links' ≡ put_links
+    links_are =
+        limits ∙ ap (λ row. slice_set links i (with_limits row (link_at links i)))
+        (read ∙ ap (λ nodes. (node_at nodes i).cgroup) set
+        ∙ ap (λ n. n.cgroup) (node_here places links kept.placed p i is nodes (with_cgroup row (node_at nodes i)) kept.paired))
+
+    pub kept_set : AreKept places links' nodes'
+    kept_set = subst (λ ls. AreKept places ls nodes') (sym links_are) (subst (AreKept places put_links) (sym set) kept_put)
+
+    pub held_set : (held : FinMap path_cmp Held) → values_of held_of places nodes ≡ held
+        → values_of held_of places nodes' ≡ change_held held p (changed_held f)
+    held_set held view = ap (values_of held_of places) set ∙ held_put ∙ ap (λ m. change_held m p (changed_held f)) view

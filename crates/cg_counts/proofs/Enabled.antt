@@ -7,27 +7,25 @@ use Rattle.std.specs.FinMap as map
 use Rattle.std.specs.FinMap.{FinMap}
 use Rattle.cg_cgroup.specs.Paths.{Names, path_cmp, same_path, inside, below, is_child, parent, is_root}
 use Rattle.cg_cgroup.specs.Identity.{Identity}
-use Rattle.cg_cgroup.specs.Files.{enables, controller_of, stands_under}
-use Rattle.cg_cgroup.specs.Users.{entry_made_by}
-use Rattle.cg_cgroup.specs.Cgroups.{file_of, other_in, file_made_by, with_files_of, cgroup_made_by}
+use Rattle.cg_cgroup.specs.Files.{enables, controller_of, stands_by, stands_under, is_brought_by}
+use Rattle.cg_cgroup.specs.Cgroups.{file_of, file_made_by, with_files_of, cgroup_made_by, most_in}
 use Rattle.cg_cgroup.specs.declared.files.Controller.{Controller}
-use Rattle.cg_cgroup.specs.declared.files.Controller.TheVariants.{Cpu}
 use Rattle.cg_cgroup.specs.declared.controllers.ControllerSet.{ControllerSet}
 use Rattle.cg_cgroup.specs.declared.files.LimitFile.{LimitFile}
 use Rattle.cg_cgroup.specs.declared.files.LimitFile.TheVariants.{MaxDescendants, MaxDepth}
 use Rattle.cg_cgroup.specs.declared.cgroup.Cgroup.{Cgroup}
 use Rattle.cg_model.specs.States.{enabling, enabling_these}
-use Rattle.cg_cgroup.proofs.ControllerLaws.{enables-set_by, mapped_at}
+use Rattle.cg_cgroup.proofs.ControllerLaws.{enables-set_by}
 use Rattle.cg_cgroup.proofs.PathOrder.{same_path-is, same_path_refl, same_path_comm, path_cmp-IsAntisymmetric}
 use Rattle.cg_cgroup.proofs.PathParents.{length-parent, is_child-parent, parent-is_child, is_root-is_child, parent-root}
-use Rattle.cg_cgroup.proofs.CgroupLaws.{same_cgroup, other_in-with_files_of, other_in-cgroup_made_by}
+use Rattle.cg_cgroup.proofs.CgroupLaws.{same_cgroup, file_of-cgroup_made_by}
 use Rattle.cg_cgroup.proofs.Options.{same_some}
 use Rattle.std.specs.Cmp.Derive.{both_true}
 use Rattle.std.proofs.lemmas.Bool.{lt-ltb}
 use Rattle.cg_model.proofs.MapLaws.{entry_any, list_any-map}
 use Rattle.cg_model.proofs.FormedEnabled.{is_child-itself}
 use Rattle.cg_places.specs.Links.{link_at}
-use Rattle.cg_places.specs.Nodes.{Node, node_at, uses_of, recounted, enabling_node, enabled_at, differs, differing, other_from, with_files_from, refitted_node, links_to, Refits}
+use Rattle.cg_places.specs.Nodes.{Node, node_at, uses_of, recounted, enabling_node, enabled_at, differs, differing, with_files_from, refitted_node, links_to, Refits}
 use Rattle.cg_places.specs.Values.{values_of}
 use Rattle.cg_counts.specs.Kept.{held_of, enabled_of, IsFitted, child_uses, AreKept, enabling_held, change_each_held}
 use Rattle.cg_places.specs.declared.links.Link.{Link}
@@ -71,32 +69,25 @@ file_taken : (had enabled : ControllerSet) (user : Identity) (row : Cgroup) (fil
     → is_some (file_of row file) ≡ stands_under had file
     → file_of (with_files_from (differing had enabled) (cgroup_made_by user enabled) row) file
     ≡ file_of (with_files_of enabled user row) file
-unfolding with_files_from
-file_taken had enabled user row MaxDescendants fitted = refl
-file_taken had enabled user row MaxDepth fitted = refl
 file_taken had enabled user row file fitted =
-    controller_taken (unwrap_or (controller_of file) Cpu) had enabled (file_of row file) (file_made_by user file) fitted
-
-other_taken : (had enabled : ControllerSet) (user : Identity) (row : Cgroup) (controller : Controller)
-    → is_some (other_in row controller) ≡ enables had controller
-    → other_in (with_files_from (differing had enabled) (cgroup_made_by user enabled) row) controller
-    ≡ other_in (with_files_of enabled user row) controller
-unfolding with_files_from
-other_taken had enabled user row controller fitted =
-    mapped_at (other_from (differing had enabled) (cgroup_made_by user enabled) row) None controller
-    ∙ ap (λ made. cond (enables (differing had enabled) controller) made (other_in row controller))
-    (other_in-cgroup_made_by user enabled controller)
-    ∙ controller_taken controller had enabled (other_in row controller) (entry_made_by user 420) fitted
-    ∙ sym (other_in-with_files_of enabled user row controller)
+    ap (λ made. cond (is_brought_by (differing had enabled) file) made (file_of row file)) (file_of-cgroup_made_by user enabled file)
+    ∙ elim (controller_of file) as (λ by. is_some (file_of row file) ≡ stands_by had by
+    → cond (elim by [ None ↦ false | Some controller ↦ enables (differing had enabled) controller ])
+    (cond (stands_by enabled by) (Some (file_made_by user file)) None) (file_of row file)
+    ≡ elim by [
+      | None ↦ file_of row file
+      | Some controller ↦ cond (enables enabled controller) (Some (unwrap_or (file_of row file) (file_made_by user file))) None
+    ]) [
+      | None ↦ λ _. refl
+      | Some controller ↦ controller_taken controller had enabled (file_of row file) (file_made_by user file)
+    ] fitted
 
 files_from : (had enabled : ControllerSet) (user : Identity) (row : Cgroup) → IsFitted had row
     → with_files_from (differing had enabled) (cgroup_made_by user enabled) row ≡ with_files_of enabled user row
-unfolding with_files_from
 files_from had enabled user row fitted =
     same_cgroup (with_files_of enabled user row) (with_files_from (differing had enabled) (cgroup_made_by user enabled) row)
-    (record { dir = refl; procs = refl; subtree_control = refl; freeze = refl; enabled = refl })
+    (record { dir = refl; procs = refl; subtree_control = refl; enabled = refl })
     (λ file. file_taken had enabled user row file (fitted.files file))
-    (λ controller. other_taken had enabled user row controller (fitted.others controller))
 
 module _ (places : FinMap path_cmp ℕ) (links : List Link) (nodes : List Node) (kept : AreKept places links nodes)
     (few : map.len places < 9223372036854775808) (p : Names) (i : ℕ) (is : map.get places p ≡ Some i)
@@ -378,8 +369,8 @@ module _ (places : FinMap path_cmp ℕ) (links : List Link) (nodes : List Node) 
       placed = kept.placed;
       paired = long;
       below = kept.below;
-      descendants = λ q j has. kept.descendants q j has ∙ sym (core_last (λ r. r.max_descendants.value) (λ r. refl) (λ r. refl) q j has);
-      depths = λ q j has. kept.depths q j has ∙ sym (core_last (λ r. r.max_depth.value) (λ r. refl) (λ r. refl) q j has);
+      descendants = λ q j has. kept.descendants q j has ∙ sym (core_last (λ r. most_in r MaxDescendants) (λ r. refl) (λ r. refl) q j has);
+      depths = λ q j has. kept.depths q j has ∙ sym (core_last (λ r. most_in r MaxDepth) (λ r. refl) (λ r. refl) q j has);
       uses = λ q j has controller.
           rest_last (λ n. uses_of n.uses controller) (λ n. refl) q j has ∙ uses_after_is q j has controller
           ∙ sym (ap (λ m. child_uses m q controller) sets_last ∙ uses-put sets p enabled q controller);
@@ -416,12 +407,8 @@ module _ (places : FinMap path_cmp ℕ) (links : List Link) (nodes : List Node) 
           | false ↦ fitted q j has child
         ])
       where
-        files_stay : (row : Cgroup) (f : LimitFile) → is_some (file_of (enabling_these enabled row) f) ≡ is_some (file_of row f)
-        files_stay row MaxDescendants = refl
-        files_stay row file = refl
-
         fitted_still : (row : Cgroup) → IsFitted had row → IsFitted had (enabling_these enabled row)
-        fitted_still row fitted = record { files = λ file. files_stay row file ∙ fitted.files file; others = fitted.others }
+        fitted_still row fitted = record { files = fitted.files }
 
     refitted : (last : List Node) → Refits links i changed fresh after last → (q : Names) (j : ℕ) → map.get places q ≡ Some j
         → node_at last j ≡ cond (is_child p q) (fitted_node enabled user (node_at after j)) (node_at after j)

@@ -3,6 +3,8 @@ use Rattle.std.proofs.Common.{◌≡◌, ℕ, ◌<◌, ◌-◌, Bool, true, fals
 use Rattle.std.specs.List.{list_any}
 use Rattle.std.specs.FinMap as map
 use Rattle.std.specs.FinMap.{FinMap}
+use Rattle.cg_cgroup.specs.Cgroups.{most_in}
+use Rattle.cg_cgroup.specs.declared.files.LimitFile.TheVariants.{MaxDescendants, MaxDepth}
 use Rattle.cg_cgroup.specs.Paths.{Names, path_cmp, below, is_child}
 use Rattle.cg_cgroup.specs.Files.{enables}
 use Rattle.cg_cgroup.specs.declared.files.Controller.{Controller}
@@ -78,7 +80,7 @@ module _ (places : FinMap path_cmp ℕ) (nodes : List Node) (m : FinMap path_cmp
         { above = 0; below = count_is p at is t; max_descendants = kept.descendants p at is t; max_depth = kept.depths p at is t })
         (len - k))
         ∙ ap (λ o. elim o as (λ _. Bool)
-        [ None ↦ false | Some r ↦ bars_child (count_below (tree_of m) p) r.max_descendants.value (len - k) r.max_depth.value ])
+        [ None ↦ false | Some r ↦ bars_child (count_below (tree_of m) p) (most_in r MaxDescendants) (len - k) (most_in r MaxDepth) ])
         (sym row)
 
 -- the place of a path is that of a node

@@ -5,6 +5,8 @@ use Rattle.std.specs.List.{list_any}
 use Rattle.std.proofs.lemmas.List.{length-set, get_or-set_other}
 use Rattle.std.specs.FinMap as map
 use Rattle.std.specs.FinMap.{FinMap}
+use Rattle.cg_cgroup.specs.Cgroups.{most_in}
+use Rattle.cg_cgroup.specs.declared.files.LimitFile.TheVariants.{MaxDescendants, MaxDepth}
 use Rattle.cg_cgroup.specs.Paths.{Names, path_cmp, same_path, inside, below, is_child, parent, is_root}
 use Rattle.cg_cgroup.specs.Files.{no_controllers, enables}
 use Rattle.cg_cgroup.specs.declared.files.Controller.{Controller}
@@ -161,8 +163,8 @@ module _ (places : FinMap path_cmp ℕ) (links : List Link) (nodes : List Node) 
         length-set nodes i (recounted enabled no_controllers (node_at nodes i)) ∙ kept.paired
         ∙ sym (changed_length (tallied_link Fewer) (λ n. refl) (length p) i links);
     below = λ q j has. ap (λ n. n.below) (link_after q j has) ∙ counts q j (left q j has).1;
-    descendants = limit_left (λ l. l.max_descendants) (λ r. r.max_descendants.value) (λ l. refl) kept.descendants;
-    depths = limit_left (λ l. l.max_depth) (λ r. r.max_depth.value) (λ l. refl) kept.depths;
+    descendants = limit_left (λ l. l.max_descendants) (λ r. most_in r MaxDescendants) (λ l. refl) kept.descendants;
+    depths = limit_left (λ l. l.max_depth) (λ r. most_in r MaxDepth) (λ l. refl) kept.depths;
     uses = uses_left;
     kin =
         λ q j has. kin_reread links after_links j (node_at nodes j) (node_at after_nodes j) (kept_of (λ n. n.kin) refl q j has)

@@ -6,12 +6,13 @@ use Rattle.std.specs.FinSet as set
 use Rattle.cg_cgroup.specs.Paths.{Names, path_cmp, below, is_child}
 use Rattle.cg_cgroup.specs.Identity.{Identity}
 use Rattle.cg_cgroup.specs.Files.{no_controllers, enables, stands_under}
-use Rattle.cg_cgroup.specs.Cgroups.{file_of, other_in}
+use Rattle.cg_cgroup.specs.Cgroups.{file_of, most_in}
 use Rattle.cg_model.specs.States.{State, row_at, enabling}
 use Rattle.cg_model.specs.WellFormed.{enabled_at}
 use Rattle.cg_cgroup.specs.declared.files.Controller.{Controller}
 use Rattle.cg_cgroup.specs.declared.controllers.ControllerSet.{ControllerSet}
 use Rattle.cg_cgroup.specs.declared.files.LimitFile.{LimitFile}
+use Rattle.cg_cgroup.specs.declared.files.LimitFile.TheVariants.{MaxDescendants, MaxDepth}
 use Rattle.cg_cgroup.specs.declared.cgroup.Cgroup.{Cgroup}
 use Rattle.cg_places.specs.Links.{link_at, tallied, ArePlaced}
 use Rattle.cg_places.specs.Nodes.{Node, IsKin, node_at, uses_of}
@@ -39,8 +40,8 @@ pub record AreKept (places : map.FinMap path_cmp ℕ) (links : List Link) (nodes
   pub placed : ArePlaced places links
   pub paired : length nodes ≡ length links
   pub below : (p : Names) (i : ℕ) → map.get places p ≡ Some i → (link_at links i).below ≡ count_by (below p) (map.keys places)
-  pub descendants : (p : Names) (i : ℕ) → map.get places p ≡ Some i → (link_at links i).max_descendants ≡ (node_at nodes i).cgroup.max_descendants.value
-  pub depths : (p : Names) (i : ℕ) → map.get places p ≡ Some i → (link_at links i).max_depth ≡ (node_at nodes i).cgroup.max_depth.value
+  pub descendants : (p : Names) (i : ℕ) → map.get places p ≡ Some i → (link_at links i).max_descendants ≡ most_in (node_at nodes i).cgroup MaxDescendants
+  pub depths : (p : Names) (i : ℕ) → map.get places p ≡ Some i → (link_at links i).max_depth ≡ most_in (node_at nodes i).cgroup MaxDepth
   pub uses : (p : Names) (i : ℕ) → map.get places p ≡ Some i → (controller : Controller) → uses_of (node_at nodes i).uses controller ≡ child_uses (values_of enabled_of places nodes) p controller
   -- what cgroups share is shared by children of one parent
   pub kin : (p : Names) (i : ℕ) → map.get places p ≡ Some i → IsKin links i (node_at nodes i)
@@ -50,8 +51,8 @@ pub record AreKept (places : map.FinMap path_cmp ℕ) (links : List Link) (nodes
 abbrev pub new_held : Cgroup → Held
 new_held row = record { cgroup = row; live = 0 }
 
-abbrev pub with_row_of : Cgroup → Held → Held
-with_row_of row held = record held { cgroup = row }
+abbrev pub changed_held : (Cgroup → Cgroup) → Held → Held
+changed_held f held = record held { cgroup = f held.cgroup }
 
 abbrev pub tallied_held : Tally → Held → Held
 tallied_held tally held = record held { live = tallied tally held.live }
@@ -71,7 +72,6 @@ change_each_held f held = map.from_sorted (map_list (λ e. (e.0, f e.0 e.1)) (ma
 -- the limit files of a cgroup stand as a parent that enables these has them
 pub record IsFitted (above : ControllerSet) (row : Cgroup) : Type 0 where
   pub files : (file : LimitFile) → is_some (file_of row file) ≡ stands_under above file
-  pub others : (controller : Controller) → is_some (other_in row controller) ≡ enables above controller
 
 -- The limit files of a cgroup's children stand as it has them.
 abbrev pub AreFittedBelow : State → Names → Type 0
@@ -80,6 +80,6 @@ AreFittedBelow st path = (q : Names) (row : Cgroup) → is_child path q ≡ true
 abbrev pub cgroups_of : map.FinMap path_cmp Held → map.FinMap path_cmp Cgroup
 cgroups_of held = map_values (λ h. h.cgroup) held
 
--- the state of these cgroups, where there is no process, and nothing is told
+-- the state of these cgroups, where there is no process
 abbrev pub tree_of : map.FinMap path_cmp Held → State
-tree_of held = record { rows = cgroups_of held; told = map.empty; live = map.empty; used = set.empty; controllers = no_controllers }
+tree_of held = record { rows = cgroups_of held; live = map.empty; used = set.empty; controllers = no_controllers }

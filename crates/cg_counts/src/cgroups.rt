@@ -3,17 +3,20 @@ ghost use Rattle.std.specs.Prelude.{◌≡◌, ◌≤◌, true, false, length, t
 ghost use Rattle.std.specs.Option.{option_map};
 ghost use Rattle.std.specs.FinMap as map;
 ghost use Rattle.cg_cgroup.specs.Paths.{parent, is_root};
-ghost use Rattle.cg_cgroup.specs.Files.{enables};
+ghost use Rattle.cg_cgroup.specs.Files.{enables, is_text, is_text_entry, accepts};
+ghost use Rattle.cg_cgroup.specs.Values.{value_now};
+ghost use Rattle.cg_cgroup.specs.Cgroups.{is_plain, with_value_in, with_mode_in};
 ghost use Rattle.cg_model.specs.States.{row_at, count_below, has_child, child_enables, depth_below};
 ghost use Rattle.cg_model.specs.WellFormed.{has_row};
 ghost use Rattle.cg_model.specs.NearestFull.{NoneIsFull, IsNearestFull};
-ghost use Rattle.cg_counts.specs.Kept.{AreFittedBelow, tree_of, new_held, with_row_of, enabling_held, change_held, change_each_held, tallied_held};
+ghost use Rattle.cg_counts.specs.Kept.{AreFittedBelow, tree_of, new_held, changed_held, enabling_held, change_held, change_each_held, tallied_held};
 
 use cg_cgroup::cgroup::Cgroup;
-use cg_cgroup::files::{Controller, ControllerSet};
+use cg_cgroup::files::{Controller, ControllerSet, EntryName, LimitFile};
 use cg_cgroup::memory::NoMemory;
 use cg_cgroup::path::Path;
-use cg_cgroup::user::User;
+use cg_cgroup::user::{Mode, User};
+use cg_cgroup::value::ValueRef;
 use cg_places::links::{Link, Tally, climb, leave, place_for, put_limits, put_link, tally_up};
 use cg_places::nodes::{Nodes, count_live, differing, enable, recount};
 use cg_places::path_index::PathIndex;
@@ -39,12 +42,13 @@ impl Model for Cgroups {
     ghost use Rattle.std.specs.Coded.{codes};
     ghost use Rattle.std.specs.FinMap as map;
     ghost use Rattle.cg_cgroup.specs.Paths.{path_cmp};
+    ghost use Rattle.cg_cgroup.specs.contracts.held.Files as files;
     ghost use Rattle.cg_places.specs.Values.{values_of};
     ghost use Rattle.cg_counts.specs.Kept.{Held, held_of, AreKept};
 
     ghost Value = { map.FinMap path_cmp Held };
 
-    ghost coded = { Prim.hlevel (codes, map.code) };
+    ghost coded = { Prim.hlevel (codes, files.the_row.coded, map.code) };
 
     ghost view = { λ t. values_of held_of t.places t.nodes };
 
@@ -137,14 +141,45 @@ impl Cgroups {
         climb(&self.links, place, len)
     }
 
-    /// Puts a cgroup in the place of one that enables the same.
-    pub fn set(&mut self, path: &Path, cgroup: Cgroup)
-        requires { option_map (λ held. held.cgroup.enabled) (map.get self.old path.now) ≡ Some cgroup.enabled }
-        ensures { self.new ≡ change_held self.old path.now (with_row_of cgroup) }
+    /// Sets the value of a limit file of a cgroup that is there. Only a text can fail for want of memory.
+    #[tactic(auto, using(crate::proofs::Read::is_placed))]
+    pub fn set_value(
+        &mut self,
+        alloc: Global,
+        path: &Path,
+        file: LimitFile,
+        value: ValueRef<'_>,
+    ) -> Result<(), NoMemory>
+        requires there { has_row (tree_of self.old) path.now ≡ true }
+        requires accepted { accepts file (value_now value) ≡ true }
+        ensures ok { OnOk result (self.new ≡ change_held self.old path.now (changed_held (with_value_in file (value_now value.entry)))) }
+        ensures err { OnErr result (self.new ≡ self.old) }
+        ensures memory { OnErr result (is_text file ≡ true) }
     {
         let place = self.places.whole(path);
-        self.nodes.put(place, cgroup);
-        put_limits(&mut self.links, place, &cgroup);
+        self.nodes.set_value(alloc, place, file, value)?;
+        put_limits(&mut self.links, place, self.nodes.cgroup(place));
+        Ok(())
+    }
+
+    /// Sets the mode of an entry of a cgroup that is there. Only a limit file whose value is a text can fail for want of memory.
+    #[tactic(auto, using(crate::proofs::Read::is_placed))]
+    pub fn set_mode(
+        &mut self,
+        alloc: Global,
+        path: &Path,
+        name: EntryName,
+        mode: Mode,
+    ) -> Result<(), NoMemory>
+        requires { has_row (tree_of self.old) path.now ≡ true }
+        ensures ok { OnOk result (self.new ≡ change_held self.old path.now (changed_held (with_mode_in name mode))) }
+        ensures err { OnErr result (self.new ≡ self.old) }
+        ensures memory { OnErr result (is_text_entry name ≡ true) }
+    {
+        let place = self.places.whole(path);
+        self.nodes.set_mode(alloc, place, name, mode)?;
+        put_limits(&mut self.links, place, self.nodes.cgroup(place));
+        Ok(())
     }
 
     /// Counts one more live process at a cgroup, or one fewer.
@@ -189,19 +224,16 @@ impl Cgroups {
         let above = self.places.number(path, path.parent_len());
         // What `size` says bounds the counts.
         let _size = self.places.size();
-        let shares = self.links[above].below >= FEW;
+        let shares = is_shared(self.links[above].below, &cgroup);
+        let link = Link::new(above, &cgroup);
+        let enabled = cgroup.enabled;
         let place = place_for(&self.links, self.vacant.pop());
         self.links.reserve(1)?;
-        self.nodes.put_new(place, above, cgroup, shares)?;
-        put_link(&mut self.links, place, Link::new(above, &cgroup));
+        self.nodes.put_new(alloc, place, above, cgroup, shares)?;
+        put_link(&mut self.links, place, link);
         self.places.insert(alloc, path, place)?;
         tally_up(&mut self.links, above, path.depth(), Tally::More);
-        recount(
-            &mut self.nodes,
-            above,
-            ControllerSet::none(),
-            cgroup.enabled,
-        );
+        recount(&mut self.nodes, above, ControllerSet::none(), enabled);
         Ok(())
     }
 
@@ -250,4 +282,11 @@ impl Cgroups {
             vacant: Vec::from_slice(alloc, &self.vacant)?,
         })
     }
+}
+
+/// Whether a new cgroup is shared with other children of one with so many below it.
+fn is_shared(below: u64, cgroup: &Cgroup) -> bool
+    ensures { result ≡ true → is_plain cgroup.now.files ≡ true }
+{
+    below >= FEW && cgroup.files.is_plain()
 }

@@ -38,9 +38,9 @@ invariant_of-self-in_err-insert c =
     (c.place_for-place.ensures ∙ ap (λ (ls : List Link). place_for ls c.pop.result) c.deref.ensures.value) in
     subst (λ m. AreKept m c.put_link.new.links.items c.put_new.new.self) (sym c.in_err-insert.ensures.err)
     (subst (λ ls. AreKept c.self.inside.places ls c.put_new.new.self)
-    (sym (c.put_link.ensures ∙ ap (λ ls. put_at ls c.place_for-place.result c.new.result) c.in_ok-reserve.ensures.items))
-    (subst (AreKept c.self.inside.places (put_at links c.place_for-place.result c.new.result)) (sym put.put)
-    (kept_more c.self.inside.places links c.self.inside.nodes c.self.invariant c.place_for-place.result free c.new.result
+    (sym (c.put_link.ensures ∙ ap (λ ls. put_at ls c.place_for-place.result c.new-link.result) c.in_ok-reserve.ensures.items))
+    (subst (AreKept c.self.inside.places (put_at links c.place_for-place.result c.new-link.result)) (sym put.put)
+    (kept_more c.self.inside.places links c.self.inside.nodes c.self.invariant c.place_for-place.result free c.new-link.result
     (new_node c.args.cgroup put.kin))))
 
 pub returns-in_err-insert-clause-err : goal.returns-in_err-insert-clause-err
@@ -53,7 +53,7 @@ returns-in_err-insert-clause-err c =
     rw p.1
     ((λ t. values_of held_of (c.in_err-insert.ensures.err t) (put.put t))
     ∙ held_more c.self.inside.places c.self.inside.links.items c.self.inside.nodes c.self.invariant c.place_for-place.result free
-    c.new.result (new_node c.args.cgroup put.kin) ∙ c.self.view_is)
+    c.new-link.result (new_node c.args.cgroup put.kin) ∙ c.self.view_is)
 
 -- the tables after the calls
 put_is : (c : goal.After-recount)
@@ -76,7 +76,7 @@ abbrev pushed_links : (c : goal.After-recount) → List Link
 pushed_links c = put_at c.self.inside.links.items c.place_for-place.result (new_link c.number-above.result c.args.cgroup)
 
 pushed_are : (c : goal.After-recount) → c.put_link.new.links.items ≡ pushed_links c
-pushed_are c = c.put_link.ensures ∙ (λ t. put_at (c.in_ok-reserve.ensures.items t) c.place_for-place.result (c.new.ensures t))
+pushed_are c = c.put_link.ensures ∙ (λ t. put_at (c.in_ok-reserve.ensures.items t) c.place_for-place.result (c.new-link.ensures t))
 
 links_are : (c : goal.After-recount) → (with_items c.put_link.new.links c.tally_up.new.links).items
     ≡ tallied_up More (pushed_links c) c.number-above.result (length c.args.path.now)

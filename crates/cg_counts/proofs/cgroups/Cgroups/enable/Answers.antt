@@ -3,7 +3,8 @@ use Rattle.std.proofs.lemmas.List.{get_or_read}
 use Rattle.std.specs.FinMap as map
 use Rattle.cg_places.specs.Links.{no_link, link_at}
 use Rattle.cg_cgroup.specs.Paths.{Names, is_child}
-use Rattle.cg_cgroup.specs.Cgroups.{cgroup_made_by}
+use Rattle.cg_cgroup.specs.Cgroups.{cgroup_made_by, is_plain}
+use Rattle.cg_cgroup.proofs.PlainLaws.{plain-made}
 use Rattle.cg_cgroup.specs.declared.cgroup.Cgroup.{Cgroup}
 use Rattle.cg_cgroup.specs.declared.controllers.ControllerSet.{ControllerSet}
 use Rattle.cg_places.specs.Nodes.{Node, node_at, differing, enabled_at, Refits}
@@ -24,6 +25,10 @@ enable-requires-clause-parents c =
     omega (arith, l, c.self.invariant.paired, ap (λ (x : Link). x.above) link)
 
 -- ---- with children
+
+pub refit_children-requires-clause-plain : goal.refit_children-requires-clause-plain
+refit_children-requires-clause-plain c =
+    ap (λ (row : Cgroup). is_plain row.files) c.made_by-fresh.ensures ∙ plain-made c.args.user.now c.args.enabled
 
 place_is : (c : goal.After-refit_children) → map.get c.self.inside.places c.args.path.now ≡ Some c.whole-place.result
 place_is c = c.whole-place.ensures

@@ -8,11 +8,9 @@ use Rattle.cg_places.specs.Nodes.{slot_at, nodes_of, AreShared, with_own}
 use Rattle.cg_places.proofs.Seen.{slot_within, settled_seen, own_seen, are_settled, are_own}
 use Rattle.cg_places.proofs.nodes.Nodes.set_value.Goals as goal
 
-pub settle-requires : goal.settle-requires
-settle-requires c = record {
-  there = slot_within c.self.inside.shared.items c.self.inside.slots.items c.args.self.now c.args.at c.requires.there c.self.view_is;
-  shared = c.self.invariant;
-}
+pub settle-requires-clause-there : goal.settle-requires-clause-there
+settle-requires-clause-there c =
+    slot_within c.self.inside.shared.items c.self.inside.slots.items c.args.self.now c.args.at c.requires.there c.self.view_is
 
 pub returns-clause-ok : goal.returns-clause-ok
 returns-clause-ok c =
