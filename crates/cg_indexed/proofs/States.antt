@@ -5,28 +5,27 @@ use Rattle.std.specs.FinMap as map
 use Rattle.std.specs.FinMap.{FinMap}
 use Rattle.cg_cgroup.specs.Paths.{Names, path_cmp, same_path, is_child, is_root, parent}
 use Rattle.cg_cgroup.specs.Identity.{Identity}
-use Rattle.cg_cgroup.specs.Files.{enables, stands_under, no_controllers}
+use Rattle.cg_cgroup.specs.Files.{stands_at, stands_under, no_controllers}
 use Rattle.cg_cgroup.specs.Cgroups.{with_files_of}
 use Rattle.cg_cgroup.specs.declared.controllers.ControllerSet.{ControllerSet}
 use Rattle.cg_cgroup.specs.declared.cgroup.Cgroup.{Cgroup}
-use Rattle.cg_cgroup.specs.declared.told.ToldFiles.{ToldFiles}
 use Rattle.cg_model.specs.States.{State, row_at, change_at, change_each, enabling, enabling_these, with_row}
 use Rattle.cg_model.specs.WellFormed.{IsWellFormed, has_row, enabled_above, enabled_at}
 use Rattle.cg_cgroup.proofs.PathOrder.{path_cmp-IsAntisymmetric, same_path-is}
 use Rattle.cg_cgroup.proofs.PathParents.{parent-is_child, is_root-is_child, parent-other}
-use Rattle.cg_cgroup.proofs.CgroupLaws.{with_files_of-same}
-use Rattle.cg_cgroup.proofs.Options.{some_value, same_some, is_some-mapped}
-use Rattle.cg_model.proofs.MapLaws.{get-changed, change_value-there}
+use Rattle.cg_cgroup.proofs.CgroupLaws.{stands-below, with_files_of-same}
+use Rattle.cg_cgroup.proofs.Options.{same_some}
+use Rattle.cg_model.proofs.MapLaws.{get-changed}
 use Rattle.cg_model.proofs.StateLaws.{row_at-with_row-other, row_at-with_row-same}
 use Rattle.cg_model.proofs.FormedParts.{enabled_at-row}
 use Rattle.cg_rows.specs.Processes.{LiveAndUsed}
-use Rattle.cg_rows.specs.RowsForm.{state_of_tables}
-use Rattle.cg_counts.specs.Kept.{Held, AreFittedBelow, cgroups_of, change_held, change_each_held, with_row_of, enabling_held, new_held}
+use Rattle.cg_rows.specs.RowsForm.{state_of_tables, changed_at}
+use Rattle.cg_counts.specs.Kept.{Held, AreFittedBelow, cgroups_of, change_held, change_each_held, changed_held, enabling_held, new_held}
 use Rattle.cg_indexed.specs.Indexed.{state_of, IsIndexed}
 use Rattle.cg_indexed.proofs.Living.{AreCounted, get-change_held, counted_change}
 use Rattle.cg_cgroup.specs.contracts.controllers.ControllerSetPartialEq.TheImpl as sets
 use Rattle.cg_places.proofs.Alike.{set_same}
-use Rattle.cg_places.proofs.Values.{same_maps, get-mapped, values-insert, option_map-twice}
+use Rattle.cg_places.proofs.Values.{same_maps, get-mapped, values-insert}
 
 -- where the cgroup alone stays
 pub cgroups_same : (held : FinMap path_cmp Held) (p : Names) (f : Held → Held) → ((h : Held) → (f h).cgroup ≡ h.cgroup)
@@ -42,19 +41,18 @@ cgroups_same held p f same = same_maps _ _ (λ q.
     ]
     ∙ sym (get-mapped (λ h. h.cgroup) held q))
 
--- a cgroup put in the place of one is that one changed
-pub cgroups_put : (held : FinMap path_cmp Held) (p : Names) (g : Cgroup → Cgroup) (row new : Cgroup)
-    → Some row ≡ map.get (cgroups_of held) p → new ≡ g row
-    → cgroups_of (change_held held p (with_row_of new)) ≡ elim (map.get (cgroups_of held) p) as (λ _. FinMap path_cmp Cgroup)
-    [ None ↦ cgroups_of held | Some r ↦ map.insert (cgroups_of held) p (g r) ]
-cgroups_put held p g row new is by =
-    let there : is_some (map.get held p) ≡ true =
-    sym (is_some-mapped (λ (h : Held). h.cgroup) (map.get held p))
-    ∙ ap is_some (sym (get-mapped (λ (h : Held). h.cgroup) held p) ∙ sym is) in
-    let h = some_value (map.get held p) there in
-    ap cgroups_of (change_value-there held p (with_row_of new) h.0 h.1)
-    ∙ values-insert (λ (h : Held). h.cgroup) held p (with_row_of new h.0) ∙ ap (map.insert (cgroups_of held) p) by
-    ∙ sym (change_value-there (cgroups_of held) p g row (sym is))
+-- a cgroup changed by itself
+pub cgroups_changed : (held : FinMap path_cmp Held) (p : Names) (g : Cgroup → Cgroup)
+    → cgroups_of (change_held held p (changed_held g)) ≡ changed_at p g (cgroups_of held)
+cgroups_changed held p g =
+    elim (map.get held p) as (λ found. map.get held p ≡ found
+    → cgroups_of (elim found [ None ↦ held | Some h ↦ map.insert held p (changed_held g h) ])
+    ≡ elim (option_map (λ (h : Held). h.cgroup) found) [ None ↦ cgroups_of held | Some row ↦ map.insert (cgroups_of held) p (g row) ]) [
+      | None ↦ λ _. refl
+      | Some h ↦ λ _. values-insert (λ (h : Held). h.cgroup) held p (changed_held g h)
+    ] refl
+    ∙ ap (λ (found : Option Cgroup). elim found [ None ↦ cgroups_of held | Some row ↦ map.insert (cgroups_of held) p (g row) ])
+    (sym (get-mapped (λ (h : Held). h.cgroup) held p))
 
 pub cgroups_each : (held : FinMap path_cmp Held) (p : Names) (enabled : ControllerSet) (user : Identity)
     → cgroups_of (change_each_held (enabling_held p enabled user) held) ≡ change_each (enabling p enabled user) (cgroups_of held)
@@ -66,16 +64,6 @@ cgroups_each held p enabled user = same_maps _ _ (λ q.
     ∙ ap (option_map (enabling p enabled user q)) (sym (get-mapped (λ h. h.cgroup) held q))
     ∙ sym (get-changed path_cmp-IsAntisymmetric (enabling p enabled user) (cgroups_of held) q))
 
--- ---- what a cgroup enables stays where a value or a mode changes
-
--- what the cgroup that is there enables
-pub enabled_there : (held : FinMap path_cmp Held) (p : Names) (row : Cgroup) (new : Cgroup) → Some row ≡ map.get (cgroups_of held) p
-    → new.enabled ≡ row.enabled → option_map (λ (h : Held). h.cgroup.enabled) (map.get held p) ≡ Some new.enabled
-enabled_there held p row new is same =
-    sym (option_map-twice (λ (r : Cgroup). r.enabled) (λ (h : Held). h.cgroup) (map.get held p))
-    ∙ ap (option_map (λ (r : Cgroup). r.enabled)) (sym (get-mapped (λ (h : Held). h.cgroup) held p) ∙ sym is)
-    ∙ ap Some (sym same)
-
 -- ---- what a path enables and its children's files
 
 pub fitted_formed : (st : State) → IsWellFormed st → (p : Names) → AreFittedBelow st p
@@ -85,8 +73,8 @@ fitted_formed st formed p q row child has =
     ∙ ap (enabled_at st) (parent-is_child p q child) in
     let of_row = formed.rows q row has in
     record {
-      files = λ file. of_row.files file ∙ ap (λ set. stands_under set file) above;
-      others = λ controller. of_row.others controller ∙ ap (λ set. enables set controller) above;
+      files = λ file.
+          of_row.files file ∙ (λ t. stands_at (is_root-is_child p q child t) (above t) file) ∙ stands-below (enabled_at st p) file;
     }
 
 -- where what a path enables stays, all rows stay
@@ -116,7 +104,6 @@ nothing_enabled st formed p row enabled user is same =
                     let fitted = fitted_formed st formed p q r child has in
                     let above = enabled_at-row st p row is ∙ same in
                     with_files_of-same enabled user r (λ file. fitted.files file ∙ ap (λ set. stands_under set file) above)
-                    (λ controller. fitted.others controller ∙ ap (λ set. enables set controller) above)
                 | false ↦ λ not_child. refl
               ] refl
         ] refl
@@ -133,29 +120,25 @@ parent_of_new st p row root formed =
     sym (ap is_some (row_at-with_row-other p st row (parent p) (parent-other p root)))
     ∙ formed.parents p (ap is_some (row_at-with_row-same p st row))
 
--- ---- a cgroup in the place of another
+-- ---- a cgroup changed
 
-pub live_of_row : (b : Bool) (row : Cgroup) (h : Held) → (cond b (with_row_of row h) h).live ≡ h.live
-live_of_row true row h = refl
-live_of_row false row h = refl
+live_of_changed : (b : Bool) (g : Cgroup → Cgroup) (h : Held) → (cond b (changed_held g h) h).live ≡ h.live
+live_of_changed true g h = refl
+live_of_changed false g h = refl
 
--- such a cgroup is the one that was there, changed
-module _ (held : FinMap path_cmp Held) (processes : LiveAndUsed) (told : FinMap path_cmp ToldFiles) (controllers : ControllerSet)
-    (st : State) (view : state_of held processes told controllers ≡ st) (p : Names) (g : Cgroup → Cgroup) (row new : Cgroup)
-    (there : Some row ≡ map.get (cgroups_of held) p) (by : new ≡ g row) (now : FinMap path_cmp Held)
-    (put : now ≡ change_held held p (with_row_of new)) where
-  pub put_shows : state_of now processes told controllers ≡ change_at p g st
-  put_shows =
-      ap (λ rows. state_of_tables rows processes told controllers) (ap cgroups_of put ∙ cgroups_put held p g row new there by)
-      ∙ ap (change_at p g) view
+module _ (held : FinMap path_cmp Held) (processes : LiveAndUsed) (controllers : ControllerSet) (st : State)
+    (view : state_of held processes controllers ≡ st) (p : Names) (g : Cgroup → Cgroup) (now : FinMap path_cmp Held)
+    (change : now ≡ change_held held p (changed_held g)) where
+  pub change_shows : state_of now processes controllers ≡ change_at p g st
+  change_shows =
+      ap (λ rows. state_of_tables rows processes controllers) (ap cgroups_of change ∙ cgroups_changed held p g) ∙ ap (change_at p g) view
 
-  pub put_indexed : IsIndexed held processes told controllers → IsWellFormed (change_at p g st)
-      → IsIndexed now processes told controllers
-  put_indexed was formed = record {
-    formed = subst IsWellFormed (sym put_shows) formed;
+  pub change_indexed : IsIndexed held processes controllers → IsWellFormed (change_at p g st) → IsIndexed now processes controllers
+  change_indexed was formed = record {
+    formed = subst IsWellFormed (sym change_shows) formed;
     live =
-        subst (λ m. AreCounted m processes.live) (sym put)
-        (counted_change held p (with_row_of new) processes.live (λ q h is. live_of_row _ new h ∙ was.live q h is));
+        subst (λ m. AreCounted m processes.live) (sym change)
+        (counted_change held p (changed_held g) processes.live (λ q h is. live_of_changed _ g h ∙ was.live q h is));
   }
 
 -- what has a part is there

@@ -4,51 +4,46 @@ ghost use Rattle.std.specs.Coded.{codes};
 ghost use Rattle.std.specs.FinMap as map;
 ghost use Rattle.std.specs.FinSet as set;
 ghost use Rattle.cg_model.specs.States.{State};
+ghost use Rattle.cg_cgroup.specs.contracts.held.Files as files;
 ghost use Rattle.cg_rows.specs.RowsForm.{IsRoot, state_of_root};
 ghost use Rattle.cg_places.specs.Values.{map_values};
 ghost use Rattle.cg_counts.specs.Kept.{new_held};
 ghost use Rattle.cg_indexed.specs.Indexed.{state_of, IsIndexed};
 
 use cg_cgroup::cgroup::Cgroup;
-use cg_cgroup::files::{Controller, ControllerSet, EntryName, Limit, LimitFile};
+use cg_cgroup::files::{Controller, ControllerSet, EntryName, LimitFile};
 use cg_cgroup::memory::NoMemory;
-use cg_cgroup::other_file::OtherFile;
 use cg_cgroup::path::Path;
 use cg_cgroup::process::{Pid, Process};
-use cg_cgroup::told::{ToldFile, ToldFiles};
 use cg_cgroup::user::{Mode, User};
+use cg_cgroup::value::ValueRef;
 use cg_counts::cgroups::Cgroups;
 use cg_model::hierarchy::Hierarchy;
 use cg_places::links::Tally;
 use cg_rows::processes::Processes;
 use cg_rows::rows::Rows;
-use cg_rows::tables::path_table::PathTable;
 use std::alloc::Global;
 use std::marker::Model;
 
 /// A tree of cgroups with its processes, found through their paths' texts, with kept counts.
 ///
 /// A look-up takes time in the logarithm of the tree's size, a change of the tree time in a cgroup's depth, and a change
-/// of what a cgroup enables a walk over the links of all cgroups where it has any below it. Counts are read. What is told of
-/// limit files beyond `LimitFile` is a sorted list: its entries behind a cgroup's own move, a path and a pointer each, where it
-/// is the first to be told of that cgroup, and where that is removed.
+/// of what a cgroup enables a walk over the links of all cgroups where it has any below it. Counts are read.
 #[derive(Drop)]
 pub struct Indexed {
     cgroups: Cgroups,
     processes: Processes,
-    /// What is told of limit files beyond `LimitFile`, by cgroup.
-    told: PathTable<ToldFiles>,
     controllers: ControllerSet,
 }
 
 impl Model for Indexed {
     ghost Value = { State };
 
-    ghost coded = { Prim.hlevel (codes, map.code, set.code) };
+    ghost coded = { Prim.hlevel (codes, files.the_row.coded, map.code, set.code) };
 
-    ghost view = { λ t. state_of t.cgroups t.processes t.told t.controllers };
+    ghost view = { λ t. state_of t.cgroups t.processes t.controllers };
 
-    ghost invariant = { λ t. IsIndexed t.cgroups t.processes t.told t.controllers };
+    ghost invariant = { λ t. IsIndexed t.cgroups t.processes t.controllers };
 }
 
 impl Indexed {
@@ -60,7 +55,6 @@ impl Indexed {
         Ok(Indexed {
             cgroups: Cgroups::new(alloc, root)?,
             processes: Processes::new(alloc),
-            told: PathTable::new(alloc),
             controllers,
         })
     }
@@ -76,11 +70,9 @@ impl Indexed {
             cgroups.count_live(&process.place, Tally::More);
         }
         let controllers = rows.controllers();
-        let (processes, told) = rows.into_parts();
         Ok(Indexed {
             cgroups,
-            processes,
-            told,
+            processes: rows.into_processes(),
             controllers,
         })
     }
@@ -93,11 +85,13 @@ fn cgroups_of(alloc: Global, rows: &Rows) -> Result<Cgroups, NoMemory>
     let Some(root) = rows.get(&Path::root(alloc), 0) else {
         unreachable!()
     };
-    let mut cgroups = Cgroups::new(alloc, *root)?;
+    let root = root.try_clone(alloc)?;
+    let mut cgroups = Cgroups::new(alloc, root)?;
     // A parent comes before its children.
     for (path, cgroup) in rows.entries() {
         if path.depth() > 0 {
-            cgroups.add(alloc, path, *cgroup)?;
+            let cgroup = cgroup.try_clone(alloc)?;
+            cgroups.add(alloc, path, cgroup)?;
         }
     }
     Ok(cgroups)
@@ -108,10 +102,6 @@ impl Hierarchy for Indexed {
 
     fn get(&self, path: &Path, len: usize) -> Option<&Cgroup> {
         self.cgroups.get(path, len)
-    }
-
-    fn told(&self, path: &Path, len: usize) -> Option<&ToldFiles> {
-        self.told.get(path, len)
     }
 
     fn place(&self, pid: Pid) -> Option<&Path> {
@@ -154,29 +144,13 @@ impl Hierarchy for Indexed {
         self.cgroups.nearest_full(path, len)
     }
 
-    fn set_limit(&mut self, path: &Path, file: LimitFile, value: Limit) {
-        let mut cgroup = *self.cgroups.cgroup(path);
-        cgroup.set_value(file, value);
-        self.cgroups.set(path, cgroup);
-    }
-
     fn set_enabled(&mut self, path: &Path, enabled: ControllerSet, user: &User) {
-        self.told.keep(path, enabled);
         if self.cgroups.cgroup(path).enabled != enabled {
             self.cgroups.enable(path, enabled, user);
         }
     }
 
-    fn set_mode(&mut self, path: &Path, name: EntryName, mode: Mode) {
-        let mut cgroup = *self.cgroups.cgroup(path);
-        // What `get` says of a mode's range keeps the tree well-formed.
-        let _bits = mode.get();
-        cgroup.set_mode(name, mode);
-        self.cgroups.set(path, cgroup);
-    }
-
     fn remove(&mut self, path: &Path) {
-        self.told.forget(path);
         self.cgroups.remove(path);
     }
 
@@ -200,7 +174,6 @@ impl Hierarchy for Indexed {
         Ok(Indexed {
             cgroups: self.cgroups.try_clone(alloc)?,
             processes: self.processes.try_clone(alloc)?,
-            told: self.told.try_clone(alloc)?,
             controllers: self.controllers,
         })
     }
@@ -209,14 +182,26 @@ impl Hierarchy for Indexed {
         self.cgroups.add(alloc, path, cgroup)
     }
 
-    fn tell(
+    fn set_value(
         &mut self,
         alloc: Global,
         path: &Path,
-        file: OtherFile,
-        told: ToldFile,
+        file: LimitFile,
+        value: ValueRef<'_>,
     ) -> Result<(), NoMemory> {
-        self.told.tell(alloc, path, file, told)
+        self.cgroups.set_value(alloc, path, file, value)
+    }
+
+    fn set_mode(
+        &mut self,
+        alloc: Global,
+        path: &Path,
+        name: EntryName,
+        mode: Mode,
+    ) -> Result<(), NoMemory> {
+        // What `get` says of a mode's range keeps the tree well-formed.
+        let _bits = mode.get();
+        self.cgroups.set_mode(alloc, path, name, mode)
     }
 
     fn set_place(&mut self, alloc: Global, pid: Pid, path: &Path) -> Result<(), NoMemory> {

@@ -27,9 +27,8 @@ pub returns : goal.returns
 returns c =
     λ t. record {
       rows = c.loop-pid.invariant.cgroups t;
-      told = c.into_parts-processes.ensures.told t;
-      live = c.into_parts-processes.ensures.live t;
-      used = c.into_parts-processes.ensures.used t;
+      live = c.into_processes.ensures.live t;
+      used = c.into_processes.ensures.used t;
       controllers = c.controllers-controllers.ensures.controllers t;
     }
 
@@ -37,6 +36,6 @@ pub invariant_of-result : goal.invariant_of-result
 invariant_of-result c = record {
   formed = subst IsWellFormed (sym (returns c)) c.controllers-controllers.ensures.formed;
   live =
-      subst (AreCounted c.loop-pid.cgroups) (sym c.into_parts-processes.ensures.live)
+      subst (AreCounted c.loop-pid.cgroups) (sym c.into_processes.ensures.live)
       (raised_all c.args.rows c.loop-pid.cgroups c.loop-pid._pid-iterator c.loop-pid.invariant c.in-None.ensures.steps.0);
 }

@@ -28,31 +28,31 @@ add-requires-clause-parent c =
     c.requires.keeps
 
 next : (c : goal.After-add) → state_of (map.insert c.self.inside.cgroups c.args.path.now (new_held c.args.cgroup)) c.self.inside.processes
-    c.self.inside.told c.self.inside.controllers ≡ with_row c.args.self.now c.args.path.now c.args.cgroup
+    c.self.inside.controllers ≡ with_row c.args.self.now c.args.path.now c.args.cgroup
 next c =
-    ap (λ rows. state_of_tables rows c.self.inside.processes c.self.inside.told c.self.inside.controllers)
+    ap (λ rows. state_of_tables rows c.self.inside.processes c.self.inside.controllers)
     (values-insert (λ (h : Held). h.cgroup) c.self.inside.cgroups c.args.path.now (new_held c.args.cgroup))
     ∙ ap (λ s. with_row s c.args.path.now c.args.cgroup) c.self.view_is
 
 pub returns-clause-ok : goal.returns-clause-ok
 returns-clause-ok c =
     on_ok_weaker c.add.result
-    (λ ok. ap (λ held. state_of held c.self.inside.processes c.self.inside.told c.self.inside.controllers) ok ∙ next c) c.add.ensures.ok
+    (λ ok. ap (λ held. state_of held c.self.inside.processes c.self.inside.controllers) ok ∙ next c) c.add.ensures.ok
 
 pub invariant_of-self : goal.invariant_of-self
 invariant_of-self c =
     elim c.add.result as (λ r. OnOk r (c.add.new.self ≡ map.insert c.self.inside.cgroups c.args.path.now (new_held c.args.cgroup))
     → OnErr r (c.add.new.self ≡ c.self.inside.cgroups)
-    → IsIndexed c.add.new.self c.self.inside.processes c.self.inside.told c.self.inside.controllers) [
+    → IsIndexed c.add.new.self c.self.inside.processes c.self.inside.controllers) [
       | Ok x ↦ λ ok err.
-          let st : State = state_of c.self.inside.cgroups c.self.inside.processes c.self.inside.told c.self.inside.controllers in
+          let st : State = state_of c.self.inside.cgroups c.self.inside.processes c.self.inside.controllers in
           let absent = ap (λ (s : State). has_row s c.args.path.now) c.self.view_is ∙ c.requires.absent in
-          subst (λ held. IsIndexed held c.self.inside.processes c.self.inside.told c.self.inside.controllers) (sym ok) (record {
+          subst (λ held. IsIndexed held c.self.inside.processes c.self.inside.controllers) (sym ok) (record {
             formed = subst IsWellFormed (sym (next c)) c.requires.keeps;
             live =
                 counted_more_path c.self.inside.cgroups c.args.path.now (new_held c.args.cgroup) c.self.inside.processes.live
                 c.self.invariant.live (sym (none_live st c.self.invariant.formed c.args.path.now absent));
           })
       | Err f ↦ λ ok err.
-          subst (λ held. IsIndexed held c.self.inside.processes c.self.inside.told c.self.inside.controllers) (sym err) c.self.invariant
+          subst (λ held. IsIndexed held c.self.inside.processes c.self.inside.controllers) (sym err) c.self.invariant
     ] c.add.ensures.ok c.add.ensures.err

@@ -18,7 +18,7 @@ insert-requires c = ap (λ s. is_used s c.args.pid) c.self.view_is ∙ c.require
 
 pub count_live-requires : goal.count_live-requires
 count_live-requires c =
-    held_there (state_of c.self.inside.cgroups c.self.inside.processes c.self.inside.told c.self.inside.controllers) c.args.path.now
+    held_there (state_of c.self.inside.cgroups c.self.inside.processes c.self.inside.controllers) c.args.path.now
     (ap (λ (s : State). may_hold s c.args.path.now) c.self.view_is ∙ c.requires.may_hold)
 
 -- the processes after the insertion
@@ -29,28 +29,28 @@ processes_are c =
     ∙ ap (λ (q : Names). with_new c.self.inside.processes c.args.pid (record { uid = c.args.uid; place = q })) c.in_ok-place.ensures
 
 next : (c : goal.After-count_live) → state_of (change_held c.self.inside.cgroups c.args.path.now (tallied_held More))
-    (with_new c.self.inside.processes c.args.pid (record { uid = c.args.uid; place = c.args.path.now })) c.self.inside.told
+    (with_new c.self.inside.processes c.args.pid (record { uid = c.args.uid; place = c.args.path.now }))
     c.self.inside.controllers
     ≡ with_process c.args.self.now c.args.pid c.args.uid c.args.path.now
 next c =
     ap (λ rows. state_of_tables rows (with_new c.self.inside.processes c.args.pid (record { uid = c.args.uid; place = c.args.path.now }))
-    c.self.inside.told c.self.inside.controllers) (cgroups_same c.self.inside.cgroups c.args.path.now (tallied_held More) (λ h. refl))
+    c.self.inside.controllers) (cgroups_same c.self.inside.cgroups c.args.path.now (tallied_held More) (λ h. refl))
     ∙ ap (λ s. with_process s c.args.pid c.args.uid c.args.path.now) c.self.view_is
 
 pub returns-clause-ok : goal.returns-clause-ok
-returns-clause-ok c = (λ t. state_of (c.count_live.ensures t) (processes_are c t) c.self.inside.told c.self.inside.controllers) ∙ next c
+returns-clause-ok c = (λ t. state_of (c.count_live.ensures t) (processes_are c t) c.self.inside.controllers) ∙ next c
 
 none_live_yet : (c : goal.After-count_live) → map.get c.self.inside.processes.live c.args.pid ≡ None
 none_live_yet c =
-    unused_not_live (state_of c.self.inside.cgroups c.self.inside.processes c.self.inside.told c.self.inside.controllers)
+    unused_not_live (state_of c.self.inside.cgroups c.self.inside.processes c.self.inside.controllers)
     c.self.invariant.formed c.args.pid
     (ap (λ s. is_used s c.args.pid) c.self.view_is ∙ c.requires.unused)
 
 pub invariant_of-self-2 : goal.invariant_of-self-2
 invariant_of-self-2 c =
-    subst (λ held. IsIndexed held c.insert.new.self c.self.inside.told c.self.inside.controllers) (sym c.count_live.ensures)
+    subst (λ held. IsIndexed held c.insert.new.self c.self.inside.controllers) (sym c.count_live.ensures)
     (subst (λ (processes : LiveAndUsed).
-    IsIndexed (change_held c.self.inside.cgroups c.args.path.now (tallied_held More)) processes c.self.inside.told
+    IsIndexed (change_held c.self.inside.cgroups c.args.path.now (tallied_held More)) processes
     c.self.inside.controllers)
     (sym (processes_are c)) (record {
       formed =

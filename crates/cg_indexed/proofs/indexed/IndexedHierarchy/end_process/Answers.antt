@@ -18,22 +18,22 @@ unreachable-requires c =
 
 pub count_live-requires : goal.count_live-requires
 count_live-requires c =
-    home_there (state_of c.self.inside.cgroups c.self.inside.processes c.self.inside.told c.self.inside.controllers)
+    home_there (state_of c.self.inside.cgroups c.self.inside.processes c.self.inside.controllers)
     c.self.invariant.formed c.args.pid c.in-Some.process.now (sym c.in-Some.ensures)
 
 next : (c : goal.After-end) → state_of (change_held c.self.inside.cgroups c.in-Some.process.now.place (tallied_held Fewer))
-    (without c.self.inside.processes c.args.pid) c.self.inside.told c.self.inside.controllers ≡ without_process c.args.self.now c.args.pid
+    (without c.self.inside.processes c.args.pid) c.self.inside.controllers ≡ without_process c.args.self.now c.args.pid
 next c =
-    ap (λ rows. state_of_tables rows (without c.self.inside.processes c.args.pid) c.self.inside.told c.self.inside.controllers)
+    ap (λ rows. state_of_tables rows (without c.self.inside.processes c.args.pid) c.self.inside.controllers)
     (cgroups_same c.self.inside.cgroups c.in-Some.process.now.place (tallied_held Fewer) (λ h. refl))
     ∙ ap (λ s. without_process s c.args.pid) c.self.view_is
 
 pub invariant_of-self : goal.invariant_of-self
 invariant_of-self c =
-    subst (λ held. IsIndexed held c.end.new.self c.self.inside.told c.self.inside.controllers) (sym c.count_live.ensures)
+    subst (λ held. IsIndexed held c.end.new.self c.self.inside.controllers) (sym c.count_live.ensures)
     (subst (λ processes.
     IsIndexed (change_held c.self.inside.cgroups c.in-Some.process.now.place (tallied_held Fewer)) processes
-    c.self.inside.told c.self.inside.controllers)
+    c.self.inside.controllers)
     (sym c.end.ensures) (record {
       formed =
           subst IsWellFormed (sym (next c))
@@ -44,4 +44,4 @@ invariant_of-self c =
     }))
 
 pub returns : goal.returns
-returns c = (λ t. state_of (c.count_live.ensures t) (c.end.ensures t) c.self.inside.told c.self.inside.controllers) ∙ next c
+returns c = (λ t. state_of (c.count_live.ensures t) (c.end.ensures t) c.self.inside.controllers) ∙ next c

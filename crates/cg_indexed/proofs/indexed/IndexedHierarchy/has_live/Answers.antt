@@ -15,5 +15,5 @@ returns c =
     let q = take c.args.len c.args.path.now in
     let found = mapped_from (λ held. held.live) (map.get c.self.inside.cgroups q) c.live.result c.live.ensures in
     ap (nat_lt 0) (sym found.2 ∙ c.self.invariant.live q found.0 found.1)
-    ∙ sym (has_live-counted (state_of c.self.inside.cgroups c.self.inside.processes c.self.inside.told c.self.inside.controllers) q)
+    ∙ sym (has_live-counted (state_of c.self.inside.cgroups c.self.inside.processes c.self.inside.controllers) q)
     ∙ ap (λ (s : State). has_live s q) c.self.view_is

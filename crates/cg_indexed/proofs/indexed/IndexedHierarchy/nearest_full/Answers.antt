@@ -17,5 +17,5 @@ returns c =
     MatchOption c.nearest_full.result (NoneIsFull s c.args.path.now c.args.len) (IsNearestFull s c.args.path.now c.args.len))
     c.self.view_is
     (same_limits (tree_of c.self.inside.cgroups)
-    (state_of c.self.inside.cgroups c.self.inside.processes c.self.inside.told c.self.inside.controllers)
+    (state_of c.self.inside.cgroups c.self.inside.processes c.self.inside.controllers)
     c.args.path.now c.args.len (λ k. refl) c.nearest_full.result c.nearest_full.ensures)

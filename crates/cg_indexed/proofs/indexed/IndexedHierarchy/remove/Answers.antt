@@ -16,15 +16,15 @@ pub remove-requires-clause-no_child : goal.remove-requires-clause-no_child
 remove-requires-clause-no_child c = ap (λ (s : State). has_child s c.args.path.now) c.self.view_is ∙ c.requires.no_child
 
 next : (c : goal.After-remove) → state_of (map.remove c.self.inside.cgroups c.args.path.now) c.self.inside.processes
-    c.forget.new.self c.self.inside.controllers ≡ without_row c.args.self.now c.args.path.now
+    c.self.inside.controllers ≡ without_row c.args.self.now c.args.path.now
 next c =
-    (λ t. state_of_tables (values-remove (λ h. h.cgroup) c.self.inside.cgroups c.args.path.now t) c.self.inside.processes
-    (c.forget.ensures t) c.self.inside.controllers)
+    ap (λ rows. state_of_tables rows c.self.inside.processes c.self.inside.controllers)
+    (values-remove (λ h. h.cgroup) c.self.inside.cgroups c.args.path.now)
     ∙ ap (λ s. without_row s c.args.path.now) c.self.view_is
 
 pub invariant_of-self : goal.invariant_of-self
 invariant_of-self c =
-    subst (λ held. IsIndexed held c.self.inside.processes c.forget.new.self c.self.inside.controllers) (sym c.remove.ensures)
+    subst (λ held. IsIndexed held c.self.inside.processes c.self.inside.controllers) (sym c.remove.ensures)
     (record {
       formed =
           subst IsWellFormed (sym (next c)) (formed-without_row c.args.self.now c.args.path.now c.requires.not_root c.requires.no_child
@@ -33,4 +33,4 @@ invariant_of-self c =
     })
 
 pub returns : goal.returns
-returns c = ap (λ held. state_of held c.self.inside.processes c.forget.new.self c.self.inside.controllers) c.remove.ensures ∙ next c
+returns c = ap (λ held. state_of held c.self.inside.processes c.self.inside.controllers) c.remove.ensures ∙ next c

@@ -14,7 +14,7 @@ cgroup-requires c = ap (λ (s : State). has_row s c.args.path.now) c.self.view_i
 
 pub enable-requires-clause-fitted : goal.enable-requires-clause-fitted
 enable-requires-clause-fitted c =
-    fitted_formed (state_of c.self.inside.cgroups c.self.inside.processes c.self.inside.told c.self.inside.controllers)
+    fitted_formed (state_of c.self.inside.cgroups c.self.inside.processes c.self.inside.controllers)
     c.self.invariant.formed c.args.path.now
 
 pub enable-requires-clause-there : goal.enable-requires-clause-there
@@ -22,15 +22,15 @@ enable-requires-clause-there c = ap (λ (s : State). has_row s c.args.path.now) 
 
 next : (c : goal.After-enable) → state_of
     (change_each_held (enabling_held c.args.path.now c.args.enabled c.args.user.now) c.self.inside.cgroups) c.self.inside.processes
-    c.keep.new.self c.self.inside.controllers ≡ with_enabled c.args.self.now c.args.path.now c.args.enabled c.args.user.now
+    c.self.inside.controllers ≡ with_enabled c.args.self.now c.args.path.now c.args.enabled c.args.user.now
 next c =
-    (λ t. state_of_tables (cgroups_each c.self.inside.cgroups c.args.path.now c.args.enabled c.args.user.now t) c.self.inside.processes
-    (c.keep.ensures t) c.self.inside.controllers)
+    ap (λ rows. state_of_tables rows c.self.inside.processes c.self.inside.controllers)
+    (cgroups_each c.self.inside.cgroups c.args.path.now c.args.enabled c.args.user.now)
     ∙ ap (λ s. with_enabled s c.args.path.now c.args.enabled c.args.user.now) c.self.view_is
 
 pub invariant_of-self : goal.invariant_of-self
 invariant_of-self c =
-    subst (λ held. IsIndexed held c.self.inside.processes c.keep.new.self c.self.inside.controllers) (sym c.enable.ensures) (record {
+    subst (λ held. IsIndexed held c.self.inside.processes c.self.inside.controllers) (sym c.enable.ensures) (record {
       formed =
           subst IsWellFormed (sym (next c)) (formed-with_enabled c.args.self.now c.args.path.now c.args.enabled c.args.user.now
           c.requires.there c.requires.keeps (subst IsWellFormed c.self.view_is c.self.invariant.formed));
@@ -41,17 +41,17 @@ invariant_of-self c =
 
 pub returns-then-ne : goal.returns-then-ne
 returns-then-ne c =
-    ap (λ held. state_of held c.self.inside.processes c.keep.new.self c.self.inside.controllers) c.enable.ensures ∙ next c
+    ap (λ held. state_of held c.self.inside.processes c.self.inside.controllers) c.enable.ensures ∙ next c
 
 pub returns-else-ne : goal.returns-else-ne
 returns-else-ne c =
     let same : c.cgroup.result.now.enabled ≡ c.args.enabled =
     same_sets c.cgroup.result.now.enabled c.args.enabled (sym c.ne.ensures ∙ c.if-ne.false) in
     let before : State =
-    state_of c.self.inside.cgroups c.self.inside.processes c.self.inside.told c.self.inside.controllers in
+    state_of c.self.inside.cgroups c.self.inside.processes c.self.inside.controllers in
     let stay = nothing_enabled before c.self.invariant.formed c.args.path.now c.cgroup.result.now c.args.enabled c.args.user.now
     (sym c.cgroup.ensures) same in
-    (λ t. state_of_tables (sym stay t) c.self.inside.processes (c.keep.ensures t) c.self.inside.controllers)
+    ap (λ rows. state_of_tables rows c.self.inside.processes c.self.inside.controllers) (sym stay)
     ∙ ap (λ s. with_enabled s c.args.path.now c.args.enabled c.args.user.now) c.self.view_is
 
 pub invariant_of-self-else-ne : goal.invariant_of-self-else-ne

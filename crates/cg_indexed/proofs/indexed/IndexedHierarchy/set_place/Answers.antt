@@ -20,14 +20,14 @@ unreachable-requires c =
 
 pub count_live-requires : goal.count_live-requires
 count_live-requires c =
-    home_there (state_of c.self.inside.cgroups c.self.inside.processes c.self.inside.told c.self.inside.controllers)
+    home_there (state_of c.self.inside.cgroups c.self.inside.processes c.self.inside.controllers)
     c.self.invariant.formed c.args.pid c.in-Some.process.now (sym c.in-Some.ensures)
 
 pub count_live-requires-2 : goal.count_live-requires-2
 count_live-requires-2 c =
     ap (λ m. is_some (map.get m c.args.path.now))
     (ap cgroups_of c.count_live.ensures ∙ cgroups_same c.self.inside.cgroups c.in-Some.process.now.place (tallied_held Fewer) (λ h. refl))
-    ∙ held_there (state_of c.self.inside.cgroups c.self.inside.processes c.self.inside.told c.self.inside.controllers) c.args.path.now
+    ∙ held_there (state_of c.self.inside.cgroups c.self.inside.processes c.self.inside.controllers) c.args.path.now
     (ap (λ (s : State). may_hold s c.args.path.now) c.self.view_is ∙ c.requires.may_hold)
 
 -- the cgroups, and the processes, after the changes
@@ -40,17 +40,17 @@ processes_are c = c.set_place.ensures ∙ ap (with_place_of c.self.inside.proces
 
 next : (c : goal.After-set_place) → state_of
     (change_held (change_held c.self.inside.cgroups c.in-Some.process.now.place (tallied_held Fewer)) c.args.path.now (tallied_held More))
-    (with_place_of c.self.inside.processes c.args.pid c.args.path.now) c.self.inside.told c.self.inside.controllers
+    (with_place_of c.self.inside.processes c.args.pid c.args.path.now) c.self.inside.controllers
     ≡ with_place c.args.self.now c.args.pid c.args.path.now
 next c =
-    ap (λ rows. state_of_tables rows (with_place_of c.self.inside.processes c.args.pid c.args.path.now) c.self.inside.told
+    ap (λ rows. state_of_tables rows (with_place_of c.self.inside.processes c.args.pid c.args.path.now)
     c.self.inside.controllers)
     (cgroups_same (change_held c.self.inside.cgroups c.in-Some.process.now.place (tallied_held Fewer)) c.args.path.now (tallied_held More)
     (λ h. refl) ∙ cgroups_same c.self.inside.cgroups c.in-Some.process.now.place (tallied_held Fewer) (λ h. refl))
     ∙ ap (λ s. with_place s c.args.pid c.args.path.now) c.self.view_is
 
 pub returns-clause-ok : goal.returns-clause-ok
-returns-clause-ok c = (λ t. state_of (held_are c t) (processes_are c t) c.self.inside.told c.self.inside.controllers) ∙ next c
+returns-clause-ok c = (λ t. state_of (held_are c t) (processes_are c t) c.self.inside.controllers) ∙ next c
 
 counted : (c : goal.After-set_place) → AreCounted
     (change_held (change_held c.self.inside.cgroups c.in-Some.process.now.place (tallied_held Fewer)) c.args.path.now (tallied_held More))
@@ -70,10 +70,10 @@ counted c =
 
 pub invariant_of-self : goal.invariant_of-self
 invariant_of-self c =
-    subst (λ held. IsIndexed held c.set_place.new.self c.self.inside.told c.self.inside.controllers) (sym (held_are c))
+    subst (λ held. IsIndexed held c.set_place.new.self c.self.inside.controllers) (sym (held_are c))
     (subst (λ (processes : LiveAndUsed). IsIndexed
     (change_held (change_held c.self.inside.cgroups c.in-Some.process.now.place (tallied_held Fewer)) c.args.path.now (tallied_held More))
-    processes c.self.inside.told c.self.inside.controllers) (sym (processes_are c)) (record {
+    processes c.self.inside.controllers) (sym (processes_are c)) (record {
       formed =
           subst IsWellFormed (sym (next c)) (formed-with_place c.args.self.now c.args.pid c.args.path.now c.requires.may_hold
           (subst IsWellFormed c.self.view_is c.self.invariant.formed));
