@@ -3,7 +3,7 @@ use Rattle.std.proofs.Common.{◌≡◌, ℕ, ◌≤◌, Bool, true, false, cond
 use Rattle.std.specs.Prelude.{Option, Some, None, nat_lt, filter}
 use Rattle.std.specs.Option.{option_or}
 use Rattle.std.specs.List.{find, position, position_or_len}
-use Rattle.std.proofs.lemmas.Bool.Decides.{nat_tests}
+use Rattle.std.proofs.lemmas.Bool.{ltb-false}
 use Rattle.std.proofs.lemmas.Option.{slice_get_past, same_Some}
 use Rattle.std.proofs.lemmas.List.Folds.{find_at, find-set, find_past, find-append}
 use Rattle.std.proofs.lemmas.List.Quantifiers.{position-Some}
@@ -13,7 +13,7 @@ use Rattle.cg_cgroup.specs.declared.files.LimitFile.{LimitFile}
 use Rattle.cg_cgroup.specs.declared.held.texts.TextFile.{TextFile}
 use Rattle.cg_cgroup.proofs.CgroupLaws.{same_file-true}
 
-abbrev is_of : LimitFile → TextFile → Bool
+abbrev pub is_of : LimitFile → TextFile → Bool
 is_of file text = same_file text.file file
 
 found_nowhere : {A : Type 0} (test : A → Bool) (xs : List A) → position test xs ≡ None → find test xs ≡ None
@@ -22,7 +22,8 @@ found_nowhere test xs none =
     (λ b. nat_lt (position_or_len test xs) (length xs) ≡ b → cond b (Some (position_or_len test xs)) None ≡ None → find test xs ≡ None) [
       | true ↦ λ _ there. cc
       | false ↦ λ past _.
-          let behind : length xs ≤ position_or_len test xs = grind (arith, nat_tests, past) in
+          let behind : length xs ≤ position_or_len test xs =
+          (let late = ltb-false (position_or_len test xs) (length xs) past in omega (arith, late)) in
           find_at test xs ∙ slice_get_past xs (position_or_len test xs) behind
     ] refl none
 
