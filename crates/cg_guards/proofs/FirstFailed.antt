@@ -11,6 +11,8 @@ use Rattle.cg_cgroup.specs.declared.user.Entry.{Entry}
 use Rattle.cg_model.specs.States.{State, row_at, count_below}
 use Rattle.cg_model.specs.Clauses.{first, present, unless}
 use Rattle.cg_model.specs.Guards.{Guarded, guarded_entries, guarded_entry, entry_failures, over_failures, failures, found, standing}
+use Rattle.cg_cgroup.specs.Cgroups.{most_in}
+use Rattle.cg_cgroup.specs.declared.files.LimitFile.TheVariants.{MaxDescendants}
 use Rattle.cg_model.specs.Limits.{is_within_limit, fits_descendants, fits_depth}
 use Rattle.cg_model.specs.declared.guard.Failed.{Failed}
 use Rattle.cg_model.specs.declared.guard.Guard.TheVariants.{AlreadyOver}
@@ -89,8 +91,8 @@ over_fails st user subtree len level none over =
 
 pub descendants_row : (st : State) (path : Names) (row : Cgroup) (len count : ℕ) → row_at st path ≡ Some row → len ≡ length path
     → count ≡ count_below st (take len path)
-    → is_within_limit count row.max_descendants.value ≡ fits_descendants st path
+    → is_within_limit count (most_in row MaxDescendants) ≡ fits_descendants st path
 descendants_row st path row len count is level counted =
     let whole : take len path ≡ path = take_all len path (omega arith) in
-    ap (λ n. is_within_limit n row.max_descendants.value) (counted ∙ ap (count_below st) whole)
-    ∙ ap (λ found. elim found [ None ↦ true | Some row ↦ is_within_limit (count_below st path) row.max_descendants.value ]) (sym is)
+    ap (λ n. is_within_limit n (most_in row MaxDescendants)) (counted ∙ ap (count_below st) whole)
+    ∙ ap (λ found. elim found [ None ↦ true | Some row ↦ is_within_limit (count_below st path) (most_in row MaxDescendants) ]) (sym is)

@@ -11,7 +11,7 @@ use Rattle.cg_model.specs.States.{State}
 use Rattle.cg_model.specs.Clauses.{first, unless}
 use Rattle.cg_model.specs.Guards.{guarded_entries, entry_failures, is_guarded, standing}
 use Rattle.cg_model.specs.Limits.{fits_descendants, fits_depth}
-use Rattle.cg_guards.specs.Asked.{asked_entries, passes_others}
+use Rattle.cg_guards.specs.Asked.{asked_entries, passes_texts}
 use Rattle.cg_guards.specs.GuardedUsers.{is_spared, is_asked, AreSpared, is_kept_off, kept_off}
 use Rattle.cg_model.specs.declared.guard.Failed.{Failed}
 use Rattle.cg_model.specs.declared.guard.Guard.TheVariants.{AlreadyOver}
@@ -125,8 +125,8 @@ module _ (st : State) (subtree : Names) (passes : Bool) where
       ∙ while_all (is_kept_off st subtree []) users (λ user. refl))
 
 -- those kept off the asked entries are those kept off all
-pub kept_asked : (st : State) (subtree : Names) (passes : Bool) → is_root subtree ≡ false → passes ≡ passes_others st subtree
-    → (users : List Identity)
+pub kept_asked : (st : State) (subtree : Names) (passes : Bool) → is_root subtree ≡ false
+    → (passes ≡ true → passes_texts st subtree ≡ true) → (users : List Identity)
     → kept_off st subtree (asked_entries passes subtree) users ≡ kept_off st subtree (guarded_entries subtree) users
 kept_asked st subtree passes filled is users =
     ap (λ p. take_while p users) (λ i user. is_none (first_asked st user subtree passes filled is i))

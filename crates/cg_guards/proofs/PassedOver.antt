@@ -1,28 +1,28 @@
--- Why limit files beyond `LimitFile` may be passed over.
-use Rattle.std.proofs.Common.{◌≡◌, ℕ, zero, suc, ◌-◌, Bool, true, false, ◌&&◌, ◌||◌, not, List, [], ◌∷◌, ◌++◌, map, length, take, take_all, get_or, Option, Some, None, is_none, option_map, option_and_then, refl, sym, ap, ◌∙◌, arith}
-use Rattle.std.specs.Prelude.{slice_get}
+-- Why limit files whose values are texts may be passed over.
+use Rattle.std.proofs.Common.{◌≡◌, ℕ, zero, suc, ◌-◌, Bool, true, false, ◌||◌, not, cond, List, [], ◌∷◌, ◌++◌, map, length, take, take_all, get_or, Option, Some, None, option_and_then, refl, sym, ap, ◌∙◌, arith}
+use Rattle.std.specs.Prelude.{slice_get, filter}
 use Rattle.std.specs.List.{flat_map, list_all}
-use Rattle.std.specs.FinMap as finite
+use Rattle.std.specs.Option.{option_map, option_map_or}
 use Rattle.std.proofs.lemmas.Bool.{false≢true, and_parts}
 use Rattle.std.proofs.lemmas.Grind.{flat_map-append}
 use Rattle.cg_cgroup.specs.Paths.{Names, is_root}
 use Rattle.cg_cgroup.specs.Identity.{Identity}
 use Rattle.cg_cgroup.specs.Users.{reaches}
-use Rattle.cg_cgroup.specs.Files.{all_files, all_others, brought_by}
-use Rattle.cg_cgroup.specs.Cgroups.{other_in, untold_in}
-use Rattle.cg_cgroup.specs.Told.{told_in, file_untold}
+use Rattle.cg_cgroup.specs.Files.{all_files, format_2_files, is_text, controller_of}
+use Rattle.cg_cgroup.specs.Cgroups.{Held, entry_in, is_plain}
+use Rattle.cg_cgroup.specs.Kept.{AreOwners, owner_in, brought_owner}
 use Rattle.cg_cgroup.specs.declared.user.Entry.{Entry}
 use Rattle.cg_cgroup.specs.declared.cgroup.Cgroup.{Cgroup}
-use Rattle.cg_cgroup.specs.declared.other_file.OtherFile.{OtherFile}
-use Rattle.cg_cgroup.specs.declared.files.EntryName.TheVariants.{File, Other}
+use Rattle.cg_cgroup.specs.declared.files.LimitFile.{LimitFile}
+use Rattle.cg_cgroup.specs.declared.files.EntryName.TheVariants.{File}
 use Rattle.cg_cgroup.specs.declared.files.LimitFile.TheVariants.{MaxDescendants}
-use Rattle.cg_model.specs.States.{State, row_at, untold_at, entry_at}
+use Rattle.cg_cgroup.proofs.AllFiles.{each_passes, all_pass}
+use Rattle.cg_model.specs.States.{State, row_at, entry_at}
 use Rattle.cg_model.specs.Clauses.{first, present, unless}
 use Rattle.cg_model.specs.Guards.{Guarded, ancestor, ancestors, limit_file, guarded_entries, entry_failures}
 use Rattle.cg_model.specs.declared.guard.Failed.{Failed}
-use Rattle.cg_model.proofs.StateTold.{or_untold}
 use Rattle.cg_guards.specs.GuardedUsers.{is_alike}
-use Rattle.cg_guards.specs.Asked.{asked_before, asked_others, asked_behind, asked_entries, is_covered, are_covered, passes_others}
+use Rattle.cg_guards.specs.Asked.{asked_before, asked_texts, asked_behind, asked_entries, is_covered, are_covered, passes_texts}
 use Rattle.cg_guards.proofs.TableWalk.{get_front, get_back, length-ancestors, get-ancestors}
 use Rattle.cg_guards.proofs.AskedTable.{guarded_is}
 use Rattle.cg_guards.proofs.AlikeEntries.{alike-reached}
@@ -81,73 +81,103 @@ get_covered one other (entry ∷ entries) zero h = (and_parts (is_covered one ot
 get_covered one other (entry ∷ entries) (suc n) h =
     get_covered one other entries n (and_parts (is_covered one other entry) (list_all (is_covered one other) entries) h).1
 
-untold_covered : (above : Entry) (row : Cgroup) → are_covered above row ≡ true → (file : OtherFile)
-    → is_covered above row.max_descendants.entry (untold_in row file) ≡ true
-untold_covered above row h file =
-    let parts = and_parts (is_covered above row.max_descendants.entry row.freeze)
-    (list_all (is_covered above row.max_descendants.entry) row.others.entries) h in
-    elim (brought_by file) as (λ by.
-    is_covered above row.max_descendants.entry (elim by [ None ↦ row.freeze | Some controller ↦ other_in row controller ]) ≡ true) [
-      | None ↦ parts.0
-      | Some controller ↦ get_covered above row.max_descendants.entry row.others.entries _ parts.1
-    ]
+-- ---- files of which nobody speaks, by their owners
+
+not_true : (b : Bool) → not b ≡ true → b ≡ false
+not_true true h = sym h
+not_true false h = refl
+
+module _ (above own : Entry) (row : Cgroup) (core : Option Entry) (owners : List (Option Entry)) (plain : is_plain row.files ≡ true)
+    (are : AreOwners row.files core owners) (by_core : is_covered above own core ≡ true)
+    (by_owners : list_all (is_covered above own) owners ≡ true) where
+  owner_covered : (file : LimitFile) → is_covered above own (owner_in core owners file) ≡ true
+  owner_covered file =
+      elim (controller_of file) as
+      (λ by. is_covered above own (elim by [ None ↦ core | Some controller ↦ brought_owner owners controller ]) ≡ true)
+      [ None ↦ by_core | Some controller ↦ get_covered above own owners _ by_owners ]
+
+  unnamed : (file : LimitFile) (held : Held) → is_text file ≡ true → row.files.at file ≡ Some held → held.named ≡ false
+  unnamed file held text is =
+      not_true held.named
+      (sym (λ t. not (text t) || not (option_map_or (λ (held : Held). held.named) (is t) false))
+      ∙ each_passes (λ file. not (is_text file) || not (option_map_or (λ (held : Held). held.named) (row.files.at file) false)) plain file)
+
+  text_covered : (file : LimitFile) → is_text file ≡ true → (o : Option Held) → row.files.at file ≡ o
+      → is_covered above own (option_map (λ held. held.entry) o) ≡ true
+  text_covered file text None is = refl
+  text_covered file text (Some held) is =
+      ap (is_covered above own) (sym (are.each file held is (unnamed file held text is))) ∙ owner_covered file
+
+  pub covered_where : Some own ≡ option_map (λ held. held.entry) (row.files.at MaxDescendants) → are_covered above row ≡ true
+  covered_where is =
+      ap (λ (own : Option Entry). elim own [
+        | None ↦ false
+        | Some own ↦ list_all (λ file. not (is_text file) || is_covered above own (entry_in row (File file))) all_files
+      ]) (sym is)
+      ∙ all_pass (λ file. not (is_text file) || is_covered above own (entry_in row (File file))) (λ file.
+      elim (is_text file) as (λ b. is_text file ≡ b → (not b || is_covered above own (entry_in row (File file))) ≡ true)
+      [ true ↦ λ text. text_covered file text (row.files.at file) refl | false ↦ λ _. refl ] refl) all_files
+
+pub passes_where : (st : State) (subtree : Names) (len : ℕ) (root row : Cgroup) → Some root ≡ row_at st (take 0 subtree)
+    → len ≡ length subtree → Some row ≡ row_at st (take len subtree) → are_covered root.procs row ≡ true
+    → passes_texts st subtree ≡ true
+passes_where st subtree len root row root_is level row_is covered =
+    let whole : take len subtree ≡ subtree = take_all len subtree (omega (arith, level)) in
+    ap (λ (r : Option Cgroup). elim r [
+      | None ↦ false
+      | Some root ↦ elim (row_at st subtree) [ None ↦ false | Some row ↦ are_covered root.procs row ]
+    ]) (sym root_is)
+    ∙ ap (λ (r : Option Cgroup). elim r [ None ↦ false | Some row ↦ are_covered root.procs row ])
+    (sym (row_is ∙ ap (row_at st) whole)) ∙ covered
 
 -- ---- a subtree whose files are passed over
 
 record Passed (st : State) (subtree : Names) : Type 0 where
   root : Cgroup
   row : Cgroup
-  untold : finite.get st.told subtree ≡ None
+  own : Entry
   root_is : row_at st [] ≡ Some root
   row_is : row_at st subtree ≡ Some row
-  covered : are_covered root.procs row ≡ true
+  own_is : entry_in row (File MaxDescendants) ≡ Some own
+  covered : list_all (λ file. not (is_text file) || is_covered root.procs own (entry_in row (File file))) all_files ≡ true
 
-passed : (st : State) (subtree : Names) → passes_others st subtree ≡ true → Passed st subtree
+passed : (st : State) (subtree : Names) → passes_texts st subtree ≡ true → Passed st subtree
 passed st subtree h =
-    elim (finite.get st.told subtree) as (λ t. finite.get st.told subtree ≡ t → (is_none t && here) ≡ true → Passed st subtree) [
-      | Some files ↦ λ _ h. absurd (false≢true h)
-      | None ↦ λ untold h.
-          elim (row_at st []) as (λ r. row_at st [] ≡ r
-          → elim r [ None ↦ false | Some root ↦ elim (row_at st subtree) [ None ↦ false | Some row ↦ are_covered root.procs row ] ] ≡ true
-          → Passed st subtree) [
+    elim (row_at st []) as (λ r. row_at st [] ≡ r
+    → elim r [ None ↦ false | Some root ↦ elim (row_at st subtree) [ None ↦ false | Some row ↦ are_covered root.procs row ] ] ≡ true
+    → Passed st subtree) [
+      | None ↦ λ _ h. absurd (false≢true h)
+      | Some root ↦ λ root_is h.
+          elim (row_at st subtree) as (λ r. row_at st subtree ≡ r
+          → elim r [ None ↦ false | Some row ↦ are_covered root.procs row ] ≡ true → Passed st subtree) [
             | None ↦ λ _ h. absurd (false≢true h)
-            | Some root ↦ λ root_is h.
-                elim (row_at st subtree) as (λ r. row_at st subtree ≡ r
-                → elim r [ None ↦ false | Some row ↦ are_covered root.procs row ] ≡ true → Passed st subtree) [
+            | Some row ↦ λ row_is h.
+                elim (entry_in row (File MaxDescendants)) as (λ o. entry_in row (File MaxDescendants) ≡ o
+                → elim o [
+                  | None ↦ false
+                  | Some own ↦ list_all (λ file. not (is_text file) || is_covered root.procs own (entry_in row (File file))) all_files
+                ] ≡ true → Passed st subtree) [
                   | None ↦ λ _ h. absurd (false≢true h)
-                  | Some row ↦ λ row_is h. record {
+                  | Some own ↦ λ own_is h. record {
                     root = root;
                     row = row;
-                    untold = untold;
+                    own = own;
                     root_is = root_is;
                     row_is = row_is;
+                    own_is = own_is;
                     covered = h;
                   }
                 ] refl h
           ] refl h
     ] refl h
-  where
-    here : Bool
-    here = elim (row_at st []) [
-      | None ↦ false
-      | Some root ↦ elim (row_at st subtree) [ None ↦ false | Some row ↦ are_covered root.procs row ]
-    ]
 
 module _ (st : State) (user : Identity) (subtree : Names) (p : Passed st subtree) where
   whole : take (length subtree) subtree ≡ subtree
   whole = take_all (length subtree) subtree (omega arith)
 
-  entry_is : (file : OtherFile) → entry_at st (take (length subtree) subtree) (Other file) ≡ untold_in p.row file
+  entry_is : (file : LimitFile) → entry_at st (take (length subtree) subtree) (File file) ≡ entry_in p.row (File file)
   entry_is file =
-      ap (λ path. entry_at st path (Other file)) whole
-      ∙ ap (λ files. option_map (λ told. told.entry)
-      (or_untold (option_and_then (λ files. told_in files file) files) (untold_at st subtree file))) p.untold
-      ∙ ap (λ r. option_map (λ told. told.entry) (option_map file_untold (option_and_then (λ row. untold_in row file) r))) p.row_is
-      ∙ back (untold_in p.row file)
-    where
-      back : (entry : Option Entry) → option_map (λ told. told.entry) (option_map file_untold entry) ≡ entry
-      back None = refl
-      back (Some entry) = refl
+      ap (λ path. entry_at st path (File file)) whole ∙ ap (option_and_then (λ row. entry_in row (File file))) p.row_is
 
   not_reached : (failed : Failed) (b : Bool) → unless (not b) failed ≡ [] → b ≡ false
   not_reached failed true h = let never : ⊥ = cc in absurd never
@@ -159,7 +189,7 @@ module _ (st : State) (user : Identity) (subtree : Names) (p : Passed st subtree
     root_at [] h = absurd (false≢true (sym h))
     root_at (name ∷ path) h =
         let e : length (name ∷ path) - 1 - (length (name ∷ path) - 1) ≡ 0 = omega arith in
-        get_front (ancestors (length (name ∷ path))) (map (limit_file (length (name ∷ path))) (map File all_files))
+        get_front (ancestors (length (name ∷ path))) (map (limit_file (length (name ∷ path))) (map File format_2_files))
         (length (name ∷ path) - 1) (omega (arith, length-ancestors (length (name ∷ path))))
         ∙ get-ancestors (length (name ∷ path)) (length (name ∷ path) - 1) (omega arith)
         ∙ ap (λ n. Some (ancestor n)) e
@@ -178,40 +208,46 @@ module _ (st : State) (user : Identity) (subtree : Names) (p : Passed st subtree
     own_at =
         let e = length-ancestors (length subtree) in
         let zeroth : length subtree - length (ancestors (length subtree)) ≡ 0 = omega (arith, e) in
-        get_back (ancestors (length subtree)) (map (limit_file (length subtree)) (map File all_files)) (length subtree) (omega (arith, e))
-        ∙ ap (slice_get (map (limit_file (length subtree)) (map File all_files))) zeroth
+        get_back (ancestors (length subtree)) (map (limit_file (length subtree)) (map File format_2_files)) (length subtree) (omega (arith, e))
+        ∙ ap (slice_get (map (limit_file (length subtree)) (map File format_2_files))) zeroth
 
-    off_own : reaches user p.row.max_descendants.entry ≡ false
+    off_own : reaches user p.own ≡ false
     off_own =
-        not_reached (record { guard = own.guard; len = own.len }) (reaches user p.row.max_descendants.entry)
-        (sym (ap (λ path. present (option_and_then (λ (row : Cgroup). Some row.max_descendants.entry) (row_at st path))
-        (λ entry. unless (not (reaches user entry)) (record { guard = own.guard; len = own.len }))) whole
-        ∙ ap (λ r. present (option_and_then (λ (row : Cgroup). Some row.max_descendants.entry) r)
-        (λ entry. unless (not (reaches user entry)) (record { guard = own.guard; len = own.len }))) p.row_is)
+        not_reached (record { guard = own.guard; len = own.len }) (reaches user p.own)
+        (sym (ap (λ entry. present entry (λ entry. unless (not (reaches user entry)) (record { guard = own.guard; len = own.len })))
+        (entry_is MaxDescendants ∙ p.own_is))
         ∙ none_of (entry_failures st user subtree) (asked_before subtree) (length subtree) own own_at none)
 
-    others_hold : (files : List OtherFile)
-        → flat_map (entry_failures st user subtree) (map (limit_file (length subtree)) (map Other files)) ≡ []
-    others_hold [] = refl
-    others_hold (file ∷ files) = λ i. one i ++ others_hold files i
+    texts_hold : (files : List LimitFile)
+        → flat_map (entry_failures st user subtree) (map (limit_file (length subtree)) (map File (filter is_text files))) ≡ []
+    texts_hold [] = refl
+    texts_hold (file ∷ files) =
+        elim (is_text file) as (λ b. is_text file ≡ b → flat_map (entry_failures st user subtree)
+        (map (limit_file (length subtree)) (map File (cond b (file ∷ filter is_text files) (filter is_text files)))) ≡ [])
+        [ true ↦ λ text i. one text i ++ texts_hold files i | false ↦ λ _. texts_hold files ] refl
       where
         guarded : Guarded
-        guarded = limit_file (length subtree) (Other file)
+        guarded = limit_file (length subtree) (File file)
 
-        one : entry_failures st user subtree (limit_file (length subtree) (Other file)) ≡ []
-        one =
+        covered : is_text file ≡ true → is_covered p.root.procs p.own (entry_in p.row (File file)) ≡ true
+        covered text =
+            sym (ap (λ b. not b || is_covered p.root.procs p.own (entry_in p.row (File file))) text)
+            ∙ each_passes (λ file. not (is_text file) || is_covered p.root.procs p.own (entry_in p.row (File file))) p.covered file
+
+        one : is_text file ≡ true → entry_failures st user subtree (limit_file (length subtree) (File file)) ≡ []
+        one text =
             ap (λ entry. present entry (λ entry. unless (not (reaches user entry)) (record { guard = guarded.guard; len = guarded.len })))
             (entry_is file)
-            ∙ none_fails user p.root.procs p.row.max_descendants.entry off_root off_own
-            (record { guard = guarded.guard; len = guarded.len }) (untold_in p.row file) (untold_covered p.root.procs p.row p.covered file)
+            ∙ none_fails user p.root.procs p.own off_root off_own
+            (record { guard = guarded.guard; len = guarded.len }) (entry_in p.row (File file)) (covered text)
 
 -- the first guard that fails is among the asked
 pub first_asked : (st : State) (user : Identity) (subtree : Names) (passes : Bool) → is_root subtree ≡ false
-    → passes ≡ passes_others st subtree
+    → (passes ≡ true → passes_texts st subtree ≡ true)
     → first (flat_map (entry_failures st user subtree) (asked_entries passes subtree))
     ≡ first (flat_map (entry_failures st user subtree) (guarded_entries subtree))
 first_asked st user subtree false filled is = ap (λ xs. first (flat_map (entry_failures st user subtree) xs)) (sym (guarded_is subtree))
 first_asked st user subtree true filled is =
-    left_out (entry_failures st user subtree) (asked_before subtree) (asked_others subtree) (asked_behind subtree)
-    (λ none. others_hold st user subtree (passed st subtree (sym is)) filled none all_others)
+    left_out (entry_failures st user subtree) (asked_before subtree) (asked_texts subtree) (asked_behind subtree)
+    (λ none. texts_hold st user subtree (passed st subtree (is refl)) filled none all_files)
     ∙ ap (λ xs. first (flat_map (entry_failures st user subtree) xs)) (sym (guarded_is subtree))

@@ -1,5 +1,5 @@
 -- The table of the guarded entries, by places.
-use Rattle.std.proofs.Common.{◌≡◌, ℕ, zero, suc, ◌+◌, ◌-◌, ◌<◌, ◌≤◌, false, List, [], ◌∷◌, ◌++◌, map, length, drop, get_or, Option, Some, None, is_some, option_and_then, refl, sym, ap, ◌∙◌, subst, true≢false, arith}
+use Rattle.std.proofs.Common.{◌≡◌, ℕ, zero, suc, ◌+◌, ◌-◌, ◌<◌, ◌≤◌, false, List, [], ◌∷◌, ◌++◌, length, drop, get_or, Option, Some, None, is_some, option_and_then, refl, sym, ap, ◌∙◌, true≢false, arith}
 use Rattle.std.specs.Prelude.{slice_get}
 use Rattle.std.specs.List.{flat_map}
 use Rattle.std.specs.Option.{option_map}
@@ -7,19 +7,15 @@ use Rattle.std.proofs.lemmas.List.{length-append, length-map}
 use Rattle.std.proofs.lemmas.Option.{slice_get-map, slice_get-get_or}
 use Rattle.cg_cgroup.specs.Paths.{Names, IsPath}
 use Rattle.cg_cgroup.specs.PathText.{names_text}
-use Rattle.cg_cgroup.specs.Files.{all_files, all_others, is_beyond}
+use Rattle.cg_cgroup.specs.Files.{all_files}
 use Rattle.cg_cgroup.specs.declared.files.LimitFile.{LimitFile}
 use Rattle.cg_cgroup.proofs.PathEnds.{path_bytes}
 use Rattle.cg_cgroup.specs.declared.files.EntryName.{EntryName}
-use Rattle.cg_cgroup.specs.declared.files.EntryName.TheVariants.{Dir, File, Other}
-use Rattle.cg_cgroup.specs.declared.other_file.OtherFile.{OtherFile}
-use Rattle.cg_cgroup.proofs.Options.{mapped_from}
+use Rattle.cg_cgroup.specs.declared.files.EntryName.TheVariants.{File}
 use Rattle.cg_cgroup.specs.declared.user.Entry.{Entry}
 use Rattle.cg_cgroup.specs.Cgroups.{entry_in}
-use Rattle.cg_model.specs.States.{State, row_at, file_told, entry_at}
+use Rattle.cg_model.specs.States.{State, row_at, entry_at}
 use Rattle.cg_model.specs.WellFormed.{IsWellFormed}
-use Rattle.cg_model.proofs.FormedTold.{stands}
-use Rattle.cg_model.proofs.StateEntries.{entry_at-row}
 use Rattle.cg_model.specs.Clauses.{present}
 use Rattle.cg_model.specs.Guards.{Guarded, ancestor, ancestors, limit_file, limit_files, parent_control, parent_dir, guarded_entries, standing}
 use Rattle.cg_guards.specs.Standing.{guarded_files, parent_guards}
@@ -98,18 +94,11 @@ module _ (subtree : Names) (place : ℕ) where
         ∙ sym (get_back above last_two place (omega (arith, f, level, low, high)) ∙ ap (slice_get last_two) g)
 
 -- the limit file of a place
-pub usual_file : (place : ℕ) (d : LimitFile) → place < length all_files
+pub file_of_place : (place : ℕ) (d : LimitFile) → place < length guarded_files
     → Some (File (get_or all_files place d)) ≡ slice_get guarded_files place
-usual_file place d h =
-    sym (get_front (map File all_files) (map Other all_others) place (omega (arith, length-map all_files File, h))
-    ∙ slice_get-map File all_files place ∙ ap (option_map File) (slice_get-get_or all_files place d h))
-
-pub other_file : (place : ℕ) (d : OtherFile) → length all_files ≤ place → place < length guarded_files
-    → Some (Other (get_or all_others (place - length all_files) d)) ≡ slice_get guarded_files place
-other_file place d low high =
-    sym (get_back (map File all_files) (map Other all_others) place (omega (arith, low))
-    ∙ slice_get-map Other all_others (place - length all_files)
-    ∙ ap (option_map Other) (slice_get-get_or all_others (place - length all_files) d (omega (arith, low, high))))
+file_of_place place d h =
+    sym (slice_get-map File all_files place
+    ∙ ap (option_map File) (slice_get-get_or all_files place d (omega (arith, length-map all_files File, h))))
 
 -- an entry of a well-formed tree has a mode
 chained_from : {A B : Type 0} (g : A → Option B) (o : Option A) (y : B) → option_and_then g o ≡ Some y
@@ -117,19 +106,11 @@ chained_from : {A B : Type 0} (g : A → Option B) (o : Option A) (y : B) → op
 chained_from g None y is = absurd (true≢false (sym (ap is_some is)))
 chained_from g (Some x) y is = (x, refl, is)
 
-row_mode : (st : State) (path : Names) (name : EntryName) (entry : Entry) → IsWellFormed st → is_beyond name ≡ false
-    → Some entry ≡ entry_at st path name → entry.mode ≤ 511
-row_mode st path name entry formed listed is =
-    let held = chained_from (λ row. entry_in row name) (row_at st path) entry (sym (entry_at-row st path name listed) ∙ sym is) in
-    (formed.rows path held.0 held.1).modes name entry held.2
-
 pub guarded_mode : (st : State) (path : Names) (name : EntryName) (entry : Entry) → IsWellFormed st
     → Some entry ≡ entry_at st path name → entry.mode ≤ 511
-guarded_mode st path (Other file) entry formed is =
-    let held = mapped_from (λ told. told.entry) (file_told st path file) entry (sym is) in
-    subst (λ (e : Entry). e.mode ≤ 511) held.2 (stands st formed path file held.0 held.1).mode
-guarded_mode st path Dir entry formed is = row_mode st path Dir entry formed refl is
-guarded_mode st path name entry formed is = row_mode st path name entry formed refl is
+guarded_mode st path name entry formed is =
+    let held = chained_from (λ row. entry_in row name) (row_at st path) entry (sym is) in
+    (formed.rows path held.0 held.1).modes name entry held.2
 
 -- ---- a path has no more names than bytes
 

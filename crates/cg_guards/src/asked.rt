@@ -1,35 +1,31 @@
-//! The entries on which guards of a subtree are asked, one after another in the order of the guards. Its limit files beyond
-//! `LimitFile` are passed over where nothing is told of them and whoever reaches one reaches an entry that is asked before.
-ghost use Rattle.std.specs.Prelude.{◌≡◌, ◌<◌, ◌+◌, false, cond, length, slice_get, option_and_then};
+//! The entries on which guards of a subtree are asked, one after another in the order of the guards. Its limit files whose
+//! values are texts are passed over where nobody speaks of them and whoever reaches one reaches an entry that is asked before.
+ghost use Rattle.std.specs.Prelude.{◌≡◌, ◌<◌, ◌+◌, true, false, cond, length, slice_get, option_and_then};
 ghost use Rattle.std.specs.List.{list_all};
 ghost use Rattle.cg_cgroup.specs.Paths.{is_root};
 ghost use Rattle.cg_model.specs.Guards.{guarded_entries, standing};
 ghost use Rattle.cg_guards.specs.GuardedUsers.{is_alike};
 ghost use Rattle.cg_guards.specs.Standing.{IsTop};
-ghost use Rattle.cg_guards.specs.Asked.{asked_entries, is_covered, are_covered, passes_others};
+ghost use Rattle.cg_guards.specs.Asked.{asked_entries, is_covered, are_covered, passes_texts};
 
 use crate::table::{Top, guarded_count, guarded_entry};
 use cg_cgroup::cgroup::Cgroup;
 use cg_cgroup::files::LimitFile;
-use cg_cgroup::other_file::OtherFile;
 use cg_cgroup::path::Path;
 use cg_cgroup::user::Entry;
 use cg_model::guard::GuardedEntry;
 use cg_model::hierarchy::Hierarchy;
 
-/// Whether a subtree's limit files beyond `LimitFile` are passed over. Each is compared with its `cgroup.max.descendants` and
-/// with the root's `cgroup.procs`, all that a controller brings at once.
-pub fn passes_others<H: Hierarchy>(tree: &H, subtree: &Path) -> bool
-    ensures { result ≡ passes_others (H.state tree.now) subtree.now }
+/// Whether a subtree's limit files whose values are texts are passed over. Each is compared with its `cgroup.max.descendants`
+/// and with the root's `cgroup.procs`, all that a controller brings at once.
+#[tactic(auto, using(crate::proofs::PassedOver::passes_where))]
+pub fn passes_texts<H: Hierarchy>(tree: &H, subtree: &Path) -> bool
+    ensures { result ≡ true → passes_texts (H.state tree.now) subtree.now ≡ true }
 {
-    let len = subtree.depth();
-    if tree.told(subtree, len).is_some() {
-        return false;
-    }
     let Some(root) = tree.get(subtree, 0) else {
         return false;
     };
-    let Some(cgroup) = tree.get(subtree, len) else {
+    let Some(cgroup) = tree.get(subtree, subtree.depth()) else {
         return false;
     };
     are_covered(&root.procs, cgroup)
@@ -63,7 +59,7 @@ pub fn asked_place(subtree: &Path, passes: bool, turn: usize) -> usize
     requires { turn < length (asked_entries passes subtree.now) }
     ensures { slice_get (guarded_entries subtree.now) result ≡ slice_get (asked_entries passes subtree.now) turn }
 {
-    if turn < subtree.depth() + LimitFile::ALL.len() {
+    if turn < subtree.depth() + LimitFile::IN_FORMAT_2.len() {
         return turn;
     }
     turn + passed_count(passes)
@@ -73,15 +69,27 @@ pub fn asked_place(subtree: &Path, passes: bool, turn: usize) -> usize
 fn passed_count(passes: bool) -> usize
     ensures { result ≡ cond passes 43 0 }
 {
-    if passes { OtherFile::ALL.len() } else { 0 }
+    if passes {
+        LimitFile::ALL.len() - LimitFile::IN_FORMAT_2.len()
+    } else {
+        0
+    }
 }
 
-/// Whether each file of which nothing is told is like the cgroup's `cgroup.max.descendants`, or like another entry.
+/// Whether nobody speaks of a file whose value is a text, and each is like the cgroup's `cgroup.max.descendants`, or like
+/// another entry.
+#[tactic(auto, using(crate::proofs::PassedOver::covered_where))]
 fn are_covered(above: &Entry, cgroup: &Cgroup) -> bool
-    ensures { result ≡ are_covered above.now cgroup.now }
+    ensures { result ≡ true → are_covered above.now cgroup.now ≡ true }
 {
-    let own = &cgroup.max_descendants.entry;
-    is_covered(above, own, cgroup.freeze) && all_covered(above, own, &cgroup.others.entries)
+    if !cgroup.files.is_plain() {
+        return false;
+    }
+    let Some(own) = cgroup.files.entry(LimitFile::MaxDescendants) else {
+        return false;
+    };
+    let (core, owners) = cgroup.files.owners();
+    is_covered(above, &own, core) && all_covered(above, &own, owners)
 }
 
 fn all_covered(one: &Entry, other: &Entry, entries: &[Option<Entry>]) -> bool

@@ -9,10 +9,10 @@ ghost use Rattle.cg_model.specs.Clauses.{first};
 ghost use Rattle.cg_model.specs.Limits.{is_within_limit, fits_descendants, fits_depth};
 ghost use Rattle.cg_model.specs.Guards.{guarded_entries, entry_failures, failures, IsSubtree};
 
-use crate::asked::{asked_count, asked_entry, passes_others};
+use crate::asked::{asked_count, asked_entry, passes_texts};
 use crate::table::Top;
 use cg_cgroup::cgroup::Cgroup;
-use cg_cgroup::files::Limit;
+use cg_cgroup::files::LimitFile;
 use cg_cgroup::path::Path;
 use cg_cgroup::user::User;
 use cg_model::guard::{Failed, Guard};
@@ -53,7 +53,7 @@ pub fn fits_descendants<H: Hierarchy>(tree: &H, subtree: &Path, cgroup: &Cgroup)
     ensures { result ≡ fits_descendants (H.state tree.now) subtree.now }
 {
     let count = tree.count_below(subtree, subtree.depth());
-    is_within_limit(count, cgroup.max_descendants.value)
+    is_within_limit(count, cgroup.most(LimitFile::MaxDescendants))
 }
 
 /// Whether a cgroup has no descendant further down than it says.
@@ -62,7 +62,7 @@ pub fn fits_depth<H: Hierarchy>(tree: &H, subtree: &Path, cgroup: &Cgroup) -> bo
     ensures { result ≡ fits_depth (H.state tree.now) subtree.now }
 {
     let depth = tree.depth_below(subtree, subtree.depth());
-    is_within_limit(depth, cgroup.max_depth.value)
+    is_within_limit(depth, cgroup.most(LimitFile::MaxDepth))
 }
 
 /// The first guard on an entry that fails.
@@ -71,7 +71,7 @@ pub fn failed_entry<H: Hierarchy>(tree: &H, user: &User, subtree: &Path) -> Opti
     ensures { result ≡ first (flat_map (entry_failures (H.state tree.now) user.now subtree.now) (guarded_entries subtree.now)) }
 {
     let top = Top::of(tree, subtree);
-    let passes = passes_others(tree, subtree);
+    let passes = passes_texts(tree, subtree);
     for turn in 0..asked_count(subtree, passes) {
         let Some(at) = asked_entry(tree, subtree, top, passes, turn) else {
             continue;
@@ -86,12 +86,12 @@ pub fn failed_entry<H: Hierarchy>(tree: &H, user: &User, subtree: &Path) -> Opti
     None
 }
 
-/// Whether so many are within a limit.
-fn is_within_limit(count: u64, limit: Limit) -> bool
-    ensures { result ≡ is_within_limit count limit }
+/// Whether so many are within a limit, where there is one.
+fn is_within_limit(count: u64, most: Option<u64>) -> bool
+    ensures { result ≡ is_within_limit count most }
 {
-    match limit {
-        Limit::Max => true,
-        Limit::At(most) => count <= most,
+    match most {
+        None => true,
+        Some(most) => count <= most,
     }
 }

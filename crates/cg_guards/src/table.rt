@@ -1,16 +1,14 @@
 //! The entries on which guards stand, one after another in the order of the guards.
-ghost use Rattle.std.specs.Prelude.{◌≡◌, ◌≤◌, ◌<◌, Some, false, length, take, slice_get, option_and_then, option_copied, IfSome};
+ghost use Rattle.std.specs.Prelude.{◌≡◌, ◌≤◌, ◌<◌, Some, false, length, take, slice_get, option_and_then, IfSome};
 ghost use Rattle.std.specs.Option.{option_map};
 ghost use Rattle.cg_cgroup.specs.Paths.{is_root};
 ghost use Rattle.cg_model.specs.States.{entry_at};
 ghost use Rattle.cg_model.specs.Guards.{guarded_entries, standing};
-ghost use Rattle.cg_guards.specs.Standing.{spotted, guarded_files, parent_guards, IsTop, told_in_top, entry_in_top};
+ghost use Rattle.cg_guards.specs.Standing.{spotted, guarded_files, parent_guards, IsTop, entry_in_top};
 
 use cg_cgroup::cgroup::Cgroup;
 use cg_cgroup::files::{EntryName, LimitFile};
-use cg_cgroup::other_file::OtherFile;
 use cg_cgroup::path::Path;
-use cg_cgroup::told::{ToldFile, ToldFiles};
 use cg_cgroup::user::Entry;
 use cg_model::files::entry_at;
 use cg_model::guard::{Guard, GuardedEntry};
@@ -28,8 +26,6 @@ struct Spot {
 #[derive(Clone, Copy)]
 pub struct Top<'a> {
     pub cgroup: Option<&'a Cgroup>,
-    /// What is told of its limit files beyond `LimitFile`.
-    pub told: Option<&'a ToldFiles>,
 }
 
 impl<'a> Top<'a> {
@@ -37,10 +33,8 @@ impl<'a> Top<'a> {
     pub fn of<H: Hierarchy>(tree: &'a H, subtree: &Path) -> Top<'a>
         ensures { IsTop (H.state tree.now) subtree.now result }
     {
-        let len = subtree.depth();
         Top {
-            cgroup: tree.get(subtree, len),
-            told: tree.told(subtree, len),
+            cgroup: tree.get(subtree, subtree.depth()),
         }
     }
 
@@ -48,20 +42,7 @@ impl<'a> Top<'a> {
     fn entry(self, name: EntryName) -> Option<Entry>
         ensures { result ≡ entry_in_top self.entry name }
     {
-        let EntryName::Other(file) = name else {
-            return self.cgroup?.entry(name);
-        };
-        match self.told_of(file) {
-            Some(told) => Some(told.entry),
-            None => self.cgroup?.untold(file),
-        }
-    }
-
-    /// What is told of a limit file beyond `LimitFile`.
-    fn told_of(self, file: OtherFile) -> Option<&'a ToldFile>
-        ensures { option_copied result ≡ told_in_top self.entry file }
-    {
-        self.told?.get(file)
+        self.cgroup?.entry(name)
     }
 }
 
@@ -69,7 +50,7 @@ impl<'a> Top<'a> {
 pub fn guarded_count(subtree: &Path) -> usize
     ensures { result ≡ length (guarded_entries subtree.now) }
 {
-    subtree.depth() + LimitFile::ALL.len() + OtherFile::ALL.len() + 2
+    subtree.depth() + LimitFile::ALL.len() + 2
 }
 
 /// The entry on which the guard of a place stands, counted from 0 in the order of the guards; `None` where the entry isn't
@@ -131,7 +112,7 @@ fn spot_at(subtree: &Path, place: usize) -> Option<Spot>
         });
     }
     let below = place - depth;
-    let files = LimitFile::ALL.len() + OtherFile::ALL.len();
+    let files = LimitFile::ALL.len();
     if below < files {
         let name = guarded_file(below);
         return Some(Spot {
@@ -143,17 +124,12 @@ fn spot_at(subtree: &Path, place: usize) -> Option<Spot>
     parent_spot(depth - 1, below - files)
 }
 
-/// The limit file of a place: those of `LimitFile` come first.
+/// The limit file of a place.
 fn guarded_file(place: usize) -> EntryName
     requires { place < length guarded_files }
     ensures { Some result ≡ slice_get guarded_files place }
 {
-    let files = LimitFile::ALL.len();
-    if place < files {
-        EntryName::File(LimitFile::ALL[place])
-    } else {
-        EntryName::Other(OtherFile::ALL[place - files])
-    }
+    EntryName::File(LimitFile::ALL[place])
 }
 
 /// The guards on the entries of the subtree's parent: its `cgroup.subtree_control` and its directory.

@@ -6,7 +6,7 @@ ghost use Rattle.cg_model.specs.Guards.{IsSubtree, is_guarded};
 ghost use Rattle.cg_guards.specs.GuardedUsers.{is_spared, is_asked, AreSpared};
 ghost use Rattle.cg_guards.specs.Reach.{is_out_of_reach, AreCovered};
 
-use crate::asked::{asked_count, asked_entry, is_alike, passes_others};
+use crate::asked::{asked_count, asked_entry, is_alike, passes_texts};
 use crate::failed::is_over;
 use crate::identities::Identities;
 use crate::table::Top;
@@ -39,7 +39,7 @@ pub fn guarded_users<'a, H: Hierarchy>(
     }
     let mut left = users;
     let top = Top::of(tree, subtree);
-    let passes = passes_others(tree, subtree);
+    let passes = passes_texts(tree, subtree);
     for turn in 0..asked_count(subtree, passes) {
         let Some(at) = asked_entry(tree, subtree, top, passes, turn) else {
             continue;

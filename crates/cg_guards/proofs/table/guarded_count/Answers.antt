@@ -9,9 +9,6 @@ overflow_add-result c = omega (arith, few_names c.args.subtree.now c.depth.ensur
 pub overflow_add-result-2 : goal.overflow_add-result-2
 overflow_add-result-2 c = omega (arith, few_names c.args.subtree.now c.depth.ensures.path, c.depth.ensures.depth)
 
-pub overflow_add-result-3 : goal.overflow_add-result-3
-overflow_add-result-3 c = omega (arith, few_names c.args.subtree.now c.depth.ensures.path, c.depth.ensures.depth)
-
 pub returns : goal.returns
 returns c =
     let e : length (guarded_entries c.args.subtree.now) ≡ length c.args.subtree.now + 51 + 2 = guarded_length c.args.subtree.now in

@@ -9,8 +9,8 @@ use Rattle.cg_guards.proofs.users.guarded_users.Goals.{then-is_asked-via-then-is
 pub loop-turn-init : goal.loop-turn-init
 loop-turn-init g c = record {
   off =
-      kept_asked (g.H.Hierarchy.state c.args.tree.now) c.args.subtree.now c.passes_others-passes.result c.requires.subtree.1
-      c.passes_others-passes.ensures c.args.users.now;
+      kept_asked (g.H.Hierarchy.state c.args.tree.now) c.args.subtree.now c.passes_texts-passes.result c.requires.subtree.1
+      c.passes_texts-passes.ensures c.args.users.now;
   covered = c.requires.covered;
   asked = c.requires.asked;
 }
@@ -19,7 +19,7 @@ pub loop-turn-preserved-in_default : goal.loop-turn-preserved-in_default
 loop-turn-preserved-in_default g c = record {
   off =
       absent_turn (g.H.Hierarchy.state c.args.tree.now) c.args.subtree.now
-      c.passes_others-passes.result c.loop-turn.turn c.loop-turn.left.now
+      c.passes_texts-passes.result c.loop-turn.turn c.loop-turn.left.now
       c.in_default.ensures
       ∙ c.loop-turn.invariant.off;
   covered = c.loop-turn.invariant.covered;
@@ -30,7 +30,7 @@ pub loop-turn-preserved-then-is_asked : goal.loop-turn-preserved-then-is_asked
 loop-turn-preserved-then-is_asked g c = record {
   off =
       entry_turn (g.H.Hierarchy.state c.args.tree.now) c.args.subtree.now
-      c.passes_others-passes.result c.loop-turn.turn c.in-Some.at c.in-Some.ensures
+      c.passes_texts-passes.result c.loop-turn.turn c.in-Some.at c.in-Some.ensures
       c.loop-turn.left.now c.loop-turn.left.now
       spared
       ∙ c.loop-turn.invariant.off;
@@ -53,7 +53,7 @@ pub loop-turn-preserved : goal.loop-turn-preserved
 loop-turn-preserved g c = record {
   off =
       entry_turn (g.H.Hierarchy.state c.args.tree.now) c.args.subtree.now
-      c.passes_others-passes.result c.loop-turn.turn c.in-Some.at c.in-Some.ensures
+      c.passes_texts-passes.result c.loop-turn.turn c.in-Some.at c.in-Some.ensures
       c.loop-turn.left.now c.off_entry-left.result.now c.off_entry-left.ensures
       ∙ c.loop-turn.invariant.off;
   covered =
@@ -64,7 +64,7 @@ loop-turn-preserved g c = record {
 
 pub returns-clause-users : goal.returns-clause-users
 returns-clause-users g c =
-    walk_end (g.H.Hierarchy.state c.args.tree.now) c.args.subtree.now c.passes_others-passes.result c.loop-turn.turn c.loop-turn.left.now
+    walk_end (g.H.Hierarchy.state c.args.tree.now) c.args.subtree.now c.passes_texts-passes.result c.loop-turn.turn c.loop-turn.left.now
     (omega (arith, c.asked_count-turn-end.ensures, c.loop-turn-test.false))
     ∙ c.loop-turn.invariant.off
     ∙ within_guards (g.H.Hierarchy.state c.args.tree.now) c.args.subtree.now c.args.users.now (sym c.is_over.ensures ∙ c.if-is_over.false)
