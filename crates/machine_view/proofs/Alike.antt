@@ -1,25 +1,23 @@
 -- The guards of the exact machine hold exactly where those of the other do.
-use Rattle.std.proofs.Common.{◌≡◌, ℕ, zero, suc, ◌+◌, ◌-◌, ◌≤◌, max, Bool, true, false, not, cond, List, [], ◌∷◌, ◌++◌, length, take, map, filter, fold, refl, sym, ap, ◌∙◌, subst, Option, Some, None, take_all, arith}
+use Rattle.std.proofs.Common.{◌≡◌, ℕ, zero, suc, ◌+◌, ◌-◌, ◌≤◌, max, Bool, true, false, not, cond, List, [], ◌∷◌, ◌++◌, length, take, map, filter, fold, refl, sym, ap, ◌∙◌, Option, Some, None, take_all, arith}
 use Rattle.std.specs.Prelude.{◌&&◌, ◌||◌, nat_lt, slice_get, option_and_then}
 use Rattle.std.specs.List.{AllByRecursion, list_any}
 use Rattle.std.specs.Option.{option_map}
-use Rattle.std.proofs.lemmas.List.{map-append}
 use Rattle.std.proofs.lemmas.Bool.{and_parts, le-leb}
 use Rattle.cg_cgroup.specs.Paths.{Names, same_path, inside, below}
 use Rattle.cg_cgroup.specs.Identity.{Identity}
 use Rattle.cg_cgroup.specs.Users.{reaches}
-use Rattle.cg_cgroup.specs.Files.{all_files, all_others}
+use Rattle.cg_cgroup.specs.Files.{all_files}
 use Rattle.cg_cgroup.specs.Cgroups.{value_in}
 use Rattle.cg_cgroup.specs.declared.user.Entry.{Entry}
-use Rattle.cg_cgroup.specs.declared.files.Limit.{Limit}
-use Rattle.cg_cgroup.specs.declared.files.Limit.TheVariants.{Max, At}
+use Rattle.cg_cgroup.specs.declared.value.Value.{Value as Held}
+use Rattle.cg_cgroup.specs.declared.value.Value.TheVariants.{Number as Most}
 use Rattle.cg_cgroup.specs.declared.files.LimitFile.{LimitFile}
 use Rattle.cg_cgroup.specs.declared.files.LimitFile.TheVariants.{MaxDescendants, MaxDepth}
 use Rattle.cg_cgroup.specs.declared.files.EntryName.{EntryName}
-use Rattle.cg_cgroup.specs.declared.files.EntryName.TheVariants.{File as FileName, Other}
-use Rattle.cg_cgroup.specs.declared.other_file.OtherFile.{OtherFile}
+use Rattle.cg_cgroup.specs.declared.files.EntryName.TheVariants.{File as FileName}
 use Rattle.cg_cgroup.specs.declared.cgroup.Cgroup.{Cgroup}
-use Rattle.cg_cgroup.proofs.Options.{some_value, same_some}
+use Rattle.cg_cgroup.proofs.Options.{some_value}
 use Rattle.cg_cgroup.proofs.PathOrder.{same_path_refl}
 use Rattle.cg_model.specs.States.{State, row_at, value_at, paths_of, count_below, depth_below}
 use Rattle.cg_model.specs.Limits.{fits_descendants, fits_depth}
@@ -30,9 +28,9 @@ use Rattle.cg_model.specs.declared.guard.Guard.TheVariants.{AlreadyOver}
 use Rattle.cg_model.proofs.ClauseLaws.{each_none}
 use Rattle.cg_model.proofs.LimitLaws.{fits_in, descendants-limit, depth-limit}
 use Rattle.cg_model.proofs.Lists.{all-append}
-use Rattle.machine.specs.Machines.{Value, Number, Inode, IsClosed, IsGuarded}
+use Rattle.machine.specs.Machines.{Inode, IsClosed, IsGuarded}
 use Rattle.machine_view.specs.Views.{limit_names, value_as, value_there, inode_named, view}
-use Rattle.machine_view.proofs.Numbers.{number_of, named_file, named_other}
+use Rattle.machine_view.proofs.Numbers.{number_of, named_file}
 use Rattle.machine_view.proofs.Stepping.{limits-there}
 
 -- an entry that isn't reached fails no guard
@@ -82,28 +80,21 @@ module _ (st : State) (user : Identity) (subtree : Names) (closed : IsClosed (vi
   files-closed [] = tt
   files-closed (file ∷ files) = (limit-closed (FileName file) (named_file file), files-closed files)
 
-  others-closed : (files : List OtherFile) → AllByRecursion NoneFails (map (limit_file (length subtree)) (map Other files))
-  others-closed [] = tt
-  others-closed (file ∷ files) = (limit-closed (Other file) (named_other file), others-closed files)
-
   all-closed : AllByRecursion NoneFails (guarded_entries subtree)
   all-closed =
       all-append NoneFails (ancestors (length subtree) ++ limit_files (length subtree)) (parent_control subtree ∷ parent_dir subtree ∷ [])
       (all-append NoneFails (ancestors (length subtree)) (limit_files (length subtree)) (above-closed (length subtree) (omega arith))
-      (subst (AllByRecursion NoneFails) (sym (map-append (limit_file (length subtree)) (map FileName all_files) (map Other all_others)))
-      (all-append NoneFails (map (limit_file (length subtree)) (map FileName all_files)) (map (limit_file (length subtree))
-      (map Other all_others))
-      (files-closed all_files) (others-closed all_others)))) (
+      (files-closed all_files)) (
         none_fails st user subtree (parent_control subtree) closed.control,
         (none_fails st user subtree (parent_dir subtree) closed.dir, tt),
       )
 
 -- ---- counts
 
-within_limit : (count : ℕ) (found : Option Limit) → ((most : ℕ) → found ≡ Some (At most) → count ≤ most) → fits_in count found ≡ true
+within_limit : (count : ℕ) (found : Option Held) → ((most : ℕ) → found ≡ Some (Most most) → count ≤ most) → fits_in count found ≡ true
 within_limit count None fits = refl
-within_limit count (Some Max) fits = refl
-within_limit count (Some (At most)) fits = le-leb count most (fits most refl)
+within_limit count (Some (Most most)) fits = le-leb count most (fits most refl)
+within_limit count (Some value) fits = refl
 
 at_most : (top : Names) (most start : ℕ) (paths : List Names) → start ≤ most
     → ((path : Names) → list_any (same_path path) paths ≡ true → inside top path ≡ true → length path ≤ length top + most)
@@ -132,16 +123,12 @@ module _ (st : State) (user : Identity) (subtree : Names) (sub : IsSubtree st su
   row : (row : Cgroup) × (row_at st subtree ≡ Some row)
   row = some_value (row_at st subtree) sub.0
 
-  number_is : (limit : Limit) (most : ℕ) → limit ≡ At most → ◌≡◌ {A = Option Value} (Some (value_as limit)) (Some (Number most))
-  number_is limit most is = ap (λ (limit : Limit). Some (value_as limit)) is
-
   few : fits_descendants st subtree ≡ true
   few =
       descendants-limit st subtree
       ∙ within_limit (count_below st subtree) (value_at st subtree MaxDescendants) (λ most is.
       holds.fits.descendants most ((limits-there st subtree row.0 row.1).0
-      ∙ number_is row.0.max_descendants.value most (same_some row.0.max_descendants.value (At most)
-      (sym (ap (option_and_then (λ (r : Cgroup). value_in r MaxDescendants)) row.1) ∙ is))))
+      ∙ ap (option_map value_as) (sym (ap (option_and_then (λ (r : Cgroup). value_in r MaxDescendants)) row.1) ∙ is)))
 
   shallow : fits_depth st subtree ≡ true
   shallow =
@@ -149,8 +136,7 @@ module _ (st : State) (user : Identity) (subtree : Names) (sub : IsSubtree st su
       ∙ within_limit (depth_below st subtree) (value_at st subtree MaxDepth) (λ most is.
       at_most subtree most 0 (paths_of st) (omega arith) (λ path among within.
       holds.fits.levels most ((limits-there st subtree row.0 row.1).1
-      ∙ number_is row.0.max_depth.value most (same_some row.0.max_depth.value (At most)
-      (sym (ap (option_and_then (λ (r : Cgroup). value_in r MaxDepth)) row.1) ∙ is))) path among within))
+      ∙ ap (option_map value_as) (sym (ap (option_and_then (λ (r : Cgroup). value_in r MaxDepth)) row.1) ∙ is)) path among within))
 
   pub guards_there : GuardsHold st user subtree
   guards_there =

@@ -3,19 +3,16 @@ use Rattle.std.proofs.Common.{◌≡◌, ℕ, zero, suc, ◌+◌, ◌<◌, Bool,
 use Rattle.std.specs.Prelude.{◌&&◌, nat_eq, slice_get}
 use Rattle.std.proofs.lemmas.Bool.{and_parts, eqb-true}
 use Rattle.std.proofs.lemmas.Option.{slice_get_within, slice_get-get_or}
-use Rattle.cg_cgroup.specs.Files.{kind_of, other_kind}
+use Rattle.cg_cgroup.specs.Files.{kind_of}
 use Rattle.cg_cgroup.specs.declared.files.LimitFile.{LimitFile}
 use Rattle.cg_cgroup.specs.declared.files.LimitFile.TheVariants.{MaxDescendants}
 use Rattle.cg_cgroup.specs.declared.files.EntryName.{EntryName}
-use Rattle.cg_cgroup.specs.declared.files.EntryName.TheVariants.{File as FileName, Other}
-use Rattle.cg_cgroup.specs.declared.other_file.OtherFile.{OtherFile}
-use Rattle.cg_cgroup.specs.declared.other_file.OtherFile.TheVariants.{CpuMax}
+use Rattle.cg_cgroup.specs.declared.files.EntryName.TheVariants.{File as FileName}
 use Rattle.cg_cgroup.proofs.Options.{same_some}
 use Rattle.machine_view.specs.Views.{limit_names}
 
 abbrev pub number_of : EntryName → ℕ
 number_of (FileName file) = (kind_of file).number
-number_of (Other file) = 8 + (other_kind file).number
 number_of name = 51
 
 abbrev rise_from : ℕ → List EntryName → Bool
@@ -42,7 +39,3 @@ numbered place name is =
 pub named_file : (file : LimitFile) → slice_get limit_names (number_of (FileName file)) ≡ Some (FileName file)
 named_file MaxDescendants = refl
 named_file file = refl
-
-pub named_other : (file : OtherFile) → slice_get limit_names (number_of (Other file)) ≡ Some (Other file)
-named_other CpuMax = refl
-named_other file = refl

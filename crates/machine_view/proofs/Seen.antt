@@ -12,8 +12,8 @@ use Rattle.cg_cgroup.specs.Paths.{Names, same_path, below}
 use Rattle.cg_cgroup.specs.Identity.{Identity}
 use Rattle.cg_cgroup.specs.Users.{reaches}
 use Rattle.cg_cgroup.specs.declared.user.Entry.{Entry}
-use Rattle.cg_cgroup.specs.declared.files.Limit.{Limit}
-use Rattle.cg_cgroup.specs.declared.files.Limit.TheVariants.{Max, At}
+use Rattle.cg_cgroup.specs.declared.value.Value.{Value as Held}
+use Rattle.cg_cgroup.specs.declared.value.Value.TheVariants.{Unknown as NotKnown, Max, Number as Most, Text as Words}
 use Rattle.cg_cgroup.specs.declared.files.LimitFile.{LimitFile as LimitName}
 use Rattle.cg_cgroup.specs.declared.files.LimitFile.TheVariants.{MaxDescendants, MaxDepth}
 use Rattle.cg_cgroup.specs.declared.files.EntryName.{EntryName}
@@ -101,24 +101,26 @@ module _ (st : State) (user : Identity) (subtree : Names) (held : Holding st use
 
 -- ---- counts
 
-number-as : (found : Option Limit) (most : ℕ)
-    → Some (elim found as (λ (_ : Option Limit). Value) [ None ↦ Unknown | Some limit ↦ value_as limit ]) ≡ Some (Number most)
-    → found ≡ Some (At most)
+number-as : (found : Option Held) (most : ℕ)
+    → Some (elim found as (λ (_ : Option Held). Value) [ None ↦ Unknown | Some value ↦ value_as value ]) ≡ Some (Number most)
+    → found ≡ Some (Most most)
 number-as None most is = cc
+number-as (Some NotKnown) most is = cc
 number-as (Some Max) most is = cc
-number-as (Some (At other)) most is = cc
+number-as (Some (Most other)) most is = cc
+number-as (Some (Words text)) most is = cc
 
--- what a limit file that is one of the eight says as a number
+-- what a limit file says as a number
 value-number : (st : State) (path : Names) (file : LimitName) (most : ℕ)
     → option_map (λ (inode : Inode). inode.value) (inode_named st path (FileName file)) ≡ Some (Number most)
-    → value_at st path file ≡ Some (At most)
+    → value_at st path file ≡ Some (Most most)
 value-number st path file most is = by_cases (entry_at st path (FileName file)) is
   where
     made : Entry → Inode
     made entry = record { entry = entry; value = value_there st path (FileName file) }
 
     by_cases : (found : Option Entry) → option_map (λ (inode : Inode). inode.value) (option_map made found) ≡ Some (Number most)
-        → value_at st path file ≡ Some (At most)
+        → value_at st path file ≡ Some (Most most)
     by_cases None is = absurd (true≢false (sym (ap is_some is)))
     by_cases (Some entry) is = number-as (value_at st path file) most is
 

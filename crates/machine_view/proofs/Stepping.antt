@@ -9,29 +9,26 @@ use Rattle.std.proofs.lemmas.List.Sums.{length-filter}
 use Rattle.cg_cgroup.specs.Paths.{Names, same_name, same_path, is_child, is_root, parent, common}
 use Rattle.cg_cgroup.specs.Identity.{Identity}
 use Rattle.cg_cgroup.specs.Users.{writes, owns}
-use Rattle.cg_cgroup.specs.Files.{enables_nothing, brought_by, same_entry, same_file, same_other}
-use Rattle.cg_cgroup.specs.Cgroups.{with_mode_of, entry_in, value_in, file_of, cgroup_made_by}
+use Rattle.cg_cgroup.specs.Files.{enables_nothing, same_entry, same_file}
+use Rattle.cg_cgroup.specs.Cgroups.{Held as FileHeld, with_mode_of, entry_in, value_in, most_in, file_of, cgroup_made_by}
+use Rattle.cg_cgroup.specs.Values.{most_of}
 use Rattle.cg_cgroup.specs.declared.user.Entry.{Entry}
 use Rattle.cg_cgroup.specs.declared.controllers.ControllerSet.{ControllerSet}
-use Rattle.cg_cgroup.specs.declared.files.Limit.{Limit}
-use Rattle.cg_cgroup.specs.declared.files.Limit.TheVariants.{Max, At}
+use Rattle.cg_cgroup.specs.declared.value.Value.{Value as Held}
+use Rattle.cg_cgroup.specs.declared.value.Value.TheVariants.{Unknown as NotKnown, Max, Number as Most, Text as Words}
 use Rattle.cg_cgroup.specs.declared.files.LimitFile.{LimitFile}
 use Rattle.cg_cgroup.specs.declared.files.LimitFile.TheVariants.{MaxDescendants, MaxDepth}
 use Rattle.cg_cgroup.specs.declared.files.EntryName.{EntryName}
-use Rattle.cg_cgroup.specs.declared.files.EntryName.TheVariants.{Dir as DirName, Procs as ProcsName, SubtreeControl, File as FileName, Other}
-use Rattle.cg_cgroup.specs.declared.other_file.OtherFile.{OtherFile}
-use Rattle.cg_cgroup.specs.declared.told.FileText.{FileText}
-use Rattle.cg_cgroup.specs.declared.told.ToldFile.{ToldFile}
+use Rattle.cg_cgroup.specs.declared.files.EntryName.TheVariants.{Dir as DirName, Procs as ProcsName, SubtreeControl, File as FileName}
 use Rattle.cg_cgroup.specs.declared.cgroup.Cgroup.{Cgroup}
-use Rattle.cg_cgroup.specs.declared.cgroup.LimitEntry.{LimitEntry}
 use Rattle.cg_cgroup.specs.declared.process.Process.{Process}
 use Rattle.cg_cgroup.proofs.Options.{same_some, some_value}
 use Rattle.cg_cgroup.proofs.PathOrder.{same_path-is}
 use Rattle.cg_cgroup.proofs.CgroupLaws.{same_entry-refl, same_entry-true}
-use Rattle.cg_model.specs.States.{State, row_at, process_at, place_at, owner_at, file_at, file_told, told_text, entry_at, value_at, paths_of, count_below, has_child, is_used, placed_at, with_row, without_row, with_value, with_text, with_mode, with_enabled, with_place, with_process, without_process}
+use Rattle.cg_model.specs.States.{State, row_at, process_at, place_at, owner_at, file_at, entry_at, value_at, paths_of, count_below, has_child, is_used, placed_at, with_row, without_row, with_value, with_mode, with_enabled, with_place, with_process, without_process}
 use Rattle.cg_model.specs.WellFormed.{IsWellFormed, has_row, enabled_at}
 use Rattle.cg_model.specs.Limits.{is_under}
-use Rattle.cg_model.specs.Bars.{bars, move_bars, control_bars, mkdir_bars, rmdir_bars, set_bars, set_other_bars, chmod_bars, exit_bars, fork_bars}
+use Rattle.cg_model.specs.Bars.{bars, move_bars, control_bars, mkdir_bars, rmdir_bars, set_bars, chmod_bars, exit_bars, fork_bars}
 use Rattle.cg_model.specs.Clauses.{unless, absent}
 use Rattle.cg_model.specs.Next.{next}
 use Rattle.cg_model.specs.Steps.{after}
@@ -43,16 +40,16 @@ use Rattle.cg_model.specs.declared.outcome.Refusal.TheVariants.{NoSuchCgroup, No
 use Rattle.cg_model.proofs.Allowed.{allowed_mkdir}
 use Rattle.cg_model.proofs.ClauseLaws.{no_parts, no_unless, no_absent, no_present}
 use Rattle.cg_model.proofs.StateCounts.{paths_of-with_value, paths_of-with_mode, paths_of-with_enabled, counted-with_row, counted-without_row}
-use Rattle.cg_model.proofs.StateEntries.{entry_at-file, value_at-file, entry_at-with_value, value_at-with_value, entry_at-with_text, told_text-with_text, entry_at-with_mode, value_at-with_mode, told_text-with_mode, entry_at-with_row, value_at-with_row, entry_at-without_row, value_at-without_row, told_text-without_row, entry_at-with_enabled-dir, entry_at-with_enabled-procs, entry_at-with_enabled-subtree_control, file_at-with_enabled-other, entry_at-with_enabled-beyond, told_text-with_enabled}
+use Rattle.cg_model.proofs.StateEntries.{entry_at-file, value_at-file, entry_at-with_value, value_at-with_value, entry_at-with_mode, value_at-with_mode, entry_at-with_row, value_at-with_row, entry_at-without_row, value_at-without_row, entry_at-with_enabled-dir, entry_at-with_enabled-procs, entry_at-with_enabled-subtree_control, file_at-with_enabled-other}
 use Rattle.cg_model.proofs.StateLaws.{process_at-with_place, process_at-with_process, process_at-without_process}
 use Rattle.cg_model.proofs.TreeLaws.{take-there}
 use Rattle.cg_laws.proofs.Barred.{chmod-owned}
 use Rattle.cg_laws.proofs.Counts.{limits-asked}
 use Rattle.cg_laws.proofs.Crossing.{move-passes}
-use Rattle.machine.specs.Machines.{File, Dir, Procs, Control, Limit as LimitAt, Value, Unknown, Text, Inode, Act, Move, Mkdir, Rmdir, Write, Chmod, Enable, Fork, Exit, entry_is, value_of, leaves_room, has_room_above, is_this_file, reopened, rewritten, equipped, placed}
+use Rattle.machine.specs.Machines.{File, Dir, Procs, Control, Limit as LimitAt, Value, Unknown, Inode, Act, Move, Mkdir, Rmdir, Write, Chmod, Enable, Fork, Exit, entry_is, value_of, leaves_room, has_room_above, is_this_file, reopened, rewritten, equipped, placed}
 use Rattle.machine_view.specs.Views.{limit_names, value_as, value_there, inode_named, inode_there, view}
 use Rattle.machine_view.specs.Steps.{IsStep}
-use Rattle.machine_view.proofs.Numbers.{number_of, numbered, named_file, named_other}
+use Rattle.machine_view.proofs.Numbers.{number_of, numbered, named_file}
 use Rattle.machine_view.proofs.PathsOnce.{keys_once}
 use Rattle.machine_view.proofs.Seen.{has-row}
 
@@ -62,15 +59,13 @@ abbrev seen : Option Entry → Value → Option Inode
 seen entry value = option_map (λ (entry : Entry). record { entry = entry; value = value }) entry
 
 value-same : (st new : State) (q : Names) (name : EntryName) → ((file : LimitFile) → value_at new q file ≡ value_at st q file)
-    → ((file : OtherFile) → told_text new q file ≡ told_text st q file) → value_there new q name ≡ value_there st q name
-value-same st new q DirName values texts = refl
-value-same st new q ProcsName values texts = refl
-value-same st new q SubtreeControl values texts = refl
-value-same st new q (FileName file) values texts =
-    ap (λ (found : Option Limit). elim found as (λ (_ : Option Limit). Value) [ None ↦ Unknown | Some limit ↦ value_as limit ])
+    → value_there new q name ≡ value_there st q name
+value-same st new q DirName values = refl
+value-same st new q ProcsName values = refl
+value-same st new q SubtreeControl values = refl
+value-same st new q (FileName file) values =
+    ap (λ (found : Option Held). elim found as (λ (_ : Option Held). Value) [ None ↦ Unknown | Some value ↦ value_as value ])
     (values file)
-value-same st new q (Other file) values texts =
-    ap (λ (found : Option FileText). elim found as (λ (_ : Option FileText). Value) [ None ↦ Unknown | Some text ↦ Text text ]) (texts file)
 
 inode-same : (st new : State) (q : Names) (name : EntryName) → entry_at new q name ≡ entry_at st q name
     → value_there new q name ≡ value_there st q name → inode_named new q name ≡ inode_named st q name
@@ -105,7 +100,6 @@ file_by DirName = Dir
 file_by ProcsName = Procs
 file_by SubtreeControl = Control
 file_by (FileName file) = LimitAt (number_of (FileName file))
-file_by (Other file) = LimitAt (number_of (Other file))
 
 same-limit : (number : ℕ) (name other : EntryName) (place : ℕ) → slice_get limit_names number ≡ Some name
     → slice_get limit_names place ≡ Some other → nat_eq number place ≡ same_entry name other
@@ -139,28 +133,24 @@ same-file DirName other place there = no-limit DirName other place refl there
 same-file ProcsName other place there = no-limit ProcsName other place refl there
 same-file SubtreeControl other place there = no-limit SubtreeControl other place refl there
 same-file (FileName file) other place there = same-limit (number_of (FileName file)) (FileName file) other place (named_file file) there
-same-file (Other file) other place there = same-limit (number_of (Other file)) (Other file) other place (named_other file) there
 
 same-dir : (name : EntryName) → is_this_file (file_by name) Dir ≡ same_entry name DirName
 same-dir DirName = refl
 same-dir ProcsName = refl
 same-dir SubtreeControl = refl
 same-dir (FileName file) = refl
-same-dir (Other file) = refl
 
 same-procs : (name : EntryName) → is_this_file (file_by name) Procs ≡ same_entry name ProcsName
 same-procs DirName = refl
 same-procs ProcsName = refl
 same-procs SubtreeControl = refl
 same-procs (FileName file) = refl
-same-procs (Other file) = refl
 
 same-control : (name : EntryName) → is_this_file (file_by name) Control ≡ same_entry name SubtreeControl
 same-control DirName = refl
 same-control ProcsName = refl
 same-control SubtreeControl = refl
 same-control (FileName file) = refl
-same-control (Other file) = refl
 
 lets-limit : (st : State) (path : Names) (name : EntryName) (test : Entry → Bool) (entry : Entry) (number : ℕ)
     → slice_get limit_names number ≡ Some name → entry_at st path name ≡ Some entry → test entry ≡ true
@@ -178,8 +168,6 @@ lets-file st path ProcsName test entry is so = lets-by st path ProcsName test en
 lets-file st path SubtreeControl test entry is so = lets-by st path SubtreeControl test entry is so
 lets-file st path (FileName file) test entry is so =
     lets-limit st path (FileName file) test entry (number_of (FileName file)) (named_file file) is so
-lets-file st path (Other file) test entry is so =
-    lets-limit st path (Other file) test entry (number_of (Other file)) (named_other file) is so
 
 -- ---- counts
 
@@ -224,18 +212,25 @@ counted_apart test path (other ∷ paths) =
 
 -- the limits of a cgroup that is there
 pub limits-there : (st : State) (top : Names) (row : Cgroup) → row_at st top ≡ Some row
-    → (value_of (view st) top 0 ≡ Some (value_as row.max_descendants.value))
-    × (value_of (view st) top 1 ≡ Some (value_as row.max_depth.value))
-limits-there st top row is = (
-  ap (λ (row : Option Cgroup). option_map (λ (inode : Inode). inode.value)
-      (seen (option_and_then (λ (row : Cgroup). entry_in row (FileName MaxDescendants)) row)
-      (elim (option_and_then (λ (row : Cgroup). value_in row MaxDescendants) row) as (λ (_ : Option Limit). Value)
-      [ None ↦ Unknown | Some limit ↦ value_as limit ]))) is,
-  ap (λ (row : Option Cgroup). option_map (λ (inode : Inode). inode.value)
-      (seen (option_and_then (λ (row : Cgroup). entry_in row (FileName MaxDepth)) row)
-      (elim (option_and_then (λ (row : Cgroup). value_in row MaxDepth) row) as (λ (_ : Option Limit). Value)
-      [ None ↦ Unknown | Some limit ↦ value_as limit ]))) is,
-)
+    → (value_of (view st) top 0 ≡ option_map value_as (value_in row MaxDescendants))
+    × (value_of (view st) top 1 ≡ option_map value_as (value_in row MaxDepth))
+limits-there st top row is = (of_file MaxDescendants, of_file MaxDepth)
+  where
+    by_held : (held : Option FileHeld)
+        → option_map (λ (inode : Inode). inode.value) (seen (option_map (λ (h : FileHeld). h.entry) held)
+        (elim (option_map (λ (h : FileHeld). h.value) held) as (λ (_ : Option Held). Value) [ None ↦ Unknown | Some value ↦ value_as value ]))
+        ≡ option_map value_as (option_map (λ (h : FileHeld). h.value) held)
+    by_held None = refl
+    by_held (Some held) = refl
+
+    of_file : (file : LimitFile)
+        → option_map (λ (inode : Inode). inode.value) (inode_named st top (FileName file)) ≡ option_map value_as (value_in row file)
+    of_file file =
+        ap (λ (row : Option Cgroup). option_map (λ (inode : Inode). inode.value)
+        (seen (option_and_then (λ (row : Cgroup). entry_in row (FileName file)) row)
+        (elim (option_and_then (λ (row : Cgroup). value_in row file) row) as (λ (_ : Option Held). Value)
+        [ None ↦ Unknown | Some value ↦ value_as value ]))) is
+        ∙ by_held (file_of row file)
 
 -- ---- moves, forks and exits
 
@@ -449,7 +444,7 @@ module _ (st : State) (user : Identity) (formed : IsWellFormed st) where
         by_file path Control = plain-same path SubtreeControl refl
         by_file path (LimitAt place) = written path place
 
-  set-step : (at : Names) (file : LimitFile) (value : Limit) → set_bars st user at file value ≡ []
+  set-step : (at : Names) (file : LimitFile) (value : Held) → set_bars st user at file value ≡ []
       → (act : Act) × IsStep (view st) user act (view (with_value st at file value))
   set-step at file value free =
       let access = no_parts _ _ (no_parts _ _ free).0 in
@@ -464,32 +459,12 @@ module _ (st : State) (user : Identity) (formed : IsWellFormed st) where
       no_unless _ _ (no_present (file_at st at file) (λ f. unless (writes user f.entry) (NoAccess (length at) (FileName file))) access.1
       held.0 of_file) in
       write-step (with_value st at file value) at (FileName file) held.0.entry (named_file file)
-      (entry_at-file st at file ∙ ap (option_map (λ (f : LimitEntry). f.entry)) of_file) can
+      (entry_at-file st at file ∙ ap (option_map (λ (f : FileHeld). f.entry)) of_file) can
       (λ q other. entry_at-with_value st at file value q other)
       (λ q other apart. value-same st (with_value st at file value) q other
       (λ one. value_at-with_value st at file value q one
-      ∙ ap (λ b. cond (b && same_file file one) (option_map (λ _. value) (value_at st q one)) (value_at st q one)) apart) (λ one. refl))
+      ∙ ap (λ b. cond (b && same_file file one) (option_map (λ _. value) (value_at st q one)) (value_at st q one)) apart))
       (paths_of-with_value st at file value) (λ pid. refl)
-
-  set_other-step : (at : Names) (file : OtherFile) (value : FileText) → set_other_bars st user at file ≡ []
-      → (act : Act) × IsStep (view st) user act (view (with_text st at file value))
-  set_other-step at file value free =
-      let access = no_parts _ _ free in
-      let there = no_parts _ _ access.0 in
-      let row = some_value (row_at st at) (no_absent (row_at st at) (NoSuchCgroup (length at)) there.0) in
-      let stands =
-      no_absent (file_told st at file) (NoSuchFile (Other file))
-      (no_present (row_at st at) (λ r. absent (file_told st at file) (NoSuchFile (Other file))) there.1 row.0 row.1) in
-      let held = some_value (file_told st at file) stands in
-      let can =
-      no_unless _ _ (no_present (file_told st at file) (λ told. unless (writes user told.entry) (NoAccess (length at) (Other file)))
-      access.1 held.0 held.1) in
-      write-step (with_text st at file value) at (Other file) held.0.entry (named_other file)
-      (ap (option_map (λ (told : ToldFile). told.entry)) held.1) can
-      (λ q other. entry_at-with_text st at file value q other)
-      (λ q other apart. value-same st (with_text st at file value) q other (λ one. refl)
-      (λ one. told_text-with_text st at file value q one (ap (λ b. b && same_other file one) apart)))
-      refl (λ pid. refl)
 
   -- ---- modes
 
@@ -515,8 +490,7 @@ module _ (st : State) (user : Identity) (formed : IsWellFormed st) where
           }) (inode_named st q other)) (inode_named st q other)
       by_name entry is q other =
           (λ i. seen (entry_at-with_mode st at name mode q other i)
-          (value-same st (with_mode st at name mode) q other (λ file. value_at-with_mode st at name mode q file)
-          (λ file. told_text-with_mode st at name mode q file) i))
+          (value-same st (with_mode st at name mode) q other (λ file. value_at-with_mode st at name mode q file) i))
           ∙ elim (same_path at q && same_entry name other) as (λ b. (same_path at q && same_entry name other) ≡ b
           → seen (cond b (option_map (with_mode_of mode) (entry_at st q other)) (entry_at st q other)) (value_there st q other)
           ≡ cond b (option_map (λ (inode : Inode). record inode { entry = record inode.entry { gid = entry.gid; mode = mode } })
@@ -571,10 +545,13 @@ module _ (st : State) (user : Identity) (formed : IsWellFormed st) where
   -- ---- cgroups made and removed
 
   -- a limit that isn't met leaves room
-  room-under : (limit : Limit) (count more : ℕ) → more ≤ 1 + count → is_under count limit ≡ true
-      → leaves_room (Some (value_as limit)) more ≡ true
-  room-under Max count more few under = refl
-  room-under (At most) count more few under =
+  room-under : (value : Option Held) (count more : ℕ) → more ≤ 1 + count → is_under count (option_and_then most_of value) ≡ true
+      → leaves_room (option_map value_as value) more ≡ true
+  room-under None count more few under = refl
+  room-under (Some NotKnown) count more few under = refl
+  room-under (Some Max) count more few under = refl
+  room-under (Some (Words text)) count more few under = refl
+  room-under (Some (Most most)) count more few under =
       let less : count < most = ltb-true count most under in le-leb more most (omega (arith, few, less))
 
   room-above : (path : Names) → mkdir_bars st user path ≡ [] → (len : ℕ) → len ≤ length path → has_room_above (view st) path len ≡ true
@@ -590,15 +567,15 @@ module _ (st : State) (user : Identity) (formed : IsWellFormed st) where
       let level =
       no_present (row_at st top) _ (limits-asked st user path free len (omega (arith, within))) row.0 row.1 in
       let both =
-      no_parts (unless (is_under (count_below st top) row.0.max_descendants.value) (DescendantLimit len))
-      (unless (is_under (length path - 1 - len) row.0.max_depth.value) (DepthLimit len)) level in
+      no_parts (unless (is_under (count_below st top) (most_in row.0 MaxDescendants)) (DescendantLimit len))
+      (unless (is_under (length path - 1 - len) (most_in row.0 MaxDepth)) (DepthLimit len)) level in
       let limits = limits-there st top row.0 row.1 in
       let wide : leaves_room (value_of (view st) top 0) (1 + count_below st top) ≡ true =
       ap (λ (found : Option Value). leaves_room found (1 + count_below st top)) limits.0
-      ∙ room-under row.0.max_descendants.value (count_below st top) (1 + count_below st top) (omega arith) (no_unless _ _ both.0) in
+      ∙ room-under (value_in row.0 MaxDescendants) (count_below st top) (1 + count_below st top) (omega arith) (no_unless _ _ both.0) in
       let deep : leaves_room (value_of (view st) top 1) (length path - len) ≡ true =
       ap (λ (found : Option Value). leaves_room found (length path - len)) limits.1
-      ∙ room-under row.0.max_depth.value (length path - 1 - len) (length path - len) (omega (arith, within)) (no_unless _ _ both.1) in
+      ∙ room-under (value_in row.0 MaxDepth) (length path - 1 - len) (length path - len) (omega (arith, within)) (no_unless _ _ both.1) in
       and_from _ _ (and_from _ _ wide deep) (room-above path free len (omega (arith, within)))
 
   mkdir-step : (path : Names) → mkdir_bars st user path ≡ []
@@ -619,7 +596,7 @@ module _ (st : State) (user : Identity) (formed : IsWellFormed st) where
                   | true ↦ λ same. ap (λ p. inode_there new p file) (sym (same_path-is path q same))
                   | false ↦ λ apart. files-same st new q (λ name. inode-same st new q name (entry_at-with_row st path row q name apart)
                       (value-same st new q name (λ one. value_at-with_row st path row q one
-                      ∙ ap (λ b. cond b (value_in row one) (value_at st q one)) apart) (λ one. refl))) file
+                      ∙ ap (λ b. cond b (value_in row one) (value_at st q one)) apart))) file
                 ] refl;
             places = λ pid. refl;
           };
@@ -682,8 +659,7 @@ module _ (st : State) (user : Identity) (formed : IsWellFormed st) where
             | true ↦ λ _. refl
             | false ↦ λ apart.
                 ap (seen (entry_at st q name)) (value-same st (without_row st path) q name
-                (λ one. value_at-without_row st path q one ∙ ap (λ b. cond b None (value_at st q one)) apart)
-                (λ one. told_text-without_row st path q one ∙ ap (λ b. cond b None (told_text st q one)) apart))
+                (λ one. value_at-without_row st path q one ∙ ap (λ b. cond b None (value_at st q one)) apart))
           ] refl
 
       by_file : (path q : Names) (file : File)
@@ -736,10 +712,8 @@ module _ (st : State) (user : Identity) (formed : IsWellFormed st) where
       entry-kept enabled q apart SubtreeControl = entry_at-with_enabled-subtree_control st at enabled user q
       entry-kept enabled q apart (FileName file) =
           entry_at-file (with_enabled st at enabled user) q file
-          ∙ ap (option_map (λ (f : LimitEntry). f.entry)) (file_at-with_enabled-other st at enabled user q apart file)
+          ∙ ap (option_map (λ (f : FileHeld). f.entry)) (file_at-with_enabled-other st at enabled user q apart file)
           ∙ sym (entry_at-file st q file)
-      entry-kept enabled q apart (Other file) =
-          entry_at-with_enabled-beyond st at enabled user q file (ap (λ b. b && is_some (brought_by file)) apart)
 
       kept : (enabled : ControllerSet) (q : Names) → is_child at q ≡ false → (name : EntryName)
           → inode_named (with_enabled st at enabled user) q name ≡ inode_named st q name
@@ -747,9 +721,8 @@ module _ (st : State) (user : Identity) (formed : IsWellFormed st) where
           inode-same st (with_enabled st at enabled user) q name (entry-kept enabled q apart name)
           (value-same st (with_enabled st at enabled user) q name
           (λ file. value_at-file (with_enabled st at enabled user) q file
-          ∙ ap (option_map (λ (f : LimitEntry). f.value)) (file_at-with_enabled-other st at enabled user q apart file)
-          ∙ sym (value_at-file st q file))
-          (λ file. told_text-with_enabled st at enabled user q file (ap (λ b. b && is_some (brought_by file)) apart)))
+          ∙ ap (option_map (λ (f : FileHeld). f.value)) (file_at-with_enabled-other st at enabled user q apart file)
+          ∙ sym (value_at-file st q file)))
 
       by_file : (enabled : ControllerSet) (q : Names) (file : File)
           → inode_there (with_enabled st at enabled user) q file
@@ -775,7 +748,6 @@ module _ (st : State) (user : Identity) (formed : IsWellFormed st) where
   step-of (op.Mkdir path) free = mkdir-step path free
   step-of (op.Rmdir path) free = rmdir-step path free
   step-of (op.Set at file value) free = set-step at file value free
-  step-of (op.SetOther at file value) free = set_other-step at file value free
   step-of (op.Chmod at name mode) free = chmod-step at name mode free
   step-of (op.Fork parent child) free = fork-step parent child free
   step-of (op.Exit pid) free = exit-step pid
