@@ -7,16 +7,15 @@ use Rattle.cg_cgroup.specs.Identity.{Identity}
 use Rattle.cg_cgroup.specs.Users.{writes}
 use Rattle.cg_cgroup.specs.Files.{enables_nothing}
 use Rattle.cg_cgroup.specs.Cgroups.{file_of, entry_in}
-use Rattle.cg_cgroup.specs.declared.files.Limit.{Limit}
+use Rattle.cg_cgroup.specs.declared.value.Value.{Value}
 use Rattle.cg_cgroup.specs.declared.files.LimitFile.{LimitFile}
-use Rattle.cg_cgroup.specs.declared.other_file.OtherFile.{OtherFile}
-use Rattle.cg_cgroup.specs.declared.files.EntryName.TheVariants.{Dir, Procs, SubtreeControl, File, Other}
+use Rattle.cg_cgroup.specs.declared.files.EntryName.TheVariants.{Dir, Procs, SubtreeControl, File}
 use Rattle.cg_cgroup.specs.declared.cgroup.Cgroup.{Cgroup}
 use Rattle.cg_cgroup.proofs.Options.{some_value}
-use Rattle.cg_model.specs.States.{State, row_at, file_at, file_told, place_at}
+use Rattle.cg_model.specs.States.{State, row_at, file_at, place_at}
 use Rattle.cg_model.specs.WellFormed.{has_row}
 use Rattle.cg_model.specs.Clauses.{unless, absent}
-use Rattle.cg_model.specs.Bars.{move_bars, changes_bars, control_bars, writes_above, mkdir_bars, rmdir_bars, set_bars, set_other_bars}
+use Rattle.cg_model.specs.Bars.{move_bars, changes_bars, control_bars, writes_above, mkdir_bars, rmdir_bars, set_bars}
 use Rattle.cg_model.specs.declared.changes.Change.{Change}
 use Rattle.cg_model.specs.declared.outcome.Refusal.TheVariants.{NoSuchFile, NoAccess}
 use Rattle.cg_model.proofs.Allowed.{allowed_mkdir, allowed_rmdir}
@@ -70,7 +69,7 @@ module _ (st : State) (users : List Identity) (user : Identity) (named : Contain
 
   -- ---- a set
 
-  pub set-reaches : (at : Names) (file : LimitFile) (value : Limit) → set_bars st user at file value ≡ []
+  pub set-reaches : (at : Names) (file : LimitFile) (value : Value) → set_bars st user at file value ≡ []
       → is_reached st users at (File file) ≡ true
   set-reaches at file value free =
       let access = no_parts _ _ (no_parts _ _ free).0 in
@@ -86,21 +85,6 @@ module _ (st : State) (users : List Identity) (user : Identity) (named : Contain
       held.0 is) in
       reached st users user named at (File file) held.0.entry (entry_at-file st at file ∙ ap (option_map (λ f. f.entry)) is)
       (or_left _ _ can)
-
-  pub set_other-reaches : (at : Names) (file : OtherFile) → set_other_bars st user at file ≡ []
-      → is_reached st users at (Other file) ≡ true
-  set_other-reaches at file free =
-      let access = no_parts _ _ free in
-      let names = no_parts _ _ access.0 in
-      let row = some_value (row_at st at) (no_absent (row_at st at) _ names.0) in
-      let stands =
-      no_absent (file_told st at file) _
-      (no_present (row_at st at) (λ r. absent (file_told st at file) (NoSuchFile (Other file))) names.1 row.0 row.1) in
-      let held = some_value (file_told st at file) stands in
-      let can =
-      no_unless _ _ (no_present (file_told st at file) (λ told. unless (writes user told.entry) (NoAccess (length at) (Other file)))
-      access.1 held.0 held.1) in
-      reached st users user named at (Other file) held.0.entry (ap (option_map (λ told. told.entry)) held.1) (or_left _ _ can)
 
   -- ---- a move
 

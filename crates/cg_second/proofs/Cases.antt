@@ -8,11 +8,10 @@ use Rattle.cg_cgroup.specs.Users.{reaches}
 use Rattle.cg_cgroup.specs.Files.{enables}
 use Rattle.cg_cgroup.specs.declared.files.Controller.{Controller}
 use Rattle.cg_cgroup.specs.declared.files.LimitFile.{LimitFile}
-use Rattle.cg_cgroup.specs.declared.other_file.OtherFile.{OtherFile}
 use Rattle.cg_cgroup.specs.declared.files.LimitFile.TheVariants.{MaxDescendants, MaxDepth}
 use Rattle.cg_cgroup.specs.declared.files.Controller.TheVariants.{Memory}
 use Rattle.cg_cgroup.specs.declared.files.EntryName.{EntryName}
-use Rattle.cg_cgroup.specs.declared.files.EntryName.TheVariants.{Dir, Procs, SubtreeControl, File, Other}
+use Rattle.cg_cgroup.specs.declared.files.EntryName.TheVariants.{Dir, Procs, SubtreeControl, File}
 use Rattle.cg_cgroup.proofs.PathOrder.{same_path-is, same_path_refl}
 use Rattle.cg_cgroup.proofs.PathParents.{inside-is, inside-take}
 use Rattle.cg_model.specs.States.{State}
@@ -22,7 +21,7 @@ use Rattle.cg_model.specs.Strangers.{GuardsHoldForAll}
 use Rattle.cg_model.proofs.TreeLaws.{inside-parts}
 use Rattle.cg_laws.specs.Guarding.{AreUnreached}
 use Rattle.cg_laws.specs.Sound.{IsSound}
-use Rattle.cg_laws.proofs.GuardedEntries.{Holding, holding, ancestors-has, limit_files-has, limit_files-has_other, contains-alone, not_reached}
+use Rattle.cg_laws.proofs.GuardedEntries.{Holding, holding, ancestors-has, limit_files-has, contains-alone, not_reached}
 use Rattle.cg_laws.proofs.RunLaws.{a_member}
 use Rattle.cg_laws.proofs.Sound.{take-there}
 use Rattle.cg_second.specs.Lasting.{is_reached, Lasting, IsLasting, IsNeverRemoved, IsNeverDisabled, TakesNone, GrowsNone}
@@ -55,12 +54,6 @@ module _ (st : State) (users : List Identity) (subtree : Names) (sound : IsSound
       subst (λ p. is_reached st users p (File file) ≡ false) (take_all (length subtree) subtree (omega arith))
       (out (limit_files (length subtree)) (λ user named. (held user named).limit_files) (limit_file (length subtree) (File file))
       (limit_files-has subtree file))
-
-  at_beyond : (file : OtherFile) → is_reached st users subtree (Other file) ≡ false
-  at_beyond file =
-      subst (λ p. is_reached st users p (Other file) ≡ false) (take_all (length subtree) subtree (omega arith))
-      (out (limit_files (length subtree)) (λ user named. (held user named).limit_files) (limit_file (length subtree) (Other file))
-      (limit_files-has_other subtree file))
 
   at_procs : (top : Names) → below top subtree ≡ true → is_reached st users top Procs ≡ false
   at_procs top lower =
@@ -120,7 +113,6 @@ module _ (st : State) (users : List Identity) (subtree : Names) (sound : IsSound
           stays = ap (λ p. inside p subtree) (sym (take_all (length subtree) subtree (omega arith))) ∙ inside-take (length subtree) subtree;
           control = λ controller. either controller (enables (enabled_at st (parent subtree)) controller) refl;
           files = at_file;
-          beyond = at_beyond;
           edge = λ top lower can path there where_to. absurd (true≢false (sym can ∙ at_procs top lower));
           descendants = of_one.descendants;
           depth = of_one.depth;
@@ -184,7 +176,6 @@ module _ (st : State) (users fewer : List Identity) (among : (user : Identity) �
       stays = fast.stays;
       control = fast.control;
       files = λ file. less subtree (File file) (fast.files file);
-      beyond = λ file. less subtree (Other file) (fast.beyond file);
       edge = λ top lower can path there where_to.
           let shut = fast.edge top lower (more top Procs can) path there where_to in
           (takes-fewer lasting path shut.0, grows-fewer lasting path shut.1);

@@ -1,14 +1,16 @@
 -- No user makes a cgroup in one that is full.
-use Rattle.std.proofs.Common.{◌≡◌, ℕ, ◌+◌, ◌-◌, ◌<◌, ◌≤◌, Bool, true, false, ◌&&◌, cond, List, [], ◌∷◌, length, take, count_by, refl, sym, ap, ◌∙◌, option_and_then, ⊎_elim, arith, take-take, ltb-true, true≢false}
+use Rattle.std.proofs.Common.{Some, ◌≡◌, ℕ, ◌+◌, ◌-◌, ◌<◌, ◌≤◌, Bool, true, false, ◌&&◌, cond, List, [], ◌∷◌, length, take, count_by, refl, sym, ap, ◌∙◌, option_and_then, ⊎_elim, arith, take-take, ltb-true, true≢false}
 use Rattle.std.proofs.lemmas.Bool.{and_parts}
 use Rattle.std.proofs.lemmas.List.Recursion.{is_count_by}
 use Rattle.cg_cgroup.specs.Paths.{Names, parent, below}
 use Rattle.cg_cgroup.specs.Identity.{Identity}
 use Rattle.cg_cgroup.specs.Cgroups.{value_in}
-use Rattle.cg_cgroup.specs.declared.files.Limit.{Limit}
-use Rattle.cg_cgroup.specs.declared.files.Limit.TheVariants.{At}
+use Rattle.cg_cgroup.specs.declared.value.Value.{Value}
+use Rattle.cg_cgroup.specs.declared.value.Value.TheVariants.{Number}
+use Rattle.cg_cgroup.specs.Values.{most_of}
+use Rattle.cg_cgroup.specs.Cgroups.{most_in}
 use Rattle.cg_cgroup.specs.declared.files.LimitFile.TheVariants.{MaxDescendants, MaxDepth}
-use Rattle.cg_cgroup.proofs.Options.{some_value, same_some}
+use Rattle.cg_cgroup.proofs.Options.{some_value}
 use Rattle.cg_cgroup.proofs.PathParents.{length-parent}
 use Rattle.cg_model.specs.States.{State, row_at, paths_of, count_below}
 use Rattle.cg_model.specs.Clauses.{unless}
@@ -52,8 +54,9 @@ lasting-fewer : (st : State) (users : List Identity) (lasting : Lasting) (path :
 lasting-fewer st users lasting path =
     count_by-more (λ q. below path q && lasting.stays q) (below path) (λ q both. (and_parts (below path q) _ both).0) (paths_of st)
 
-under-most : (count most : ℕ) (limit : Limit) → limit ≡ At most → is_under count limit ≡ true → count < most
-under-most count most limit is under = ltb-true count most (sym (ap (is_under count) is) ∙ under)
+under-most : (count most : ℕ) (value : Option Value) → value ≡ Some (Number most) → is_under count (option_and_then most_of value) ≡ true
+    → count < most
+under-most count most value is under = ltb-true count most (sym (ap (λ value. is_under count (option_and_then most_of value)) is) ∙ under)
 
 pub full-bars : {P : Type 0} (st : State) (users : List Identity) (lasting : Lasting) → IsSound st → (user : Identity) (path : Names)
     → mkdir_bars st user path ≡ [] → IsFull st users lasting (parent path) → P
@@ -66,17 +69,17 @@ full-bars st users lasting sound user path free (len, short, most, why) =
     let level =
     no_present (row_at st (take len path)) _ (limits-asked st user path free len (omega arith)) row.0 (ap (row_at st) (sym is) ∙ row.1) in
     let both =
-    no_parts (unless (is_under (count_below st (take len path)) row.0.max_descendants.value) (DescendantLimit len))
-    (unless (is_under (length path - 1 - len) row.0.max_depth.value) (DepthLimit len)) level in
+    no_parts (unless (is_under (count_below st (take len path)) (most_in row.0 MaxDescendants)) (DescendantLimit len))
+    (unless (is_under (length path - 1 - len) (most_in row.0 MaxDepth)) (DepthLimit len)) level in
     ⊎_elim
     (λ count.
-    let limit = same_some _ _ (sym (ap (option_and_then (λ r. value_in r MaxDescendants)) row.1) ∙ count.0.1) in
-    let under = under-most _ most row.0.max_descendants.value limit
-    (ap (λ p. is_under (count_below st p) row.0.max_descendants.value) is ∙ no_unless _ _ both.0) in
+    let limit = sym (ap (option_and_then (λ r. value_in r MaxDescendants)) row.1) ∙ count.0.1 in
+    let under = under-most _ most (value_in row.0 MaxDescendants) limit
+    (ap (λ p. is_under (count_below st p) (most_in row.0 MaxDescendants)) is ∙ no_unless _ _ both.0) in
     let fewer = lasting-fewer st users lasting at in
     absurd (omega (arith, under, fewer, count.1)))
     (λ levels.
-    let limit = same_some _ _ (sym (ap (option_and_then (λ r. value_in r MaxDepth)) row.1) ∙ levels.0.1) in
-    let under = under-most (length path - 1 - len) most row.0.max_depth.value limit (no_unless _ _ both.1) in
+    let limit = sym (ap (option_and_then (λ r. value_in r MaxDepth)) row.1) ∙ levels.0.1 in
+    let under = under-most (length path - 1 - len) most (value_in row.0 MaxDepth) limit (no_unless _ _ both.1) in
     absurd (omega (arith, under, longer, levels.1)))
     why

@@ -260,7 +260,6 @@ module _ (st : State) (users : List Identity) (subtree : Names) (lasting : Lasti
         ⊎_elim (λ on. inl (on-greatest st users lasting fast.lasts (parent subtree) controller on))
         (λ off. inr (off-greatest st users lasting fast.lasts (parent subtree) controller off)) (fast.control controller);
     files = fast.files;
-    beyond = fast.beyond;
     edge = λ top lower can path there where_to.
         let shut = fast.edge top lower can path there where_to in (
           ⊎_elim inl (λ held. inr (held.0, disabled-greatest path Memory held.1)) shut.0,

@@ -1,23 +1,21 @@
 -- A step of one of the users for whom the second row holds.
-use Rattle.std.proofs.Common.{◌≡◌, ◌⊎◌, inl, inr, ℕ, ◌<◌, true, false, ◌&&◌, ◌||◌, List, [], length, refl, sym, ap, ◌∙◌, subst, true≢false, Some, is_some, option_map, option_and_then, ⊎_elim, lt-ltb}
+use Rattle.std.proofs.Common.{◌≡◌, ◌⊎◌, inl, inr, ℕ, ◌<◌, true, false, ◌&&◌, ◌||◌, List, [], length, refl, sym, ap, ◌∙◌, subst, true≢false, Some, is_some, option_map, ⊎_elim, lt-ltb}
 use Rattle.std.specs.List.{Contains}
 use Rattle.std.proofs.lemmas.Bool.{false_from_ne_true, true_from_ne_false, and_parts, and_from}
 use Rattle.cg_cgroup.specs.Paths.{Names, same_path, parent, inside, below, is_child, common}
 use Rattle.cg_cgroup.specs.Identity.{Identity}
-use Rattle.cg_cgroup.specs.Files.{enables, enables_nothing, stands_under, brought_by, same_file, same_other}
-use Rattle.cg_cgroup.specs.declared.files.Controller.{Controller}
+use Rattle.cg_cgroup.specs.Files.{enables, enables_nothing, stands_under, same_file}
 use Rattle.cg_cgroup.specs.declared.files.Controller.TheVariants.{Memory}
 use Rattle.cg_cgroup.specs.declared.controllers.ControllerSet.{ControllerSet}
 use Rattle.cg_cgroup.specs.declared.files.LimitFile.{LimitFile}
-use Rattle.cg_cgroup.specs.declared.other_file.OtherFile.{OtherFile}
-use Rattle.cg_cgroup.specs.declared.files.EntryName.TheVariants.{Procs, File, Other}
-use Rattle.cg_cgroup.proofs.CgroupLaws.{same_file-true, same_other-true}
+use Rattle.cg_cgroup.specs.declared.files.EntryName.TheVariants.{Procs, File}
+use Rattle.cg_cgroup.proofs.CgroupLaws.{same_file-true}
 use Rattle.cg_cgroup.proofs.ControllerLaws.{same_set, enables_nothing-enables}
 use Rattle.cg_cgroup.proofs.Options.{is_some-mapped}
 use Rattle.cg_cgroup.proofs.PathLaws.{common-inside_first, common_comm}
 use Rattle.cg_cgroup.proofs.PathOrder.{same_path-is}
 use Rattle.cg_cgroup.proofs.PathParents.{inside-is, parent-is_child}
-use Rattle.cg_model.specs.States.{State, place_at, file_at, other_at, entry_at, value_at, told_text, with_enabled}
+use Rattle.cg_model.specs.States.{State, place_at, file_at, value_at, with_enabled}
 use Rattle.cg_model.specs.WellFormed.{has_row, enabled_at}
 use Rattle.cg_model.specs.Changes.{enabled_after}
 use Rattle.cg_model.specs.Bars.{bars, move_bars, mkdir_bars}
@@ -26,22 +24,22 @@ use Rattle.cg_model.specs.Limits.{limits}
 use Rattle.cg_model.specs.Guards.{IsSubtree}
 use Rattle.cg_model.specs.declared.changes.Change.{Change}
 use Rattle.cg_model.specs.declared.operation.Op.{Op}
-use Rattle.cg_model.specs.declared.operation.Op.TheVariants.{Move, Control, Mkdir, Rmdir, Set, SetOther}
+use Rattle.cg_model.specs.declared.operation.Op.TheVariants.{Move, Control, Mkdir, Rmdir, Set}
 use Rattle.cg_model.proofs.Allowed.{allowed_mkdir, there_control}
 use Rattle.cg_model.proofs.FormedEnabled.{enabled_at-with_enabled-same}
 use Rattle.cg_model.proofs.FormedParts.{enabled_at-row}
-use Rattle.cg_model.proofs.StateEntries.{entry_at-file, value_at-file, file_at-with_enabled-other, file_at-with_enabled-same, other_at-with_enabled-other, other_at-with_enabled-same}
-use Rattle.cg_model.proofs.StepEffects.{has_row-after, value_at-after, other_at-after, told_text-after}
+use Rattle.cg_model.proofs.StateEntries.{entry_at-file, value_at-file, file_at-with_enabled-other, file_at-with_enabled-same}
+use Rattle.cg_model.proofs.StepEffects.{has_row-after, value_at-after}
 use Rattle.cg_model.proofs.StepFormed.{after-allowed}
 use Rattle.cg_laws.specs.Sound.{IsSound}
 use Rattle.cg_laws.proofs.Counts.{fits-after}
 use Rattle.cg_laws.proofs.Crossing.{StaysOnSide, common-above}
 use Rattle.cg_laws.proofs.Sound.{sound-after, take-there}
-use Rattle.cg_laws.proofs.Untouched.{there-other, told-with_enabled, beyond-with_enabled}
+use Rattle.cg_laws.proofs.Untouched.{there-other}
 use Rattle.cg_second.specs.Lasting.{is_reached, Lasting, IsLasting, TakesNone, GrowsNone}
 use Rattle.cg_second.specs.SecondRow.{IsHeldFast}
 use Rattle.cg_second.proofs.Reached.{KeepsFile, keeps_file, unreached-after, elsewhere}
-use Rattle.cg_second.proofs.Asked.{mkdir-reaches, set-reaches, set_other-reaches, move-takes, move-reaches}
+use Rattle.cg_second.proofs.Asked.{mkdir-reaches, set-reaches, move-takes, move-reaches}
 use Rattle.cg_second.proofs.Lasts.{row-stays, stays-there, lasting-after}
 use Rattle.cg_second.proofs.Rooms.{takes_none-after, grows_none-after}
 use Rattle.cg_second.proofs.Sides.{common-inside, inside-parent, common-parent}
@@ -52,8 +50,6 @@ pub record IsFirm (st : State) (users : List Identity) (subtree : Names) (lastin
   pub sound : IsSound st
   pub is : IsSubtree st subtree
   pub stand : (file : LimitFile) → is_some (file_at st subtree file) ≡ stands_under (enabled_at st (parent subtree)) file
-  pub others : (controller : Controller)
-      → is_some (other_at st subtree controller) ≡ enables (enabled_at st (parent subtree)) controller
   pub fast : IsHeldFast st users subtree lasting
 
 module _ (st : State) (users : List Identity) (user : Identity) (named : Contains users user) (subtree : Names) (lasting : Lasting)
@@ -106,52 +102,6 @@ module _ (st : State) (users : List Identity) (user : Identity) (named : Contain
           | false ↦ λ other. file_at-with_enabled-other st at enabled user subtree other file
         ] refl
 
-    other-kept : (controller : Controller)
-        → other_at (after st user (Control at changes)) subtree controller ≡ other_at st subtree controller
-    other-kept controller =
-        ap (λ s. other_at s subtree controller) moved
-        ∙ elim (is_child at subtree) as (λ b. is_child at subtree ≡ b
-        → other_at (with_enabled st at enabled user) subtree controller ≡ other_at st subtree controller) [
-          | true ↦ λ child. other_at-with_enabled-same st at enabled user subtree controller
-              (λ _. firm.others controller ∙ ap (λ set. enables set controller) (enabled-still child))
-          | false ↦ λ other. other_at-with_enabled-other st at enabled user subtree other controller
-        ] refl
-
-  module _ (at : Names) (changes : List Change) (free : bars st user (Control at changes) ≡ []) (file : OtherFile) where
-    stand-still : (controller : Controller) → brought_by file ≡ Some controller → is_child at subtree ≡ true
-        → is_some (other_at st subtree controller) ≡ enables (enabled at changes free) controller
-    stand-still controller by child = firm.others controller ∙ ap (λ set. enables set controller) (enabled-still at changes free child)
-
-    text-kept : told_text (after st user (Control at changes)) subtree file ≡ told_text st subtree file
-    text-kept =
-        ap (λ s. told_text s subtree file) (moved at changes free)
-        ∙ ap (option_and_then (λ told. told.value))
-        (told-with_enabled st at (enabled at changes free) user subtree firm.is.0 (sound.told subtree) file stand-still)
-
-    beyond-kept : entry_at (after st user (Control at changes)) subtree (Other file) ≡ entry_at st subtree (Other file)
-    beyond-kept =
-        ap (λ s. entry_at s subtree (Other file)) (moved at changes free)
-        ∙ beyond-with_enabled st at (enabled at changes free) user subtree firm.is.0 (sound.told subtree) file stand-still
-
-  keeps-beyond : (op : Op) → bars st user op ≡ [] → (file : OtherFile) → KeepsFile st user op subtree (Other file)
-  keeps-beyond (Control at changes) free file = beyond-kept at changes free file
-  keeps-beyond op free file = tt
-
-  text-same : (op : Op) → bars st user op ≡ [] → (file : OtherFile)
-      → told_text (after st user op) subtree file ≡ told_text st subtree file
-  text-same (Control at changes) free file = text-kept at changes free file
-  text-same (SetOther at written value) free file =
-      told_text-after st user (SetOther at written value) subtree file
-      (false_from_ne_true (same_path at subtree && same_other written file) (λ both.
-      let parts = and_parts (same_path at subtree) (same_other written file) both in
-      true≢false (sym (set_other-reaches st users user named at written free)
-      ∙ (λ i. is_reached st users (same_path-is at subtree parts.0 i) (Other (same_other-true written file parts.1 i)))
-      ∙ fast.beyond file)))
-  text-same (Rmdir removed) free file =
-      told_text-after st user (Rmdir removed) subtree file
-      (row-stays st users user named lasting fast.lasts sound (Rmdir removed) free subtree fast.stays)
-  text-same op free file = told_text-after st user op subtree file refl
-
   keeps : (op : Op) → bars st user op ≡ [] → (file : LimitFile) → KeepsFile st user op subtree (File file)
   keeps (Control at changes) free file =
       entry_at-file (after st user (Control at changes)) subtree file ∙ ap (option_map (λ f. f.entry)) (file-kept at changes free file)
@@ -177,28 +127,8 @@ module _ (st : State) (users : List Identity) (user : Identity) (named : Contain
       (row-stays st users user named lasting fast.lasts sound (Rmdir removed) free subtree fast.stays)
   value-same op free file = value_at-after st user op subtree file refl
 
-  other-same : (op : Op) → bars st user op ≡ [] → (controller : Controller)
-      → other_at (after st user op) subtree controller ≡ other_at st subtree controller
-  other-same (Control at changes) free controller = other-kept at changes free controller
-  other-same (Mkdir made) free controller =
-      other_at-after st user (Mkdir made) subtree controller (there-other st made subtree (allowed_mkdir st user made free).0 firm.is.0)
-  other-same (Rmdir removed) free controller =
-      other_at-after st user (Rmdir removed) subtree controller
-      (row-stays st users user named lasting fast.lasts sound (Rmdir removed) free subtree fast.stays)
-  other-same op free controller = other_at-after st user op subtree controller refl
-
   pub limits-after : (op : Op) → bars st user op ≡ [] → limits (after st user op) subtree ≡ limits st subtree
-  limits-after op free =
-      λ i. record {
-        values = λ file. value-same op free file i;
-        others = λ controller. is_some (other-same op free controller i);
-        told = λ file. text-same op free file i;
-      }
-
-  others-after : (op : Op) → bars st user op ≡ [] → (controller : Controller)
-      → is_some (other_at (after st user op) subtree controller) ≡ enables (enabled_at (after st user op) (parent subtree)) controller
-  others-after op free controller =
-      ap is_some (other-same op free controller) ∙ firm.others controller ∙ ap (λ set. enables set controller) (sym (enabled-same op free))
+  limits-after op free = λ i file. value-same op free file i
 
   stand-after : (op : Op) → bars st user op ≡ [] → (file : LimitFile)
       → is_some (file_at (after st user op) subtree file) ≡ stands_under (enabled_at (after st user op) (parent subtree)) file
@@ -318,14 +248,11 @@ module _ (st : State) (users : List Identity) (user : Identity) (named : Contain
         sound = sound-after st user op sound;
         is = (there-after op free, firm.is.1);
         stand = stand-after op free;
-        others = others-after op free;
         fast = record {
           lasts = lasts-after op free;
           stays = fast.stays;
           control = fast.control;
           files = λ file. unreached-after st users user named subtree (File file) firm.is.0 (fast.files file) op free (keeps op free file);
-          beyond = λ file.
-              unreached-after st users user named subtree (Other file) firm.is.0 (fast.beyond file) op free (keeps-beyond op free file);
           edge = edge-after op free;
           descendants = fits.0;
           depth = fits.1;

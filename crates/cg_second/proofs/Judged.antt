@@ -4,14 +4,13 @@ use Rattle.std.specs.List.{list_all, list_any}
 use Rattle.std.proofs.lemmas.Bool.{and_parts, and_cases, and_from, or_left, or_right, or_cases, not-true, not_from_false, true_from_ne_false, cases_lt}
 use Rattle.cg_cgroup.specs.Paths.{Names, same_path, parent, inside, below, is_child, common}
 use Rattle.cg_cgroup.specs.Identity.{Identity}
-use Rattle.cg_cgroup.specs.Files.{all_files, all_others}
+use Rattle.cg_cgroup.specs.Files.{all_files}
 use Rattle.cg_cgroup.specs.declared.files.Controller.{Controller}
 use Rattle.cg_cgroup.specs.declared.files.Controller.TheVariants.{Memory}
-use Rattle.cg_cgroup.specs.declared.files.Limit.{Limit}
-use Rattle.cg_cgroup.specs.declared.files.Limit.TheVariants.{Max, At}
-use Rattle.cg_cgroup.specs.declared.files.EntryName.TheVariants.{Procs, File, Other}
+use Rattle.cg_cgroup.specs.declared.value.Value.{Value}
+use Rattle.cg_cgroup.specs.declared.value.Value.TheVariants.{Unknown, Max, Number, Text}
+use Rattle.cg_cgroup.specs.declared.files.EntryName.TheVariants.{Procs, File}
 use Rattle.cg_cgroup.proofs.AllFiles.{each_passes, all_pass}
-use Rattle.cg_cgroup.proofs.AllOthers.{each_other, others_pass}
 use Rattle.cg_cgroup.proofs.ControllerLaws.{each_controller, all_controllers_pass}
 use Rattle.cg_cgroup.proofs.PathOrder.{same_path-is, same_path_refl}
 use Rattle.cg_cgroup.proofs.PathParents.{inside-is, inside-take}
@@ -23,10 +22,12 @@ use Rattle.cg_second.specs.Greatest.{greatest}
 use Rattle.cg_second.specs.Judged.{is_at_most, is_never_disabled, is_full_by, is_full_to, takes_none, grows_none, is_closed_at, is_closed_to, is_held_fast, second_row}
 use Rattle.cg_second.proofs.Greatest.{row-any, any-row, child_found, greatest-lasts, by-greatest}
 
-most_of : (count : ℕ) (limit : Option Limit) → is_at_most count limit ≡ true → (most : ℕ) × (limit ≡ Some (At most)) × (most ≤ count)
+most_of : (count : ℕ) (value : Option Value) → is_at_most count value ≡ true → (most : ℕ) × (value ≡ Some (Number most)) × (most ≤ count)
 most_of count None h = absurd (true≢false (sym h))
+most_of count (Some Unknown) h = absurd (true≢false (sym h))
 most_of count (Some Max) h = absurd (true≢false (sym h))
-most_of count (Some (At most)) h = (most, refl, leb-true most count h)
+most_of count (Some (Text text)) h = absurd (true≢false (sym h))
+most_of count (Some (Number most)) h = (most, refl, leb-true most count h)
 
 -- a test of each cgroup that is there
 each_row : (st : State) (test : Names → Bool) → list_all test (paths_of st) ≡ true → (path : Names) → has_row st path ≡ true
@@ -158,7 +159,6 @@ module _ (st : State) (users : List Identity) (lasting : Lasting)
       let stay = and_parts _ _ h in
       let control = and_parts _ _ stay.1 in
       let files = and_parts _ _ control.1 in
-      let spared = and_parts _ _ files.0 in
       let edge = and_parts _ _ files.1 in
       let fits = and_parts _ _ edge.1 in
       record {
@@ -166,8 +166,7 @@ module _ (st : State) (users : List Identity) (lasting : Lasting)
         stays = stay.0;
         control = λ controller. ⊎_elim inl inr (or_cases _ _ (each_controller
             (λ c. lasting.on (parent subtree) c || lasting.off (parent subtree) c) control.0 controller));
-        files = λ file. not-true _ (each_passes (λ f. not (is_reached st users subtree (File f))) spared.0 file);
-        beyond = λ file. not-true _ (each_other (λ f. not (is_reached st users subtree (Other f))) spared.1 file);
+        files = λ file. not-true _ (each_passes (λ f. not (is_reached st users subtree (File f))) files.0 file);
         edge = λ top lower.
             let parts = and_parts _ _ lower in
             shut-at subtree top (ap (is_closed_at st users lasting subtree) (sym (inside-is top subtree parts.0))
@@ -210,8 +209,7 @@ module _ (st : State) (users : List Identity) (lasting : Lasting)
         and_from _ _ fast.stays
         (and_from _ _ (all_controllers_pass _ (λ controller. ⊎_elim (or_left _ _) (or_right _ _) (fast.control controller)))
         (and_from _ _
-        (and_from _ _ (all_pass _ (λ file. not_from_false _ (fast.files file)) all_files)
-        (others_pass _ (λ file. not_from_false _ (fast.beyond file)) all_others))
+        (all_pass _ (λ file. not_from_false _ (fast.files file)) all_files)
         (and_from _ _ (to-closed (length subtree) (omega arith)) (and_from _ _ fast.descendants fast.depth))))
 
 pub judged : (st : State) (users : List Identity) (subtree : Names)

@@ -1,12 +1,13 @@
 -- The least level at which a limit lets nobody make a cgroup, from one cgroup to the next in the order of their paths.
 use Rattle.std.proofs.Common.{◌≡◌, ℕ, zero, suc, ◌+◌, ◌-◌, ◌≤◌, ◌<◌, Bool, true, false, not, ◌&&◌, ◌||◌, List, [], ◌∷◌, ◌++◌, length, take, get_or, min, refl, sym, ap, ◌∙◌, ⊎_elim, arith, take_all, take-take, lt-ltb, length-take-le}
-use Rattle.std.specs.Prelude.{nat_le, Option, Some, None}
+use Rattle.std.specs.Prelude.{nat_le, cond, option_and_then, Option, Some, None}
 use Rattle.std.proofs.lemmas.Bool.{and_parts, and_from, or_left, or_right, cases_lt, ltb-true, le-leb, lt-leb}
 use Rattle.std.proofs.lemmas.List.{get_or_append_left, get_or_at, get_or-take, length-append}
 use Rattle.cg_cgroup.specs.Paths.{Names, inside, below, parent}
 use Rattle.cg_cgroup.specs.Identity.{Identity}
-use Rattle.cg_cgroup.specs.declared.files.Limit.{Limit}
-use Rattle.cg_cgroup.specs.declared.files.Limit.TheVariants.{Max, At}
+use Rattle.cg_cgroup.specs.declared.value.Value.{Value}
+use Rattle.cg_cgroup.specs.declared.value.Value.TheVariants.{Unknown, Max, Number, Text}
+use Rattle.cg_cgroup.specs.Values.{most_of}
 use Rattle.cg_cgroup.specs.declared.files.LimitFile.{LimitFile}
 use Rattle.cg_cgroup.specs.declared.files.LimitFile.TheVariants.{MaxDepth}
 use Rattle.cg_cgroup.specs.declared.files.EntryName.TheVariants.{File}
@@ -17,7 +18,7 @@ use Rattle.cg_laws.proofs.Sound.{sound-formed, take-there}
 use Rattle.cg_second.specs.Lasting.{is_reached}
 use Rattle.cg_second.specs.Judged.{is_at_most, is_bound}
 use Rattle.cg_second.specs.Exposed.{is_deep_to}
-use Rattle.cg_second.specs.Room.{number_unless, fixed_limit, level_under, least_level, AreLeast}
+use Rattle.cg_second.specs.Room.{fixed_limit, level_under, least_level, AreLeast}
 use Rattle.cg_second.proofs.Ranges.{below-until, row-at}
 use Rattle.cg_second.proofs.Crowds.{place-of, stands-before}
 
@@ -27,14 +28,20 @@ abbrev pub is_within : ℕ → Option ℕ → Bool
 is_within count (Some most) = nat_le most count
 is_within count None = false
 
-within-is : (reached : Bool) (value : Option Limit) (count : ℕ)
-    → (not reached && is_at_most count value) ≡ is_within count (number_unless reached value)
-within-is true (Some (At most)) count = refl
-within-is false (Some (At most)) count = refl
-within-is true (Some Max) count = refl
+within-is : (reached : Bool) (value : Option Value) (count : ℕ)
+    → (not reached && is_at_most count value) ≡ is_within count (cond reached None (option_and_then most_of value))
+within-is true value count = refl
+within-is false (Some (Number most)) count = refl
+within-is false (Some Unknown) count = refl
 within-is false (Some Max) count = refl
-within-is true None count = refl
+within-is false (Some (Text text)) count = refl
 within-is false None count = refl
+
+pub none_fixed : (st : State) (users : List Identity) (path : Names) (file : LimitFile)
+    → None ≡ option_and_then most_of (value_at st path file) → None ≡ fixed_limit st users path file
+none_fixed st users path file none =
+    elim (is_reached st users path (File file)) as
+    (λ b. ◌≡◌ {A = Option ℕ} None (cond b None (option_and_then most_of (value_at st path file)))) [ true ↦ refl | false ↦ none ]
 
 pub bound-within : (st : State) (users : List Identity) (path : Names) (file : LimitFile) (count : ℕ)
     → is_bound st users path file count ≡ is_within count (fixed_limit st users path file)

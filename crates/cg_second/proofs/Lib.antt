@@ -19,4 +19,4 @@ pub mod Edges
 pub mod Levels
 pub mod Closing
 pub mod Rows
-pub mod Untold
+pub mod Unnamed

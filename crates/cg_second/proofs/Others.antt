@@ -5,11 +5,10 @@ use Rattle.std.specs.FinSet as set
 use Rattle.std.specs.Ordering.{nat_cmp}
 use Rattle.cg_cgroup.specs.Paths.{Names, parent}
 use Rattle.cg_cgroup.specs.Identity.{Identity}
-use Rattle.cg_cgroup.specs.Files.{enables, stands_under}
-use Rattle.cg_cgroup.specs.declared.files.Controller.{Controller}
+use Rattle.cg_cgroup.specs.Files.{stands_under}
 use Rattle.cg_cgroup.specs.declared.files.LimitFile.{LimitFile}
 use Rattle.cg_cgroup.specs.declared.process.Process.{Process}
-use Rattle.cg_model.specs.States.{State, process_at, file_at, other_at}
+use Rattle.cg_model.specs.States.{State, process_at, file_at}
 use Rattle.cg_model.specs.WellFormed.{has_row, enabled_at}
 use Rattle.cg_model.specs.Next.{next}
 use Rattle.cg_model.specs.Steps.{after}
@@ -41,7 +40,6 @@ module _ (st : State) (users : List Identity) (subtree : Names) (lasting : Lasti
     stays = fast.stays;
     control = fast.control;
     files = fast.files;
-    beyond = fast.beyond;
     edge = fast.edge;
     descendants = fast.descendants;
     depth = fast.depth;
@@ -52,27 +50,26 @@ module _ (st : State) (users : List Identity) (subtree : Names) (lasting : Lasti
   Rest s =
       (has_row s subtree ≡ true)
       × ((file : LimitFile) → is_some (file_at s subtree file) ≡ stands_under (enabled_at s (parent subtree)) file)
-      × ((controller : Controller) → is_some (other_at s subtree controller) ≡ enables (enabled_at s (parent subtree)) controller)
       × IsHeldFast s users subtree lasting
 
   rest-next : (user : Identity) (op : Op) → is_of_processes op ≡ true → Rest st → Rest (next st user op)
-  rest-next user (Move pid to) h rest = (rest.0, rest.1, rest.2, fast-with_processes _ _ rest.3)
+  rest-next user (Move pid to) h rest = (rest.0, rest.1, fast-with_processes _ _ rest.2)
   rest-next user (Fork parent child) h rest =
-      fork-by Rest st child (process_at st parent) rest (λ process. (rest.0, rest.1, rest.2, fast-with_processes _ _ rest.3))
-  rest-next user (Exit pid) h rest = (rest.0, rest.1, rest.2, fast-with_processes _ _ rest.3)
+      fork-by Rest st child (process_at st parent) rest (λ process. (rest.0, rest.1, fast-with_processes _ _ rest.2))
+  rest-next user (Exit pid) h rest = (rest.0, rest.1, fast-with_processes _ _ rest.2)
   rest-next user op h rest = absurd (true≢false (sym h))
 
   pub firm-others : (user : Identity) (op : Op) → is_of_processes op ≡ true → IsFirm st users subtree lasting
       → IsFirm (after st user op) users subtree lasting
   firm-others user op h firm =
-      let was : Rest st = (firm.is.0, firm.stand, firm.others, firm.fast) in
+      let was : Rest st = (firm.is.0, firm.stand, firm.fast) in
       let rest = after-by st user op Rest (λ _. rest-next user op h was) was in
-      record { sound = sound-after st user op firm.sound; is = (rest.0, firm.is.1); stand = rest.1; others = rest.2; fast = rest.3 }
+      record { sound = sound-after st user op firm.sound; is = (rest.0, firm.is.1); stand = rest.1; fast = rest.2 }
 
 -- the second row goes by the cgroups and the root's controllers
-pub row-no_process : (st new : State) (users : List Identity) (subtree : Names) → new.rows ≡ st.rows → new.told ≡ st.told
+pub row-no_process : (st new : State) (users : List Identity) (subtree : Names) → new.rows ≡ st.rows
     → new.controllers ≡ st.controllers → SecondRowHolds st users subtree → SecondRowHolds new users subtree
-row-no_process st new users subtree rows told controllers (lasting, fast) =
+row-no_process st new users subtree rows controllers (lasting, fast) =
     let same : with_processes st new.live new.used ≡ new = λ i.
-    record { rows = sym rows i; told = sym told i; live = new.live; used = new.used; controllers = sym controllers i } in
+    record { rows = sym rows i; live = new.live; used = new.used; controllers = sym controllers i } in
     (lasting, subst (λ s. IsHeldFast s users subtree lasting) same (fast-with_processes st users subtree lasting new.live new.used fast))

@@ -17,7 +17,7 @@ use Rattle.cg_model.specs.WellFormed.{has_row}
 use Rattle.cg_model.specs.Bars.{bars}
 use Rattle.cg_model.specs.Steps.{after}
 use Rattle.cg_model.specs.declared.operation.Op.{Op}
-use Rattle.cg_model.specs.declared.operation.Op.TheVariants.{Move, Control, Mkdir, Rmdir, Set, SetOther, Fork, Exit, Chmod}
+use Rattle.cg_model.specs.declared.operation.Op.TheVariants.{Move, Control, Mkdir, Rmdir, Set, Fork, Exit, Chmod}
 use Rattle.cg_model.specs.Effects.{alters_entry, is_brought}
 use Rattle.cg_model.proofs.Allowed.{allowed_mkdir}
 use Rattle.cg_model.proofs.StateEntries.{entry_at-without_row}
@@ -101,7 +101,6 @@ module _ (st : State) (users : List Identity) (user : Identity) (named : Contain
         | false ↦ λ other. unless_altered (Rmdir removed) other
       ] refl
   unreached-after (Set at file value) free keeps = unless_altered (Set at file value) refl
-  unreached-after (SetOther at file value) free keeps = unless_altered (SetOther at file value) refl
   unreached-after (Fork parent child) free keeps = unless_altered (Fork parent child) refl
   unreached-after (Exit pid) free keeps = unless_altered (Exit pid) refl
   unreached-after (Chmod at entry mode) free keeps =

@@ -19,7 +19,7 @@ use Rattle.cg_model.specs.Bars.{bars}
 use Rattle.cg_model.specs.Next.{next}
 use Rattle.cg_model.specs.Steps.{after}
 use Rattle.cg_model.specs.declared.operation.Op.{Op}
-use Rattle.cg_model.specs.declared.operation.Op.TheVariants.{Move, Control, Mkdir, Rmdir, Set, SetOther, Fork, Exit, Chmod}
+use Rattle.cg_model.specs.declared.operation.Op.TheVariants.{Move, Control, Mkdir, Rmdir, Set, Fork, Exit, Chmod}
 use Rattle.cg_model.specs.Effects.{alters_value}
 use Rattle.cg_model.proofs.Allowed.{allowed_mkdir, allowed_rmdir}
 use Rattle.cg_model.proofs.StateCounts.{one_more, paths_of-with_value, paths_of-with_mode, paths_of-with_enabled, counted-with_row, counted-without_row}
@@ -65,7 +65,6 @@ module _ (st : State) (users : List Identity) (user : Identity) (named : Contain
           (λ stays. true≢false (sym (same_path_refl removed)
           ∙ row-stays st users user named lasting lasts sound (Rmdir removed) free removed stays))))
       by_op (Set at file value) free = ap (count_by test) (paths_of-with_value st at file value)
-      by_op (SetOther at file value) free = refl
       by_op (Fork parent child) free =
           fork-by (λ s. lasting_below s lasting path ≡ lasting_below st lasting path) st child (process_at st parent) refl
           (λ process. refl)

@@ -3,12 +3,12 @@ use Rattle.std.proofs.Common.{◌≡◌, ℕ, true, false, List, [], ◌∷◌, 
 use Rattle.std.specs.List.{All, Contains}
 use Rattle.cg_cgroup.specs.Paths.{Names, parent}
 use Rattle.cg_cgroup.specs.Identity.{Identity}
-use Rattle.cg_cgroup.specs.Files.{enables, no_controllers, stands_under}
-use Rattle.cg_cgroup.specs.Cgroups.{file_of, other_in}
-use Rattle.cg_cgroup.specs.declared.files.Controller.{Controller}
+use Rattle.cg_cgroup.specs.Files.{no_controllers, stands_under, stands_at}
+use Rattle.cg_cgroup.specs.Cgroups.{file_of}
 use Rattle.cg_cgroup.specs.declared.files.LimitFile.{LimitFile}
+use Rattle.cg_cgroup.proofs.CgroupLaws.{stands-below}
 use Rattle.cg_cgroup.proofs.Options.{some_value}
-use Rattle.cg_model.specs.States.{State, file_at, row_at, other_at}
+use Rattle.cg_model.specs.States.{State, file_at, row_at}
 use Rattle.cg_model.specs.WellFormed.{IsWellFormed, enabled_at}
 use Rattle.cg_model.specs.Bars.{bars}
 use Rattle.cg_model.specs.Steps.{after, after_all, Deed}
@@ -99,7 +99,7 @@ module _ (st : State) (users : List Identity) (subtree : Names) (formed : IsWell
     (row : SecondRowHolds st users subtree) where
   start : IsOnWay users st st subtree row.0
   start = record {
-    firm = record { sound = sound-formed st formed; is = is; stand = stand; others = others; fast = row.1 };
+    firm = record { sound = sound-formed st formed; is = is; stand = stand; fast = row.1 };
     limits = refl;
   }
     where
@@ -107,14 +107,8 @@ module _ (st : State) (users : List Identity) (subtree : Names) (formed : IsWell
       stand file =
           let here = some_value (row_at st subtree) is.0 in
           ap (λ r. is_some (option_and_then (λ row. file_of row file) r)) here.1 ∙ (formed.rows subtree here.0 here.1).files file
-          ∙ ap (λ b. stands_under (cond b no_controllers (enabled_at st (parent subtree))) file) is.1
-
-      others : (controller : Controller) → is_some (other_at st subtree controller) ≡ enables (enabled_at st (parent subtree)) controller
-      others controller =
-          let here = some_value (row_at st subtree) is.0 in
-          ap (λ r. is_some (option_and_then (λ row. other_in row controller) r)) here.1
-          ∙ (formed.rows subtree here.0 here.1).others controller
-          ∙ ap (λ b. enables (cond b no_controllers (enabled_at st (parent subtree))) controller) is.1
+          ∙ ap (λ b. stands_at b (cond b no_controllers (enabled_at st (parent subtree))) file) is.1
+          ∙ stands-below (enabled_at st (parent subtree)) file
 
   abbrev OnTheWay : State → Type 0
   OnTheWay s = IsOnWay users st s subtree row.0

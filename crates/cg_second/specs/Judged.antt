@@ -3,14 +3,14 @@ use Rattle.std.specs.Prelude.{ℕ, zero, suc, ◌-◌, Bool, true, false, ◌&&�
 use Rattle.std.specs.List.{list_all}
 use Rattle.cg_cgroup.specs.Paths.{Names, is_root, same_path, parent, inside, common}
 use Rattle.cg_cgroup.specs.Identity.{Identity}
-use Rattle.cg_cgroup.specs.Files.{all_controllers, all_files, all_others, enables}
+use Rattle.cg_cgroup.specs.Files.{all_controllers, all_files, enables}
 use Rattle.cg_cgroup.specs.declared.files.Controller.{Controller}
 use Rattle.cg_cgroup.specs.declared.files.Controller.TheVariants.{Memory}
-use Rattle.cg_cgroup.specs.declared.files.Limit.{Limit}
-use Rattle.cg_cgroup.specs.declared.files.Limit.TheVariants.{At}
+use Rattle.cg_cgroup.specs.declared.value.Value.{Value}
+use Rattle.cg_cgroup.specs.declared.value.Value.TheVariants.{Number}
 use Rattle.cg_cgroup.specs.declared.files.LimitFile.{LimitFile}
 use Rattle.cg_cgroup.specs.declared.files.LimitFile.TheVariants.{MaxDescendants, MaxDepth}
-use Rattle.cg_cgroup.specs.declared.files.EntryName.TheVariants.{Dir, Procs, SubtreeControl, File, Other}
+use Rattle.cg_cgroup.specs.declared.files.EntryName.TheVariants.{Dir, Procs, SubtreeControl, File}
 use Rattle.cg_model.specs.States.{State, value_at, paths_of}
 use Rattle.cg_model.specs.WellFormed.{enabled_at}
 use Rattle.cg_model.specs.Limits.{fits_descendants, fits_depth}
@@ -18,9 +18,9 @@ use Rattle.cg_second.specs.Lasting.{is_reached, Lasting, lasting_below}
 use Rattle.cg_second.specs.Greatest.{any_child, greatest}
 
 -- whether a limit is a number no greater than what there is
-abbrev pub is_at_most : ℕ → Option Limit → Bool
-is_at_most count (Some (At most)) = nat_le most count
-is_at_most count limit = false
+abbrev pub is_at_most : ℕ → Option Value → Bool
+is_at_most count (Some (Number most)) = nat_le most count
+is_at_most count value = false
 
 abbrev pub is_never_disabled : State → List Identity → Lasting → Names → Controller → Bool
 is_never_disabled st users lasting path controller =
@@ -63,9 +63,7 @@ is_closed_to st users lasting subtree (suc len) =
 
 -- none of the users reaches a limit file of a cgroup
 abbrev pub spares_files : State → List Identity → Names → Bool
-spares_files st users path =
-    list_all (λ file. not (is_reached st users path (File file))) all_files
-    && list_all (λ file. not (is_reached st users path (Other file))) all_others
+spares_files st users path = list_all (λ file. not (is_reached st users path (File file))) all_files
 
 abbrev pub is_held_fast : State → List Identity → Lasting → Names → Bool
 is_held_fast st users lasting subtree =

@@ -7,7 +7,7 @@ use Rattle.cg_cgroup.specs.Users.{reaches}
 use Rattle.cg_cgroup.specs.Files.{enables}
 use Rattle.cg_cgroup.specs.declared.files.Controller.{Controller}
 use Rattle.cg_cgroup.specs.declared.files.Controller.TheVariants.{Memory}
-use Rattle.cg_cgroup.specs.declared.files.Limit.TheVariants.{At}
+use Rattle.cg_cgroup.specs.declared.value.Value.TheVariants.{Number}
 use Rattle.cg_cgroup.specs.declared.files.LimitFile.{LimitFile}
 use Rattle.cg_cgroup.specs.declared.files.LimitFile.TheVariants.{MaxDescendants, MaxDepth}
 use Rattle.cg_cgroup.specs.declared.files.EntryName.{EntryName}
@@ -66,7 +66,7 @@ lasting_below st lasting path = count_by (λ other. below path other && lasting.
 
 -- A limit that nobody raises and that leaves no room: so many levels down, or for what is never removed below it.
 abbrev pub Bounds : State → List Identity → Names → LimitFile → ℕ → Type 0
-Bounds st users path file most = (is_reached st users path (File file) ≡ false) × (value_at st path file ≡ Some (At most))
+Bounds st users path file most = (is_reached st users path (File file) ≡ false) × (value_at st path file ≡ Some (Number most))
 
 -- a cgroup from here up to the root bars every mkdir here
 abbrev pub IsFull : State → List Identity → Lasting → Names → Type 0

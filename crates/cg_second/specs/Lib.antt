@@ -6,4 +6,4 @@ pub mod Anchors
 pub mod Counts
 pub mod Exposed
 pub mod Room
-pub mod Untold
+pub mod Unnamed

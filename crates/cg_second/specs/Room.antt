@@ -1,11 +1,10 @@
 -- How an answer is found: nobody has to believe it.
 -- What room limits leave below a cgroup, carried from one cgroup to the next in the order of their paths.
-use Rattle.std.specs.Prelude.{◌≡◌, ◌<◌, ◌≤◌, ℕ, zero, suc, ◌+◌, min, Bool, ◌&&◌, nat_lt, cond, List, [], length, take, slice_index, slice_index_or, Option, Some, None}
+use Rattle.std.specs.Prelude.{◌≡◌, ◌<◌, ◌≤◌, ℕ, zero, suc, ◌+◌, min, ◌&&◌, nat_lt, cond, List, [], length, take, slice_index, slice_index_or, option_and_then, Option, Some, None}
 use Rattle.std.specs.List.{list_any}
 use Rattle.cg_cgroup.specs.Paths.{Names, below}
 use Rattle.cg_cgroup.specs.Identity.{Identity}
-use Rattle.cg_cgroup.specs.declared.files.Limit.{Limit}
-use Rattle.cg_cgroup.specs.declared.files.Limit.TheVariants.{At}
+use Rattle.cg_cgroup.specs.Values.{most_of}
 use Rattle.cg_cgroup.specs.declared.files.LimitFile.{LimitFile}
 use Rattle.cg_cgroup.specs.declared.files.LimitFile.TheVariants.{MaxDepth}
 use Rattle.cg_cgroup.specs.declared.files.EntryName.TheVariants.{File}
@@ -14,12 +13,8 @@ use Rattle.cg_second.specs.Lasting.{is_reached}
 use Rattle.cg_second.specs.Exposed.{is_crowded}
 
 -- the number that a limit is, unless somebody reaches it
-abbrev pub number_unless : Bool → Option Limit → Option ℕ
-number_unless reached (Some (At most)) = cond reached None (Some most)
-number_unless reached limit = None
-
 abbrev pub fixed_limit : State → List Identity → Names → LimitFile → Option ℕ
-fixed_limit st users path file = number_unless (is_reached st users path (File file)) (value_at st path file)
+fixed_limit st users path file = cond (is_reached st users path (File file)) None (option_and_then most_of (value_at st path file))
 
 -- the level at which a cgroup of so many names with a limit of depth lets nobody make one; no path is as long as the greatest number
 abbrev pub level_under : ℕ → Option ℕ → ℕ

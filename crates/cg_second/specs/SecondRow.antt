@@ -5,8 +5,7 @@ use Rattle.cg_cgroup.specs.Paths.{Names, parent, inside, below, common}
 use Rattle.cg_cgroup.specs.Identity.{Identity}
 use Rattle.cg_cgroup.specs.declared.files.Controller.{Controller}
 use Rattle.cg_cgroup.specs.declared.files.LimitFile.{LimitFile}
-use Rattle.cg_cgroup.specs.declared.other_file.OtherFile.{OtherFile}
-use Rattle.cg_cgroup.specs.declared.files.EntryName.TheVariants.{Procs, File, Other}
+use Rattle.cg_cgroup.specs.declared.files.EntryName.TheVariants.{Procs, File}
 use Rattle.cg_model.specs.States.{State}
 use Rattle.cg_model.specs.WellFormed.{has_row}
 use Rattle.cg_model.specs.Bars.{bars}
@@ -29,7 +28,6 @@ pub record IsHeldFast (st : State) (users : List Identity) (subtree : Names) (la
   pub control : (controller : Controller) → (lasting.on (parent subtree) controller ≡ true) ⊎ (lasting.off (parent subtree) controller ≡ true)
   -- nobody reaches a limit file of it
   pub files : (file : LimitFile) → is_reached st users subtree (File file) ≡ false
-  pub beyond : (file : OtherFile) → is_reached st users subtree (Other file) ≡ false
   -- Where one of them moves processes past a cgroup above it, there is no place to move them to: neither inside, nor outside
   -- at that cgroup or below it, where it is the common ancestor.
   pub edge : (top : Names) → below top subtree ≡ true → is_reached st users top Procs ≡ true

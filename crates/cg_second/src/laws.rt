@@ -28,10 +28,10 @@ pub fn second_row_for_several()
         → AreSettled st users subtrees }
 {}
 
-/// The second row asks for no process: it goes by the cgroups, by what is told of their limit files and by the root's controllers.
+/// The second row asks for no process: it goes by the cgroups and the root's controllers.
 pub fn second_row_asks_for_no_process()
     ensures { (st new : State) (users : List Identity) (subtree : Names)
-        → new.rows ≡ st.rows → new.told ≡ st.told → new.controllers ≡ st.controllers
+        → new.rows ≡ st.rows → new.controllers ≡ st.controllers
         → SecondRowHolds st users subtree → SecondRowHolds new users subtree }
 {}
 

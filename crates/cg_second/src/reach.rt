@@ -1,18 +1,17 @@
 //! What some users reach together.
-ghost use Rattle.std.specs.Prelude.{◌≡◌, ◌≤◌, not, length, take};
+ghost use Rattle.std.specs.Prelude.{◌≡◌, ◌≤◌, true, not, length, take};
 ghost use Rattle.std.specs.List.{list_any, list_all};
 ghost use Rattle.cg_cgroup.specs.Users.{reaches};
-ghost use Rattle.cg_cgroup.specs.Files.{all_files, all_others, enables};
-ghost use Rattle.cg_cgroup.specs.declared.files.EntryName.TheVariants.{File, Other};
+ghost use Rattle.cg_cgroup.specs.Files.{enables};
+ghost use Rattle.cg_cgroup.specs.declared.files.EntryName.TheVariants.{File};
 ghost use Rattle.cg_model.specs.WellFormed.{enabled_at};
 ghost use Rattle.cg_second.specs.Lasting.{is_reached};
 ghost use Rattle.cg_second.specs.Anchors.{is_anchored};
 ghost use Rattle.cg_second.specs.Judged.{spares_files};
-ghost use Rattle.cg_second.specs.Untold.{spares_entry, spares_others, spares_untold};
+ghost use Rattle.cg_second.specs.Unnamed.{spares_entry, spares_texts_in, spares_texts};
 
 use cg_cgroup::cgroup::Cgroup;
 use cg_cgroup::files::{Controller, EntryName, LimitFile};
-use cg_cgroup::other_file::OtherFile;
 use cg_cgroup::path::Path;
 use cg_cgroup::user::{Entry, User};
 use cg_model::files::entry_at;
@@ -55,26 +54,18 @@ pub fn is_anchored<H: Hierarchy>(tree: &H, users: &[User], path: &Path) -> bool
 pub fn spares_files<H: Hierarchy>(tree: &H, users: &[User], path: &Path) -> bool
     ensures { result ≡ spares_files (H.state tree.now) users.now path.now }
 {
-    spares_listed(tree, users, path) && spares_beyond(tree, users, path)
+    if spares_texts(tree, users, path) {
+        return spares_each(tree, users, path, LimitFile::IN_FORMAT_2.as_slice());
+    }
+    spares_each(tree, users, path, LimitFile::ALL.as_slice())
 }
 
-fn spares_listed<H: Hierarchy>(tree: &H, users: &[User], path: &Path) -> bool
-    ensures { result ≡ list_all (λ file. not (is_reached (H.state tree.now) users.now path.now (File file))) all_files }
+fn spares_each<H: Hierarchy>(tree: &H, users: &[User], path: &Path, files: &[LimitFile]) -> bool
+    ensures { result ≡ list_all (λ file. not (is_reached (H.state tree.now) users.now path.now (File file))) files.now }
 {
-    LimitFile::ALL
+    files
         .iter()
         .all(|file| spares(tree, users, path, EntryName::File(*file)))
-}
-
-fn spares_beyond<H: Hierarchy>(tree: &H, users: &[User], path: &Path) -> bool
-    ensures { result ≡ list_all (λ file. not (is_reached (H.state tree.now) users.now path.now (Other file))) all_others }
-{
-    if spares_untold(tree, users, path) {
-        return true;
-    }
-    OtherFile::ALL
-        .iter()
-        .all(|file| spares(tree, users, path, EntryName::Other(*file)))
 }
 
 fn spares<H: Hierarchy>(tree: &H, users: &[User], path: &Path, name: EntryName) -> bool
@@ -83,24 +74,26 @@ fn spares<H: Hierarchy>(tree: &H, users: &[User], path: &Path, name: EntryName) 
     !is_reached(tree, users, path, path.depth(), name)
 }
 
-/// Whether nothing is told of the limit files beyond `LimitFile` of a cgroup, and none of them reaches one.
-pub fn spares_untold<H: Hierarchy>(tree: &H, users: &[User], path: &Path) -> bool
-    ensures { result ≡ spares_untold (H.state tree.now) users.now path.now }
+/// Whether none of them reaches a limit file of a cgroup whose value is a text, where nobody speaks of one.
+#[tactic(auto, using(crate::proofs::Unnamed::none_there, crate::proofs::Unnamed::those_there))]
+pub fn spares_texts<H: Hierarchy>(tree: &H, users: &[User], path: &Path) -> bool
+    ensures { result ≡ true → spares_texts (H.state tree.now) users.now path.now ≡ true }
 {
-    let len = path.depth();
-    if tree.told(path, len).is_some() {
-        return false;
-    }
-    match tree.get(path, len) {
+    match tree.get(path, path.depth()) {
         None => true,
-        Some(cgroup) => spares_others(users, cgroup),
+        Some(cgroup) => spares_owners(users, cgroup),
     }
 }
 
-fn spares_others(users: &[User], cgroup: &Cgroup) -> bool
-    ensures { result ≡ spares_others users.now cgroup.now }
+#[tactic(auto, using(crate::proofs::Unnamed::owners_spare))]
+fn spares_owners(users: &[User], cgroup: &Cgroup) -> bool
+    ensures { result ≡ true → spares_texts_in users.now cgroup.now ≡ true }
 {
-    spares_entry(users, cgroup.freeze) && spares_entries(users, &cgroup.others.entries)
+    if !cgroup.files.is_plain() {
+        return false;
+    }
+    let (core, owners) = cgroup.files.owners();
+    spares_entry(users, core) && spares_entries(users, owners)
 }
 
 fn spares_entries(users: &[User], entries: &[Option<Entry>]) -> bool

@@ -1,5 +1,7 @@
 //! Whether limits leave room for a further cgroup below one, asked of one after another in the order of their paths.
-ghost use Rattle.std.specs.Prelude.{◌≡◌, ◌<◌, ◌≤◌, ◌+◌, ◌∷◌, cond, length, slice_index, slice_index_or, [], IfOk, OnOk};
+ghost use Rattle.std.specs.Prelude.{◌≡◌, ◌<◌, ◌≤◌, ◌+◌, ◌∷◌, cond, length, slice_index, slice_index_or, option_and_then, [], IfOk, OnOk};
+ghost use Rattle.cg_cgroup.specs.Values.{most_of};
+ghost use Rattle.cg_model.specs.States.{value_at};
 ghost use Rattle.cg_second.specs.Greatest.{greatest};
 ghost use Rattle.cg_second.specs.Judged.{is_bound, is_full_to};
 ghost use Rattle.cg_second.specs.Counts.{IsSurvey};
@@ -9,7 +11,7 @@ ghost use Rattle.cg_cgroup.specs.declared.files.LimitFile.TheVariants.{MaxDepth}
 
 use crate::reach::is_reached;
 use crate::survey::Survey;
-use cg_cgroup::files::{EntryName, Limit, LimitFile};
+use cg_cgroup::files::{EntryName, LimitFile};
 use cg_cgroup::memory::NoMemory;
 use cg_cgroup::path::Path;
 use cg_model::hierarchy::Hierarchy;
@@ -99,24 +101,20 @@ fn own_level<H: Hierarchy>(survey: &Survey<H>, path: &Path) -> u64
 }
 
 /// The number that a limit of a cgroup is, where nobody reaches it.
+#[tactic(auto, using(crate::proofs::Levels::none_fixed))]
 fn fixed_limit<H: Hierarchy>(survey: &Survey<H>, path: &Path, file: LimitFile) -> Option<u64>
     ensures { result ≡ fixed_limit (H.state survey.now.tree.now) survey.now.users.now path.now file }
 {
-    let len = path.depth();
-    let Some(cgroup) = survey.tree.get(path, len) else {
+    let most = most_there(survey.tree, path, file)?;
+    if is_reached(survey.tree, survey.users, path, path.depth(), EntryName::File(file)) {
         return None;
-    };
-    let Some(limit) = cgroup.file(file) else {
-        return None;
-    };
-    match limit.value {
-        Limit::Max => None,
-        Limit::At(most) => {
-            if is_reached(survey.tree, survey.users, path, len, EntryName::File(file)) {
-                None
-            } else {
-                Some(most)
-            }
-        }
     }
+    Some(most)
+}
+
+/// The number that a limit of a cgroup is.
+fn most_there<H: Hierarchy>(tree: &H, path: &Path, file: LimitFile) -> Option<u64>
+    ensures { result ≡ option_and_then most_of (value_at (H.state tree.now) path.now file) }
+{
+    tree.get(path, path.depth())?.most(file)
 }
