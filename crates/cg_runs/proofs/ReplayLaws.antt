@@ -1,12 +1,10 @@
 -- What a replay keeps at each step, and that it comes to the verdict of the definition.
-use Rattle.std.proofs.Common.{◌≡◌, ℕ, suc, ◌+◌, ◌<◌, true, false, List, [], ◌∷◌, ◌++◌, length, take, Option, Some, Result, Ok, option_and_then, refl, sym, ap, ◌∙◌, subst, true≢false, arith, add-one, length-append, is_some}
+use Rattle.std.proofs.Common.{◌≡◌, ℕ, suc, ◌+◌, ◌<◌, true, false, List, [], ◌∷◌, ◌++◌, length, take, Option, Some, Result, Ok, option_and_then, refl, sym, ap, ◌∙◌, subst, true≢false, arith, add-one, length-append}
 use Rattle.cg_cgroup.specs.Paths.{Names, is_root}
 use Rattle.cg_cgroup.specs.Identity.{Identity}
-use Rattle.cg_cgroup.specs.Cgroups.{value_in, other_in}
+use Rattle.cg_cgroup.specs.Cgroups.{value_in}
 use Rattle.cg_cgroup.specs.declared.cgroup.Cgroup.{Cgroup}
 use Rattle.cg_cgroup.specs.declared.memory.NoMemory.{NoMemory}
-use Rattle.cg_cgroup.specs.declared.told.ToldFiles.{ToldFiles}
-use Rattle.std.specs.FinMap as finite
 use Rattle.cg_model.specs.States.{State, row_at}
 use Rattle.cg_model.specs.WellFormed.{IsWellFormed}
 use Rattle.cg_model.specs.Steps.{after, after_all, Deed}
@@ -20,7 +18,7 @@ use Rattle.cg_model.specs.Next.{next}
 use Rattle.cg_model.specs.Outcomes.{RefusedBy, IsRefused}
 use Rattle.cg_model.proofs.Prefixes.{take_whole, no_root_of_length}
 use Rattle.cg_model.proofs.StepFormed.{after-allowed, after-barred}
-use Rattle.cg_model.specs.Limits.{Limits as LimitMap, limits, same_limits, limits_in, texts_in}
+use Rattle.cg_model.specs.Limits.{Limits as LimitMap, limits, same_limits, limits_in}
 use Rattle.cg_laws.proofs.Sound.{sound-formed, sound-after}
 use Rattle.cg_model.proofs.Edges.{none-crosses-same}
 use Rattle.cg_model.specs.Verdicts.{broken, broken_since, or_later, verdict_from}
@@ -36,13 +34,8 @@ use Rattle.cg_runs.proofs.ShortcutLaws.{first-broken_by}
 
 -- ---- intact is whole where nothing moves
 
-limits-row : (st : State) (subtree : Names) (row : Cgroup) (told : Option ToldFiles) → row_at st subtree ≡ Some row
-    → finite.get st.told subtree ≡ told → limits st subtree ≡ limits_in row told
-limits-row st subtree row told is is_told = λ i. record {
-  values = λ file. option_and_then (λ r. value_in r file) (is i);
-  others = λ controller. is_some (option_and_then (λ r. other_in r controller) (is i));
-  told = texts_in (is_told i);
-}
+limits-row : (st : State) (subtree : Names) (row : Cgroup) → row_at st subtree ≡ Some row → limits st subtree ≡ limits_in row
+limits-row st subtree row is = λ i file. option_and_then (λ r. value_in r file) (is i)
 
 intact-whole : (had : LimitMap) (st new : State) (subtree : Names) → IsWhole had st new subtree → IsIntact had new subtree
 intact-whole had st new subtree whole =
@@ -84,23 +77,22 @@ row-asked st subtree len row whole is = ap (row_at st) (sym (take_whole subtree 
 pub not_root-asked : (subtree : Names) (len : ℕ) → len ≡ length subtree → (len ≡ 0 → ⊥) → is_root subtree ≡ false
 not_root-asked subtree len whole some = no_root_of_length subtree (omega (arith, some))
 
-module _ (st : State) (subtree : Names) (row : Cgroup) (told : Option ToldFiles) (start : Verdict) (formed : IsWellFormed st)
-    (is : row_at st subtree ≡ Some row) (is_told : finite.get st.told subtree ≡ told)
-    (found : start ≡ or_later (broken st st st subtree) 0 Kept) where
+module _ (st : State) (subtree : Names) (row : Cgroup) (start : Verdict) (formed : IsWellFormed st)
+    (is : row_at st subtree ≡ Some row) (found : start ≡ or_later (broken st st st subtree) 0 Kept) where
   abbrev begun : Progress
-  begun = record { subtree = subtree; original = row; told = told; state = st; steps = 0; verdict = start }
+  begun = record { subtree = subtree; original = row; state = st; steps = 0; verdict = start }
 
   pub replay-start : IsReplay begun
   replay-start = record {
     bound = omega arith;
     sound = sound-formed st formed;
-    intact = λ kept. subst (λ had. IsIntact had st subtree) (limits-row st subtree row told is is_told)
+    intact = λ kept. subst (λ had. IsIntact had st subtree) (limits-row st subtree row is)
         (intact-whole (limits st subtree) st st subtree
         (broken-whole (limits st subtree) st st subtree (none_later _ 0 (sym found ∙ kept))));
   }
 
   pub run-start : IsRunOf begun st []
-  run-start = record { original = is; told = is_told; state = refl; steps = refl; verdict = found }
+  run-start = record { original = is; state = refl; steps = refl; verdict = found }
 
 -- ---- a step
 
@@ -110,8 +102,8 @@ module _ (run : Progress) (user : Identity) (op : Op) (at : IsReplay run) (few :
   replay-stepped = record {
     bound = omega (arith, few);
     sound = sound-after run.state user op at.sound;
-    intact = λ kept. intact-whole (limits_in run.original run.told) run.state (after run.state user op) run.subtree
-        (broken-whole (limits_in run.original run.told) run.state (after run.state user op) run.subtree
+    intact = λ kept. intact-whole (limits_in run.original) run.state (after run.state user op) run.subtree
+        (broken-whole (limits_in run.original) run.state (after run.state user op) run.subtree
         (still_kept run.verdict _ _ kept).1);
   }
 
@@ -122,9 +114,9 @@ pub record IsApplied (st : State) (user : Identity) (op : Op) (new : State) (out
   pub unchanged : IsRefused outcome → new ≡ st
 
 -- how far a replay is
-abbrev pub progress : Names → Cgroup → Option ToldFiles → State → ℕ → Verdict → Progress
-progress subtree original told state steps verdict =
-    record { subtree = subtree; original = original; told = told; state = state; steps = steps; verdict = verdict }
+abbrev pub progress : Names → Cgroup → State → ℕ → Verdict → Progress
+progress subtree original state steps verdict =
+    record { subtree = subtree; original = original; state = state; steps = steps; verdict = verdict }
 
 pub applied : (st : State) (user : Identity) (op : Op) (new : State) (outcome : Outcome)
     → ((let ended : Result Outcome NoMemory = Ok outcome in ended ≡ Ok Done) → (bars st user op ≡ []) × (new ≡ next st user op))
@@ -159,24 +151,24 @@ module _ (run : Progress) (user : Identity) (op : Op) where
   -- a replay that has come to this state with this verdict
   abbrev pub come_to : State → Verdict → Progress
   come_to st now =
-      record { subtree = run.subtree; original = run.original; told = run.told; state = st; steps = run.steps + 1; verdict = now }
+      record { subtree = run.subtree; original = run.original; state = st; steps = run.steps + 1; verdict = now }
 
   abbrev broke : List Clause
-  broke = broken_since (limits_in run.original run.told) run.state (after run.state user op) run.subtree
+  broke = broken_since (limits_in run.original) run.state (after run.state user op) run.subtree
 
   come_to-stepped : (new : State) (now : Verdict) → new ≡ after run.state user op → now ≡ or_broken run.verdict broke (suc run.steps)
       → come_to new now ≡ stepped run user op
   come_to-stepped new now is_state is_verdict =
       let more : run.steps + 1 ≡ suc run.steps = add-one run.steps in
       λ i.
-      record { subtree = run.subtree; original = run.original; told = run.told; state = is_state i; steps = more i; verdict = is_verdict i }
+      record { subtree = run.subtree; original = run.original; state = is_state i; steps = more i; verdict = is_verdict i }
 
   module _ (at : IsReplay run) (new : State) (outcome : Outcome) (is : IsApplied run.state user op new outcome) where
     pub step-still : may_break run.verdict outcome ≡ false → come_to new run.verdict ≡ stepped run user op
     step-still h =
         come_to-stepped new run.verdict (applied-after run.state user op new outcome is) (verdict-still run.verdict outcome broke
         (suc run.steps) h (λ refusal kept refused.
-        let had = limits_in run.original run.told in
+        let had = limits_in run.original in
         let same =
         after-refused run.state user op new refusal
         (subst (λ found. RefusedBy found (first (bars run.state user op))) refused is.refused) in
@@ -184,13 +176,13 @@ module _ (run : Progress) (user : Identity) (op : Op) where
         ∙ whole-broken had run.state run.state run.subtree (whole-intact had run.state run.subtree (at.intact kept))))
 
     pub step-done : may_break run.verdict outcome ≡ true → (broken : Option Clause)
-        → broken ≡ first (broken_by (limits_in run.original run.told) (moves_over run.state run.subtree op) new run.subtree op)
+        → broken ≡ first (broken_by (limits_in run.original) (moves_over run.state run.subtree op) new run.subtree op)
         → (now : Verdict) → ((clauses : List Clause) → broken ≡ first clauses → now ≡ or_later clauses (run.steps + 1) Kept)
         → come_to new now ≡ stepped run user op
     step-done h broken by now found =
         let both = may-parts run.verdict outcome h in
         let free = (is.done both.1).0 in
-        let had = limits_in run.original run.told in
+        let had = limits_in run.original in
         let moves = moves_over run.state run.subtree op in
         let is_after = applied-after run.state user op new outcome is in
         let first_broken =
@@ -203,7 +195,7 @@ module _ (run : Progress) (user : Identity) (op : Op) where
     replay-still few h = subst IsReplay (sym (step-still h)) (replay-stepped run user op at few)
 
     pub replay-done : run.steps < 65536 → may_break run.verdict outcome ≡ true → (broken : Option Clause)
-        → broken ≡ first (broken_by (limits_in run.original run.told) (moves_over run.state run.subtree op) new run.subtree op)
+        → broken ≡ first (broken_by (limits_in run.original) (moves_over run.state run.subtree op) new run.subtree op)
         → (now : Verdict) → ((clauses : List Clause) → broken ≡ first clauses → now ≡ or_later clauses (run.steps + 1) Kept)
         → IsReplay (come_to new now)
     replay-done few h broken by now found = subst IsReplay (sym (step-done h broken by now found)) (replay-stepped run user op at few)
@@ -242,12 +234,11 @@ run-stepped run start deeds user op is =
     let first_broken = broken start start start run.subtree in
     let front : 0 + length deeds ≡ length deeds = omega arith in record {
       original = is.original;
-      told = is.told;
       state = ap (λ st. after st user op) is.state ∙ sym (after_all-last start deeds user op);
       steps = omega (arith, is.steps, length-append deeds ((user, op) ∷ []));
       verdict =
           (λ i. or_broken (is.verdict i)
-          (broken_since (sym (limits-row start run.subtree run.original run.told is.original is.told) i) (is.state i)
+          (broken_since (sym (limits-row start run.subtree run.original is.original) i) (is.state i)
           (after (is.state i) user op) run.subtree) (suc (is.steps i)))
           ∙ broken-earlier first_broken (broken start last (after last user op) run.subtree) 0 (suc (length deeds))
           (verdict_from start 0 start deeds run.subtree)

@@ -5,9 +5,8 @@ use Rattle.std.specs.List.{list_any}
 use Rattle.std.specs.FinMap as finite
 use Rattle.cg_cgroup.specs.Paths.{Names, same_path, is_child}
 use Rattle.cg_cgroup.specs.Identity.{Identity}
-use Rattle.cg_cgroup.specs.Files.{controller_of, brought_by, same_file, same_other}
+use Rattle.cg_cgroup.specs.Files.{controller_of, same_file}
 use Rattle.cg_cgroup.specs.declared.files.LimitFile.{LimitFile}
-use Rattle.cg_cgroup.specs.declared.other_file.OtherFile.{OtherFile}
 use Rattle.cg_cgroup.specs.declared.process.Process.{Process}
 use Rattle.cg_cgroup.proofs.Options.{mapped_from}
 use Rattle.cg_cgroup.proofs.PathOrder.{same_path-is}
@@ -17,10 +16,10 @@ use Rattle.cg_model.proofs.MapLaws.{list_any-map, entry_any}
 use Rattle.cg_model.proofs.StateLaws.{process_at-with_place-same, row_at-without_row-same}
 use Rattle.cg_model.specs.Bars.{bars}
 use Rattle.cg_model.specs.Clauses.{unless, first}
-use Rattle.cg_model.specs.Effects.{alters_row, alters_value, alters_text, alters_process}
+use Rattle.cg_model.specs.Effects.{alters_row, alters_value, alters_process}
 use Rattle.cg_model.specs.Steps.{after}
 use Rattle.cg_model.specs.declared.operation.Op.{Op}
-use Rattle.cg_model.specs.declared.operation.Op.TheVariants.{Move, Control, Mkdir, Rmdir, Set, SetOther, Fork, Exit, Chmod}
+use Rattle.cg_model.specs.declared.operation.Op.TheVariants.{Move, Control, Mkdir, Rmdir, Set, Fork, Exit, Chmod}
 use Rattle.cg_model.proofs.ClauseLaws.{first_some}
 use Rattle.cg_model.proofs.Allowed.{allowed_mkdir}
 use Rattle.cg_model.proofs.StepFormed.{after-allowed}
@@ -84,10 +83,10 @@ module _ (had : LimitMap) (st : State) (user : Identity) (subtree : Names) (soun
 
   -- and where they stay too, nothing
   by-nothing : (op : Op) → bars st user op ≡ [] → has_row (after st user op) subtree ≡ true → crossing st (after st user op) subtree ≡ []
-      → ((file : LimitFile) → alters_value op subtree file ≡ false) → ((file : OtherFile) → alters_text op subtree file ≡ false)
+      → ((file : LimitFile) → alters_value op subtree file ≡ false)
       → first (broken_since had st (after st user op) subtree) ≡ None
-  by-nothing op free there edge stay texts =
-      let same : limits (after st user op) subtree ≡ limits st subtree = limits-after st user op subtree stay texts in
+  by-nothing op free there edge stay =
+      let same : limits (after st user op) subtree ≡ limits st subtree = limits-after st user op subtree stay in
       by-limits op free there edge ∙ ap (λ these. first (unless (same_limits had these) Limits)) same
       ∙ ap (λ b. first (unless b Limits)) intact.limits
 
@@ -143,7 +142,7 @@ module _ (had : LimitMap) (st : State) (user : Identity) (subtree : Names) (soun
               λ crosses. sym ((λ i. first (clauses_of (stays (Move pid to) refl i) (crossing st moved subtree)
               (same_limits had (limits moved subtree)) (fits_descendants moved subtree) (fits_depth moved subtree)))
               ∙ first_some _ _ (Crossed pid) (first_some _ _ (Crossed pid) (first_some _ _ (Crossed pid) (one-over crosses))))
-          | false ↦ λ none. sym (by-nothing (Move pid to) free (stays (Move pid to) refl) (none-over none) (λ _. refl) (λ _. refl))
+          | false ↦ λ none. sym (by-nothing (Move pid to) free (stays (Move pid to) refl) (none-over none) (λ _. refl))
         ] refl
 
   -- ---- each operation
@@ -159,15 +158,14 @@ module _ (had : LimitMap) (st : State) (user : Identity) (subtree : Names) (soun
             λ _. sym (by-limits (Control at changes) free (stays (Control at changes) refl) (no-crossing (Control at changes) (λ _. refl)))
         | false ↦
             λ other. sym (by-nothing (Control at changes) free (stays (Control at changes) refl)
-            (no-crossing (Control at changes) (λ _. refl)) (λ file. ap (λ b. b && is_some (controller_of file)) other)
-            (λ file. ap (λ b. b && is_some (brought_by file)) other))
+            (no-crossing (Control at changes) (λ _. refl)) (λ file. ap (λ b. b && is_some (controller_of file)) other))
       ] refl
   first-broken_by (Mkdir path) free =
       let new : same_path path subtree ≡ false =
       false_from_ne_true _ (λ same.
       true≢false
       (sym intact.there ∙ ap (has_row st) (sym (same_path-is path subtree same)) ∙ (allowed_mkdir st user path free).0)) in
-      sym (by-nothing (Mkdir path) free (stays (Mkdir path) new) (no-crossing (Mkdir path) (λ _. refl)) (λ file. new) (λ _. refl))
+      sym (by-nothing (Mkdir path) free (stays (Mkdir path) new) (no-crossing (Mkdir path) (λ _. refl)) (λ file. new))
   first-broken_by (Rmdir path) free =
       elim (same_path path subtree) as
       (λ b. same_path path subtree ≡ b → first (unless (not b) Gone) ≡ first (broken_since had st (after st user (Rmdir path)) subtree)) [
@@ -180,8 +178,7 @@ module _ (had : LimitMap) (st : State) (user : Identity) (subtree : Names) (soun
             sym (λ i. first (clauses_of (gone i) (crossing st new subtree) (same_limits had (limits new subtree))
             (fits_descendants new subtree) (fits_depth new subtree)))
         | false ↦
-            λ other. sym (by-nothing (Rmdir path) free (stays (Rmdir path) other) (no-crossing (Rmdir path) (λ _. refl)) (λ file. other)
-            (λ file. other))
+            λ other. sym (by-nothing (Rmdir path) free (stays (Rmdir path) other) (no-crossing (Rmdir path) (λ _. refl)) (λ file. other))
       ] refl
   first-broken_by (Set at file value) free =
       elim (same_path at subtree) as (λ b. same_path at subtree ≡ b
@@ -191,30 +188,18 @@ module _ (had : LimitMap) (st : State) (user : Identity) (subtree : Names) (soun
             λ _. sym (by-limits (Set at file value) free (stays (Set at file value) refl) (no-crossing (Set at file value) (λ _. refl)))
         | false ↦
             λ other. sym (by-nothing (Set at file value) free (stays (Set at file value) refl) (no-crossing (Set at file value) (λ _. refl))
-            (λ asked. ap (λ b. b && same_file file asked) other) (λ _. refl))
-      ] refl
-  first-broken_by (SetOther at file value) free =
-      elim (same_path at subtree) as (λ b. same_path at subtree ≡ b
-      → first (unless (not b || same_limits had (limits (after st user (SetOther at file value)) subtree)) Limits)
-      ≡ first (broken_since had st (after st user (SetOther at file value)) subtree)) [
-        | true ↦
-            λ _. sym
-            (by-limits (SetOther at file value) free (stays (SetOther at file value) refl)
-            (no-crossing (SetOther at file value) (λ _. refl)))
-        | false ↦
-            λ other. sym (by-nothing (SetOther at file value) free (stays (SetOther at file value) refl)
-            (no-crossing (SetOther at file value) (λ _. refl)) (λ _. refl) (λ asked. ap (λ b. b && same_other file asked) other))
+            (λ asked. ap (λ b. b && same_file file asked) other))
       ] refl
   first-broken_by (Fork parent child) free =
       sym (by-nothing (Fork parent child) free (stays (Fork parent child) refl)
       (none-crosses st (after st user (Fork parent child)) subtree (λ pid. fork-crosses st user subtree sound parent child pid free))
-      (λ _. refl) (λ _. refl))
+      (λ _. refl))
   first-broken_by (Exit pid) free =
       sym (by-nothing (Exit pid) free (stays (Exit pid) refl)
       (none-crosses st (after st user (Exit pid)) subtree (λ other.
       ap (λ new. is_crossed subtree (place_at st other) (place_at new other)) (after-allowed st user (Exit pid) free)
-      ∙ exit-crosses st user subtree pid other)) (λ _. refl) (λ _. refl))
+      ∙ exit-crosses st user subtree pid other)) (λ _. refl))
   first-broken_by (Chmod at name mode) free =
       sym
       (by-nothing (Chmod at name mode) free (stays (Chmod at name mode) refl) (no-crossing (Chmod at name mode) (λ _. refl))
-      (λ _. refl) (λ _. refl))
+      (λ _. refl))

@@ -1,7 +1,6 @@
 -- How an answer is found: nobody has to believe it.
 -- A replay: a run and its verdict, as they stand after the steps so far.
 use Rattle.std.specs.Prelude.{◌≡◌, List, length, Some}
-use Rattle.std.specs.FinMap as map
 use Rattle.cg_model.specs.States.{State, row_at}
 use Rattle.cg_model.specs.Steps.{after_all, Deed}
 use Rattle.cg_model.specs.Verdicts.{verdict}
@@ -10,7 +9,6 @@ use Rattle.cg_model.specs.Replays.{Progress}
 -- Where a run from a start has come to by these deeds, and the verdict on it.
 pub record IsRunOf (run : Progress) (start : State) (deeds : List Deed) : Type 0 where
   pub original : row_at start run.subtree ≡ Some run.original
-  pub told : map.get start.told run.subtree ≡ run.told
   pub state : run.state ≡ after_all start deeds
   pub steps : run.steps ≡ length deeds
   pub verdict : run.verdict ≡ verdict start deeds run.subtree

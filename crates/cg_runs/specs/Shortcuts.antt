@@ -7,7 +7,7 @@ use Rattle.cg_model.specs.States.{State, place_at}
 use Rattle.cg_model.specs.WellFormed.{has_row}
 use Rattle.cg_model.specs.Clauses.{unless}
 use Rattle.cg_model.specs.declared.operation.Op.{Op}
-use Rattle.cg_model.specs.declared.operation.Op.TheVariants.{Move, Control, Rmdir, Set, SetOther}
+use Rattle.cg_model.specs.declared.operation.Op.TheVariants.{Move, Control, Rmdir, Set}
 use Rattle.cg_model.specs.declared.outcome.Outcome.{Outcome}
 use Rattle.cg_model.specs.declared.outcome.Outcome.TheVariants.{Done}
 use Rattle.cg_model.specs.Limits.{Limits as LimitMap, limits, limits_in, same_limits, fits_descendants, fits_depth}
@@ -36,8 +36,6 @@ broken_by had moves new subtree (Move pid to) = unless (not moves) (Crossed pid)
 broken_by had moves new subtree (Control at changes) = unless (not (is_child at subtree) || same_limits had (limits new subtree)) Limits
 broken_by had moves new subtree (Rmdir path) = unless (not (same_path path subtree)) Gone
 broken_by had moves new subtree (Set at file value) = unless (not (same_path at subtree) || same_limits had (limits new subtree)) Limits
-broken_by had moves new subtree (SetOther at file value) =
-    unless (not (same_path at subtree) || same_limits had (limits new subtree)) Limits
 broken_by had moves new subtree op = []
 
 -- a subtree that is there with these limits, and within them
@@ -51,4 +49,4 @@ pub record IsIntact (had : LimitMap) (st : State) (subtree : Names) : Type 0 whe
 pub record IsReplay (run : Progress) : Type 0 where
   pub bound : run.steps ≤ 65536
   pub sound : IsSound run.state
-  pub intact : run.verdict ≡ Kept → IsIntact (limits_in run.original run.told) run.state run.subtree
+  pub intact : run.verdict ≡ Kept → IsIntact (limits_in run.original) run.state run.subtree

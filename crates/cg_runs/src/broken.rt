@@ -1,22 +1,15 @@
 //! What is broken of a subtree at the start, and what a step may break of it.
-ghost use Rattle.std.specs.Prelude.{◌≡◌, ◌&&◌, [], List, true, Some, is_some, option_copied};
+ghost use Rattle.std.specs.Prelude.{◌≡◌, [], List, true, Some};
 ghost use Rattle.cg_cgroup.specs.Paths.{is_child};
-ghost use Rattle.cg_cgroup.specs.Cgroups.{value_in, other_in};
-ghost use Rattle.cg_cgroup.specs.Files.{all_files, all_controllers};
-ghost use Rattle.std.specs.List.{list_all};
-ghost use Rattle.std.specs.Option.{option_eq};
-ghost use mathlib.Core.Bool.{beq};
 ghost use Rattle.cg_model.specs.States.{row_at};
 ghost use Rattle.cg_model.specs.Clauses.{first, unless};
-ghost use Rattle.cg_model.specs.Limits.{limits, limits_in, same_limit, same_limits};
+ghost use Rattle.cg_model.specs.Limits.{limits, limits_in, same_limits};
 ghost use Rattle.cg_model.specs.Verdicts.{broken, or_later};
 ghost use Rattle.cg_runs.specs.Shortcuts.{moves_over, may_break, broken_by};
 
-use crate::told::same_texts;
 use cg_cgroup::cgroup::Cgroup;
-use cg_cgroup::files::{Controller, LimitFile};
+use cg_cgroup::held::Files;
 use cg_cgroup::path::Path;
-use cg_cgroup::told::ToldFiles;
 use cg_guards::failed::{fits_depth, fits_descendants};
 use cg_model::hierarchy::Hierarchy;
 use cg_model::operation::Op;
@@ -74,24 +67,21 @@ pub fn may_break(verdict: Verdict, outcome: &Outcome) -> bool
 }
 
 /// What an operation that has just been carried out broke of a subtree that was whole before it, where the subtree's
-/// cgroup at the start is known, with what was told of its files, and whether a process was moved over the edge.
+/// cgroup at the start is known, and whether a process was moved over the edge.
 pub fn broken_by<H: Hierarchy>(
     tree: &H,
     subtree: &Path,
     original: &Cgroup,
-    told: Option<&ToldFiles>,
     op: &Op,
     moves: bool,
 ) -> Option<Clause>
-    ensures { result ≡ first
-        (broken_by (limits_in original.now (option_copied told.entry)) moves (H.state tree.now) subtree.now op.now) }
+    ensures { result ≡ first (broken_by (limits_in original.now) moves (H.state tree.now) subtree.now op.now) }
 {
     match op {
         Op::Move { pid, .. } if moves => Some(Clause::Crossed(*pid)),
         Op::Rmdir { path } if path == subtree => Some(Clause::Gone),
-        Op::Control { at, .. } if is_child(at, subtree) => changed(tree, subtree, original, told),
-        Op::Set { at, .. } if at == subtree => changed(tree, subtree, original, told),
-        Op::SetOther { at, .. } if at == subtree => changed(tree, subtree, original, told),
+        Op::Control { at, .. } if is_child(at, subtree) => changed(tree, subtree, original),
+        Op::Set { at, .. } if at == subtree => changed(tree, subtree, original),
         _ => None,
     }
 }
@@ -107,50 +97,22 @@ fn is_child(top: &Path, path: &Path) -> bool
 }
 
 /// That the limits of a subtree aren't those that it had, where they aren't.
-fn changed<H: Hierarchy>(
-    tree: &H,
-    subtree: &Path,
-    original: &Cgroup,
-    told: Option<&ToldFiles>,
-) -> Option<Clause>
-    ensures { result ≡ first
-        (unless (same_limits (limits_in original.now (option_copied told.entry)) (limits (H.state tree.now) subtree.now)) Clause.Limits) }
+fn changed<H: Hierarchy>(tree: &H, subtree: &Path, original: &Cgroup) -> Option<Clause>
+    ensures { result ≡ first (unless (same_limits (limits_in original.now) (limits (H.state tree.now) subtree.now)) Clause.Limits) }
 {
-    let len = subtree.depth();
-    match tree.get(subtree, len) {
-        Some(cgroup) if same_files(original, cgroup) && same_texts(told, tree.told(subtree, len)) =>
-            None,
-        _ => Some(Clause::Limits),
+    if keeps_limits(tree, subtree, original) {
+        None
+    } else {
+        Some(Clause::Limits)
     }
 }
 
-/// Whether the same limit files stand at two cgroups, with the same values of `LimitFile`.
-fn same_files(cgroup: &Cgroup, other: &Cgroup) -> bool
-    ensures { result ≡ (
-        list_all (λ file. option_eq same_limit (value_in cgroup.now file) (value_in other.now file)) all_files
-        && list_all
-        (λ controller. beq (is_some (other_in cgroup.now controller)) (is_some (other_in other.now controller)))
-        all_controllers
-        ) }
+/// Whether the limits of a subtree are those that it had. One that isn't there has none.
+fn keeps_limits<H: Hierarchy>(tree: &H, subtree: &Path, original: &Cgroup) -> bool
+    ensures { result ≡ same_limits (limits_in original.now) (limits (H.state tree.now) subtree.now) }
 {
-    same_values(cgroup, other) && same_others(cgroup, other)
-}
-
-fn same_values(cgroup: &Cgroup, other: &Cgroup) -> bool
-    ensures { result ≡ list_all (λ file. option_eq same_limit (value_in cgroup.now file) (value_in other.now file)) all_files }
-{
-    LimitFile::ALL
-        .iter()
-        .all(|file| cgroup.limit(*file) == other.limit(*file))
-}
-
-/// Whether the other files of the same controllers stand at two cgroups.
-fn same_others(cgroup: &Cgroup, other: &Cgroup) -> bool
-    ensures { result
-        ≡ list_all
-        (λ controller. beq (is_some (other_in cgroup.now controller)) (is_some (other_in other.now controller)))
-        all_controllers }
-{
-    Controller::ALL.iter().all(|controller| cgroup.other(*controller).is_some()
-        == other.other(*controller).is_some())
+    match tree.get(subtree, subtree.depth()) {
+        Some(cgroup) => original.files.has_same_values(&cgroup.files),
+        None => original.files.has_same_values(&Files::none()),
+    }
 }

@@ -5,4 +5,3 @@ mod broken;
 pub mod fault;
 pub mod laws;
 pub mod replay;
-mod told;

@@ -11,10 +11,8 @@ ghost use Rattle.cg_runs.specs.Faults.{IsFaultOf};
 
 use crate::broken::{broken_at_start, broken_by, may_break, moves_over, verdict_by};
 use crate::fault::StepFault;
-use crate::told::told_of;
 use cg_cgroup::cgroup::Cgroup;
 use cg_cgroup::path::Path;
-use cg_cgroup::told::ToldFiles;
 use cg_cgroup::user::User;
 use cg_model::fault::CheckFault;
 use cg_model::hierarchy::Hierarchy;
@@ -36,7 +34,6 @@ pub struct Replay<H: Hierarchy> {
     tree: H,
     subtree: Path,
     original: Cgroup,
-    told: Option<ToldFiles>,
     steps: usize,
     verdict: Verdict,
 }
@@ -45,21 +42,22 @@ impl<H: Hierarchy> Model for Replay<H> {
     ghost use Rattle.std.specs.Coded.{codes};
     ghost use Rattle.std.specs.FinMap as map;
     ghost use Rattle.std.specs.FinSet as set;
+    ghost use Rattle.cg_cgroup.specs.contracts.held.Files as files;
     ghost use Rattle.cg_model.specs.Replays.{Progress};
     ghost use Rattle.cg_runs.specs.Shortcuts.{IsReplay};
 
     ghost Value = { Progress };
 
-    ghost coded = { Prim.hlevel (codes, map.code, set.code) };
+    ghost coded = { Prim.hlevel (codes, files.the_row.coded, map.code, set.code) };
 
-    ghost view = { λ r. record { subtree = r.subtree; original = r.original; told = r.told; state = H.state r.tree; steps = r.steps; verdict = r.verdict } };
+    ghost view = { λ r. record { subtree = r.subtree; original = r.original; state = H.state r.tree; steps = r.steps; verdict = r.verdict } };
 
-    ghost invariant = { λ r. IsReplay (record { subtree = r.subtree; original = r.original; told = r.told; state = H.state r.tree; steps = r.steps; verdict = r.verdict }) };
+    ghost invariant = { λ r. IsReplay (record { subtree = r.subtree; original = r.original; state = H.state r.tree; steps = r.steps; verdict = r.verdict }) };
 }
 
 impl<H: Hierarchy + Drop> Replay<H> {
     /// A replay that begins with this tree, in which the subtree is there and isn't the root. It takes memory only where
-    /// something is told of the subtree's limit files.
+    /// somebody speaks of a limit file of the subtree whose value is a text.
     pub fn start(alloc: Global, tree: H, subtree: Path) -> Result<Replay<H>, CheckFault>
         ensures ok { IfOk result (λ replay. IsRunOf replay (H.state tree) []) }
         ensures of { IfOk result (λ replay. replay.subtree ≡ subtree) }
@@ -73,8 +71,7 @@ impl<H: Hierarchy + Drop> Replay<H> {
         let Some(cgroup) = tree.get(&subtree, len) else {
             return Err(CheckFault::NoSuchSubtree);
         };
-        let original = *cgroup;
-        let Ok(told) = told_of(alloc, &tree, &subtree) else {
+        let Ok(original) = cgroup.try_clone(alloc) else {
             return Err(CheckFault::NoMemory);
         };
         let broken = broken_at_start(&tree, &subtree, &original);
@@ -82,7 +79,6 @@ impl<H: Hierarchy + Drop> Replay<H> {
             tree,
             subtree,
             original,
-            told,
             steps: 0,
             verdict: verdict_by(broken, 0),
         })
@@ -112,7 +108,6 @@ impl<H: Hierarchy> Replay<H> {
                 &self.tree,
                 &self.subtree,
                 &self.original,
-                self.told.as_ref(),
                 op,
                 moves,
             );
