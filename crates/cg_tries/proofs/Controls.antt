@@ -1,24 +1,22 @@
 -- A change of one controller at the parent breaks where it is allowed and changes what the parent enables.
-use Rattle.std.proofs.Common.{◌≡◌, Bool, true, false, cond, not, ◌&&◌, List, [], ◌∷◌, Option, Some, None, unwrap_or, is_some, option_map, option_and_then, refl, sym, ap, ◌∙◌, true≢false}
+use Rattle.std.proofs.Common.{◌≡◌, Bool, true, false, cond, not, ◌&&◌, List, [], ◌∷◌, Some, None, unwrap_or, is_some, option_map, option_and_then, refl, sym, ap, ◌∙◌, true≢false}
 use Rattle.std.specs.List.{AllByRecursion}
-use Rattle.cg_cgroup.specs.Paths.{Names, parent, is_root, is_child}
+use Rattle.cg_cgroup.specs.Paths.{Names, parent, is_root}
 use Rattle.cg_cgroup.specs.Identity.{Identity}
-use Rattle.cg_cgroup.specs.Files.{all_controllers, enables, same_controller, stands_by, stands_under, no_controllers, brought_by}
-use Rattle.cg_cgroup.specs.Cgroups.{file_of, other_in}
+use Rattle.cg_cgroup.specs.Files.{all_controllers, enables, same_controller, stands_at, stands_under, no_controllers}
+use Rattle.cg_cgroup.specs.Cgroups.{file_of}
 use Rattle.cg_cgroup.specs.declared.files.Controller.{Controller}
-use Rattle.cg_cgroup.specs.declared.files.Controller.TheVariants.{Cpu}
+use Rattle.cg_cgroup.specs.declared.files.Controller.TheVariants.{Cpuset, Cpu, Io, Memory, Hugetlb, Pids, Rdma, Misc, Dmem}
+use Rattle.cg_cgroup.specs.declared.files.LimitFile.TheVariants.{CpuWeight, CpusetCpus, DmemMax, HugetlbOf1GbMax, IoMax, MemoryMax, MiscMax, PidsMax, RdmaMax}
 use Rattle.cg_cgroup.specs.declared.controllers.ControllerSet.{ControllerSet}
 use Rattle.cg_cgroup.specs.declared.files.LimitFile.{LimitFile}
-use Rattle.cg_cgroup.specs.declared.other_file.OtherFile.{OtherFile}
-use Rattle.cg_cgroup.specs.declared.told.ToldFile.{ToldFile}
-use Rattle.cg_cgroup.proofs.Options.{some_value}
+use Rattle.cg_cgroup.proofs.Options.{some_value, is_some-mapped}
 use Rattle.cg_cgroup.proofs.ControllerLaws.{same_set, same_controller-true}
-use Rattle.cg_model.specs.States.{State, row_at, file_at, other_at, value_at, told_at, untold_at, told_text, with_enabled}
+use Rattle.cg_model.specs.States.{State, row_at, file_at, value_at}
 use Rattle.cg_model.specs.WellFormed.{IsWellFormed, has_row, enabled_at}
 use Rattle.cg_model.proofs.StateCounts.{paths_of-with_enabled, count_below-same_paths, depth_below-same_paths}
-use Rattle.cg_model.proofs.StateEntries.{value_at-file, file_at-with_enabled-same, other_at-with_enabled-same}
-use Rattle.cg_model.proofs.StateTold.{or_untold, told_at-with_enabled}
-use Rattle.cg_model.proofs.FormedTold.{stands as file-stands}
+use Rattle.cg_model.proofs.StateEntries.{value_at-file, file_at-with_enabled-same}
+use Rattle.cg_cgroup.proofs.CgroupLaws.{stands-below}
 use Rattle.cg_model.proofs.FormedEnabled.{has_row-with_enabled, enabled_at-with_enabled-same}
 use Rattle.cg_model.specs.Bars.{bars}
 use Rattle.cg_model.specs.Changes.{enabled_after}
@@ -36,7 +34,7 @@ use Rattle.cg_model.specs.Escapes.{breaks}
 use Rattle.cg_tries.specs.Escapes.{IsUnbroken}
 use Rattle.cg_tries.specs.Finding.{allowed}
 use Rattle.cg_tries.proofs.Seen.{seen, IsAlike, is_empty, step-alike}
-use Rattle.cg_tries.proofs.Single.{step_breaks, one_operation, others_stay, nothing_bars, where_so}
+use Rattle.cg_tries.proofs.Single.{step_breaks, one_operation, limits_stay, nothing_bars, where_so}
 
 -- a limit file stands where the parent enables what brings it
 stands : (st : State) (path : Names) (file : LimitFile) → IsWellFormed st → has_row st path ≡ true → is_root path ≡ false
@@ -45,41 +43,37 @@ stands st path file formed there not_root =
     let row = some_value (row_at st path) there in
     ap (λ r. is_some (option_and_then (λ row. file_of row file) r)) row.1
     ∙ (formed.rows path row.0 row.1).files file
-    ∙ ap (λ b. stands_under (cond b no_controllers (enabled_at st (parent path))) file) not_root
+    ∙ ap (λ b. stands_at b (cond b no_controllers (enabled_at st (parent path))) file) not_root
+    ∙ stands-below (enabled_at st (parent path)) file
 
--- and so do the other files of a controller
-other_stands : (st : State) (path : Names) (controller : Controller) → IsWellFormed st → has_row st path ≡ true → is_root path ≡ false
-    → is_some (other_at st path controller) ≡ enables (enabled_at st (parent path)) controller
-other_stands st path controller formed there not_root =
-    let row = some_value (row_at st path) there in
-    ap (λ r. is_some (option_and_then (λ row. other_in row controller) r)) row.1
-    ∙ (formed.rows path row.0 row.1).others controller
-    ∙ ap (λ b. enables (cond b no_controllers (enabled_at st (parent path))) controller) not_root
+-- one that a controller brings
+abbrev brought : Controller → LimitFile
+brought Cpuset = CpusetCpus
+brought Cpu = CpuWeight
+brought Io = IoMax
+brought Memory = MemoryMax
+brought Hugetlb = HugetlbOf1GbMax
+brought Pids = PidsMax
+brought Rdma = RdmaMax
+brought Misc = MiscMax
+brought Dmem = DmemMax
 
--- what is told stays where as much is enabled
-texts_kept : (st : State) (user : Identity) (subtree : Names) (enabled : ControllerSet) → IsWellFormed st → is_root subtree ≡ false
-    → enabled ≡ enabled_at st (parent subtree) → (file : OtherFile)
-    → told_text (with_enabled st (parent subtree) enabled user) subtree file ≡ told_text st subtree file
-texts_kept st user subtree enabled formed not_root same file =
-    ap (option_and_then (λ told. told.value))
-    (told_at-with_enabled st (parent subtree) enabled user subtree file
-    ∙ elim (is_child (parent subtree) subtree) as (λ b.
-    cond b (cond (stands_by enabled (brought_by file)) (told_at st subtree file) None) (told_at st subtree file)
-    ≡ told_at st subtree file) [
-      | false ↦ refl
-      | true ↦ elim (told_at st subtree file) as
-          (λ known. told_at st subtree file ≡ known → cond (stands_by enabled (brought_by file)) known None ≡ known) [
-            | None ↦ λ _. elim (stands_by enabled (brought_by file)) as (λ b. cond {A = Option ToldFile} b None None ≡ None)
-                [ true ↦ refl | false ↦ refl ]
-            | Some told ↦ λ is. ap (λ b. cond b (Some told) None) (brought told is)
-          ] refl
-    ])
-  where
-    brought : (told : ToldFile) → told_at st subtree file ≡ Some told → stands_by enabled (brought_by file) ≡ true
-    brought told is =
-        ap (λ (e : ControllerSet). stands_by e (brought_by file)) same
-        ∙ sym (ap (λ b. stands_by (cond b no_controllers (enabled_at st (parent subtree))) (brought_by file)) not_root)
-        ∙ (file-stands st formed subtree file told (ap (λ known. or_untold known (untold_at st subtree file)) is)).brought
+by_brought : (enabled : ControllerSet) (controller : Controller) → stands_under enabled (brought controller) ≡ enables enabled controller
+by_brought enabled Cpuset = refl
+by_brought enabled Cpu = refl
+by_brought enabled Io = refl
+by_brought enabled Memory = refl
+by_brought enabled Hugetlb = refl
+by_brought enabled Pids = refl
+by_brought enabled Rdma = refl
+by_brought enabled Misc = refl
+by_brought enabled Dmem = refl
+
+brought_stands : (st : State) (path : Names) (controller : Controller) → IsWellFormed st → has_row st path ≡ true → is_root path ≡ false
+    → is_some (value_at st path (brought controller)) ≡ enables (enabled_at st (parent path)) controller
+brought_stands st path controller formed there not_root =
+    ap is_some (value_at-file st path (brought controller)) ∙ is_some-mapped (λ f. f.value) (file_at st path (brought controller))
+    ∙ stands st path (brought controller) formed there not_root ∙ by_brought (enabled_at st (parent path)) controller
 
 -- ---- changes
 
@@ -142,11 +136,11 @@ module _ (st : State) (user : Identity) (subtree : Names) (on : Bool) (controlle
       let here = has_row-with_enabled st (parent subtree) (enabled_by on controller above) user subtree ∙ there.0 in
       let enabled =
       enabled_at-with_enabled-same st (parent subtree) (enabled_by on controller above) user (formed.parents subtree there.0) in
-      let before = other_stands st subtree controller formed there.0 there.1 in
+      let before = brought_stands st subtree controller formed there.0 there.1 in
       let after =
-      other_stands new subtree controller later here there.1
+      brought_stands new subtree controller later here there.1
       ∙ ap (λ (e : ControllerSet). enables e controller) enabled ∙ now_enabled on controller above in
-      toggled on (enables above controller) changes (sym before ∙ others_stay st st new subtree none controller ∙ after)
+      toggled on (enables above controller) changes (sym before ∙ ap is_some (limits_stay st st new subtree none (brought controller)) ∙ after)
 
   -- without effect it leaves the subtree as it was
   kept : changes_enabled on controller above ≡ false → IsAlike st new subtree
@@ -159,13 +153,9 @@ module _ (st : State) (user : Identity) (subtree : Names) (on : Bool) (controlle
       stands st subtree file formed there.0 there.1
       ∙ ap (λ (e : ControllerSet). stands_under e file) (sym (same_enabled on controller above same))))
       ∙ sym (value_at-file st subtree file) in
-      let others : (other : Controller) → other_at new subtree other ≡ other_at st subtree other = λ other.
-      other_at-with_enabled-same st (parent subtree) enabled user subtree other (λ _.
-      other_stands st subtree other formed there.0 there.1
-      ∙ ap (λ (e : ControllerSet). enables e other) (sym (same_enabled on controller above same))) in
-      let texts = texts_kept st user subtree enabled formed there.1 (same_enabled on controller above same) in
       λ i. record {
-        limits = record { values = λ file. files file i; others = λ other. is_some (others other i); told = λ file. texts file i };
+        there = has_row-with_enabled st (parent subtree) enabled user subtree i;
+        limits = λ file. files file i;
         count = count_below-same_paths st new paths subtree i;
         depth = depth_below-same_paths st new paths subtree i;
         pids = (seen st subtree).pids;

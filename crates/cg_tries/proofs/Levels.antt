@@ -1,28 +1,28 @@
 -- How far limits let in a new child, ancestor by ancestor from the root down.
-use Rattle.std.proofs.Common.{◌≡◌, ℕ, zero, suc, ◌+◌, ◌-◌, ◌<◌, ◌≤◌, min, ⊎_elim, true, false, ◌&&◌, length, take, Some, None, nat_lt, refl, sym, ap, ◌∙◌, arith}
+use Rattle.std.proofs.Common.{◌≡◌, ℕ, zero, suc, ◌+◌, ◌-◌, ◌<◌, ◌≤◌, min, ⊎_elim, true, false, ◌&&◌, length, take, Option, Some, None, nat_lt, refl, sym, ap, ◌∙◌, arith}
 use Rattle.std.proofs.lemmas.Bool.{cases_lt, lt-ltb, le-ltb}
 use Rattle.std.proofs.lemmas.Bool.Decides.{nat_tests}
 use Rattle.std.proofs.Math.Bool.{and-false}
 use Rattle.cg_cgroup.specs.Paths.{Names}
-use Rattle.cg_cgroup.specs.declared.files.Limit.{Limit}
-use Rattle.cg_cgroup.specs.declared.files.Limit.TheVariants.{Max, At}
+use Rattle.cg_cgroup.specs.Cgroups.{most_in}
+use Rattle.cg_cgroup.specs.declared.files.LimitFile.TheVariants.{MaxDescendants, MaxDepth}
 use Rattle.cg_cgroup.specs.declared.cgroup.Cgroup.{Cgroup}
 use Rattle.cg_model.specs.States.{State, row_at, count_below}
 use Rattle.cg_model.specs.Limits.{is_under}
 use Rattle.cg_tries.specs.Finding.{level_passes, levels_pass, lets_in, lowered}
 
-under_lowered : (len at level : ℕ) (limit : Limit) → at ≤ len
-    → (is_under (len - at) limit && nat_lt len level) ≡ nat_lt len (lowered level at limit)
-under_lowered len at level Max h = refl
-under_lowered len at level (At most) h = grind (arith, nat_tests)
+under_lowered : (len at level : ℕ) (most : Option ℕ) → at ≤ len
+    → (is_under (len - at) most && nat_lt len level) ≡ nat_lt len (lowered level at most)
+under_lowered len at level None h = refl
+under_lowered len at level (Some most) h = grind (arith, nat_tests)
 
-above_lowered : (len at level : ℕ) (limit : Limit) → len < at → at < level → nat_lt len level ≡ nat_lt len (lowered level at limit)
-above_lowered len at level Max h k = refl
-above_lowered len at level (At most) h k = grind (arith, nat_tests)
+above_lowered : (len at level : ℕ) (most : Option ℕ) → len < at → at < level → nat_lt len level ≡ nat_lt len (lowered level at most)
+above_lowered len at level None h k = refl
+above_lowered len at level (Some most) h k = grind (arith, nat_tests)
 
-pub lowered-le : (level at : ℕ) (limit : Limit) → lowered level at limit ≤ level
-lowered-le level at Max = omega arith
-lowered-le level at (At most) = omega arith
+pub lowered-le : (level at : ℕ) (most : Option ℕ) → lowered level at most ≤ level
+lowered-le level at None = omega arith
+lowered-le level at (Some most) = omega arith
 
 module _ (st : State) (subtree : Names) where
   -- with what the cgroups of fewer than `at` names say, an ancestor lets in a child where it lies above a level
@@ -58,7 +58,7 @@ module _ (st : State) (subtree : Names) where
       (cases_lt len at)
 
   pub open_full : (at level : ℕ) (row : Cgroup) → at < level → OpenAbove at level → row_at st (take at subtree) ≡ Some row
-      → is_under (count_below st (take at subtree)) row.max_descendants.value ≡ false
+      → is_under (count_below st (take at subtree)) (most_in row MaxDescendants) ≡ false
       → (len : ℕ) → len < length subtree → lets_in st subtree len ≡ nat_lt len at
   open_full at level row h now is full len within = ⊎_elim
       (λ below. sym (ap (levels_pass st subtree len) (sooner len at below)) ∙ now len within ∙ lt-ltb len level (omega (arith, h, below))
@@ -67,31 +67,31 @@ module _ (st : State) (subtree : Names) where
       let none : level_passes st subtree len at ≡ false =
       ap (λ r. elim r [
         | None ↦ true
-        | Some row ↦ is_under (count_below st (take at subtree)) row.max_descendants.value && is_under (len - at) row.max_depth.value
+        | Some row ↦ is_under (count_below st (take at subtree)) (most_in row MaxDescendants) && is_under (len - at) (most_in row MaxDepth)
       ]) is
-      ∙ ap (λ b. b && is_under (len - at) row.max_depth.value) full in
+      ∙ ap (λ b. b && is_under (len - at) (most_in row MaxDepth)) full in
       barred_at len (suc at) (omega (arith, above)) (ap (λ b. b && levels_pass st subtree len at) none)
       ∙ sym (le-ltb len at (omega (arith, above))))
       (cases_lt len at)
 
   pub open_row : (at level : ℕ) (row : Cgroup) → at < level → OpenAbove at level → row_at st (take at subtree) ≡ Some row
-      → is_under (count_below st (take at subtree)) row.max_descendants.value ≡ true
-      → OpenAbove (at + 1) (lowered level at row.max_depth.value)
+      → is_under (count_below st (take at subtree)) (most_in row MaxDescendants) ≡ true
+      → OpenAbove (at + 1) (lowered level at (most_in row MaxDepth))
   open_row at level row h now is under len within = ⊎_elim
       (λ below.
       ap (levels_pass st subtree len) (let e : min (at + 1) (suc len) ≡ min at (suc len) = omega arith in e)
-      ∙ now len within ∙ above_lowered len at level row.max_depth.value below h)
+      ∙ now len within ∙ above_lowered len at level (most_in row MaxDepth) below h)
       (λ above.
-      let here : level_passes st subtree len at ≡ is_under (len - at) row.max_depth.value =
+      let here : level_passes st subtree len at ≡ is_under (len - at) (most_in row MaxDepth) =
       ap (λ r. elim r [
         | None ↦ true
-        | Some row ↦ is_under (count_below st (take at subtree)) row.max_descendants.value && is_under (len - at) row.max_depth.value
+        | Some row ↦ is_under (count_below st (take at subtree)) (most_in row MaxDescendants) && is_under (len - at) (most_in row MaxDepth)
       ]) is
-      ∙ ap (λ b. b && is_under (len - at) row.max_depth.value) under in
+      ∙ ap (λ b. b && is_under (len - at) (most_in row MaxDepth)) under in
       ap (levels_pass st subtree len) (let e : min (at + 1) (suc len) ≡ suc at = omega arith in e)
       ∙ (λ i. here i && levels_pass st subtree len at)
-      ∙ ap (λ b. is_under (len - at) row.max_depth.value && b) (sym (ap (levels_pass st subtree len) (later len at above)) ∙ now len within)
-      ∙ under_lowered len at level row.max_depth.value above)
+      ∙ ap (λ b. is_under (len - at) (most_in row MaxDepth) && b) (sym (ap (levels_pass st subtree len) (later len at above)) ∙ now len within)
+      ∙ under_lowered len at level (most_in row MaxDepth) above)
       (cases_lt len at)
 
   pub open_gone : (at level : ℕ) → OpenAbove at level → row_at st (take at subtree) ≡ None → OpenAbove (at + 1) level
@@ -101,7 +101,7 @@ module _ (st : State) (subtree : Names) where
       let here : level_passes st subtree len at ≡ true =
       ap (λ r. elim r [
         | None ↦ true
-        | Some row ↦ is_under (count_below st (take at subtree)) row.max_descendants.value && is_under (len - at) row.max_depth.value
+        | Some row ↦ is_under (count_below st (take at subtree)) (most_in row MaxDescendants) && is_under (len - at) (most_in row MaxDepth)
       ]) gone in
       ap (levels_pass st subtree len) (let e : min (at + 1) (suc len) ≡ suc at = omega arith in e)
       ∙ (λ i. here i && levels_pass st subtree len at) ∙ sym (ap (levels_pass st subtree len) (later len at above)) ∙ now len within)

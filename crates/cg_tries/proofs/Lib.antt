@@ -4,7 +4,7 @@ pub mod Controls
 pub mod Moves
 pub mod Probes
 pub mod Walks
-pub mod OtherSets
+pub mod TextSets
 pub mod Levels
 pub mod ProbeNames
 pub mod FreeProbes

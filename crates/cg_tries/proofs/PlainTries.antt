@@ -1,36 +1,33 @@
 -- The first of the plain tries that breaks, kind by kind.
 use Rattle.std.proofs.Common.{◌≡◌, ℕ, zero, suc, ◌<◌, ◌≤◌, ⊎_elim, take_all, true≢false, Bool, true, false, cond, not, ◌&&◌, List, [], ◌∷◌, ◌++◌, length, take, find, Option, Some, None, option_map, option_and_then, refl, sym, ap, ◌∙◌, arith}
-use Rattle.std.specs.List.{flat_map}
 use Rattle.std.specs.Option.{option_or}
-use Rattle.cg_cgroup.specs.declared.other_file.OtherFile.{OtherFile}
-use Rattle.cg_cgroup.specs.declared.told.ToldFile.{ToldFile}
 use Rattle.std.proofs.lemmas.List.Folds.{find-append}
 use Rattle.std.proofs.Math.Bool.{and-true, and-false}
 use Rattle.std.proofs.lemmas.Bool.{cases_lt}
 use Rattle.cg_cgroup.specs.Paths.{Names, parent, inside, common}
 use Rattle.cg_cgroup.specs.Identity.{Identity}
-use Rattle.cg_cgroup.specs.Files.{all_files, all_others, enables}
+use Rattle.cg_cgroup.specs.Files.{all_files, enables}
 use Rattle.cg_cgroup.specs.Users.{writes}
 use Rattle.cg_cgroup.proofs.PathLaws.{common-take_first, common-inside_first, common-inside_second, common_comm, inside-length}
-use Rattle.cg_cgroup.specs.declared.files.Limit.{Limit}
+use Rattle.cg_cgroup.specs.declared.value.Value.{Value}
 use Rattle.cg_cgroup.specs.declared.files.LimitFile.{LimitFile}
 use Rattle.cg_cgroup.specs.declared.files.Controller.{Controller}
-use Rattle.cg_model.specs.States.{State, row_at, place_at, paths_of, pids_of, value_at, file_told}
+use Rattle.cg_model.specs.States.{State, row_at, place_at, paths_of, pids_of, value_at}
 use Rattle.cg_model.specs.WellFormed.{IsWellFormed, enabled_at}
 use Rattle.cg_model.specs.Clauses.{present}
 use Rattle.cg_model.specs.Bars.{passes}
 use Rattle.cg_model.specs.declared.operation.Op.{Op}
-use Rattle.cg_model.specs.declared.operation.Op.TheVariants.{Move, Control, Mkdir, Rmdir, Set, SetOther}
+use Rattle.cg_model.specs.declared.operation.Op.TheVariants.{Move, Control, Mkdir, Rmdir, Set}
 use Rattle.cg_model.specs.Guards.{IsSubtree}
 use Rattle.cg_model.specs.declared.verdict.Clause.{Clause}
-use Rattle.cg_model.specs.Tries.{other_value, other_text, set_tries, told_controllers, change_of, control_tries, move_tries, probe_tries, plain_tries}
+use Rattle.cg_model.specs.Tries.{other_value, set_tries, told_controllers, change_of, control_tries, move_tries, probe_tries, plain_tries}
 use Rattle.cg_model.specs.Escapes.{breaks}
 use Rattle.cg_tries.specs.Escapes.{IsUnbroken}
 use Rattle.cg_ops.specs.Moves.{passes_at}
-use Rattle.cg_tries.specs.Finding.{allowed, if_allowed, set_of, first_listed_set, other_set_of, first_other_set, first_set, control_of, first_control, first_write, receives, can_leave_to, can_enter_at, goes_from, move_of, first_move, writes_both, first_probe_path, first_inside, first_probe, first_passage}
+use Rattle.cg_tries.specs.Finding.{allowed, if_allowed, set_of, first_set, control_of, first_control, first_write, receives, can_leave_to, can_enter_at, goes_from, move_of, first_move, writes_both, first_probe_path, first_inside, first_probe, first_passage}
 use Rattle.cg_tries.proofs.Walks.{given-none}
 use Rattle.cg_tries.proofs.Seen.{is_empty, breaks-run}
-use Rattle.cg_tries.proofs.Single.{set_try, other_set_try, rmdir_try}
+use Rattle.cg_tries.proofs.Single.{set_try, rmdir_try}
 use Rattle.cg_tries.proofs.Controls.{control_try}
 use Rattle.cg_tries.proofs.Moves.{find-flat_map, first_given-same, first_move-is}
 use Rattle.cg_tries.proofs.ProbeWalk.{unwritten}
@@ -48,45 +45,18 @@ module _ (st : State) (user : Identity) (subtree : Names) (whole : IsUnbroken st
   nothing_kept : breaks st user subtree [] ≡ false
   nothing_kept = breaks-run st user subtree [] ∙ ap (λ (l : List Clause). not (is_empty l && true)) whole
 
-  one_set : (file : LimitFile) (found : Option Limit) → value_at st subtree file ≡ found
+  one_set : (file : LimitFile) (found : Option Value) → value_at st subtree file ≡ found
       → find (breaks st user subtree) (present found (λ value. (Set subtree file (other_value file value) ∷ []) ∷ []))
       ≡ option_and_then (λ value. if_allowed st user (Set subtree file (other_value file value))) found
   one_set file None is = refl
   one_set file (Some value) is =
       ap (λ b. cond b (Some (Set subtree file (other_value file value) ∷ [])) None) (set_try st user subtree file value whole is)
 
-  first_listed-is : find (breaks st user subtree)
-      (flat_map (λ file. present (value_at st subtree file) (λ value. (Set subtree file (other_value file value) ∷ []) ∷ [])) all_files)
-      ≡ first_listed_set st user subtree
-  first_listed-is =
+  first_set-is : find (breaks st user subtree) (set_tries st subtree) ≡ first_set st user subtree
+  first_set-is =
       find-flat_map (breaks st user subtree)
       (λ file. present (value_at st subtree file) (λ value. (Set subtree file (other_value file value) ∷ []) ∷ [])) all_files
       ∙ first_given-same _ (set_of st user subtree) all_files (λ file. one_set file (value_at st subtree file) refl)
-
-  one_other : (file : OtherFile) (found : Option ToldFile) → file_told st subtree file ≡ found
-      → find (breaks st user subtree) (present found (λ told. (SetOther subtree file (other_text file told.value) ∷ []) ∷ []))
-      ≡ option_and_then (λ told. if_allowed st user (SetOther subtree file (other_text file told.value))) found
-  one_other file None is = refl
-  one_other file (Some told) is =
-      ap (λ b. cond b (Some (SetOther subtree file (other_text file told.value) ∷ [])) None)
-      (other_set_try st user subtree file told whole is)
-
-  first_other-is : find (breaks st user subtree)
-      (flat_map (λ file.
-      present (file_told st subtree file) (λ told. (SetOther subtree file (other_text file told.value) ∷ []) ∷ [])) all_others)
-      ≡ first_other_set st user subtree
-  first_other-is =
-      find-flat_map (breaks st user subtree)
-      (λ file. present (file_told st subtree file) (λ told. (SetOther subtree file (other_text file told.value) ∷ []) ∷ [])) all_others
-      ∙ first_given-same _ (other_set_of st user subtree) all_others (λ file. one_other file (file_told st subtree file) refl)
-
-  first_set-is : find (breaks st user subtree) (set_tries st subtree) ≡ first_set st user subtree
-  first_set-is =
-      find-append (breaks st user subtree)
-      (flat_map (λ file. present (value_at st subtree file) (λ value. (Set subtree file (other_value file value) ∷ []) ∷ [])) all_files)
-      (flat_map (λ file.
-      present (file_told st subtree file) (λ told. (SetOther subtree file (other_text file told.value) ∷ []) ∷ [])) all_others)
-      ∙ (λ i. option_or (first_listed-is i) (first_other-is i))
 
   module _ (formed : IsWellFormed st) (there : IsSubtree st subtree) where
     abbrev change : Bool → Controller → Op

@@ -8,6 +8,8 @@ use Rattle.std.proofs.lemmas.List.Folds.{find-append}
 use Rattle.cg_cgroup.specs.Paths.{Name, Names, inside, is_root, parent, path_text}
 use Rattle.cg_cgroup.specs.Identity.{Identity}
 use Rattle.cg_cgroup.specs.Users.{writes}
+use Rattle.cg_cgroup.specs.Cgroups.{most_in}
+use Rattle.cg_cgroup.specs.declared.files.LimitFile.TheVariants.{MaxDescendants, MaxDepth}
 use Rattle.cg_cgroup.specs.declared.cgroup.Cgroup.{Cgroup}
 use Rattle.cg_cgroup.specs.declared.files.EntryName.TheVariants.{Dir}
 use Rattle.cg_cgroup.proofs.Options.{none_value, some_value, same_some}
@@ -50,10 +52,10 @@ passed-both true b r s = passed-unless b s
 passed-both false b r s = refl
 
 level-passed : (found : Option Cgroup) (count down : ℕ) (r s : Refusal)
-    → passed (present found (λ row. unless (is_under count row.max_descendants.value) r ++ unless (is_under down row.max_depth.value) s))
-    ≡ elim found [ None ↦ true | Some row ↦ is_under count row.max_descendants.value && is_under down row.max_depth.value ]
+    → passed (present found (λ row. unless (is_under count (most_in row MaxDescendants)) r ++ unless (is_under down (most_in row MaxDepth)) s))
+    ≡ elim found [ None ↦ true | Some row ↦ is_under count (most_in row MaxDescendants) && is_under down (most_in row MaxDepth) ]
 level-passed None count down r s = refl
-level-passed (Some row) count down r s = passed-both (is_under count row.max_descendants.value) (is_under down row.max_depth.value) r s
+level-passed (Some row) count down r s = passed-both (is_under count (most_in row MaxDescendants)) (is_under down (most_in row MaxDepth)) r s
 
 made : (above : Option Cgroup) (row : Cgroup) (user : Identity) (limits : List Refusal) (r s : Refusal) → above ≡ Some row
     → passed (absent above r ++ unless (elim above [ None ↦ true | Some row ↦ writes user row.dir ]) s ++ present above (λ row. limits))
@@ -91,7 +93,7 @@ module _ (st : State) (user : Identity) (subtree : Names) (len : ℕ) (name : Na
       ∙ (λ i. elim (row_at st (front at (omega (arith, h)) i)) [
         | None ↦ true
         | Some row ↦
-            is_under (count_below st (front at (omega (arith, h)) i)) row.max_descendants.value && is_under (down at i) row.max_depth.value
+            is_under (count_below st (front at (omega (arith, h)) i)) (most_in row MaxDescendants) && is_under (down at i) (most_in row MaxDepth)
       ] && levels_pass st subtree len at)
     where
       down : (at : ℕ) → length path - 1 - at ≡ len - at

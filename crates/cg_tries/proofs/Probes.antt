@@ -8,8 +8,7 @@ use Rattle.cg_cgroup.specs.Paths.{Name, Names, inside, below, common, same_path,
 use Rattle.cg_cgroup.specs.Identity.{Identity}
 use Rattle.cg_cgroup.specs.Users.{writes}
 use Rattle.cg_cgroup.specs.Files.{enables_nothing}
-use Rattle.cg_cgroup.specs.Cgroups.{cgroup_made_by, value_in, other_in}
-use Rattle.cg_cgroup.specs.declared.files.Controller.{Controller}
+use Rattle.cg_cgroup.specs.Cgroups.{cgroup_made_by, value_in}
 use Rattle.cg_cgroup.specs.declared.files.LimitFile.{LimitFile}
 use Rattle.cg_cgroup.specs.declared.cgroup.Cgroup.{Cgroup}
 use Rattle.cg_cgroup.proofs.Options.{none_value}
@@ -17,11 +16,11 @@ use Rattle.cg_cgroup.proofs.PathLaws.{inside-length}
 use Rattle.cg_cgroup.proofs.PathOrder.{same_path-not, same_path_refl}
 use Rattle.cg_cgroup.proofs.PathParents.{inside-is}
 use Rattle.cg_cgroup.proofs.UserLaws.{writes-made_by}
-use Rattle.cg_model.specs.States.{State, row_at, place_at, with_row, count_below, depth_below, value_at, other_at, told_text}
+use Rattle.cg_model.specs.States.{State, row_at, place_at, with_row, count_below, depth_below, value_at}
 use Rattle.cg_model.specs.WellFormed.{IsWellFormed, has_row, enabled_at}
 use Rattle.cg_model.proofs.StateLaws.{row_at-with_row}
 use Rattle.cg_model.proofs.StateCounts.{count_below-with_row, depth_below-with_row}
-use Rattle.cg_model.proofs.StateEntries.{value_at-with_row, other_at-with_row}
+use Rattle.cg_model.proofs.StateEntries.{value_at-with_row}
 use Rattle.cg_model.proofs.TreeLaws.{take-there}
 use Rattle.cg_model.specs.Clauses.{first}
 use Rattle.cg_model.specs.Bars.{bars}
@@ -93,9 +92,6 @@ module _ (st : State) (user : Identity) (subtree : Names) (len : ℕ) (name : Na
   alike =
       let files : (file : LimitFile) → value_at made subtree file ≡ value_at st subtree file = λ file.
       value_at-with_row st path row subtree file ∙ ap (λ b. cond b (value_in row file) (value_at st subtree file)) not_subtree in
-      let others : (controller : Controller) → other_at made subtree controller ≡ other_at st subtree controller = λ controller.
-      other_at-with_row st path row subtree controller
-      ∙ ap (λ b. cond b (other_in row controller) (other_at st subtree controller)) not_subtree in
       let count =
       count_below-with_row st path row free subtree
       ∙ ap (λ b. cond b (1 + count_below st subtree) (count_below st subtree)) no_child_of in
@@ -103,11 +99,9 @@ module _ (st : State) (user : Identity) (subtree : Names) (len : ℕ) (name : Na
       depth_below-with_row st path row free subtree
       ∙ ap (λ b. cond b (max (depth_below st subtree) (length path - length subtree)) (depth_below st subtree)) no_child_of in
       λ i. record {
-        limits = record {
-          values = λ file. files file i;
-          others = λ controller. is_some (others controller i);
-          told = told_text st subtree;
-        };
+        there =
+            ap is_some (row_at-with_row st path row subtree ∙ ap (λ b. cond b (Some row) (row_at st subtree)) not_subtree) i;
+        limits = λ file. files file i;
         count = count i;
         depth = depth i;
         pids = (seen st subtree).pids;

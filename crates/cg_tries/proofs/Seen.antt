@@ -1,12 +1,15 @@
 -- What a verdict sees of a subtree, and that states which are alike in it are broken alike.
-use Rattle.std.proofs.Common.{◌≡◌, ℕ, suc, Bool, true, false, not, ◌&&◌, List, [], ◌∷◌, ◌++◌, map, filter, Option, Some, None, is_some, option_and_then, refl, sym, ap, ◌∙◌, true≢false}
+use Rattle.std.proofs.Common.{◌≡◌, ℕ, suc, Bool, true, false, not, ◌&&◌, List, [], ◌∷◌, ◌++◌, map, filter, Option, Some, None, option_and_then, refl, sym, ap, ◌∙◌, true≢false}
 use Rattle.cg_cgroup.specs.Paths.{Names}
 use Rattle.cg_cgroup.specs.Identity.{Identity}
 use Rattle.cg_cgroup.specs.Cgroups.{value_in}
 use Rattle.cg_cgroup.specs.declared.cgroup.Cgroup.{Cgroup}
-use Rattle.cg_cgroup.specs.declared.files.Limit.{Limit}
+use Rattle.cg_cgroup.specs.Cgroups.{most_in}
+use Rattle.cg_cgroup.specs.Values.{most_of}
+use Rattle.cg_cgroup.specs.declared.value.Value.{Value}
 use Rattle.cg_cgroup.specs.declared.files.LimitFile.TheVariants.{MaxDescendants, MaxDepth}
 use Rattle.cg_model.specs.States.{State, row_at, place_at, pids_of, count_below, depth_below}
+use Rattle.cg_model.specs.WellFormed.{has_row}
 use Rattle.cg_model.specs.Clauses.{unless}
 use Rattle.cg_model.specs.Steps.{after, Deed}
 use Rattle.cg_model.specs.declared.operation.Op.{Op}
@@ -23,6 +26,7 @@ use Rattle.cg_tries.specs.Escapes.{IsUnbroken}
 -- ---- what is seen
 
 pub record Seen : Type 0 where
+  pub there : Bool
   pub limits : Limits
   pub count : ℕ
   pub depth : ℕ
@@ -31,6 +35,7 @@ pub record Seen : Type 0 where
 
 abbrev pub seen : State → Names → Seen
 seen st subtree = record {
+  there = has_row st subtree;
   limits = limits st subtree;
   count = count_below st subtree;
   depth = depth_below st subtree;
@@ -41,31 +46,26 @@ seen st subtree = record {
 abbrev pub IsAlike : State → State → Names → Type 0
 IsAlike st new subtree = seen new subtree ≡ seen st subtree
 
-abbrev fits : ℕ → Option Limit → Bool
-fits count None = true
-fits count (Some value) = is_within_limit count value
+abbrev fits : ℕ → Option Value → Bool
+fits count value = is_within_limit count (option_and_then most_of value)
 
 -- what is broken, by what is seen
 abbrev pub broken_seen : Limits → Seen → Seen → Names → List Clause
 broken_seen start old new subtree =
-    unless (is_some (new.limits.values MaxDescendants)) Gone
+    unless new.there Gone
     ++ map Crossed (filter (λ pid. is_crossed subtree (old.place pid) (new.place pid)) old.pids)
     ++ unless (same_limits start new.limits) LimitsChanged
-    ++ unless (fits new.count (new.limits.values MaxDescendants)) Descendants
-    ++ unless (fits new.depth (new.limits.values MaxDepth)) Depth
-
-there-seen : (found : Option Cgroup) → is_some found ≡ is_some (option_and_then (λ row. value_in row MaxDescendants) found)
-there-seen None = refl
-there-seen (Some row) = refl
+    ++ unless (fits new.count (new.limits MaxDescendants)) Descendants
+    ++ unless (fits new.depth (new.limits MaxDepth)) Depth
 
 descendants-seen : (count : ℕ) (found : Option Cgroup)
-    → elim found [ None ↦ true | Some row ↦ is_within_limit count row.max_descendants.value ]
+    → elim found [ None ↦ true | Some row ↦ is_within_limit count (most_in row MaxDescendants) ]
     ≡ fits count (option_and_then (λ row. value_in row MaxDescendants) found)
 descendants-seen count None = refl
 descendants-seen count (Some row) = refl
 
 depth-seen : (count : ℕ) (found : Option Cgroup)
-    → elim found [ None ↦ true | Some row ↦ is_within_limit count row.max_depth.value ]
+    → elim found [ None ↦ true | Some row ↦ is_within_limit count (most_in row MaxDepth) ]
     ≡ fits count (option_and_then (λ row. value_in row MaxDepth) found)
 depth-seen count None = refl
 depth-seen count (Some row) = refl
@@ -73,7 +73,7 @@ depth-seen count (Some row) = refl
 pub broken-seen : (start st new : State) (subtree : Names)
     → broken start st new subtree ≡ broken_seen (limits start subtree) (seen st subtree) (seen new subtree) subtree
 broken-seen start st new subtree = λ i.
-    unless (there-seen (row_at new subtree) i) Gone
+    unless (has_row new subtree) Gone
     ++ map Crossed (crossing st new subtree)
     ++ unless (same_limits (limits start subtree) (limits new subtree)) LimitsChanged
     ++ unless (descendants-seen (count_below new subtree) (row_at new subtree) i) Descendants

@@ -1,32 +1,24 @@
 -- A try of one operation breaks where it is allowed and its step breaks.
-use Rattle.std.proofs.Common.{◌≡◌, ℕ, ◌≤◌, length, Bool, true, false, cond, not, ◌&&◌, ◌≢◌, List, [], ◌∷◌, ◌++◌, drop, Some, None, is_some, option_map, nat_eq, refl, sym, ap, ◌∙◌, true≢false, arith}
-use Rattle.std.proofs.lemmas.Bool.{and_from, eqb-true, eqb-false, not-true, false_from_ne_true}
+use Rattle.std.proofs.Common.{◌≡◌, ℕ, ◌≤◌, length, Bool, true, false, cond, not, ◌&&◌, ◌≢◌, List, [], ◌∷◌, ◌++◌, drop, Some, None, is_some, option_map, nat_eq, refl, sym, ap, ◌∙◌, true≢false}
+use Rattle.std.proofs.lemmas.Bool.{and_from, and_parts, eqb-true, eqb-false, not-true, false_from_ne_true}
 use Rattle.std.proofs.lemmas.List.{append_cancel_left}
 use Rattle.std.proofs.Math.Bool.{and-true}
 use Rattle.cg_cgroup.specs.Paths.{Names, inside}
 use Rattle.cg_cgroup.specs.Identity.{Identity}
-use Rattle.cg_cgroup.specs.declared.files.Limit.{Limit}
-use Rattle.cg_cgroup.specs.declared.files.Limit.TheVariants.{Max, At}
-use Rattle.cg_cgroup.specs.declared.files.Controller.{Controller}
+use Rattle.cg_cgroup.specs.declared.value.Value.{Value}
+use Rattle.cg_cgroup.specs.declared.value.Value.TheVariants.{Unknown, Max, Number, Text}
 use Rattle.cg_cgroup.specs.declared.files.LimitFile.{LimitFile}
-use Rattle.cg_cgroup.specs.declared.files.LimitFile.TheVariants.{CpuWeight}
-use Rattle.std.specs.Prelude.{Option, option_and_then}
+use Rattle.std.specs.Prelude.{Option}
 use Rattle.std.specs.Cmp.Lexicographic.{bytes_decides}
 use Rattle.cg_cgroup.specs.Paths.{same_name}
-use Rattle.cg_cgroup.specs.Values.{is_value_word, is_one_line, has_value_line, device_in}
-use Rattle.cg_cgroup.specs.Files.{other_kind}
-use Rattle.cg_cgroup.specs.Told.{file_untold, with_value_told}
-use Rattle.cg_cgroup.specs.declared.other_file.OtherFile.{OtherFile}
-use Rattle.cg_cgroup.specs.declared.told.FileText.{FileText}
-use Rattle.cg_cgroup.specs.declared.told.ToldFile.{ToldFile}
-use Rattle.cg_cgroup.specs.declared.user.Entry.{Entry}
-use Rattle.cg_model.proofs.StateTold.{told_at-telling}
-use Rattle.cg_cgroup.proofs.AllOthers.{each_other}
+use Rattle.cg_cgroup.specs.Values.{is_value_word, is_one_line, has_value_line, device_in, has_already}
+use Rattle.cg_cgroup.specs.Files.{kind_of, is_of_devices}
+use Rattle.cg_cgroup.proofs.AllFiles.{each_passes}
 use Rattle.cg_cgroup.proofs.DeviceLines.{one_line_behind, device_word, only_line}
 use Rattle.cg_cgroup.proofs.Options.{mapped_from, same_some}
 use Rattle.cg_cgroup.proofs.PathOrder.{same_path_refl}
-use Rattle.cg_cgroup.proofs.CgroupLaws.{same_file-refl, same_other-refl}
-use Rattle.cg_model.specs.States.{State, row_at, process_at, place_at, with_value, with_place, placed_at, without_row, value_at, other_at, told_at, untold_at, file_told, told_text, with_text}
+use Rattle.cg_cgroup.proofs.CgroupLaws.{same_file-refl}
+use Rattle.cg_model.specs.States.{State, row_at, process_at, place_at, with_value, with_place, placed_at, without_row, value_at}
 use Rattle.cg_model.specs.WellFormed.{has_row}
 use Rattle.cg_model.proofs.StateLaws.{row_at-without_row, process_at-with_place-same}
 use Rattle.cg_model.proofs.StateEntries.{value_at-with_value}
@@ -36,7 +28,7 @@ use Rattle.cg_model.proofs.ClauseLaws.{no_parts, no_unless}
 use Rattle.cg_model.specs.Bars.{bars}
 use Rattle.cg_model.specs.Next.{next}
 use Rattle.cg_model.specs.declared.operation.Op.{Op}
-use Rattle.cg_model.specs.declared.operation.Op.TheVariants.{Move, Rmdir, Set, SetOther}
+use Rattle.cg_model.specs.declared.operation.Op.TheVariants.{Move, Rmdir, Set}
 use Rattle.cg_model.specs.Limits.{Limits as LimitMap, limits, same_limits}
 use Rattle.cg_model.specs.Edge.{is_crossed}
 use Rattle.cg_model.proofs.Edges.{crosses-some}
@@ -45,7 +37,7 @@ use Rattle.cg_model.specs.declared.verdict.Clause.{Clause}
 use Rattle.cg_model.specs.declared.verdict.Clause.TheVariants.{Gone, Limits}
 use Rattle.cg_model.proofs.LimitLaws.{same_limits-is}
 use Rattle.cg_model.proofs.BrokenLaws.{broken-whole}
-use Rattle.cg_model.specs.Tries.{other_value, device_of, on_device, text_besides, other_text}
+use Rattle.cg_model.specs.Tries.{other_value, device_of, on_device}
 use Rattle.cg_model.specs.Escapes.{breaks}
 use Rattle.cg_tries.specs.Escapes.{IsUnbroken}
 use Rattle.cg_tries.specs.Finding.{allowed}
@@ -114,34 +106,99 @@ limits_stay start st new subtree none file =
     let same =
     no_unless (same_limits (limits start subtree) (limits new subtree)) Limits (no_parts _ _ (no_parts _ _ (no_parts _ _ none).0).0).1
     in
-    ap (λ (these : LimitMap). these.values file) (same_limits-is (limits start subtree) (limits new subtree) same)
+    ap (λ (these : LimitMap). these file) (same_limits-is (limits start subtree) (limits new subtree) same)
 
-pub others_stay : (start st new : State) (subtree : Names) → broken start st new subtree ≡ [] → (controller : Controller)
-    → is_some (other_at start subtree controller) ≡ is_some (other_at new subtree controller)
-others_stay start st new subtree none controller =
-    let same =
-    no_unless (same_limits (limits start subtree) (limits new subtree)) Limits (no_parts _ _ (no_parts _ _ (no_parts _ _ none).0).0).1
-    in
-    ap (λ (these : LimitMap). these.others controller) (same_limits-is (limits start subtree) (limits new subtree) same)
+-- two values that a try may set, of which neither is the other, also as a line
+abbrev are_apart : Value → Value → Bool
+are_apart (Text one) (Text other) = is_one_line one && (is_one_line other && not (same_name one other))
+are_apart (Number one) (Number other) = not (nat_eq one other)
+are_apart Max (Number other) = true
+are_apart one other = false
 
-texts_stay : (start st new : State) (subtree : Names) → broken start st new subtree ≡ [] → (file : OtherFile)
-    → told_text start subtree file ≡ told_text new subtree file
-texts_stay start st new subtree none file =
-    let same =
-    no_unless (same_limits (limits start subtree) (limits new subtree)) Limits (no_parts _ _ (no_parts _ _ (no_parts _ _ none).0).0).1
-    in
-    ap (λ (these : LimitMap). these.told file) (same_limits-is (limits start subtree) (limits new subtree) same)
+pub device_of_word : (file : LimitFile) (had : Value) (device : List ℕ) → device_of file had ≡ Some device
+    → (is_value_word device ≡ true) × (length device ≤ 255)
+device_of_word file (Text had) device is =
+    elim (is_of_devices file) as
+    (λ b. cond b (device_in had) None ≡ Some device → (is_value_word device ≡ true) × (length device ≤ 255))
+    [ false ↦ λ is. cc | true ↦ λ is. device_word had device is ] is
+device_of_word file Unknown device is = cc
+device_of_word file Max device is = cc
+device_of_word file (Number number) device is = cc
 
-pub other_differs : (file : LimitFile) (value : Limit) → other_value file value ≢ value
-other_differs CpuWeight Max h = cc
-other_differs CpuWeight (At value) h = elim (nat_eq value 100) as (λ b. nat_eq value 100 ≡ b → cond b (At 1) (At 100) ≢ At value) [
-  | true ↦ λ is e. let k : 1 ≡ value = cc in omega (arith, eqb-true value 100 is, k)
-  | false ↦ λ isn't e. let k : 100 ≡ value = cc in eqb-false value 100 isn't (sym k)
-] refl h
-other_differs file Max h = cc
-other_differs file (At value) h = cc
+-- a line of words is one on a device too
+line_on : (device text : List ℕ) → is_value_word device ≡ true → is_one_line text ≡ true → is_one_line (device ++ 32 ∷ text) ≡ true
+line_on device text word one = one_line_behind device text word one
 
-value_set : (st : State) (subtree : Names) (file : LimitFile) (value other : Limit) → value_at st subtree file ≡ Some value
+apart_on : (device one other : List ℕ) → same_name one other ≡ false → same_name (device ++ 32 ∷ one) (device ++ 32 ∷ other) ≡ false
+apart_on device one other apart =
+    false_from_ne_true (same_name (device ++ 32 ∷ one) (device ++ 32 ∷ other)) (λ same.
+    let rest = ap (drop 1) (append_cancel_left device (32 ∷ one) (32 ∷ other)
+    ((bytes_decides (device ++ 32 ∷ one) (device ++ 32 ∷ other)).0 same)) in
+    true≢false (sym ((bytes_decides one other).1 rest) ∙ apart))
+
+-- of two lines that differ, the one that the value doesn't have alone
+lines_differ : (had : Value) (first second : List ℕ) → is_one_line first ≡ true → is_one_line second ≡ true
+    → same_name first second ≡ false → cond (has_already had (Text first)) (Text second) (Text first) ≢ had
+lines_differ Unknown first second one other two is = cc
+lines_differ Max first second one other two is = cc
+lines_differ (Number number) first second one other two is = cc
+lines_differ (Text text) first second one other two is =
+    elim (has_value_line text first) as
+    (λ b. has_value_line text first ≡ b → ◌≢◌ {A = Value} (cond b (Text second) (Text first)) (Text text)) [
+      | false ↦ λ apart is.
+          let same : first ≡ text = text_of-same first text is in
+          true≢false (sym (ap (λ t. has_value_line t first) (sym same) ∙ only_line first first one ∙ (bytes_decides first first).1 refl)
+          ∙ apart)
+      | true ↦ λ has is.
+          let same : second ≡ text = text_of-same second text is in
+          true≢false (sym has ∙ ap (λ t. has_value_line t first) (sym same) ∙ only_line second first other ∙ two)
+    ] refl is
+  where
+    text_of-same : (a b : List ℕ) → ◌≡◌ {A = Value} (Text a) (Text b) → a ≡ b
+    text_of-same a b h = cc
+
+-- numbers, and none
+most_differs : (had : Value) (other : ℕ) → cond (has_already had Max) (Number other) Max ≢ had
+most_differs Unknown other is = cc
+most_differs Max other is = cc
+most_differs (Number number) other is = cc
+most_differs (Text text) other is = cc
+
+numbers_differ : (had : Value) (one other : ℕ) → nat_eq one other ≡ false → cond (has_already had (Number one)) (Number other) (Number one) ≢ had
+numbers_differ Unknown one other two is = cc
+numbers_differ Max one other two is = cc
+numbers_differ (Text text) one other two is = cc
+numbers_differ (Number number) one other two is =
+    elim (nat_eq number one) as
+    (λ b. nat_eq number one ≡ b → ◌≢◌ {A = Value} (cond b (Number other) (Number one)) (Number number)) [
+      | true ↦ λ same is. let k : other ≡ number = cc in eqb-false one other two (sym (eqb-true number one same) ∙ sym k)
+      | false ↦ λ apart is. let k : one ≡ number = cc in eqb-false number one apart (sym k)
+    ] refl is
+
+differs : (had : Value) (device : Option (List ℕ)) → ((word : List ℕ) → device ≡ Some word → is_value_word word ≡ true)
+    → (loose other : Value) → are_apart loose other ≡ true
+    → cond (has_already had (on_device device loose)) (on_device device other) (on_device device loose) ≢ had
+differs had None word (Text loose) (Text other) apart =
+    let lines = and_parts (is_one_line loose) _ apart in
+    let two = and_parts (is_one_line other) _ lines.1 in
+    lines_differ had loose other lines.0 two.0 (not-true (same_name loose other) two.1)
+differs had (Some device) word (Text loose) (Text other) apart =
+    let lines = and_parts (is_one_line loose) _ apart in
+    let two = and_parts (is_one_line other) _ lines.1 in
+    lines_differ had (device ++ 32 ∷ loose) (device ++ 32 ∷ other) (line_on device loose (word device refl) lines.0)
+    (line_on device other (word device refl) two.0) (apart_on device loose other (not-true (same_name loose other) two.1))
+differs had None word Max (Number other) apart = most_differs had other
+differs had (Some device) word Max (Number other) apart = most_differs had other
+differs had None word (Number one) (Number other) apart = numbers_differ had one other (not-true (nat_eq one other) apart)
+differs had (Some device) word (Number one) (Number other) apart = numbers_differ had one other (not-true (nat_eq one other) apart)
+differs had device word loose other apart = absurd (true≢false (sym apart))
+
+pub other_differs : (file : LimitFile) (value : Value) → other_value file value ≢ value
+other_differs file value =
+    differs value (device_of file value) (λ word is. (device_of_word file value word is).0) (kind_of file).loose (kind_of file).other
+    (each_passes (λ file. are_apart (kind_of file).loose (kind_of file).other) refl file)
+
+value_set : (st : State) (subtree : Names) (file : LimitFile) (value other : Value) → value_at st subtree file ≡ Some value
     → value_at (with_value st subtree file other) subtree file ≡ Some other
 value_set st subtree file value other is =
     value_at-with_value st subtree file other subtree file
@@ -149,99 +206,12 @@ value_set st subtree file value other is =
     (and_from _ _ (same_path_refl subtree) (same_file-refl file))
     ∙ ap (option_map (λ _. other)) is
 
-pub set_try : (st : State) (user : Identity) (subtree : Names) (file : LimitFile) (value : Limit) → IsUnbroken st subtree
+pub set_try : (st : State) (user : Identity) (subtree : Names) (file : LimitFile) (value : Value) → IsUnbroken st subtree
     → value_at st subtree file ≡ Some value
     → breaks st user subtree (Set subtree file (other_value file value) ∷ []) ≡ allowed st user (Set subtree file (other_value file value))
 set_try st user subtree file value whole is = where_allowed st user subtree (Set subtree file (other_value file value)) whole (λ free none.
     let same = limits_stay st st (with_value st subtree file (other_value file value)) subtree none file in
     other_differs file value (same_some _ _ (sym (value_set st subtree file value (other_value file value) is) ∙ sym same ∙ is)))
-
--- ---- set of a limit file beyond `LimitFile`
-
--- the two texts of a file differ
-two_texts : (file : OtherFile) → same_name (other_kind file).loose (other_kind file).other ≡ false
-two_texts file = not-true _ (each_other (λ file. not (same_name (other_kind file).loose (other_kind file).other)) refl file)
-
--- on a device too
-apart_on : (device : Option (List ℕ)) (one other : List ℕ) → same_name one other ≡ false
-    → same_name (on_device device one) (on_device device other) ≡ false
-apart_on None one other apart = apart
-apart_on (Some device) one other apart =
-    false_from_ne_true (same_name (device ++ 32 ∷ one) (device ++ 32 ∷ other)) (λ same.
-    let rest = ap (drop 1) (append_cancel_left device (32 ∷ one) (32 ∷ other)
-    ((bytes_decides (device ++ 32 ∷ one) (device ++ 32 ∷ other)).0 same)) in
-    true≢false (sym ((bytes_decides one other).1 rest) ∙ apart))
-
-pub device_of_word : (file : OtherFile) (had : Option FileText) (device : List ℕ) → device_of file had ≡ Some device
-    → (is_value_word device ≡ true) × (length device ≤ 255)
-device_of_word file had device is =
-    elim (other_kind file).of_devices as
-    (λ b. cond b (option_and_then device_in had) None ≡ Some device → (is_value_word device ≡ true) × (length device ≤ 255)) [
-      | false ↦ λ is. cc
-      | true ↦ λ is. told had is
-    ] is
-  where
-    told : (had : Option FileText) → option_and_then device_in had ≡ Some device → (is_value_word device ≡ true) × (length device ≤ 255)
-    told None is = cc
-    told (Some value) is = device_word value device is
-
--- a line of words is one on a device too
-line_on : (file : OtherFile) (had : Option FileText) (text : List ℕ) → is_one_line text ≡ true
-    → is_one_line (on_device (device_of file had) text) ≡ true
-line_on file had text one = on (device_of file had) (device_of_word file had)
-  where
-    on : (found : Option (List ℕ)) → ((device : List ℕ) → found ≡ Some device → (is_value_word device ≡ true) × (length device ≤ 255))
-        → is_one_line (on_device found text) ≡ true
-    on None word = one
-    on (Some device) word = one_line_behind device text (word device refl).0 one
-
--- of two lines that differ, the one that the file doesn't have alone
-besides_differs : (had : Option FileText) (first second : FileText) → is_one_line first ≡ true → is_one_line second ≡ true
-    → same_name first second ≡ false → had ≢ Some (text_besides had first second)
-besides_differs None first second one other two is = cc
-besides_differs (Some text) first second one other two is =
-    elim (has_value_line text first) as (λ b. has_value_line text first ≡ b → Some text ≢ Some (cond b second first)) [
-      | false ↦ λ apart is.
-          true≢false (sym (ap (λ t. has_value_line t first) (same_some text first is) ∙ only_line first first one
-          ∙ (bytes_decides first first).1 refl) ∙ apart)
-      | true ↦ λ has is.
-          true≢false (sym has ∙ ap (λ t. has_value_line t first) (same_some text second is) ∙ only_line second first other ∙ two)
-    ] refl is
-
-pub text_differs : (file : OtherFile) (had : Option FileText) → had ≢ Some (other_text file had)
-text_differs file had =
-    besides_differs had (on_device (device_of file had) (other_kind file).loose) (on_device (device_of file had) (other_kind file).other)
-    (line_on file had (other_kind file).loose (each_other (λ file. is_one_line (other_kind file).loose) refl file))
-    (line_on file had (other_kind file).other (each_other (λ file. is_one_line (other_kind file).other) refl file))
-    (apart_on (device_of file had) (other_kind file).loose (other_kind file).other (two_texts file))
-
-text_set : (st : State) (subtree : Names) (file : OtherFile) (told : ToldFile) (value : FileText) → file_told st subtree file ≡ Some told
-    → told_text (with_text st subtree file value) subtree file ≡ Some value
-text_set st subtree file told value is =
-    ap (option_and_then (λ (told : ToldFile). told.value))
-    (told_at-telling st subtree file (with_value_told value) subtree file (with_text st subtree file value) refl
-    ∙ ap (λ b. cond b (option_map (with_value_told value) (file_told st subtree file)) (told_at st subtree file))
-    (and_from _ _ (same_path_refl subtree) (same_other-refl file))
-    ∙ ap (option_map (with_value_told value)) is)
-
--- the value that is told of one that stands
-text_known : (told : Option ToldFile) (untold : Option Entry)
-    → option_and_then (λ (told : ToldFile). told.value) (elim told [ None ↦ option_map file_untold untold | Some told ↦ Some told ])
-    ≡ option_and_then (λ (told : ToldFile). told.value) told
-text_known None None = refl
-text_known None (Some entry) = refl
-text_known (Some told) untold = refl
-
-pub other_set_try : (st : State) (user : Identity) (subtree : Names) (file : OtherFile) (told : ToldFile) → IsUnbroken st subtree
-    → file_told st subtree file ≡ Some told
-    → breaks st user subtree (SetOther subtree file (other_text file told.value) ∷ [])
-    ≡ allowed st user (SetOther subtree file (other_text file told.value))
-other_set_try st user subtree file told whole is =
-    where_allowed st user subtree (SetOther subtree file (other_text file told.value)) whole (λ free none.
-    let same = texts_stay st st (with_text st subtree file (other_text file told.value)) subtree none file in
-    text_differs file told.value
-    (sym (ap (option_and_then (λ (told : ToldFile). told.value)) is) ∙ text_known (told_at st subtree file) (untold_at st subtree file)
-    ∙ same ∙ text_set st subtree file told (other_text file told.value) is))
 
 -- ---- move
 

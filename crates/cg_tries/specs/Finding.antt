@@ -6,23 +6,22 @@ use Rattle.std.specs.Option.{option_map, option_or}
 use Rattle.cg_cgroup.specs.Paths.{Names, inside, is_root, parent, path_text}
 use Rattle.cg_cgroup.specs.Identity.{Identity}
 use Rattle.cg_cgroup.specs.Users.{writes}
-use Rattle.cg_cgroup.specs.Files.{all_files, all_others, enables, enables_nothing}
-use Rattle.cg_cgroup.specs.declared.files.Limit.{Limit}
-use Rattle.cg_cgroup.specs.declared.files.Limit.TheVariants.{Max, At}
+use Rattle.cg_cgroup.specs.Files.{all_files, is_text, enables, enables_nothing}
+use Rattle.cg_cgroup.specs.Cgroups.{entry_in, most_in}
 use Rattle.cg_cgroup.specs.declared.files.LimitFile.{LimitFile}
+use Rattle.cg_cgroup.specs.declared.files.LimitFile.TheVariants.{MaxDescendants, MaxDepth}
+use Rattle.cg_cgroup.specs.declared.files.EntryName.TheVariants.{File}
 use Rattle.cg_cgroup.specs.declared.files.Controller.{Controller}
-use Rattle.cg_cgroup.specs.declared.other_file.OtherFile.{OtherFile}
-use Rattle.cg_cgroup.specs.declared.told.FileText.{FileText}
 use Rattle.cg_cgroup.specs.declared.user.Entry.{Entry}
 use Rattle.cg_cgroup.specs.declared.cgroup.Cgroup.{Cgroup}
-use Rattle.cg_model.specs.States.{State, row_at, place_at, paths_of, pids_of, count_below, value_at, file_told}
+use Rattle.cg_model.specs.States.{State, row_at, place_at, paths_of, pids_of, count_below, value_at}
 use Rattle.cg_model.specs.WellFormed.{enabled_at}
 use Rattle.cg_model.specs.Clauses.{first}
 use Rattle.cg_model.specs.Bars.{bars, passes}
 use Rattle.cg_model.specs.Limits.{is_under}
 use Rattle.cg_model.specs.declared.operation.Op.{Op}
-use Rattle.cg_model.specs.declared.operation.Op.TheVariants.{Move, Control, Mkdir, Rmdir, Set, SetOther}
-use Rattle.cg_model.specs.Tries.{other_value, other_text, is_told, told_controllers, change_of, probe, free_probe, is_inside}
+use Rattle.cg_model.specs.declared.operation.Op.TheVariants.{Move, Control, Mkdir, Rmdir, Set}
+use Rattle.cg_model.specs.Tries.{other_value, is_told, told_controllers, change_of, probe, free_probe, is_inside}
 
 -- nothing bars the operation
 abbrev pub allowed : State → Identity → Op → Bool
@@ -42,30 +41,15 @@ first_given f (x ∷ xs) = option_or (f x) (first_given f xs)
 abbrev pub set_of : State → Identity → Names → LimitFile → Option (List Op)
 set_of st user subtree file = option_and_then (λ value. if_allowed st user (Set subtree file (other_value file value))) (value_at st subtree file)
 
-abbrev pub first_listed_set : State → Identity → Names → Option (List Op)
-first_listed_set st user subtree = first_given (set_of st user subtree) all_files
-
--- of a limit file beyond `LimitFile`
-abbrev pub other_set_of : State → Identity → Names → OtherFile → Option (List Op)
-other_set_of st user subtree file =
-    option_and_then (λ told. if_allowed st user (SetOther subtree file (other_text file told.value))) (file_told st subtree file)
-
--- the same of its entry and of what is told of its value
-abbrev pub other_set_from : Identity → Names → OtherFile → Entry → Option FileText → Option (List Op)
-other_set_from user subtree file entry had = cond (writes user entry) (Some (SetOther subtree file (other_text file had) ∷ [])) None
+abbrev pub first_set : State → Identity → Names → Option (List Op)
+first_set st user subtree = first_given (set_of st user subtree) all_files
 
 abbrev pub writes_some : Identity → Option Entry → Bool
 writes_some user entry = elim entry [ None ↦ false | Some entry ↦ writes user entry ]
 
--- the user writes one of those files where nothing is told of them
-abbrev pub writes_untold : Identity → Cgroup → Bool
-writes_untold user row = writes_some user row.freeze || list_any (writes_some user) row.others.entries
-
-abbrev pub first_other_set : State → Identity → Names → Option (List Op)
-first_other_set st user subtree = first_given (other_set_of st user subtree) all_others
-
-abbrev pub first_set : State → Identity → Names → Option (List Op)
-first_set st user subtree = option_or (first_listed_set st user subtree) (first_other_set st user subtree)
+-- the user writes a limit file of a cgroup whose value is a text
+abbrev pub writes_texts : Identity → Cgroup → Bool
+writes_texts user row = list_any (λ file. is_text file && writes_some user (entry_in row (File file))) all_files
 
 -- the one change of the controller that has an effect
 abbrev pub control_of : State → Identity → Names → Controller → Option (List Op)
@@ -123,7 +107,7 @@ free_path st ancestor = option_and_then (short_probe ancestor) (free_probe st an
 abbrev pub level_passes : State → Names → ℕ → ℕ → Bool
 level_passes st subtree len at = elim (row_at st (take at subtree)) [
   | None ↦ true
-  | Some row ↦ is_under (count_below st (take at subtree)) row.max_descendants.value && is_under (len - at) row.max_depth.value
+  | Some row ↦ is_under (count_below st (take at subtree)) (most_in row MaxDescendants) && is_under (len - at) (most_in row MaxDepth)
 ]
 
 -- those of fewer than `count` names do
@@ -136,9 +120,9 @@ abbrev pub lets_in : State → Names → ℕ → Bool
 lets_in st subtree len = levels_pass st subtree len (suc len)
 
 -- a level, or the lower one at which the depth limit of the cgroup of `at` names is reached
-abbrev pub lowered : ℕ → ℕ → Limit → ℕ
-lowered level at Max = level
-lowered level at (At most) = min level (at + most)
+abbrev pub lowered : ℕ → ℕ → Option ℕ → ℕ
+lowered level at None = level
+lowered level at (Some most) = min level (at + most)
 
 -- the user writes the directory and cgroup.procs of the ancestor
 abbrev pub writes_both : State → Identity → Names → Bool

@@ -7,7 +7,7 @@ ghost use Rattle.cg_model.specs.Tries.{is_inside};
 ghost use Rattle.cg_tries.specs.Finding.{lets_in, lowered, writes_both, short_probe, free_path, first_probe_path, first_inside, first_probe};
 
 use crate::asker::Asker;
-use cg_cgroup::files::Limit;
+use cg_cgroup::files::LimitFile;
 use cg_cgroup::memory::NoMemory;
 use cg_cgroup::path::{Path, PathFault};
 use cg_cgroup::process::Pid;
@@ -32,12 +32,12 @@ fn first_inside<H: Hierarchy>(asker: &Asker<H>, pids: &[Pid]) -> Option<Pid>
 }
 
 /// The lesser of a level and the one at which the depth limit of the cgroup of `at` names is reached.
-fn lowered(level: usize, at: usize, limit: Limit) -> usize
+fn lowered(level: usize, at: usize, most: Option<u64>) -> usize
     requires { at < level }
-    ensures { result ≡ lowered level at limit }
+    ensures { result ≡ lowered level at most }
 {
-    match limit {
-        Limit::At(most) if most < (level - at) as u64 => at + most as usize,
+    match most {
+        Some(most) if most < (level - at) as u64 => at + most as usize,
         _ => level,
     }
 }
@@ -59,11 +59,11 @@ fn open_levels<H: Hierarchy>(asker: &Asker<H>) -> usize
         };
         if !is_under(
             asker.tree.count_below(asker.subtree, at),
-            cgroup.max_descendants.value,
+            cgroup.most(LimitFile::MaxDescendants),
         ) {
             return at;
         }
-        level = lowered(level, at, cgroup.max_depth.value);
+        level = lowered(level, at, cgroup.most(LimitFile::MaxDepth));
     }
     level
 }
