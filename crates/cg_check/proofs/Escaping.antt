@@ -31,7 +31,7 @@ use Rattle.cg_model.specs.Tries.{opening_of, opening, with_opening, plain_tries}
 use Rattle.cg_model.specs.Escapes.{breaks, first_escape}
 use Rattle.cg_tries.specs.Escapes.{IsUnbroken}
 use Rattle.cg_tries.proofs.Seen.{is_empty, empty_is, breaks-run}
-use Rattle.cg_check.specs.Opened.{is_free, opening_chmod, leaves_others}
+use Rattle.cg_check.specs.Opened.{is_free, opening_chmod, leaves_texts}
 use Rattle.cg_check.proofs.Unopened.{opening-asked}
 use Rattle.cg_check.proofs.Openings.{opened_state, unless_free, unbroken-opened, subtree-opened, first_escape-is}
 
@@ -69,7 +69,7 @@ module _ (st : State) (user : Identity) (subtree : Names) where
           ∙ ap (λ each. present here (opening_chmod user subtree) ++ flat_map each (drop (turn + 1) (asked_entries passes subtree)))
           (λ i guarded. sym (of_standing guarded) i)
 
-    pub opening_begins : (chmods : List Op) → chmods ≡ [] → passes ≡ leaves_others st user subtree
+    pub opening_begins : (chmods : List Op) → chmods ≡ [] → (passes ≡ true → leaves_texts st user subtree ≡ true)
         → chmods ++ opening_from 0 ≡ opening st user subtree
     opening_begins chmods none is = ap (λ ops. ops ++ opening_from 0) none ∙ opening-asked st user subtree passes is
 

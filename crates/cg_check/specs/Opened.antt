@@ -1,12 +1,14 @@
 -- How an answer is found: nobody has to believe it.
 -- How the first escape is found in the opened tree, and the opening. Nothing in it has to be believed.
-use Rattle.std.specs.Prelude.{Bool, true, false, not, ◌&&◌, cond, List, [], ◌∷◌, take, Option, Some, None, is_none}
+use Rattle.std.specs.Prelude.{Bool, true, false, not, ◌&&◌, ◌||◌, cond, List, [], ◌∷◌, take, Option, Some, None}
 use Rattle.std.specs.List.{list_all}
-use Rattle.std.specs.FinMap as finite
 use Rattle.cg_cgroup.specs.Paths.{Names, parent}
 use Rattle.cg_cgroup.specs.Identity.{Identity}
 use Rattle.cg_cgroup.specs.Users.{owns, writes, opened}
+use Rattle.cg_cgroup.specs.Files.{all_files, is_text}
+use Rattle.cg_cgroup.specs.Cgroups.{entry_in}
 use Rattle.cg_cgroup.specs.declared.user.Entry.{Entry}
+use Rattle.cg_cgroup.specs.declared.files.EntryName.TheVariants.{File}
 use Rattle.cg_model.specs.States.{State, row_at}
 use Rattle.cg_model.specs.declared.operation.Op.{Op}
 use Rattle.cg_model.specs.declared.operation.Op.TheVariants.{Chmod, Mkdir}
@@ -34,9 +36,9 @@ abbrev pub is_left : Identity → Option Entry → Bool
 is_left user None = true
 is_left user (Some entry) = not (is_opened user entry)
 
--- nothing is told of the subtree's limit files beyond `LimitFile`, and no chmod opens one
-abbrev pub leaves_others : State → Identity → Names → Bool
-leaves_others st user subtree = is_none (finite.get st.told subtree) && elim (row_at st subtree) [
+-- no chmod opens a limit file of the subtree whose value is a text
+abbrev pub leaves_texts : State → Identity → Names → Bool
+leaves_texts st user subtree = elim (row_at st subtree) [
   | None ↦ false
-  | Some row ↦ is_left user row.freeze && list_all (is_left user) row.others.entries
+  | Some row ↦ list_all (λ file. not (is_text file) || is_left user (entry_in row (File file))) all_files
 ]

@@ -3,7 +3,7 @@ ghost use Rattle.std.specs.Prelude.{◌≡◌, ◌≤◌, ◌++◌, false, IfOk,
 ghost use Rattle.std.specs.List.{list_all};
 ghost use Rattle.cg_cgroup.specs.Paths.{is_root};
 ghost use Rattle.cg_model.specs.Tries.{opening};
-ghost use Rattle.cg_check.specs.Opened.{is_opened, opening_chmod, is_left, leaves_others};
+ghost use Rattle.cg_check.specs.Opened.{is_opened, opening_chmod, is_left, leaves_texts};
 
 use cg_cgroup::memory::NoMemory;
 use cg_cgroup::path::Path;
@@ -27,7 +27,7 @@ pub fn opening<H: Hierarchy>(
     ensures { IfOk result (λ chmods. chmods ≡ opening (H.state tree.now) user.now subtree.now) }
 {
     let top = Top::of(tree, subtree);
-    let passes = leaves_others(tree, user, subtree);
+    let passes = leaves_texts(tree, user, subtree);
     let mut chmods = Operations::new(alloc);
     for turn in 0..asked_count(subtree, passes) {
         let place = asked_place(subtree, passes, turn);
@@ -39,19 +39,20 @@ pub fn opening<H: Hierarchy>(
     Ok(chmods)
 }
 
-/// Whether nothing is told of the subtree's limit files beyond `LimitFile`, and no chmod opens one. Those that a controller
-/// brings have one owner, and are asked of at once.
-fn leaves_others<H: Hierarchy>(tree: &H, user: &User, subtree: &Path) -> bool
-    ensures { result ≡ leaves_others (H.state tree.now) user.now subtree.now }
+/// Whether nobody speaks of the subtree's limit files whose values are texts, and no chmod opens one. Those of a controller
+/// have one owner then, and are asked of at once.
+#[tactic(auto, using(crate::proofs::Unopened::leaves_where))]
+fn leaves_texts<H: Hierarchy>(tree: &H, user: &User, subtree: &Path) -> bool
+    ensures { result ≡ true → leaves_texts (H.state tree.now) user.now subtree.now ≡ true }
 {
-    let len = subtree.depth();
-    if tree.told(subtree, len).is_some() {
-        return false;
-    }
-    let Some(cgroup) = tree.get(subtree, len) else {
+    let Some(cgroup) = tree.get(subtree, subtree.depth()) else {
         return false;
     };
-    is_left(user, cgroup.freeze) && all_left(user, &cgroup.others.entries)
+    if !cgroup.files.is_plain() {
+        return false;
+    }
+    let (core, owners) = cgroup.files.owners();
+    is_left(user, core) && all_left(user, owners)
 }
 
 fn all_left(user: &User, entries: &[Option<Entry>]) -> bool

@@ -1,22 +1,23 @@
 -- Why limit files whose values are texts may be passed over.
-use Rattle.std.proofs.Common.{◌≡◌, ℕ, zero, suc, ◌-◌, Bool, true, false, ◌||◌, not, cond, List, [], ◌∷◌, ◌++◌, map, length, take, take_all, get_or, Option, Some, None, option_and_then, refl, sym, ap, ◌∙◌, arith}
+use Rattle.std.proofs.Common.{◌≡◌, ℕ, zero, suc, ◌-◌, Bool, true, false, ◌||◌, not, cond, List, [], ◌∷◌, ◌++◌, map, length, take, take_all, Option, Some, None, option_and_then, refl, sym, ap, ◌∙◌, arith}
 use Rattle.std.specs.Prelude.{slice_get, filter}
 use Rattle.std.specs.List.{flat_map, list_all}
-use Rattle.std.specs.Option.{option_map, option_map_or}
-use Rattle.std.proofs.lemmas.Bool.{false≢true, and_parts}
+use Rattle.std.specs.Option.{option_map}
+use Rattle.std.proofs.lemmas.Bool.{false≢true}
 use Rattle.std.proofs.lemmas.Grind.{flat_map-append}
 use Rattle.cg_cgroup.specs.Paths.{Names, is_root}
 use Rattle.cg_cgroup.specs.Identity.{Identity}
 use Rattle.cg_cgroup.specs.Users.{reaches}
-use Rattle.cg_cgroup.specs.Files.{all_files, format_2_files, is_text, controller_of}
-use Rattle.cg_cgroup.specs.Cgroups.{Held, entry_in, is_plain}
-use Rattle.cg_cgroup.specs.Kept.{AreOwners, owner_in, brought_owner}
+use Rattle.cg_cgroup.specs.Files.{all_files, format_2_files, is_text}
+use Rattle.cg_cgroup.specs.Cgroups.{entry_in, is_plain}
+use Rattle.cg_cgroup.specs.Kept.{AreOwners}
 use Rattle.cg_cgroup.specs.declared.user.Entry.{Entry}
 use Rattle.cg_cgroup.specs.declared.cgroup.Cgroup.{Cgroup}
 use Rattle.cg_cgroup.specs.declared.files.LimitFile.{LimitFile}
 use Rattle.cg_cgroup.specs.declared.files.EntryName.TheVariants.{File}
 use Rattle.cg_cgroup.specs.declared.files.LimitFile.TheVariants.{MaxDescendants}
-use Rattle.cg_cgroup.proofs.AllFiles.{each_passes, all_pass}
+use Rattle.cg_cgroup.proofs.AllFiles.{each_passes}
+use Rattle.cg_cgroup.proofs.PlainLaws.{texts_pass}
 use Rattle.cg_model.specs.States.{State, row_at, entry_at}
 use Rattle.cg_model.specs.Clauses.{first, present, unless}
 use Rattle.cg_model.specs.Guards.{Guarded, ancestor, ancestors, limit_file, guarded_entries, entry_failures}
@@ -73,50 +74,18 @@ module _ (user : Identity) (one other : Entry) (off_one : reaches user one ≡ f
   none_fails failed None h = refl
   none_fails failed (Some entry) h = ap (λ b. unless (not b) failed) (off_covered entry h)
 
-get_covered : (one other : Entry) (entries : List (Option Entry)) (n : ℕ) → list_all (is_covered one other) entries ≡ true
-    → is_covered one other (get_or entries n None) ≡ true
-get_covered one other [] zero h = refl
-get_covered one other [] (suc n) h = refl
-get_covered one other (entry ∷ entries) zero h = (and_parts (is_covered one other entry) (list_all (is_covered one other) entries) h).0
-get_covered one other (entry ∷ entries) (suc n) h =
-    get_covered one other entries n (and_parts (is_covered one other entry) (list_all (is_covered one other) entries) h).1
-
 -- ---- files of which nobody speaks, by their owners
-
-not_true : (b : Bool) → not b ≡ true → b ≡ false
-not_true true h = sym h
-not_true false h = refl
 
 module _ (above own : Entry) (row : Cgroup) (core : Option Entry) (owners : List (Option Entry)) (plain : is_plain row.files ≡ true)
     (are : AreOwners row.files core owners) (by_core : is_covered above own core ≡ true)
     (by_owners : list_all (is_covered above own) owners ≡ true) where
-  owner_covered : (file : LimitFile) → is_covered above own (owner_in core owners file) ≡ true
-  owner_covered file =
-      elim (controller_of file) as
-      (λ by. is_covered above own (elim by [ None ↦ core | Some controller ↦ brought_owner owners controller ]) ≡ true)
-      [ None ↦ by_core | Some controller ↦ get_covered above own owners _ by_owners ]
-
-  unnamed : (file : LimitFile) (held : Held) → is_text file ≡ true → row.files.at file ≡ Some held → held.named ≡ false
-  unnamed file held text is =
-      not_true held.named
-      (sym (λ t. not (text t) || not (option_map_or (λ (held : Held). held.named) (is t) false))
-      ∙ each_passes (λ file. not (is_text file) || not (option_map_or (λ (held : Held). held.named) (row.files.at file) false)) plain file)
-
-  text_covered : (file : LimitFile) → is_text file ≡ true → (o : Option Held) → row.files.at file ≡ o
-      → is_covered above own (option_map (λ held. held.entry) o) ≡ true
-  text_covered file text None is = refl
-  text_covered file text (Some held) is =
-      ap (is_covered above own) (sym (are.each file held is (unnamed file held text is))) ∙ owner_covered file
-
   pub covered_where : Some own ≡ option_map (λ held. held.entry) (row.files.at MaxDescendants) → are_covered above row ≡ true
   covered_where is =
       ap (λ (own : Option Entry). elim own [
         | None ↦ false
         | Some own ↦ list_all (λ file. not (is_text file) || is_covered above own (entry_in row (File file))) all_files
       ]) (sym is)
-      ∙ all_pass (λ file. not (is_text file) || is_covered above own (entry_in row (File file))) (λ file.
-      elim (is_text file) as (λ b. is_text file ≡ b → (not b || is_covered above own (entry_in row (File file))) ≡ true)
-      [ true ↦ λ text. text_covered file text (row.files.at file) refl | false ↦ λ _. refl ] refl) all_files
+      ∙ texts_pass (is_covered above own) refl row.files core owners plain are by_core by_owners
 
 pub passes_where : (st : State) (subtree : Names) (len : ℕ) (root row : Cgroup) → Some root ≡ row_at st (take 0 subtree)
     → len ≡ length subtree → Some row ≡ row_at st (take len subtree) → are_covered root.procs row ≡ true

@@ -1,20 +1,20 @@
 -- The limit files whose values are texts, where nobody speaks of one and none of the users reaches one.
-use Rattle.std.proofs.Common.{◌≡◌, ℕ, zero, suc, Bool, true, false, not, ◌&&◌, ◌||◌, cond, List, [], ◌∷◌, ◌++◌, length, take, take_all, get_or, Option, Some, None, option_and_then, refl, sym, ap, ◌∙◌, arith}
+use Rattle.std.proofs.Common.{◌≡◌, ℕ, Bool, true, false, not, ◌&&◌, ◌||◌, cond, List, [], ◌∷◌, ◌++◌, length, take, take_all, Option, Some, None, option_and_then, refl, sym, ap, ◌∙◌, arith}
 use Rattle.std.specs.Prelude.{filter}
 use Rattle.std.specs.List.{list_all, list_any}
-use Rattle.std.specs.Option.{option_map, option_map_or}
-use Rattle.std.proofs.lemmas.Bool.{and_parts, not-true, not_from_false}
+use Rattle.std.proofs.lemmas.Bool.{not-true, not_from_false}
 use Rattle.cg_cgroup.specs.Paths.{Names}
 use Rattle.cg_cgroup.specs.Identity.{Identity}
 use Rattle.cg_cgroup.specs.Users.{reaches}
-use Rattle.cg_cgroup.specs.Files.{all_files, format_2_files, is_text, controller_of}
-use Rattle.cg_cgroup.specs.Cgroups.{Held, entry_in, is_plain}
-use Rattle.cg_cgroup.specs.Kept.{AreOwners, owner_in, brought_owner}
+use Rattle.cg_cgroup.specs.Files.{all_files, format_2_files, is_text}
+use Rattle.cg_cgroup.specs.Cgroups.{entry_in, is_plain}
+use Rattle.cg_cgroup.specs.Kept.{AreOwners}
 use Rattle.cg_cgroup.specs.declared.user.Entry.{Entry}
 use Rattle.cg_cgroup.specs.declared.files.LimitFile.{LimitFile}
 use Rattle.cg_cgroup.specs.declared.files.EntryName.TheVariants.{File}
 use Rattle.cg_cgroup.specs.declared.cgroup.Cgroup.{Cgroup}
-use Rattle.cg_cgroup.proofs.AllFiles.{each_passes, all_pass}
+use Rattle.cg_cgroup.proofs.AllFiles.{each_passes}
+use Rattle.cg_cgroup.proofs.PlainLaws.{texts_pass}
 use Rattle.cg_model.specs.States.{State, row_at, entry_at}
 use Rattle.cg_second.specs.Lasting.{is_reached}
 use Rattle.cg_second.specs.Judged.{spares_files}
@@ -22,44 +22,11 @@ use Rattle.cg_second.specs.Unnamed.{spares_entry, spares_texts_in, spares_texts}
 
 -- ---- by the owners
 
-not_true : (b : Bool) → not b ≡ true → b ≡ false
-not_true true h = sym h
-not_true false h = refl
-
-get_spared : (users : List Identity) (entries : List (Option Entry)) (n : ℕ) → list_all (spares_entry users) entries ≡ true
-    → spares_entry users (get_or entries n None) ≡ true
-get_spared users [] zero h = refl
-get_spared users [] (suc n) h = refl
-get_spared users (entry ∷ entries) zero h = (and_parts (spares_entry users entry) (list_all (spares_entry users) entries) h).0
-get_spared users (entry ∷ entries) (suc n) h =
-    get_spared users entries n (and_parts (spares_entry users entry) (list_all (spares_entry users) entries) h).1
-
 module _ (users : List Identity) (row : Cgroup) (core : Option Entry) (owners : List (Option Entry)) (plain : is_plain row.files ≡ true)
     (are : AreOwners row.files core owners) (by_core : spares_entry users core ≡ true)
     (by_owners : list_all (spares_entry users) owners ≡ true) where
-  owner_spared : (file : LimitFile) → spares_entry users (owner_in core owners file) ≡ true
-  owner_spared file =
-      elim (controller_of file) as
-      (λ by. spares_entry users (elim by [ None ↦ core | Some controller ↦ brought_owner owners controller ]) ≡ true)
-      [ None ↦ by_core | Some controller ↦ get_spared users owners _ by_owners ]
-
-  unnamed : (file : LimitFile) (held : Held) → is_text file ≡ true → row.files.at file ≡ Some held → held.named ≡ false
-  unnamed file held text is =
-      not_true held.named
-      (sym (λ t. not (text t) || not (option_map_or (λ (held : Held). held.named) (is t) false))
-      ∙ each_passes (λ file. not (is_text file) || not (option_map_or (λ (held : Held). held.named) (row.files.at file) false)) plain file)
-
-  text_spared : (file : LimitFile) → is_text file ≡ true → (o : Option Held) → row.files.at file ≡ o
-      → spares_entry users (option_map (λ held. held.entry) o) ≡ true
-  text_spared file text None is = refl
-  text_spared file text (Some held) is =
-      ap (spares_entry users) (sym (are.each file held is (unnamed file held text is))) ∙ owner_spared file
-
   pub owners_spare : spares_texts_in users row ≡ true
-  owners_spare =
-      all_pass (λ file. not (is_text file) || spares_entry users (entry_in row (File file))) (λ file.
-      elim (is_text file) as (λ b. is_text file ≡ b → (not b || spares_entry users (entry_in row (File file))) ≡ true)
-      [ true ↦ λ text. text_spared file text (row.files.at file) refl | false ↦ λ _. refl ] refl) all_files
+  owners_spare = texts_pass (spares_entry users) refl row.files core owners plain are by_core by_owners
 
 -- ---- of a cgroup that is there, and of one that isn't
 
