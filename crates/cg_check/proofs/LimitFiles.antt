@@ -1,40 +1,37 @@
 -- Where a user reaches a limit file of a subtree, some try breaks the subtree: that file set to another value.
-use Rattle.std.proofs.Common.{◌≡◌, ℕ, Bool, true, false, cond, not, ◌&&◌, ◌||◌, List, [], ◌∷◌, ◌++◌, find, length, take, nat_eq, refl, sym, ap, ◌∙◌, subst, Option, Some, None, option_map, option_and_then, true≢false}
+use Rattle.std.proofs.Common.{◌≡◌, ℕ, Bool, true, false, cond, not, ◌&&◌, ◌||◌, List, [], ◌∷◌, ◌++◌, find, length, take, refl, sym, ap, ◌∙◌, subst, Option, Some, None, option_map, option_and_then, true≢false}
+use Rattle.std.proofs.lemmas.Bool.{and_parts}
 use Rattle.std.proofs.lemmas.Option.{none-some}
 use Rattle.std.proofs.Math.Seq.{take-length}
 use Rattle.std.proofs.lemmas.List.Elements.{All-from_recursion, recursion_from_All, All-contains, Contains-append_left, Contains-append_right}
-use Rattle.std.proofs.lemmas.Map.Views.{Contains-from_any}
-use Rattle.std.specs.List.{flat_map, list_any, AllByRecursion, Contains}
+use Rattle.std.specs.List.{flat_map, AllByRecursion, Contains}
 use Rattle.cg_cgroup.specs.Paths.{Names}
 use Rattle.cg_cgroup.specs.Identity.{Identity}
 use Rattle.cg_cgroup.specs.Users.{writes, owns, reaches, opened}
-use Rattle.cg_cgroup.specs.Files.{all_files, all_others, same_other, accepts}
-use Rattle.cg_cgroup.specs.Cgroups.{file_of, entry_in, with_mode_of}
+use Rattle.cg_cgroup.specs.Files.{all_files, kind_of, fits, accepts}
+use Rattle.cg_cgroup.specs.Values.{has_already}
+use Rattle.cg_cgroup.specs.Cgroups.{Held, file_of, entry_in, with_mode_of}
 use Rattle.cg_cgroup.specs.declared.user.Entry.{Entry}
-use Rattle.cg_cgroup.specs.declared.files.Limit.{Limit}
-use Rattle.cg_cgroup.specs.declared.files.Limit.TheVariants.{Max, At}
+use Rattle.cg_cgroup.specs.declared.value.Value.{Value}
+use Rattle.cg_cgroup.specs.declared.value.Value.TheVariants.{Text}
+use Rattle.cg_cgroup.specs.declared.files.Form.{Form}
+use Rattle.cg_cgroup.specs.declared.files.Form.TheVariants.{Numbers, Texts, DeviceTexts}
 use Rattle.cg_cgroup.specs.declared.files.LimitFile.{LimitFile}
-use Rattle.cg_cgroup.specs.declared.files.LimitFile.TheVariants.{CpuWeight}
 use Rattle.cg_cgroup.specs.declared.files.EntryName.{EntryName}
-use Rattle.cg_cgroup.specs.declared.files.EntryName.TheVariants.{Dir, Procs, SubtreeControl, File, Other}
-use Rattle.cg_cgroup.specs.declared.other_file.OtherFile.{OtherFile}
-use Rattle.cg_cgroup.specs.declared.told.FileText.{FileText}
-use Rattle.cg_cgroup.specs.declared.told.ToldFile.{ToldFile}
+use Rattle.cg_cgroup.specs.declared.files.EntryName.TheVariants.{Dir, Procs, SubtreeControl, File}
 use Rattle.cg_cgroup.specs.declared.cgroup.Cgroup.{Cgroup}
-use Rattle.cg_cgroup.specs.declared.cgroup.LimitEntry.{LimitEntry}
-use Rattle.cg_cgroup.proofs.AllFiles.{each_file}
-use Rattle.cg_cgroup.proofs.AllOthers.{each_other}
+use Rattle.cg_cgroup.proofs.AllFiles.{each_file, each_passes}
 use Rattle.cg_cgroup.proofs.Options.{mapped_from, some_value}
 use Rattle.cg_cgroup.proofs.PathOrder.{same_path_refl}
-use Rattle.cg_cgroup.proofs.CgroupLaws.{same_entry-refl, same_other-true}
-use Rattle.cg_model.specs.States.{State, row_at, file_at, file_told, entry_at, value_at}
+use Rattle.cg_cgroup.proofs.CgroupLaws.{same_entry-refl}
+use Rattle.cg_model.specs.States.{State, row_at, file_at, entry_at, value_at}
 use Rattle.cg_model.specs.WellFormed.{has_row}
 use Rattle.cg_model.proofs.StateEntries.{entry_at-with_mode, entry_at-file, value_at-file}
 use Rattle.cg_model.specs.Clauses.{unless, absent, present}
 use Rattle.cg_model.specs.Bars.{bars, missing_bars}
 use Rattle.cg_model.specs.Steps.{after, after_all}
 use Rattle.cg_model.specs.declared.operation.Op.{Op}
-use Rattle.cg_model.specs.declared.operation.Op.TheVariants.{Set, SetOther, Chmod}
+use Rattle.cg_model.specs.declared.operation.Op.TheVariants.{Set, Chmod}
 use Rattle.cg_model.specs.declared.outcome.Refusal.{Refusal}
 use Rattle.cg_model.specs.declared.outcome.Refusal.TheVariants.{NoSuchCgroup, NoSuchFile, NoAccess, BadValue, NotOwner}
 use Rattle.cg_model.proofs.ClauseLaws.{no_parts, no_unless, no_present, none_each}
@@ -45,12 +42,12 @@ use Rattle.cg_model.specs.Guards.{Guarded, ancestor, ancestors, limit_file, limi
 use Rattle.cg_model.specs.declared.guard.Guard.TheVariants.{AlreadyOver, LimitFile as LimitFileGuard}
 use Rattle.cg_model.specs.declared.guard.Failed.{Failed}
 use Rattle.cg_model.specs.Held.{by_user}
-use Rattle.cg_model.specs.Tries.{other_value, other_text, set_tries, control_tries, plain_tries, opening_of, opening, with_opening, tries}
+use Rattle.cg_model.specs.Tries.{on_device, device_of, other_value, set_tries, control_tries, plain_tries, opening_of, opening, with_opening, tries}
 use Rattle.cg_model.specs.Escapes.{breaks, first_escape}
-use Rattle.cg_laws.proofs.GuardedEntries.{limit_files-has, limit_files-has_other, all_guarded}
+use Rattle.cg_laws.proofs.GuardedEntries.{limit_files-has, all_guarded}
 use Rattle.cg_tries.specs.Escapes.{IsUnbroken}
 use Rattle.cg_tries.proofs.Seen.{empty_is, breaks-run}
-use Rattle.cg_tries.proofs.Single.{set_try, other_set_try}
+use Rattle.cg_tries.proofs.Single.{set_try}
 use Rattle.cg_model.proofs.Lists.{all-append, all-flat_map, all-present, all-each}
 use Rattle.cg_model.specs.Answers.{answer_from, answer}
 use Rattle.cg_check.specs.Answers.{MayBeUnsettled}
@@ -94,9 +91,6 @@ guarded-has subtree guarded listed =
     Contains-append_left (ancestors (length subtree) ++ limit_files (length subtree)) (parent_control subtree ∷ parent_dir subtree ∷ [])
     guarded (Contains-append_right (ancestors (length subtree)) (limit_files (length subtree)) guarded listed)
 
-others-has : (file : OtherFile) → Contains all_others file
-others-has file = Contains-from_any same_other-true file all_others (each_other (λ f. list_any (same_other f) all_others) refl file)
-
 -- ---- what is read in a cgroup's row is there, and so is the row
 
 module _ {A : Type 0} (f : Cgroup → Option A) (x : A) where
@@ -112,23 +106,16 @@ module _ {A : Type 0} (f : Cgroup → Option A) (x : A) where
 -- ---- an entry that the user owns is written once it is opened
 
 missing-none : (st : State) (at : Names) (row : Cgroup) (name : EntryName) (entry : Entry) → row_at st at ≡ Some row
-    → entry_at st at name ≡ Some entry → missing_bars st at row name ≡ []
+    → entry_at st at name ≡ Some entry → missing_bars row name ≡ []
 missing-none st at row Dir entry here is = refl
 missing-none st at row Procs entry here is = refl
 missing-none st at row SubtreeControl entry here is = refl
 missing-none st at row (File file) entry here is =
     elim (file_of row file) as
-    (λ found. option_map (λ (f : LimitEntry). f.entry) found ≡ Some entry → absent found (NoSuchFile (File file)) ≡ []) [
+    (λ found. option_map (λ (f : Held). f.entry) found ≡ Some entry → absent found (NoSuchFile (File file)) ≡ []) [
       | None ↦ λ none. absurd (none-some entry none)
       | Some held ↦ λ _. refl
     ] (sym (ap (option_and_then (λ row. entry_in row (File file))) here) ∙ is)
-missing-none st at row (Other file) entry here is =
-    elim (file_told st at file) as
-    (λ found. option_map (λ (told : ToldFile). told.entry) found ≡ Some entry → absent found (NoSuchFile (Other file)) ≡ []) [
-      | None ↦ λ none. absurd (none-some entry none)
-      | Some told ↦ λ _. refl
-    ] is
-
 module _ (st : State) (user : Identity) (at : Names) (name : EntryName) (entry : Entry) (there : has_row st at ≡ true)
     (is : entry_at st at name ≡ Some entry) (owned : owns user entry ≡ true) where
   chmod-free : (mode : ℕ) → bars st user (Chmod at name mode) ≡ []
@@ -136,7 +123,7 @@ module _ (st : State) (user : Identity) (at : Names) (name : EntryName) (entry :
       let row = some_value (row_at st at) there in
       both_none _ _
       (both_none _ _ (ap (λ found. absent found (NoSuchCgroup (length at))) row.1)
-      (ap (λ found. present found (λ row. missing_bars st at row name)) row.1 ∙ missing-none st at row.0 name entry row.1 is))
+      (ap (λ found. present found (λ row. missing_bars row name)) row.1 ∙ missing-none st at row.0 name entry row.1 is))
       (ap (λ found. present found (λ e. unless (owns user e) (NotOwner name))) is ∙ ap (λ b. unless b (NotOwner name)) owned)
 
   chmod-opens : (mode : ℕ) → entry_at (after st user (Chmod at name mode)) at name ≡ Some (with_mode_of mode entry)
@@ -217,17 +204,29 @@ module _ (st : State) (user : Identity) (subtree : Names) where
 
 -- ---- a limit file that the user writes is set
 
-weight-taken : (b : Bool) → accepts CpuWeight (cond b (At 1) (At 100)) ≡ true
-weight-taken true = refl
-weight-taken false = refl
+-- of a form that takes texts, another text is one too
+on_device-fits : (form : Form) (device : Option (List ℕ)) (value : Value) → fits form value ≡ true → fits form (on_device device value) ≡ true
+on_device-fits (Numbers least most max) (Some device) (Text text) taken = taken
+on_device-fits Texts (Some device) (Text text) taken = refl
+on_device-fits DeviceTexts (Some device) (Text text) taken = refl
+on_device-fits form device value taken = taken
 
-other-taken : (file : LimitFile) (value : Limit) → accepts file (other_value file value) ≡ true
-other-taken CpuWeight Max = refl
-other-taken CpuWeight (At n) = weight-taken (nat_eq n 100)
-other-taken file Max = refl
-other-taken file (At n) = refl
+either-fits : (form : Form) (loose other : Value) (already : Bool) → fits form loose ≡ true → fits form other ≡ true
+    → fits form (cond already other loose) ≡ true
+either-fits form loose other true these those = those
+either-fits form loose other false these those = these
 
-module _ (st : State) (user : Identity) (subtree : Names) (file : LimitFile) (held : LimitEntry) (is : file_at st subtree file ≡ Some held)
+other-taken : (file : LimitFile) (value : Value) → accepts file (other_value file value) ≡ true
+other-taken file value =
+    let form = (kind_of file).form in
+    let parts = and_parts _ _
+    (each_passes (λ file. fits (kind_of file).form (kind_of file).loose && fits (kind_of file).form (kind_of file).other) refl file) in
+    either-fits form (on_device (device_of file value) (kind_of file).loose) (on_device (device_of file value) (kind_of file).other)
+    (has_already value (on_device (device_of file value) (kind_of file).loose))
+    (on_device-fits form (device_of file value) (kind_of file).loose parts.0)
+    (on_device-fits form (device_of file value) (kind_of file).other parts.1)
+
+module _ (st : State) (user : Identity) (subtree : Names) (file : LimitFile) (held : Held) (is : file_at st subtree file ≡ Some held)
     (can : writes user held.entry ≡ true) where
   set-free : bars st user (Set subtree file (other_value file held.value)) ≡ []
   set-free =
@@ -240,18 +239,6 @@ module _ (st : State) (user : Identity) (subtree : Names) (file : LimitFile) (he
       (ap (λ found. present found (λ f. unless (accepts file (other_value file held.value)) (BadValue file))) is
       ∙ ap (λ b. unless b (BadValue file)) (other-taken file held.value))
 
-module _ (st : State) (user : Identity) (subtree : Names) (file : OtherFile) (told : ToldFile) (there : has_row st subtree ≡ true)
-    (is : file_told st subtree file ≡ Some told) (can : writes user told.entry ≡ true) where
-  set_other-free : (value : FileText) → bars st user (SetOther subtree file value) ≡ []
-  set_other-free value =
-      let row = some_value (row_at st subtree) there in
-      both_none _ _
-      (both_none _ _ (ap (λ found. absent found (NoSuchCgroup (length subtree))) row.1)
-      (ap (λ found. present found (λ row. absent (file_told st subtree file) (NoSuchFile (Other file)))) row.1
-      ∙ ap (λ found. absent found (NoSuchFile (Other file))) is))
-      (ap (λ found. present found (λ (told : ToldFile). unless (writes user told.entry) (NoAccess (length subtree) (Other file)))) is
-      ∙ ap (λ b. unless b (NoAccess (length subtree) (Other file))) can)
-
 -- the sets break nothing only where the user writes no limit file
 module _ (st : State) (user : Identity) (subtree : Names) (whole : IsUnbroken st subtree)
     (fail : AllByRecursion (λ ops. breaks st user subtree ops ≡ false) (set_tries st subtree)) where
@@ -261,17 +248,10 @@ module _ (st : State) (user : Identity) (subtree : Names) (whole : IsUnbroken st
   abbrev listed_set : LimitFile → List (List Op)
   listed_set file = present (value_at st subtree file) (λ value. (Set subtree file (other_value file value) ∷ []) ∷ [])
 
-  abbrev other_set : OtherFile → List (List Op)
-  other_set file = present (file_told st subtree file) (λ told. (SetOther subtree file (other_text file told.value) ∷ []) ∷ [])
-
-  there : has_row st subtree ≡ true
-  there = (broken-whole (limits st subtree) st st subtree whole).there
-
   file-unwritten : (file : LimitFile) (entry : Entry) → entry_at st subtree (File file) ≡ Some entry → writes user entry ≡ true → ⊥
   file-unwritten file entry is can =
-      let sets =
-      all-unflat Fails listed_set all_files (all-left Fails (flat_map listed_set all_files) (flat_map other_set all_others) fail) in
-      let held = mapped_from (λ (f : LimitEntry). f.entry) (file_at st subtree file) entry (sym (entry_at-file st subtree file) ∙ is) in
+      let sets = all-unflat Fails listed_set all_files fail in
+      let held = mapped_from (λ (f : Held). f.entry) (file_at st subtree file) entry (sym (entry_at-file st subtree file) ∙ is) in
       let has : value_at st subtree file ≡ Some held.0.value = value_at-file st subtree file ∙ ap (option_map (λ f. f.value)) held.1 in
       let this : AllByRecursion Fails ((Set subtree file (other_value file held.0.value) ∷ []) ∷ []) =
       subst (λ found. AllByRecursion Fails (present found (λ value. (Set subtree file (other_value file value) ∷ []) ∷ []))) has
@@ -280,20 +260,6 @@ module _ (st : State) (user : Identity) (subtree : Names) (whole : IsUnbroken st
       (sym (set_try st user subtree file held.0.value whole has
       ∙ free_allowed st user (Set subtree file (other_value file held.0.value))
       (set-free st user subtree file held.0 held.1 (ap (writes user) held.2 ∙ can)))
-      ∙ this.0)
-
-  other-unwritten : (file : OtherFile) (entry : Entry) → entry_at st subtree (Other file) ≡ Some entry → writes user entry ≡ true → ⊥
-  other-unwritten file entry is can =
-      let sets =
-      all-unflat Fails other_set all_others (all-right Fails (flat_map listed_set all_files) (flat_map other_set all_others) fail) in
-      let held = mapped_from (λ (told : ToldFile). told.entry) (file_told st subtree file) entry is in
-      let this : AllByRecursion Fails ((SetOther subtree file (other_text file held.0.value) ∷ []) ∷ []) =
-      subst (λ found. AllByRecursion Fails (present found (λ told. (SetOther subtree file (other_text file told.value) ∷ []) ∷ []))) held.1
-      (one-listed (λ f. AllByRecursion Fails (other_set f)) all_others file sets (others-has file)) in
-      true≢false
-      (sym (other_set_try st user subtree file held.0 whole held.1
-      ∙ free_allowed st user (SetOther subtree file (other_text file held.0.value))
-      (set_other-free st user subtree file held.0 there held.1 (ap (writes user) held.2 ∙ can) (other_text file held.0.value)))
       ∙ this.0)
 
 -- ---- so some try breaks
@@ -342,11 +308,6 @@ module _ (st : State) (user : Identity) (subtree : Names) (none : first_escape s
       let now = name-open (File file) (limit_files-has subtree file) entry is reached in
       file-unwritten (opened_state st user subtree) user subtree unescaped.whole unescaped.sets file now.0 now.1 now.2
 
-  other-unreached : (file : OtherFile) (entry : Entry) → entry_at st subtree (Other file) ≡ Some entry → reaches user entry ≡ true → ⊥
-  other-unreached file entry is reached =
-      let now = name-open (Other file) (limit_files-has_other subtree file) entry is reached in
-      other-unwritten (opened_state st user subtree) user subtree unescaped.whole unescaped.sets file now.0 now.1 now.2
-
 -- ---- what that says of an answer
 
 all-flat : {A B : Type 0} (P : B → Type 0) (g : A → List B) (xs : List A) → AllByRecursion (λ x. AllByRecursion P (g x)) xs
@@ -379,12 +340,6 @@ module _ (st : State) (user : Identity) (subtree : Names) where
   file-escapes file entry is reached =
       name-escapes st user subtree (File file) (limit_files-has subtree file) entry is reached
       (λ none. file-unreached st user subtree none file entry is reached)
-
-  pub other-escapes : (file : OtherFile) (entry : Entry) → entry_at st subtree (Other file) ≡ Some entry → reaches user entry ≡ true
-      → (ops : List Op) × (answer st user subtree ≡ Escapes ops)
-  other-escapes file entry is reached =
-      name-escapes st user subtree (Other file) (limit_files-has_other subtree file) entry is reached
-      (λ none. other-unreached st user subtree none file entry is reached)
 
 unsettled-by : (all : List Failed) (found : Option (List Op)) (failed : Failed) → answer_from all found ≡ Unsettled failed
     → ((rest : List Failed) × (all ≡ failed ∷ rest)) × (found ≡ None)
@@ -431,7 +386,6 @@ module _ (st : State) (user : Identity) (subtree : Names) (none : first_escape s
       (recursion_from_All MayAll (guarded_entries subtree)
       (all_guarded subtree MayAll (λ n. may (ancestor n) tt)
       (λ file. may-name (File file) (file-unreached st user subtree none file))
-      (λ file. may-name (Other file) (other-unreached st user subtree none file))
       (may (parent_control subtree) tt) (may (parent_dir subtree) tt))))
       may-over
 

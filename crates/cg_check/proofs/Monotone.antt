@@ -5,25 +5,23 @@ use Rattle.std.specs.FinMap as map
 use Rattle.cg_cgroup.specs.Paths.{Names, same_path, parent, is_root, common}
 use Rattle.cg_cgroup.specs.Identity.{Identity}
 use Rattle.cg_cgroup.specs.Users.{writes}
-use Rattle.cg_cgroup.specs.Files.{all_controllers, enables, enables_nothing, is_within, accepts, is_beyond}
-use Rattle.cg_cgroup.specs.Cgroups.{file_of, entry_in, value_in}
+use Rattle.cg_cgroup.specs.Files.{all_controllers, enables, enables_nothing, is_within, accepts}
+use Rattle.cg_cgroup.specs.Values.{most_of}
+use Rattle.cg_cgroup.specs.Cgroups.{file_of, entry_in, value_in, most_in}
 use Rattle.cg_cgroup.specs.declared.user.Entry.{Entry}
 use Rattle.cg_cgroup.specs.declared.files.Controller.{Controller}
 use Rattle.cg_cgroup.specs.declared.controllers.ControllerSet.{ControllerSet}
-use Rattle.cg_cgroup.specs.declared.files.Limit.{Limit}
+use Rattle.cg_cgroup.specs.declared.value.Value.{Value}
 use Rattle.cg_cgroup.specs.declared.files.LimitFile.{LimitFile}
 use Rattle.cg_cgroup.specs.declared.files.LimitFile.TheVariants.{MaxDescendants, MaxDepth}
 use Rattle.cg_cgroup.specs.declared.files.EntryName.{EntryName}
-use Rattle.cg_cgroup.specs.declared.files.EntryName.TheVariants.{Dir, Procs, SubtreeControl, File, Other}
-use Rattle.cg_cgroup.specs.declared.other_file.OtherFile.{OtherFile}
-use Rattle.cg_cgroup.specs.declared.told.FileText.{FileText}
-use Rattle.cg_cgroup.specs.declared.told.ToldFile.{ToldFile}
+use Rattle.cg_cgroup.specs.declared.files.EntryName.TheVariants.{Dir, Procs, SubtreeControl, File}
 use Rattle.cg_cgroup.specs.declared.cgroup.Cgroup.{Cgroup}
 use Rattle.cg_cgroup.proofs.Options.{some_value, same_some, is_some-mapped}
-use Rattle.cg_model.specs.States.{State, row_at, place_at, file_at, file_told, has_child, has_live, child_enables, count_below}
+use Rattle.cg_model.specs.States.{State, row_at, place_at, file_at, has_child, has_live, child_enables, count_below}
 use Rattle.cg_model.specs.WellFormed.{has_row, enabled_at, available_at}
 use Rattle.cg_model.proofs.StateTests.{child_enables-row, row-child_enables}
-use Rattle.cg_model.proofs.StateEntries.{entry_at-row, entry_at-file, value_at-file}
+use Rattle.cg_model.proofs.StateEntries.{entry_at-file, value_at-file}
 use Rattle.cg_model.proofs.StateCounts.{count_below-same_paths, has_child-same_paths}
 use Rattle.cg_model.proofs.FormedParts.{enabled_at-row}
 use Rattle.cg_model.specs.Clauses.{unless, absent, present}
@@ -31,7 +29,7 @@ use Rattle.cg_model.specs.Changes.{effective, enabled_after}
 use Rattle.cg_model.specs.Bars.{bars, passes, change_bars, changes_bars, row_above, writes_above, level_bars, limit_bars}
 use Rattle.cg_model.specs.Limits.{is_under}
 use Rattle.cg_model.specs.declared.changes.Change.{Change}
-use Rattle.cg_model.specs.declared.operation.Op.TheVariants.{Move, Control, Mkdir, Rmdir, Set, SetOther}
+use Rattle.cg_model.specs.declared.operation.Op.TheVariants.{Move, Control, Mkdir, Rmdir, Set}
 use Rattle.cg_model.specs.declared.outcome.Refusal.{Refusal}
 use Rattle.cg_model.specs.declared.outcome.Refusal.TheVariants.{NoSuchCgroup, NoAccess, NoSuchProcess, InternalProcess, NotAvailable, ChildUses, Exists, DescendantLimit, DepthLimit, HasChildren, HasProcesses, NoSuchFile, BadValue}
 use Rattle.cg_model.proofs.ClauseLaws.{no_parts, no_unless, no_absent, no_present}
@@ -68,16 +66,16 @@ same_bool false false f g = refl
 level_same : (found was : Option Cgroup) → is_some found ≡ is_some was
     → option_and_then (λ row. value_in row MaxDescendants) found ≡ option_and_then (λ row. value_in row MaxDescendants) was
     → option_and_then (λ row. value_in row MaxDepth) found ≡ option_and_then (λ row. value_in row MaxDepth) was
-    → (count depth len : ℕ) → present found (λ row. unless (is_under count row.max_descendants.value) (DescendantLimit len)
-    ++ unless (is_under depth row.max_depth.value) (DepthLimit len))
-    ≡ present was (λ row. unless (is_under count row.max_descendants.value) (DescendantLimit len)
-    ++ unless (is_under depth row.max_depth.value) (DepthLimit len))
+    → (count depth len : ℕ) → present found (λ row. unless (is_under count (most_in row MaxDescendants)) (DescendantLimit len)
+    ++ unless (is_under depth (most_in row MaxDepth)) (DepthLimit len))
+    ≡ present was (λ row. unless (is_under count (most_in row MaxDescendants)) (DescendantLimit len)
+    ++ unless (is_under depth (most_in row MaxDepth)) (DepthLimit len))
 level_same None None here many deep count depth len = refl
 level_same None (Some was) here many deep count depth len = absurd (true≢false (sym here))
 level_same (Some row) None here many deep count depth len = absurd (true≢false here)
 level_same (Some row) (Some was) here many deep count depth len =
-    λ i. unless (is_under count (same_some row.max_descendants.value was.max_descendants.value many i)) (DescendantLimit len)
-    ++ unless (is_under depth (same_some row.max_depth.value was.max_depth.value deep i)) (DepthLimit len)
+    λ i. unless (is_under count (option_and_then most_of (many i))) (DescendantLimit len)
+    ++ unless (is_under depth (option_and_then most_of (deep i))) (DepthLimit len)
 
 child_still : (st new : State) → ((path : Names) → has_row new path ≡ has_row st path)
     → ((path : Names) → enabled_at new path ≡ enabled_at st path)
@@ -106,26 +104,26 @@ module _ (user : Identity) (st new : State) (wider : IsWider user st new) where
   enabled-was path was row before now = sym (enabled_at-row new path row now) ∙ wider.enabled path ∙ enabled_at-row st path was before
 
   -- an entry that each cgroup has
-  writes-stays : (path : Names) (name : EntryName) (entry : Cgroup → Entry) → is_beyond name ≡ false
+  writes-stays : (path : Names) (name : EntryName) (entry : Cgroup → Entry)
       → ((row : Cgroup) → entry_in row name ≡ Some (entry row))
       → (was row : Cgroup) → row_at st path ≡ Some was → row_at new path ≡ Some row
       → writes user (entry was) ≡ true → writes user (entry row) ≡ true
-  writes-stays path name entry listed named was row before now can =
+  writes-stays path name entry named was row before now can =
       let in_row = λ (s : State) (r : Cgroup) (here : row_at s path ≡ Some r).
-      entry_at-row s path name listed ∙ ap (option_and_then (λ r. entry_in r name)) here ∙ named r in
+      ap (option_and_then (λ r. entry_in r name)) here ∙ named r in
       let kept = wider.stays path name (entry was) (in_row st was before) in
       let same : kept.now ≡ entry row = same_some kept.now (entry row) (sym kept.is ∙ in_row new row now) in
       ap (writes user) (sym same) ∙ kept.written can
 
-  access-stays : (path : Names) (name : EntryName) (entry : Cgroup → Entry) → is_beyond name ≡ false
+  access-stays : (path : Names) (name : EntryName) (entry : Cgroup → Entry)
       → ((row : Cgroup) → entry_in row name ≡ Some (entry row)) → (r : Refusal)
       → present (row_at st path) (λ row. unless (writes user (entry row)) r) ≡ []
       → present (row_at new path) (λ row. unless (writes user (entry row)) r) ≡ []
-  access-stays path name entry listed named r free =
+  access-stays path name entry named r free =
       present_none (row_at new path) (λ row. unless (writes user (entry row)) r) (λ row now.
       let was = row-was path row now in
       unless_none _ r
-      (writes-stays path name entry listed named was.0 row was.1 now (no_unless _ r (no_present (row_at st path) _ free was.0 was.1))))
+      (writes-stays path name entry named was.0 row was.1 now (no_unless _ r (no_present (row_at st path) _ free was.0 was.1))))
 
   -- clauses on what a cgroup enables
   enabled-stays : (path : Names) (clauses : State → ControllerSet → List Refusal)
@@ -144,15 +142,15 @@ module _ (user : Identity) (st new : State) (wider : IsWider user st new) where
 
   -- ---- passing
 
-  written-stays : (path : Names) (name : EntryName) (entry : Cgroup → Entry) → is_beyond name ≡ false
+  written-stays : (path : Names) (name : EntryName) (entry : Cgroup → Entry)
       → ((row : Cgroup) → entry_in row name ≡ Some (entry row))
       → written_if_there user entry (row_at st path) ≡ true → written_if_there user entry (row_at new path) ≡ true
-  written-stays path name entry listed named can =
+  written-stays path name entry named can =
       elim (row_at new path) as (λ found. row_at new path ≡ found → written_if_there user entry found ≡ true) [
         | None ↦ λ _. refl
         | Some row ↦ λ now.
             let was = row-was path row now in
-            writes-stays path name entry listed named was.0 row was.1 now (sym (ap (written_if_there user entry) was.1) ∙ can)
+            writes-stays path name entry named was.0 row was.1 now (sym (ap (written_if_there user entry) was.1) ∙ can)
       ] refl
 
   as_written : (found : Option Cgroup)
@@ -162,7 +160,7 @@ module _ (user : Identity) (st new : State) (wider : IsWider user st new) where
 
   pub passes_at-stays : (path : Names) → passes_at st user path ≡ true → passes_at new user path ≡ true
   passes_at-stays path can = as_written (row_at new path)
-      ∙ written-stays path Procs (λ row. row.procs) refl (λ _. refl) (sym (as_written (row_at st path)) ∙ can)
+      ∙ written-stays path Procs (λ row. row.procs) (λ _. refl) (sym (as_written (row_at st path)) ∙ can)
 
   pub move-stays : (pid : ℕ) (to : Names) → bars st user (Move pid to) ≡ [] → bars new user (Move pid to) ≡ []
   move-stays pid to free =
@@ -172,7 +170,7 @@ module _ (user : Identity) (st new : State) (wider : IsWider user st new) where
       let f1 = no_parts _ _ f2.0 in
       both_none _ _ (both_none _ _ (both_none _ _ (both_none _ _
       (absent-wider to (NoSuchCgroup (length to)) ∙ f1.0)
-      (access-stays to Procs (λ r. r.procs) refl (λ _. refl) (NoAccess (length to) Procs) f1.1))
+      (access-stays to Procs (λ r. r.procs) (λ _. refl) (NoAccess (length to) Procs) f1.1))
       (ap (λ found. absent found (NoSuchProcess pid)) (place_at-wider pid) ∙ f2.1))
       (ap (λ found. present found (λ place. unless (passes new user place to) (NoAccess (length (common place to)) Procs)))
       (place_at-wider pid)
@@ -192,7 +190,7 @@ module _ (user : Identity) (st new : State) (wider : IsWider user st new) where
         | true ↦ λ _. refl
         | false ↦
             λ was. as_dir (row_at new (parent path))
-            ∙ written-stays (parent path) Dir (λ row. row.dir) refl (λ _. refl) (sym (as_dir (row_at st (parent path))) ∙ was)
+            ∙ written-stays (parent path) Dir (λ row. row.dir) (λ _. refl) (sym (as_dir (row_at st (parent path))) ∙ was)
       ] can
     where
       as_dir : (found : Option Cgroup) → dir_written found ≡ written_if_there user (λ row. row.dir) found
@@ -209,8 +207,8 @@ module _ (user : Identity) (st new : State) (wider : IsWider user st new) where
       level_same (row_at new (take len path)) (row_at st (take len path)) (wider.here (take len path))
       (wider.values (take len path) MaxDescendants) (wider.values (take len path) MaxDepth) (count_below new (take len path))
       (length path - 1 - len) len
-      ∙ ap (λ count. present (row_at st (take len path)) (λ row. unless (is_under count row.max_descendants.value) (DescendantLimit len)
-      ++ unless (is_under (length path - 1 - len) row.max_depth.value) (DepthLimit len)))
+      ∙ ap (λ count. present (row_at st (take len path)) (λ row. unless (is_under count (most_in row MaxDescendants)) (DescendantLimit len)
+      ++ unless (is_under (length path - 1 - len) (most_in row MaxDepth)) (DepthLimit len)))
       (count_below-same_paths st new wider.paths (take len path))
 
   limit-wider : (path : Names) (len : ℕ) → limit_bars new path len ≡ limit_bars st path len
@@ -249,7 +247,7 @@ module _ (user : Identity) (st new : State) (wider : IsWider user st new) where
 
   -- ---- setting
 
-  pub set-stays : (at : Names) (file : LimitFile) (value : Limit) → bars st user (Set at file value) ≡ []
+  pub set-stays : (at : Names) (file : LimitFile) (value : Value) → bars st user (Set at file value) ≡ []
       → bars new user (Set at file value) ≡ []
   set-stays at file value free =
       let f3 = no_parts _ _ free in
@@ -279,33 +277,6 @@ module _ (user : Identity) (st new : State) (wider : IsWider user st new) where
           ∙ ap is_some (sym (value_at-file new at file) ∙ wider.values at file ∙ value_at-file st at file)
           ∙ is_some-mapped (λ f. f.value) (file_at st at file)
 
-  pub set_other-stays : (at : Names) (file : OtherFile) (value : FileText) → bars st user (SetOther at file value) ≡ []
-      → bars new user (SetOther at file value) ≡ []
-  set_other-stays at file value free =
-      let f2 = no_parts _ _ free in
-      let f1 = no_parts _ _ f2.0 in
-      both_none _ _ (both_none _ _
-      (absent-wider at (NoSuchCgroup (length at)) ∙ f1.0)
-      (present_const (row_at new at) (absent (file_told new at file) (NoSuchFile (Other file)))
-      ∙ (λ i. cond (wider.here at i) (same_absent i) [])
-      ∙ sym (present_const (row_at st at) (absent (file_told st at file) (NoSuchFile (Other file)))) ∙ f1.1))
-      (present_none (file_told new at file) _ (λ told now.
-      let was = some_value (file_told st at file) (sym same_told ∙ ap is_some now) in
-      let kept = wider.stays at (Other file) was.0.entry (ap (option_map (λ (t : ToldFile). t.entry)) was.1) in
-      let same : kept.now ≡ told.entry =
-      same_some kept.now told.entry (sym kept.is ∙ ap (option_map (λ (t : ToldFile). t.entry)) now) in
-      unless_none _ _ (ap (writes user) (sym same) ∙ kept.written (no_unless _ _ (no_present (file_told st at file) _ f2.1 was.0 was.1)))))
-    where
-      same_told : is_some (file_told new at file) ≡ is_some (file_told st at file)
-      same_told =
-          sym (is_some-mapped (λ (t : ToldFile). t.entry) (file_told new at file)) ∙ wider.there at (Other file)
-          ∙ is_some-mapped (λ (t : ToldFile). t.entry) (file_told st at file)
-
-      same_absent : absent (file_told new at file) (NoSuchFile (Other file)) ≡ absent (file_told st at file) (NoSuchFile (Other file))
-      same_absent =
-          absent_by (file_told new at file) (NoSuchFile (Other file)) ∙ ap (λ b. unless b (NoSuchFile (Other file))) same_told
-          ∙ sym (absent_by (file_told st at file) (NoSuchFile (Other file)))
-
   -- ---- controlling
 
   child_enables-wider : (path : Names) (controller : Controller) → child_enables new path controller ≡ child_enables st path controller
@@ -323,7 +294,7 @@ module _ (user : Identity) (st new : State) (wider : IsWider user st new) where
       let f1 = no_parts _ _ f2.0 in
       both_none _ _ (both_none _ _
       (absent-wider at (NoSuchCgroup (length at)) ∙ f1.0)
-      (access-stays at SubtreeControl (λ row. row.subtree_control) refl (λ _. refl) (NoAccess (length at) SubtreeControl) f1.1))
+      (access-stays at SubtreeControl (λ row. row.subtree_control) (λ _. refl) (NoAccess (length at) SubtreeControl) f1.1))
       (present_none (row_at new at) (changes_bars new at changes) (λ row now.
       let was = row-was at row now in
       changes-wider row was.0 (enabled-was at was.0 row was.1 now)

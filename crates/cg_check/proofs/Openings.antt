@@ -7,7 +7,7 @@ use Rattle.std.specs.FinMap as finite
 use Rattle.cg_cgroup.specs.Paths.{Names, inside, parent, path_text}
 use Rattle.cg_cgroup.specs.Identity.{Identity}
 use Rattle.cg_cgroup.specs.Users.{writes, owns, has_bit, opened}
-use Rattle.cg_cgroup.specs.Files.{all_files, all_others, all_controllers, is_in_format_2, enables}
+use Rattle.cg_cgroup.specs.Files.{all_files, all_controllers, is_in_format_2, enables}
 use Rattle.cg_cgroup.specs.declared.user.Entry.{Entry}
 use Rattle.cg_cgroup.proofs.UserLaws.{opened-le}
 use Rattle.cg_model.specs.States.{State}
@@ -16,12 +16,12 @@ use Rattle.cg_model.specs.Clauses.{present, first}
 use Rattle.cg_model.specs.Bars.{bars}
 use Rattle.cg_model.specs.Steps.{after_all, HasMode, HaveModes}
 use Rattle.cg_model.specs.declared.operation.Op.{Op}
-use Rattle.cg_model.specs.declared.operation.Op.TheVariants.{Chmod, Move, Mkdir, Rmdir, Control, Set, SetOther}
+use Rattle.cg_model.specs.declared.operation.Op.TheVariants.{Chmod, Move, Mkdir, Rmdir, Control, Set}
 use Rattle.cg_model.proofs.StepFormed.{formed-after_all}
 use Rattle.cg_model.specs.Guards.{Guarded, guarded_entries, guarded_entry, IsSubtree}
 use Rattle.cg_guards.proofs.TableWalk.{guarded_mode}
 use Rattle.cg_model.specs.Held.{by_user}
-use Rattle.cg_model.specs.Tries.{other_value, other_text, set_tries, told_controllers, change_of, control_tries, move_tries, probe, numbers_from, probe_tries_at, probe_tries, plain_tries, opening_of, opening, with_opening}
+use Rattle.cg_model.specs.Tries.{other_value, set_tries, told_controllers, change_of, control_tries, move_tries, probe, numbers_from, probe_tries_at, probe_tries, plain_tries, opening_of, opening, with_opening}
 use Rattle.cg_model.specs.Escapes.{breaks, first_escape}
 use Rattle.cg_tries.specs.Escapes.{IsUnbroken}
 use Rattle.cg_tries.specs.Finding.{allowed}
@@ -30,9 +30,9 @@ use Rattle.cg_tries.proofs.Seen.{unbroken-alike}
 use Rattle.cg_tries.proofs.Single.{nothing_bars}
 use Rattle.cg_check.specs.Opened.{is_free}
 use Rattle.cg_model.proofs.Lists.{all-flat_map, all-present, all-both, all-each, find-same, find-all, find-passes}
-use Rattle.cg_check.proofs.Wider.{IsWider, wider-itself, wider-all, IsOpening, alike-wider, breaks-opening, value-wider}
+use Rattle.cg_check.proofs.Wider.{IsWider, wider-itself, wider-all, IsOpening, alike-wider, breaks-opening}
 use Rattle.cg_check.proofs.Tried.{with_true, has_effect, IsTried, IsExact, exact-plain_tries}
-use Rattle.cg_check.proofs.Monotone.{passes_at-stays, move-stays, mkdir-stays, rmdir-stays, set-stays, set_other-stays, control-stays}
+use Rattle.cg_check.proofs.Monotone.{passes_at-stays, move-stays, mkdir-stays, rmdir-stays, set-stays, control-stays}
 
 -- what the opening leaves
 abbrev pub opened_state : State → Identity → Names → State
@@ -122,8 +122,6 @@ module _ (user : Identity) (st new : State) (wider : IsWider user st new) (subtr
   same_sets =
       λ i.
       flat_map (λ file. present (wider.values subtree file i) (λ value. (Set subtree file (other_value file value) ∷ []) ∷ [])) all_files
-      ++ flat_map (λ file. value-wider user st new wider subtree file
-      (λ value. (SetOther subtree file (other_text file value) ∷ []) ∷ []) i) all_others
 
   same_moves : move_tries new subtree ≡ move_tries st subtree
   same_moves =
@@ -162,9 +160,6 @@ module _ (user : Identity) (st new : State) (wider : IsWider user st new) where
       free_allowed new user (Rmdir path) (rmdir-stays user st new wider path (nothing_bars st user (Rmdir path) free))
   allowed-stays (Set at file value) tried free =
       free_allowed new user (Set at file value) (set-stays user st new wider at file value (nothing_bars st user (Set at file value) free))
-  allowed-stays (SetOther at file value) tried free =
-      free_allowed new user (SetOther at file value)
-      (set_other-stays user st new wider at file value (nothing_bars st user (SetOther at file value) free))
   allowed-stays op tried free = absurd tried
 
   free-stays : (ops : List Op) → IsTried ops → is_free st user ops ≡ true → is_free new user ops ≡ true

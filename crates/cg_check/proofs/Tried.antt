@@ -2,23 +2,22 @@
 use Rattle.std.proofs.Common.{◌≡◌, ℕ, zero, suc, ◌+◌, ◌-◌, ◌<◌, ◌≤◌, Bool, true, false, cond, not, ◌&&◌, List, [], ◌∷◌, ◌++◌, map, length, length-append, filter, take, nat_le, refl, sym, ap, ◌∙◌, Some, None, arith, true≢false, codes}
 use Rattle.std.proofs.Math.Seq.{take-append_seam}
 use Rattle.std.specs.Fmt.{decimal}
-use Rattle.std.specs.List.{flat_map, AllByRecursion}
+use Rattle.std.specs.List.{AllByRecursion}
 use Rattle.cg_cgroup.specs.Paths.{Name, Names, parent, inside, path_text}
 use Rattle.cg_cgroup.specs.Identity.{Identity}
-use Rattle.cg_cgroup.specs.Files.{all_files, all_others}
-use Rattle.cg_model.specs.States.{State, place_at, paths_of, pids_of, value_at, file_told}
+use Rattle.cg_cgroup.specs.Files.{all_files}
+use Rattle.cg_model.specs.States.{State, place_at, paths_of, pids_of, value_at}
 use Rattle.cg_model.specs.WellFormed.{IsWellFormed, has_row, enabled_at}
-use Rattle.cg_model.specs.Clauses.{present}
 use Rattle.cg_model.specs.declared.operation.Op.{Op}
-use Rattle.cg_model.specs.declared.operation.Op.TheVariants.{Move, Control, Mkdir, Rmdir, Set, SetOther, Fork, Exit, Chmod}
+use Rattle.cg_model.specs.declared.operation.Op.TheVariants.{Move, Control, Mkdir, Rmdir, Set, Fork, Exit, Chmod}
 use Rattle.cg_model.specs.Guards.{IsSubtree}
-use Rattle.cg_model.specs.Tries.{other_value, other_text, set_tries, control_tries, across, move_tries, probe, numbers_from, free_probe, is_inside, probe_tries_at, probe_tries, plain_tries}
+use Rattle.cg_model.specs.Tries.{other_value, set_tries, control_tries, across, move_tries, probe, numbers_from, free_probe, is_inside, probe_tries_at, probe_tries, plain_tries}
 use Rattle.cg_model.specs.Escapes.{breaks}
 use Rattle.cg_tries.specs.Escapes.{IsUnbroken}
 use Rattle.cg_ops.specs.Moves.{passes_at}
 use Rattle.cg_tries.specs.Finding.{allowed}
 use Rattle.cg_tries.proofs.Seen.{is_empty, breaks-run}
-use Rattle.cg_tries.proofs.Single.{set_try, other_set_try, rmdir_try, move_try}
+use Rattle.cg_tries.proofs.Single.{set_try, rmdir_try, move_try}
 use Rattle.cg_tries.proofs.Controls.{changes_enabled, control_try, all-control_tries}
 use Rattle.cg_check.specs.Opened.{is_free}
 use Rattle.cg_model.proofs.Lists.{all-append, all-flat_map, all-present, all-map_filter, find-passes}
@@ -61,16 +60,9 @@ module _ (st : State) (user : Identity) (subtree : Names) (whole : IsUnbroken st
 
   exact-sets : AllByRecursion Exact (set_tries st subtree)
   exact-sets =
-      all-append Exact
-      (flat_map (λ file. present (value_at st subtree file) (λ value. (Set subtree file (other_value file value) ∷ []) ∷ [])) all_files)
-      (flat_map (λ file. present (file_told st subtree file) (λ told. (SetOther subtree file (other_text file told.value) ∷ []) ∷ []))
-      all_others)
-      (all-flat_map Exact _ all_files (λ file.
+      all-flat_map Exact _ all_files (λ file.
       all-present Exact (value_at st subtree file) (λ value. (Set subtree file (other_value file value) ∷ []) ∷ []) (λ value is.
-      (record { exact = with_true _ _ (set_try st user subtree file value whole is); tried = tt }, tt))))
-      (all-flat_map Exact _ all_others (λ file.
-      all-present Exact (file_told st subtree file) (λ told. (SetOther subtree file (other_text file told.value) ∷ []) ∷ []) (λ told is.
-      (record { exact = with_true _ _ (other_set_try st user subtree file told whole is); tried = tt }, tt))))
+      (record { exact = with_true _ _ (set_try st user subtree file value whole is); tried = tt }, tt)))
 
   exact-controls : AllByRecursion Exact (control_tries st subtree)
   exact-controls =

@@ -1,5 +1,5 @@
 -- A user's opening leaves everything but modes, and what they wrote they still write.
-use Rattle.std.proofs.Common.{◌≡◌, ℕ, Bool, true, false, cond, ◌&&◌, List, [], ◌∷◌, ◌++◌, refl, sym, ap, ◌∙◌, subst, Option, Some, None, option_map, option_and_then, is_some}
+use Rattle.std.proofs.Common.{◌≡◌, ℕ, Bool, true, false, cond, ◌&&◌, List, [], ◌∷◌, ◌++◌, refl, sym, ap, ◌∙◌, subst, Option, Some, option_map, is_some}
 use Rattle.std.proofs.lemmas.Bool.{and_parts}
 use Rattle.std.specs.List.{AllByRecursion}
 use Rattle.std.specs.FinMap as map
@@ -9,29 +9,22 @@ use Rattle.cg_cgroup.specs.Users.{writes, owns, has_bit}
 use Rattle.cg_cgroup.specs.Files.{same_entry}
 use Rattle.cg_cgroup.specs.Cgroups.{with_mode_of}
 use Rattle.cg_cgroup.specs.declared.user.Entry.{Entry}
-use Rattle.cg_cgroup.specs.declared.files.Controller.{Controller}
 use Rattle.cg_cgroup.specs.declared.files.LimitFile.{LimitFile}
 use Rattle.cg_cgroup.specs.declared.files.EntryName.{EntryName}
-use Rattle.cg_cgroup.specs.declared.files.EntryName.TheVariants.{Other}
-use Rattle.cg_cgroup.specs.declared.other_file.OtherFile.{OtherFile}
-use Rattle.cg_cgroup.specs.declared.told.FileText.{FileText}
-use Rattle.cg_cgroup.specs.declared.told.ToldFile.{ToldFile}
 use Rattle.cg_cgroup.proofs.Options.{is_some-mapped}
 use Rattle.cg_cgroup.proofs.PathOrder.{same_path-is}
 use Rattle.cg_cgroup.proofs.CgroupLaws.{same_entry-true}
-use Rattle.cg_model.specs.States.{State, told_at, untold_at, file_told, told_text, entry_at, value_at, other_at, paths_of}
+use Rattle.cg_model.specs.States.{State, entry_at, value_at, paths_of}
 use Rattle.cg_model.specs.WellFormed.{has_row, enabled_at}
 use Rattle.cg_model.proofs.StateEntries.{entry_at-with_mode}
 use Rattle.cg_model.proofs.StateCounts.{paths_of-with_mode, count_below-same_paths, depth_below-same_paths}
-use Rattle.cg_model.specs.Clauses.{present}
 use Rattle.cg_model.specs.Bars.{bars}
 use Rattle.cg_model.specs.Steps.{after, after_all}
 use Rattle.cg_model.specs.declared.operation.Op.{Op}
 use Rattle.cg_model.specs.declared.operation.Op.TheVariants.{Chmod}
 use Rattle.cg_model.proofs.ClauseLaws.{no_parts, no_unless, no_present}
 use Rattle.cg_model.proofs.StepFormed.{after-by}
-use Rattle.cg_model.proofs.StateTold.{or_untold}
-use Rattle.cg_model.proofs.StepEffects.{has_row-after, value_at-after, other_at-after, told_text-after, enabled_at-after}
+use Rattle.cg_model.proofs.StepEffects.{has_row-after, value_at-after, enabled_at-after}
 use Rattle.cg_model.specs.Held.{by_user}
 use Rattle.cg_model.specs.Escapes.{breaks}
 use Rattle.cg_tries.proofs.Seen.{IsAlike, breaks-alike_first}
@@ -51,8 +44,6 @@ pub record IsWider (user : Identity) (st new : State) : Type 0 where
   pub paths : paths_of new ≡ paths_of st
   pub here : (path : Names) → has_row new path ≡ has_row st path
   pub values : (path : Names) (file : LimitFile) → value_at new path file ≡ value_at st path file
-  pub others : (path : Names) (controller : Controller) → other_at new path controller ≡ other_at st path controller
-  pub texts : (path : Names) (file : OtherFile) → told_text new path file ≡ told_text st path file
   pub there : (path : Names) (name : EntryName) → is_some (entry_at new path name) ≡ is_some (entry_at st path name)
   pub enabled : (path : Names) → enabled_at new path ≡ enabled_at st path
   pub stays : (path : Names) (name : EntryName) (entry : Entry) → entry_at st path name ≡ Some entry
@@ -66,8 +57,6 @@ wider-itself user st = record {
   paths = refl;
   here = λ path. refl;
   values = λ path file. refl;
-  others = λ path controller. refl;
-  texts = λ path file. refl;
   there = λ path name. refl;
   enabled = λ path. refl;
   stays = λ path name entry is. record { now = entry; is = is; owned = refl; written = λ h. h };
@@ -115,8 +104,6 @@ module _ (user : Identity) (st new : State) (wider : IsWider user st new) (at : 
         wider.paths;
     here = λ path. has_row-after new user (Chmod at name mode) path refl ∙ wider.here path;
     values = λ path file. value_at-after new user (Chmod at name mode) path file refl ∙ wider.values path file;
-    others = λ path controller. other_at-after new user (Chmod at name mode) path controller refl ∙ wider.others path controller;
-    texts = λ path file. told_text-after new user (Chmod at name mode) path file refl ∙ wider.texts path file;
     there = λ path other.
         after-by new user (Chmod at name mode) (λ s. is_some (entry_at s path other) ≡ is_some (entry_at st path other))
         (λ _. ap is_some (entry_at-with_mode new at name mode path other)
@@ -141,11 +128,8 @@ wider-all user st new (op ∷ ops) wider all = wider-all user st (after new user
 
 pub alike-wider : (user : Identity) (st new : State) (subtree : Names) → IsWider user st new → IsAlike st new subtree
 alike-wider user st new subtree wider = λ i. record {
-  limits = record {
-    values = λ file. wider.values subtree file i;
-    others = λ controller. is_some (wider.others subtree controller i);
-    told = λ file. wider.texts subtree file i;
-  };
+  there = wider.here subtree i;
+  limits = λ file. wider.values subtree file i;
   count = count_below-same_paths st new wider.paths subtree i;
   depth = depth_below-same_paths st new wider.paths subtree i;
   pids = map.keys (wider.live i);
@@ -160,20 +144,3 @@ breaks-opening st user subtree (op ∷ chmods) ops all =
     breaks-alike_first st user subtree op
     (alike-wider user st (after st user op) subtree (wider-step user st st op (wider-itself user st) all.0)) (chmods ++ ops)
     ∙ breaks-opening (after st user op) user subtree chmods ops all.1
-
--- What is made of the value of each limit file beyond `LimitFile` that stands.
-by_value : {A : Type 0} (told : Option ToldFile) (untold : Option Entry) (each : Option FileText → List A)
-    → present (or_untold told untold) (λ told. each told.value)
-    ≡ cond (is_some (option_map (λ (told : ToldFile). told.entry) (or_untold told untold)))
-    (each (option_and_then (λ (told : ToldFile). told.value) told)) []
-by_value None None each = refl
-by_value None (Some entry) each = refl
-by_value (Some told) untold each = refl
-
-pub value-wider : {A : Type 0} (user : Identity) (st new : State) → IsWider user st new → (path : Names) (file : OtherFile)
-    (each : Option FileText → List A)
-    → present (file_told new path file) (λ told. each told.value) ≡ present (file_told st path file) (λ told. each told.value)
-value-wider user st new wider path file each =
-    by_value (told_at new path file) (untold_at new path file) each
-    ∙ (λ i. cond (wider.there path (Other file) i) (each (wider.texts path file i)) [])
-    ∙ sym (by_value (told_at st path file) (untold_at st path file) each)

@@ -6,8 +6,7 @@ ghost use Rattle.cg_cgroup.specs.Identity.{Identity};
 ghost use Rattle.cg_cgroup.specs.Users.{reaches};
 ghost use Rattle.cg_cgroup.specs.declared.user.Entry.{Entry};
 ghost use Rattle.cg_cgroup.specs.declared.files.LimitFile.{LimitFile};
-ghost use Rattle.cg_cgroup.specs.declared.files.EntryName.TheVariants.{File, Other};
-ghost use Rattle.cg_cgroup.specs.declared.other_file.OtherFile.{OtherFile};
+ghost use Rattle.cg_cgroup.specs.declared.files.EntryName.TheVariants.{File};
 ghost use Rattle.cg_model.specs.States.{State, entry_at};
 ghost use Rattle.cg_model.specs.WellFormed.{IsWellFormed};
 ghost use Rattle.cg_model.specs.declared.operation.Op.{Op};
@@ -40,11 +39,8 @@ pub fn over_limits_escapes()
 
 /// Where a user reaches a limit file that stands at the subtree, the answer is an escape.
 pub fn limit_file_escapes()
-    ensures file { (st : State) (user : Identity) (subtree : Names) (file : LimitFile) (entry : Entry)
+    ensures { (st : State) (user : Identity) (subtree : Names) (file : LimitFile) (entry : Entry)
         → entry_at st subtree (File file) ≡ Some entry → reaches user entry ≡ true
-        → (ops : List Op) × (answer st user subtree ≡ Escapes ops) }
-    ensures other { (st : State) (user : Identity) (subtree : Names) (file : OtherFile) (entry : Entry)
-        → entry_at st subtree (Other file) ≡ Some entry → reaches user entry ≡ true
         → (ops : List Op) × (answer st user subtree ≡ Escapes ops) }
 {}
 

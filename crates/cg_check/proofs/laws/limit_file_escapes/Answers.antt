@@ -1,5 +1,5 @@
-use Rattle.cg_check.proofs.LimitFiles.{file-escapes, other-escapes}
+use Rattle.cg_check.proofs.LimitFiles.{file-escapes}
 use Rattle.cg_check.proofs.laws.limit_file_escapes.Goals as goal
 
 pub returns : goal.returns
-returns c = record { file = file-escapes; other = other-escapes }
+returns c = file-escapes
