@@ -4,11 +4,12 @@ use crate::emptied::{emptied, left};
 use crate::goal::Goal;
 use crate::room::room;
 use crate::sought::Goer;
-use cg_cgroup::files::{Controller, ControllerSet, EntryName, Limit, LimitFile};
+use cg_cgroup::files::{Controller, ControllerSet, EntryName, LimitFile};
 use cg_cgroup::memory::NoMemory;
 use cg_cgroup::path::Path;
 use cg_cgroup::process::Pid;
 use cg_cgroup::user::Mode;
+use cg_cgroup::value::Value;
 use cg_model::changes::{Change, Changes};
 use cg_model::hierarchy::Hierarchy;
 use cg_model::operation::Op;
@@ -117,10 +118,7 @@ fn chmod<H: Hierarchy>(
 fn path_of(op: &Op) -> Option<&Path> {
     match op {
         Op::Move { to, .. } => Some(to),
-        Op::Control { at, .. }
-        | Op::Set { at, .. }
-        | Op::SetOther { at, .. }
-        | Op::Chmod { at, .. } => Some(at),
+        Op::Control { at, .. } | Op::Set { at, .. } | Op::Chmod { at, .. } => Some(at),
         Op::Mkdir { path } | Op::Rmdir { path } => Some(path),
         Op::Fork { .. } | Op::Exit { .. } => None,
     }
@@ -290,7 +288,7 @@ fn raised<H: Hierarchy>(
         return Ok(Vec::new(alloc));
     }
     let at = path.try_prefix(alloc, len)?;
-    let value = Limit::Max;
+    let value = Value::Max;
     only(alloc, Op::Set { at, file, value })
 }
 

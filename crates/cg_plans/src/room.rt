@@ -3,7 +3,7 @@ ghost use Rattle.std.specs.Prelude.{◌≤◌, length};
 
 use crate::draft::Draft;
 use crate::goal::Goal;
-use cg_cgroup::files::{EntryName, Limit};
+use cg_cgroup::files::{EntryName, LimitFile};
 use cg_cgroup::memory::NoMemory;
 use cg_cgroup::path::Path;
 use cg_cgroup::process::Pid;
@@ -41,9 +41,9 @@ fn excess<H: Hierarchy>(draft: &Draft<H>, path: &Path, len: usize) -> usize
     let Some(cgroup) = draft.tree.get(path, len) else {
         return 0;
     };
-    match cgroup.max_descendants.value {
-        Limit::Max => 0,
-        Limit::At(most) => draft
+    match cgroup.most(LimitFile::MaxDescendants) {
+        None => 0,
+        Some(most) => draft
             .tree
             .count_below(path, len)
             .saturating_add(1)

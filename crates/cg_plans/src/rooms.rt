@@ -3,7 +3,7 @@ ghost use Rattle.std.specs.Prelude.{◌≡◌, true};
 ghost use Rattle.cg_model.specs.WellFormed.{has_row};
 
 use cg_cgroup::cgroup::Cgroup;
-use cg_cgroup::files::Limit;
+use cg_cgroup::files::LimitFile;
 use cg_cgroup::memory::NoMemory;
 use cg_cgroup::path::Path;
 use cg_cgroup::user::User;
@@ -56,7 +56,7 @@ impl Levels {
     ) -> Levels
         requires { has_row (H.state tree.now) path.now ≡ true }
     {
-        let Limit::At(most) = cgroup.max_descendants.value else {
+        let Some(most) = cgroup.most(LimitFile::MaxDescendants) else {
             return self;
         };
         let count = tree.count_below(path, path.depth());
@@ -64,18 +64,18 @@ impl Levels {
             return self;
         }
         let excess = count.saturating_add(1).saturating_sub(most);
-        let lifts = user.reaches(&cgroup.max_descendants.entry) || excess <= removable;
+        let lifts = reaches(user, cgroup, LimitFile::MaxDescendants) || excess <= removable;
         self.with(0, lifts)
     }
 
     /// With the limit of depth of a cgroup of so many names.
     fn under_depth(self, user: &User, cgroup: &Cgroup, depth: u64) -> Levels {
-        match cgroup.max_depth.value {
-            Limit::At(most) => {
-                let lifts = user.reaches(&cgroup.max_depth.entry);
+        match cgroup.most(LimitFile::MaxDepth) {
+            Some(most) => {
+                let lifts = reaches(user, cgroup, LimitFile::MaxDepth);
                 self.with(most.saturating_add(depth), lifts)
             }
-            Limit::Max => self,
+            None => self,
         }
     }
 
@@ -88,6 +88,14 @@ impl Levels {
         } else {
             Room::Barred
         }
+    }
+}
+
+/// Whether a user reaches a limit file of a cgroup.
+fn reaches(user: &User, cgroup: &Cgroup, file: LimitFile) -> bool {
+    match cgroup.files.entry(file) {
+        Some(entry) => user.reaches(&entry),
+        None => false,
     }
 }
 
