@@ -6,12 +6,12 @@ use Rattle.cg_cgroup.specs.Files.{is_known}
 use Rattle.cg_cgroup.specs.declared.files.Controller.{Controller}
 use Rattle.cg_cgroup.specs.declared.files.Controller.TheVariants.{Io}
 use Rattle.cg_cgroup.specs.declared.files.EntryName.{EntryName}
-use Rattle.cg_cgroup.specs.declared.files.EntryName.TheVariants.{Other}
+use Rattle.cg_cgroup.specs.declared.files.EntryName.TheVariants.{File}
 use Rattle.cg_cgroup.specs.declared.files.Vocabulary.{Vocabulary}
 use Rattle.cg_cgroup.specs.declared.files.Vocabulary.TheVariants.{Format2, Format4}
 use Rattle.cg_model.specs.declared.changes.Change.{Change}
 use Rattle.cg_model.specs.declared.operation.Op.{Op}
-use Rattle.cg_model.specs.declared.operation.Op.TheVariants.{Control, SetOther, Chmod}
+use Rattle.cg_model.specs.declared.operation.Op.TheVariants.{Control, Set, Chmod}
 use Rattle.cg_lines.specs.OperationLines.{are_known, is_entry_of, IsInRange, HasLine, HaveLines}
 
 entries_among : (one other : Vocabulary)
@@ -36,7 +36,7 @@ module _ (one other : Vocabulary)
 
   pub wider-range : (op : Op) → IsInRange one op → IsInRange other op
   wider-range (Control at changes) h = (h.0, wider-known changes h.1)
-  wider-range (SetOther at file value) h = (h.0, wider-entry (Other file) h.1, h.2)
+  wider-range (Set at file value) h = (h.0, wider-entry (File file) h.1, h.2)
   wider-range (Chmod at entry mode) h = (h.0, h.1, wider-entry entry h.2)
   wider-range op h = h
 

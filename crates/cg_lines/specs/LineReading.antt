@@ -6,18 +6,14 @@ use Rattle.std.specs.Str.Parse.{digits_value}
 use Rattle.std.specs.Fmt.{decimal}
 use Rattle.cg_cgroup.specs.Paths.{Names, same_name, path_at}
 use Rattle.cg_cgroup.specs.Numbers.{pid_of, mode_of}
-use Rattle.cg_cgroup.specs.Files.{known_as, file_named, entry_known_as}
-use Rattle.cg_cgroup.specs.OtherKinds.{other_named}
-use Rattle.cg_cgroup.specs.declared.files.Limit.{Limit}
-use Rattle.cg_cgroup.specs.declared.files.Limit.TheVariants.{Max, At}
+use Rattle.cg_cgroup.specs.Files.{known_as, file_known_as, entry_known_as, is_text}
+use Rattle.cg_cgroup.specs.declared.value.Value.{Value}
+use Rattle.cg_cgroup.specs.declared.value.Value.TheVariants.{Max, Number, Text}
 use Rattle.cg_cgroup.specs.declared.files.LimitFile.{LimitFile}
 use Rattle.cg_cgroup.specs.declared.files.Vocabulary.{Vocabulary}
-use Rattle.cg_cgroup.specs.declared.files.Vocabulary.TheVariants.{Format2, Format4}
-use Rattle.cg_cgroup.specs.declared.other_file.OtherFile.{OtherFile}
-use Rattle.cg_cgroup.specs.declared.told.FileText.{FileText}
 use Rattle.cg_model.specs.declared.changes.Change.{Change}
 use Rattle.cg_model.specs.declared.operation.Op.{Op}
-use Rattle.cg_model.specs.declared.operation.Op.TheVariants.{Move, Control, Mkdir, Rmdir, Set, SetOther, Fork, Exit, Chmod}
+use Rattle.cg_model.specs.declared.operation.Op.TheVariants.{Move, Control, Mkdir, Rmdir, Set, Fork, Exit, Chmod}
 use Rattle.cg_lines.specs.OperationLines.{is_line_value}
 use Rattle.cg_lines.specs.declared.lines.fault.LineFault.{LineFault}
 use Rattle.cg_lines.specs.declared.lines.fault.LineFault.TheVariants as faults
@@ -48,16 +44,15 @@ number_at word =
 unfoldable pub pid_at : List ℕ → Option ℕ
 pid_at word = number_at word >>= pid_of
 
-unfoldable pub limit_at : List ℕ → Option Limit
-limit_at word = cond (same_name word (codes "max")) (Some Max) (option_map At (number_at word))
+unfoldable pub number_value_at : List ℕ → Option Value
+number_value_at word = cond (same_name word (codes "max")) (Some Max) (option_map Number (number_at word))
 
-unfoldable pub text_value_at : List ℕ → Option FileText
-text_value_at text = cond (is_line_value text) (Some text) None
+unfoldable pub text_value_at : List ℕ → Option Value
+text_value_at text = cond (is_line_value text) (Some (Text text)) None
 
--- a limit file beyond `LimitFile` that lines of the vocabulary name
-abbrev pub other_known_as : Vocabulary → List ℕ → Option OtherFile
-other_known_as Format2 name = None
-other_known_as Format4 name = other_named name
+-- the value of a file that a text is
+unfoldable pub value_at : LimitFile → List ℕ → Option Value
+value_at file text = cond (is_text file) (text_value_at text) (number_value_at text)
 
 abbrev pub octal_at : ℕ → Option ℕ
 octal_at b = cond (nat_le 48 b && nat_le b 55) (Some (b - 48)) None
@@ -128,16 +123,12 @@ mkdir_at text = path_at text >>= λ path. Some (Mkdir path)
 unfoldable pub rmdir_at : List ℕ → Option Op
 rmdir_at text = path_at text >>= λ path. Some (Rmdir path)
 
--- a limit file, found by its name or not, and what is set of it
-abbrev pub set_from : Vocabulary → Names → List ℕ → List ℕ → Option LimitFile → Option Op
-set_from vocabulary at name text (Some file) = limit_at text >>= λ value. Some (Set at file value)
-set_from vocabulary at name text None = do
-  file ← other_known_as vocabulary name
-  value ← text_value_at text
-  Some (SetOther at file value)
-
+-- what is set of the limit file that a name means there
 unfoldable pub setting_at : Vocabulary → Names → List ℕ → List ℕ → Option Op
-setting_at vocabulary at name text = set_from vocabulary at name text (file_named name)
+setting_at vocabulary at name text = do
+  file ← file_known_as vocabulary name
+  value ← value_at file text
+  Some (Set at file value)
 
 unfoldable pub set_at : Vocabulary → List ℕ → Option Op
 set_at vocabulary text = do

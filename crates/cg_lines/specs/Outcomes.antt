@@ -4,7 +4,7 @@ use Rattle.std.specs.Fmt.{decimal}
 use Rattle.cg_cgroup.specs.Paths.{Names, path_text}
 use Rattle.cg_cgroup.specs.Files.{controller_name, file_name, entry_text}
 use Rattle.cg_model.specs.declared.operation.Op.{Op}
-use Rattle.cg_model.specs.declared.operation.Op.TheVariants.{Move, Control, Mkdir, Rmdir, Set, SetOther, Fork, Exit, Chmod}
+use Rattle.cg_model.specs.declared.operation.Op.TheVariants.{Move, Control, Mkdir, Rmdir, Set, Fork, Exit, Chmod}
 use Rattle.cg_model.specs.declared.outcome.Refusal.{Refusal}
 use Rattle.cg_model.specs.declared.outcome.Refusal.TheVariants.{NoSuchCgroup, NoAccess, NoSuchProcess, InternalProcess, NotAvailable, ChildUses, Exists, DescendantLimit, DepthLimit, RootCgroup, HasChildren, HasProcesses, NoSuchFile, BadValue, NotYours, PidUsed, NotOwner}
 use Rattle.cg_model.specs.declared.outcome.Outcome.{Outcome}
@@ -17,7 +17,6 @@ path_of (Control at changes) = at
 path_of (Mkdir path) = path
 path_of (Rmdir path) = path
 path_of (Set at file value) = at
-path_of (SetOther at file value) = at
 path_of (Fork parent child) = []
 path_of (Exit pid) = []
 path_of (Chmod at name mode) = at
@@ -59,9 +58,6 @@ can_meet (Set at file value) (NoSuchCgroup len) = true
 can_meet (Set at file value) (NoSuchFile other) = true
 can_meet (Set at file value) (NoAccess len entry) = true
 can_meet (Set at file value) (BadValue other) = true
-can_meet (SetOther at file value) (NoSuchCgroup len) = true
-can_meet (SetOther at file value) (NoSuchFile other) = true
-can_meet (SetOther at file value) (NoAccess len entry) = true
 can_meet (Fork parent child) (NoSuchProcess number) = true
 can_meet (Fork parent child) (NotYours number) = true
 can_meet (Fork parent child) (PidUsed number) = true

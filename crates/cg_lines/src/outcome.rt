@@ -118,11 +118,6 @@ fn path_of(op: &Op) -> Option<&Path>
             file: _,
             value: _,
         }
-        | Op::SetOther {
-            at: path,
-            file: _,
-            value: _,
-        }
         | Op::Chmod {
             at: path,
             entry: _,

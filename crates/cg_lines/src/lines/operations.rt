@@ -5,10 +5,8 @@ ghost use Rattle.std.specs.List.{slice_split};
 ghost use Rattle.cg_lines.specs.LineReading.{ReadsAs, is_space, changes_at, move_at, control_at, mkdir_at, rmdir_at, setting_at, set_at, fork_at, exit_at, chmod_at, operation_named, operation_at};
 
 use crate::lines::fault::LineFault;
-use crate::lines::words::{
-    change_of, cut, entry_of, limit_of, mode_of, other_of, pid_of, value_of,
-};
-use cg_cgroup::files::{LimitFile, Vocabulary};
+use crate::lines::words::{change_of, cut, mode_of, pid_of, value_of};
+use cg_cgroup::files::Vocabulary;
 use cg_cgroup::path::Path;
 use cg_model::changes::Changes;
 use cg_model::operation::Op;
@@ -95,13 +93,9 @@ fn setting_of(
 ) -> Result<Op, LineFault>
     ensures { ReadsAs result (setting_at vocabulary at name.now text.now) }
 {
-    if let Some(file) = LimitFile::from_name(name) {
-        let value = limit_of(text).ok_or(LineFault::BadWord)?;
-        return Ok(Op::Set { at, file, value });
-    }
-    let file = other_of(vocabulary, name).ok_or(LineFault::BadWord)?;
-    let value = value_of(alloc, text)?;
-    Ok(Op::SetOther { at, file, value })
+    let file = vocabulary.file(name).ok_or(LineFault::BadWord)?;
+    let value = value_of(alloc, file, text)?;
+    Ok(Op::Set { at, file, value })
 }
 
 #[tactic(auto, unfolding(crate::specs::LineReading::fork_at))]
@@ -129,7 +123,7 @@ fn chmod_of(alloc: Global, vocabulary: Vocabulary, text: &str) -> Result<Op, Lin
     let (at, rest) = cut(text).ok_or(LineFault::BadWord)?;
     let (entry, mode) = cut(rest).ok_or(LineFault::BadWord)?;
     let at = path_of(alloc, at)?;
-    let entry = entry_of(vocabulary, entry).ok_or(LineFault::BadWord)?;
+    let entry = vocabulary.entry(entry).ok_or(LineFault::BadWord)?;
     let mode = mode_of(mode).ok_or(LineFault::BadWord)?;
     Ok(Op::Chmod { at, entry, mode })
 }

@@ -2,18 +2,17 @@
 ghost use Rattle.std.specs.Prelude.{◌≡◌, ◌↔◌, ◌&&◌, nat_le, length, true, IsTrue};
 ghost use Rattle.cg_cgroup.specs.Numbers.{is_pid, is_mode};
 ghost use Rattle.cg_cgroup.specs.Paths.{IsPath};
-ghost use Rattle.cg_cgroup.specs.declared.files.EntryName.TheVariants.{Other};
+ghost use Rattle.cg_cgroup.specs.declared.files.EntryName.TheVariants.{File};
 ghost use Rattle.cg_cgroup.specs.declared.files.Vocabulary.{Vocabulary};
 ghost use Rattle.cg_lines.specs.LineLengths.{HasFewChanges, most_changes};
-ghost use Rattle.cg_lines.specs.OperationLines.{HasKnownWords, HasLine, IsInRange, IsLimitInRange, are_known, is_entry_of, is_line_value};
+ghost use Rattle.cg_lines.specs.OperationLines.{HasKnownWords, HasLine, IsInRange, IsValueInRange, are_known, is_entry_of, is_value_of};
 
 use crate::lines::words::is_line_value;
-use cg_cgroup::files::{EntryName, Limit, Vocabulary};
-use cg_cgroup::other_file::OtherFile;
+use cg_cgroup::files::{EntryName, LimitFile, Vocabulary};
 use cg_cgroup::path::Path;
 use cg_cgroup::process::Pid;
-use cg_cgroup::told::FileText;
 use cg_cgroup::user::Mode;
+use cg_cgroup::value::Value;
 use cg_model::changes::Change;
 use cg_model::operation::Op;
 
@@ -27,7 +26,7 @@ pub fn has_short_line(vocabulary: Vocabulary, op: &Op) -> bool
     hold(op);
     match op {
         Op::Control { changes, .. } => are_spelled(vocabulary, changes.as_slice()),
-        Op::SetOther { file, value, .. } => is_settable(vocabulary, *file, value),
+        Op::Set { file, value, .. } => is_settable(vocabulary, *file, value),
         Op::Chmod { entry, .. } => is_entry_of(vocabulary, *entry),
         _ => true,
     }
@@ -41,10 +40,21 @@ fn are_spelled(vocabulary: Vocabulary, changes: &[Change]) -> bool
 }
 
 /// Whether lines of a vocabulary name the file and can hold the value.
-fn is_settable(vocabulary: Vocabulary, file: OtherFile, value: &FileText) -> bool
-    ensures { result ≡ (is_entry_of vocabulary (Other file) && is_line_value value.now) }
+fn is_settable(vocabulary: Vocabulary, file: LimitFile, value: &Value) -> bool
+    ensures { result ≡ (is_entry_of vocabulary (File file) && is_value_of file value.now) }
 {
-    is_entry_of(vocabulary, EntryName::Other(file)) && is_line_value(&value.text)
+    is_entry_of(vocabulary, EntryName::File(file)) && is_value_of(file, value)
+}
+
+/// Whether a value is one of the file that a line can hold.
+fn is_value_of(file: LimitFile, value: &Value) -> bool
+    ensures { result ≡ is_value_of file value.now }
+{
+    match value {
+        Value::Unknown => false,
+        Value::Text(lines) => file.is_text() && is_line_value(&lines.text),
+        Value::Max | Value::Number(_) => !file.is_text(),
+    }
 }
 
 /// Whether lines of a vocabulary name an entry.
@@ -52,7 +62,7 @@ fn is_entry_of(vocabulary: Vocabulary, entry: EntryName) -> bool
     ensures { result ≡ is_entry_of vocabulary entry }
 {
     match vocabulary {
-        Vocabulary::Format2 => !matches!(entry, EntryName::Other(_)),
+        Vocabulary::Format2 => !entry.is_text(),
         Vocabulary::Format4 => true,
     }
 }
@@ -90,9 +100,8 @@ fn hold(op: &Op)
         Op::Rmdir { path } => hold_path(path),
         Op::Set { at, value, .. } => {
             hold_path(at);
-            hold_limit(*value);
+            hold_value(value);
         }
-        Op::SetOther { at, .. } => hold_path(at),
         Op::Fork { parent, child } => {
             hold_pid(*parent);
             hold_pid(*child);
@@ -123,10 +132,10 @@ fn hold_mode(mode: Mode)
     let _bits = mode.get();
 }
 
-fn hold_limit(limit: Limit)
-    ensures { IsLimitInRange limit }
+fn hold_value(value: &Value)
+    ensures { IsValueInRange value.now }
 {
-    if let Limit::At(number) = limit {
-        let _in_range = number <= u64::MAX;
+    if let Value::Number(number) = value {
+        let _in_range = *number <= u64::MAX;
     }
 }

@@ -1,21 +1,18 @@
 //! The words of operation lines.
 ghost use Rattle.std.specs.Prelude.{◌≡◌};
 ghost use Rattle.std.specs.Option.{option_map};
-ghost use Rattle.cg_cgroup.specs.Files.{entry_known_as};
 ghost use Rattle.cg_lines.specs.OperationLines.{is_line_value};
-ghost use Rattle.cg_lines.specs.LineReading.{ReadsAs, cut, number_at, pid_at, limit_at, text_value_at, other_known_as, octal_at, mode_at, change_at};
+ghost use Rattle.cg_lines.specs.LineReading.{ReadsAs, cut, number_at, pid_at, number_value_at, text_value_at, value_at, octal_at, mode_at, change_at};
 
 use crate::lines::fault::LineFault;
-use cg_cgroup::files::{EntryName, Limit, Vocabulary};
-use cg_cgroup::other_file::OtherFile;
+use cg_cgroup::files::{LimitFile, Vocabulary};
 use cg_cgroup::process::Pid;
-use cg_cgroup::told::FileText;
 use cg_cgroup::user::Mode;
-use cg_cgroup::value::is_one_line;
+use cg_cgroup::value::{Lines, Value, is_one_line};
 use cg_model::changes::Change;
 use std::alloc::Global;
 
-/// The greatest number of bytes of a value of a limit file beyond `LimitFile`.
+/// The greatest number of bytes of a value that is a text.
 pub const LONGEST_VALUE: usize = 3800;
 
 /// The first word of a text, and what is behind the space that ends it; `None` without a space.
@@ -47,14 +44,14 @@ pub fn pid_of(word: &str) -> Option<Pid>
     Pid::new(number)
 }
 
-#[tactic(auto, unfolding(crate::specs::LineReading::limit_at))]
-pub fn limit_of(word: &str) -> Option<Limit>
-    ensures { result ≡ limit_at word.now }
+#[tactic(auto, unfolding(crate::specs::LineReading::number_value_at))]
+fn number_value_of(word: &str) -> Option<Value>
+    ensures { result ≡ number_value_at word.now }
 {
     if word == "max" {
-        return Some(Limit::Max);
+        return Some(Value::Max);
     }
-    number_of(word).map(Limit::At)
+    number_of(word).map(Value::Number)
 }
 
 /// Whether a line can hold a text as a value: printable words with one space between them, 1 to 3800 bytes.
@@ -65,9 +62,8 @@ pub fn is_line_value(text: &str) -> bool
     text.len() <= LONGEST_VALUE && is_one_line(text)
 }
 
-/// The value that a text is.
 #[tactic(auto, unfolding(crate::specs::LineReading::text_value_at))]
-pub fn value_of(alloc: Global, text: &str) -> Result<FileText, LineFault>
+fn text_value_of(alloc: Global, text: &str) -> Result<Value, LineFault>
     ensures { ReadsAs result (text_value_at text.now) }
 {
     if !is_line_value(text) {
@@ -76,26 +72,18 @@ pub fn value_of(alloc: Global, text: &str) -> Result<FileText, LineFault>
     let Ok(text) = String::from_str(alloc, text) else {
         return Err(LineFault::NoMemory);
     };
-    Ok(FileText { text })
+    Ok(Value::Text(Lines { text }))
 }
 
-/// The limit file beyond `LimitFile` of a name in lines of a vocabulary.
-pub fn other_of(vocabulary: Vocabulary, name: &str) -> Option<OtherFile>
-    ensures { result ≡ other_known_as vocabulary name.now }
+/// The value of a file that a text is.
+#[tactic(auto, unfolding(crate::specs::LineReading::value_at))]
+pub fn value_of(alloc: Global, file: LimitFile, text: &str) -> Result<Value, LineFault>
+    ensures { ReadsAs result (value_at file text.now) }
 {
-    match vocabulary {
-        Vocabulary::Format2 => None,
-        Vocabulary::Format4 => OtherFile::from_name(name),
-    }
-}
-
-/// The entry of a name in lines of a vocabulary.
-pub fn entry_of(vocabulary: Vocabulary, name: &str) -> Option<EntryName>
-    ensures { result ≡ entry_known_as vocabulary name.now }
-{
-    match vocabulary {
-        Vocabulary::Format2 => EntryName::in_format_2(name),
-        Vocabulary::Format4 => EntryName::from_name(name),
+    if file.is_text() {
+        text_value_of(alloc, text)
+    } else {
+        number_value_of(text).ok_or(LineFault::BadWord)
     }
 }
 

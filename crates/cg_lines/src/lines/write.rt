@@ -3,18 +3,17 @@ ghost use Rattle.std.specs.Prelude.{◌≡◌, ◌++◌, true, [], ◌∷◌, If
 ghost use Rattle.std.specs.String.{string_bytes};
 ghost use Rattle.std.specs.List.{flat_map};
 ghost use Rattle.cg_cgroup.specs.Paths.{path_text, IsPath};
-ghost use Rattle.cg_cgroup.specs.declared.files.EntryName.TheVariants.{Other};
+ghost use Rattle.cg_cgroup.specs.declared.files.EntryName.TheVariants.{File};
 ghost use Rattle.cg_cgroup.specs.declared.files.Vocabulary.{Vocabulary};
-ghost use Rattle.cg_model.specs.declared.operation.Op.TheVariants.{Move, Control, Mkdir, Rmdir, Set, SetOther, Fork, Exit, Chmod};
-ghost use Rattle.cg_lines.specs.OperationLines.{change_word, limit_word, mode_word, spelling, are_known, is_entry_of, is_line_value, HasKnownWords, IsInRange};
+ghost use Rattle.cg_model.specs.declared.operation.Op.TheVariants.{Move, Control, Mkdir, Rmdir, Set, Fork, Exit, Chmod};
+ghost use Rattle.cg_lines.specs.OperationLines.{change_word, value_word, mode_word, spelling, are_known, is_entry_of, is_value_of, HasKnownWords, IsInRange};
 
-use cg_cgroup::files::{EntryName, Limit, LimitFile};
+use cg_cgroup::files::{EntryName, LimitFile};
 use cg_cgroup::memory::NoMemory;
-use cg_cgroup::other_file::OtherFile;
 use cg_cgroup::path::Path;
 use cg_cgroup::process::Pid;
-use cg_cgroup::told::FileText;
 use cg_cgroup::user::Mode;
+use cg_cgroup::value::Value;
 use cg_model::changes::{Change, Changes};
 use cg_model::operation::Op;
 use std::alloc::Global;
@@ -79,30 +78,24 @@ fn rmdir_line(alloc: Global, path: &Path) -> Result<String, NoMemory>
     Ok(format!(in alloc; "rmdir {path}\n")?)
 }
 
-fn set_line(alloc: Global, at: &Path, file: LimitFile, value: Limit) -> Result<String, NoMemory>
-    ensures text { IfOk result (λ line. string_bytes line ≡ spelling (Set at.now file value) ++ 10 ∷ []) }
-    ensures held { (vocabulary : Vocabulary) → IsInRange vocabulary (Set at.now file value) }
+fn set_line(alloc: Global, at: &Path, file: LimitFile, value: &Value) -> Result<String, NoMemory>
+    ensures text { IfOk result (λ line. string_bytes line ≡ spelling (Set at.now file value.now) ++ 10 ∷ []) }
+    ensures held { (vocabulary : Vocabulary) → is_entry_of vocabulary (File file) ≡ true → is_value_of file value.now ≡ true
+        → IsInRange vocabulary (Set at.now file value.now) }
 {
     let (at, file) = (whole(at), file.name());
     match value {
-        Limit::Max => Ok(format!(in alloc; "set {at} {file} max\n")?),
-        Limit::At(number) => Ok(format!(in alloc; "set {at} {file} {number}\n")?),
+        Value::Unknown => Ok(format!(in alloc; "set {at} {file} \n")?),
+        Value::Max => Ok(format!(in alloc; "set {at} {file} max\n")?),
+        Value::Number(number) => {
+            let number = *number;
+            Ok(format!(in alloc; "set {at} {file} {number}\n")?)
+        }
+        Value::Text(lines) => {
+            let text = &lines.text;
+            Ok(format!(in alloc; "set {at} {file} {text}\n")?)
+        }
     }
-}
-
-fn set_other_line(
-    alloc: Global,
-    at: &Path,
-    file: OtherFile,
-    value: &FileText,
-) -> Result<String, NoMemory>
-    ensures text { IfOk result (λ line. string_bytes line ≡ spelling (SetOther at.now file value.now) ++ 10 ∷ []) }
-    ensures held { (vocabulary : Vocabulary) → is_entry_of vocabulary (Other file) ≡ true → is_line_value value.now ≡ true
-        → IsInRange vocabulary (SetOther at.now file value.now) }
-{
-    let (at, file) = (whole(at), file.name());
-    let value = &value.text;
-    Ok(format!(in alloc; "set {at} {file} {value}\n")?)
 }
 
 fn fork_line(alloc: Global, parent: Pid, child: Pid) -> Result<String, NoMemory>
@@ -144,8 +137,7 @@ fn line_of(alloc: Global, op: &Op) -> Result<String, NoMemory>
         Op::Control { at, changes } => control_line(alloc, at, changes),
         Op::Mkdir { path } => mkdir_line(alloc, path),
         Op::Rmdir { path } => rmdir_line(alloc, path),
-        Op::Set { at, file, value } => set_line(alloc, at, *file, *value),
-        Op::SetOther { at, file, value } => set_other_line(alloc, at, *file, value),
+        Op::Set { at, file, value } => set_line(alloc, at, *file, value),
         Op::Fork { parent, child } => fork_line(alloc, *parent, *child),
         Op::Exit { pid } => exit_line(alloc, *pid),
         Op::Chmod { at, entry, mode } => chmod_line(alloc, at, *entry, *mode),

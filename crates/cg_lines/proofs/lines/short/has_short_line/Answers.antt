@@ -3,14 +3,14 @@ use Rattle.std.specs.Prelude.{◌↔◌, ◌&&◌, nat_le, IsTrue}
 use Rattle.std.proofs.lemmas.Bool.{leb-true, and_parts, and_from}
 use Rattle.cg_cgroup.specs.Paths.{Names}
 use Rattle.cg_cgroup.specs.declared.files.EntryName.{EntryName}
-use Rattle.cg_cgroup.specs.declared.files.EntryName.TheVariants.{Other}
+use Rattle.cg_cgroup.specs.declared.files.EntryName.TheVariants.{File}
 use Rattle.cg_cgroup.specs.declared.files.Vocabulary.{Vocabulary}
-use Rattle.cg_cgroup.specs.declared.other_file.OtherFile.{OtherFile}
-use Rattle.cg_cgroup.specs.declared.told.FileText.{FileText}
+use Rattle.cg_cgroup.specs.declared.files.LimitFile.{LimitFile}
+use Rattle.cg_cgroup.specs.declared.value.Value.{Value}
 use Rattle.cg_model.specs.declared.changes.Change.{Change}
 use Rattle.cg_model.specs.declared.operation.Op.{Op}
-use Rattle.cg_model.specs.declared.operation.Op.TheVariants.{Control, SetOther, Chmod}
-use Rattle.cg_lines.specs.OperationLines.{are_known, is_entry_of, is_line_value, HasKnownWords, HasLine, IsInRange}
+use Rattle.cg_model.specs.declared.operation.Op.TheVariants.{Control, Set, Chmod}
+use Rattle.cg_lines.specs.OperationLines.{are_known, is_entry_of, is_value_of, HasKnownWords, HasLine, IsInRange}
 use Rattle.cg_lines.specs.LineLengths.{most_changes, HasFewChanges}
 use Rattle.cg_lines.proofs.LineLengths.{line_length}
 use Rattle.cg_lines.proofs.lines.short.has_short_line.Goals as goal
@@ -47,18 +47,18 @@ returns-in-Control c =
     (few_changes vocabulary c.in-Control.at c.in-Control.changes) in
     record { few = few; line = lined vocabulary c.args.op.now _ few (c.hold.ensures vocabulary) }
 
-few_words : (vocabulary : Vocabulary) (at : Names) (file : OtherFile) (value : FileText)
-    → IsFew vocabulary (SetOther at file value) (is_entry_of vocabulary (Other file) && is_line_value value)
+few_words : (vocabulary : Vocabulary) (at : Names) (file : LimitFile) (value : Value)
+    → IsFew vocabulary (Set at file value) (is_entry_of vocabulary (File file) && is_value_of file value)
 few_words vocabulary at file value = (
-  λ h. (and_parts (is_entry_of vocabulary (Other file)) (is_line_value value) h, tt),
+  λ h. (and_parts (is_entry_of vocabulary (File file)) (is_value_of file value) h, tt),
   λ h. and_from _ _ h.0.0 h.0.1,
 )
 
-pub returns-in-SetOther : goal.returns-in-SetOther
-returns-in-SetOther c =
+pub returns-in-Set : goal.returns-in-Set
+returns-in-Set c =
     let vocabulary = c.args.vocabulary in
-    let few = few_as vocabulary _ _ _ _ c.in-SetOther.is c.is_settable.ensures
-    (few_words vocabulary c.in-SetOther.at c.in-SetOther.file c.in-SetOther.value) in
+    let few = few_as vocabulary _ _ _ _ c.in-Set.is c.is_settable.ensures
+    (few_words vocabulary c.in-Set.at c.in-Set.file c.in-Set.value) in
     record { few = few; line = lined vocabulary c.args.op.now _ few (c.hold.ensures vocabulary) }
 
 pub returns-in-Chmod : goal.returns-in-Chmod
@@ -69,17 +69,17 @@ returns-in-Chmod c =
     record { few = few; line = lined vocabulary c.args.op.now _ few (c.hold.ensures vocabulary) }
 
 few_but_for : (vocabulary : Vocabulary) (op : Op) → ((at : Names) (changes : List Change) → op ≡ Control at changes → ⊥)
-    → ((at : Names) (file : OtherFile) (value : FileText) → op ≡ SetOther at file value → ⊥)
+    → ((at : Names) (file : LimitFile) (value : Value) → op ≡ Set at file value → ⊥)
     → ((at : Names) (entry : EntryName) (mode : ℕ) → op ≡ Chmod at entry mode → ⊥)
     → HasKnownWords vocabulary op × HasFewChanges vocabulary op
 few_but_for vocabulary (Control at changes) control set chmod = absurd (control at changes refl)
-few_but_for vocabulary (SetOther at file value) control set chmod = absurd (set at file value refl)
+few_but_for vocabulary (Set at file value) control set chmod = absurd (set at file value refl)
 few_but_for vocabulary (Chmod at entry mode) control set chmod = absurd (chmod at entry mode refl)
 few_but_for vocabulary op control set chmod = (tt, tt)
 
 pub returns-in_default : goal.returns-in_default
 returns-in_default c =
     let vocabulary = c.args.vocabulary in
-    let parts = few_but_for vocabulary c.args.op.now c.in_default.not-Control c.in_default.not-SetOther c.in_default.not-Chmod in
+    let parts = few_but_for vocabulary c.args.op.now c.in_default.not-Control c.in_default.not-Set c.in_default.not-Chmod in
     let few : IsFew vocabulary c.args.op.now true = (λ h. parts, λ h. refl) in
     record { few = few; line = lined vocabulary c.args.op.now true few (c.hold.ensures vocabulary) }

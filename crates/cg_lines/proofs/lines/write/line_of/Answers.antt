@@ -25,17 +25,14 @@ pub returns-in-Rmdir-clause-held : goal.returns-in-Rmdir-clause-held
 returns-in-Rmdir-clause-held c = held_as _ _ c.in-Rmdir.is c.rmdir_line.ensures.held
 
 pub returns-in-Set-clause-held : goal.returns-in-Set-clause-held
-returns-in-Set-clause-held c = held_as _ _ c.in-Set.is c.set_line.ensures.held
+returns-in-Set-clause-held c =
+    held_where _ _ c.in-Set.is (λ vocabulary known. c.set_line.ensures.held vocabulary known.0 known.1)
 
 pub returns-in-Fork-clause-held : goal.returns-in-Fork-clause-held
 returns-in-Fork-clause-held c = held_as _ _ c.in-Fork.is c.fork_line.ensures.held
 
 pub returns-in-Exit-clause-held : goal.returns-in-Exit-clause-held
 returns-in-Exit-clause-held c = held_as _ _ c.in-Exit.is c.exit_line.ensures.held
-
-pub returns-in-SetOther-clause-held : goal.returns-in-SetOther-clause-held
-returns-in-SetOther-clause-held c =
-    held_where _ _ c.in-SetOther.is (λ vocabulary known. c.set_other_line.ensures.held vocabulary known.0 known.1)
 
 pub returns-in-Chmod-clause-held : goal.returns-in-Chmod-clause-held
 returns-in-Chmod-clause-held c = held_where _ _ c.in-Chmod.is c.chmod_line.ensures.held
