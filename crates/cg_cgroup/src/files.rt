@@ -9,7 +9,7 @@ ghost use Rattle.cg_cgroup.specs.declared.value.Value.TheVariants.{Unknown as Un
 ghost use Rattle.cg_cgroup.specs.declared.files.Form.TheVariants.{Numbers, Texts, DeviceTexts};
 ghost use Rattle.cg_cgroup.specs.Kept.{is_number_place};
 ghost use Rattle.cg_cgroup.specs.Files.{all_controllers, format_2_controllers, controller_kind, AreNames, controller_name, controller_named, is_in_format_2, named_in_format_2, is_known, known_as, is_of, vocabulary_of};
-ghost use Rattle.cg_cgroup.specs.Files.{kind_of, all_files, format_2_files, controller_of, is_brought_by, default_value, is_text_form, is_text, is_of_devices, fits, accepts, stands_under, stands_at, same_file, file_name, file_named, file_known_as, control_named, entry_text, entry_named, entry_known_as};
+ghost use Rattle.cg_cgroup.specs.Files.{kind_of, all_files, format_2_files, controller_of, is_brought_by, default_value, is_text_form, is_text, is_text_entry, is_of_devices, fits, accepts, stands_under, stands_at, same_file, file_name, file_named, file_known_as, control_named, entry_text, entry_named, entry_known_as};
 
 use crate::controllers::CONTROLLER_COUNT;
 pub use crate::controllers::ControllerSet;
@@ -672,6 +672,16 @@ impl EntryName {
             EntryName::Procs => "cgroup.procs",
             EntryName::SubtreeControl => "cgroup.subtree_control",
             EntryName::File(file) => file.name(),
+        }
+    }
+
+    /// Whether it is a limit file whose values are texts.
+    pub fn is_text(self) -> bool
+        ensures { result ≡ is_text_entry self }
+    {
+        match self {
+            EntryName::File(file) => file.is_text(),
+            EntryName::Dir | EntryName::Procs | EntryName::SubtreeControl => false,
         }
     }
 

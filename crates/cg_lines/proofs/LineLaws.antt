@@ -5,30 +5,28 @@ use Rattle.std.specs.List.{list_all, slice_split, join_with_byte}
 use Rattle.std.specs.Fmt.{decimal}
 use Rattle.std.specs.Str.{IsUtf8}
 use Rattle.std.specs.Cmp.Lexicographic.{bytes_decides}
-use Rattle.std.proofs.lemmas.Bool.{and_from}
+use Rattle.std.proofs.lemmas.Bool.{false≢true, and_from, and_parts}
 use Rattle.std.proofs.lemmas.Option.{none-some, same_Some}
 use Rattle.std.proofs.lemmas.List.Splits.{join_with_byte-slice_split, length-slice_split}
 use Rattle.std.proofs.lemmas.Str.{IsUtf8-from_ascii}
 use Rattle.cg_cgroup.specs.Paths.{Names, same_name, path_text, path_at, IsPath}
 use Rattle.cg_cgroup.specs.Numbers.{is_pid, is_mode}
-use Rattle.cg_cgroup.specs.Files.{file_name, file_named, other_name, entry_text, entry_known_as}
+use Rattle.cg_cgroup.specs.Files.{file_name, file_known_as, is_text, entry_text, entry_known_as}
 use Rattle.cg_cgroup.specs.declared.files.LimitFile.{LimitFile}
-use Rattle.cg_cgroup.specs.declared.files.Limit.{Limit}
-use Rattle.cg_cgroup.specs.declared.other_file.OtherFile.{OtherFile}
-use Rattle.cg_cgroup.specs.declared.told.FileText.{FileText}
+use Rattle.cg_cgroup.specs.declared.value.Value.{Value}
+use Rattle.cg_cgroup.specs.declared.value.Value.TheVariants.{Unknown, Max, Number, Text}
 use Rattle.cg_cgroup.specs.declared.files.Vocabulary.{Vocabulary}
 use Rattle.cg_cgroup.proofs.PathAt.{path_at-is, path_at-text}
-use Rattle.cg_cgroup.proofs.NameLaws.{file_names}
 use Rattle.cg_model.specs.declared.changes.Change.{Change}
 use Rattle.cg_model.specs.declared.operation.Op.{Op}
-use Rattle.cg_model.specs.declared.operation.Op.TheVariants.{Move, Control, Mkdir, Rmdir, Set, SetOther, Fork, Exit, Chmod}
-use Rattle.cg_lines.specs.OperationLines.{is_entry_of, change_word, are_known, limit_word, mode_word, words, spelling, IsInRange, IsLimitInRange}
-use Rattle.cg_lines.specs.LineReading.{is_space, cut, two_words, three_words, pid_at, limit_at, mode_at, text_value_at, other_known_as, changes_at, move_at, control_from, control_at, mkdir_at, rmdir_at, set_from, setting_at, set_at, fork_at, exit_at, chmod_at, operation_named, operation_at, ReadsAs}
+use Rattle.cg_model.specs.declared.operation.Op.TheVariants.{Move, Control, Mkdir, Rmdir, Set, Fork, Exit, Chmod}
+use Rattle.cg_lines.specs.OperationLines.{is_entry_of, is_value_of, is_line_value, change_word, are_known, value_word, mode_word, words, spelling, IsInRange, IsValueInRange}
+use Rattle.cg_lines.specs.LineReading.{is_space, cut, two_words, three_words, pid_at, mode_at, value_at, changes_at, move_at, control_from, control_at, mkdir_at, rmdir_at, setting_at, set_at, fork_at, exit_at, chmod_at, operation_named, operation_at, ReadsAs}
 use Rattle.cg_cgroup.specs.Options.{◌>>=◌}
 use Rattle.cg_lines.specs.declared.lines.fault.LineFault.{LineFault}
 use Rattle.cg_lines.specs.declared.lines.fault.LineFault.TheVariants.{BadWord}
 use Rattle.cg_lines.proofs.LineWords.{is_word, are_words, cut_word, cut_none, cut_parts, split_joined, is_printable, printable_word, printable_words, printable_joined, value_printable, IsAscii-printable}
-use Rattle.cg_lines.proofs.LineSpelled.{bind_some, bind_at, chosen, decimal_word, path_word, file_word, other_word, entry_word, changes_words, limit_is_word, mode_is_word, small_pid, pid_takes, pid_again, limit_takes, limit_again, value_takes, value_again, entry_takes, entry_again, other_takes, other_again, other_is_beyond, mode_takes, mode_again, changes_takes, changes_again}
+use Rattle.cg_lines.proofs.LineSpelled.{bind_some, bind_at, chosen, decimal_word, path_word, file_word, entry_word, changes_words, mode_is_word, small_pid, pid_takes, pid_again, value_takes, value_again, entry_takes, entry_again, file_takes, file_again, mode_takes, mode_again, changes_takes, changes_again}
 
 -- ---- what is read
 
@@ -216,30 +214,26 @@ rmdir_takes vocabulary text op h = one_takes paths Rmdir vocabulary (codes "rmdi
 abbrev set_text : Names → List ℕ → List ℕ → List ℕ
 set_text at name text = path_text at ++ (32 ∷ (name ++ (32 ∷ text)))
 
-set_from_takes : (vocabulary : Vocabulary) (at : Names) (name text : List ℕ) (found : Option LimitFile) (op : Op) → IsPath at
-    → file_named name ≡ found → set_from vocabulary at name text found ≡ Some op → Takes vocabulary (codes "set") (set_text at name text) op
-set_from_takes vocabulary at name text (Some file) op path is h =
-    let value = bind_some (limit_at text) (λ value. Some (Set at file value)) op h in
-    let p = limit_takes text value.0 value.1 in
-    from_text vocabulary (codes "set") (set_text at name text) (set_text at (file_name file) (limit_word value.0)) (Set at file value.0) op
-    (ap (λ n. set_text at n text) (file_names.named name file is) ∙ ap (set_text at (file_name file)) p.1) value.2 ((path, p.0), refl)
-set_from_takes vocabulary at name text None op path is h =
-    let file = bind_some (other_known_as vocabulary name) (λ file. text_value_at text >>= λ value. Some (SetOther at file value)) op h in
-    let value = bind_some (text_value_at text) (λ value. Some (SetOther at file.0 value)) op file.2 in
-    let p = other_takes vocabulary name file.0 file.1 in
-    let q = value_takes text value.0 value.1 in
-    from_text vocabulary (codes "set") (set_text at name text) (set_text at (other_name file.0) value.0) (SetOther at file.0 value.0) op
-    (ap (λ n. set_text at n text) p.1 ∙ ap (set_text at (other_name file.0)) q.1) value.2 ((path, p.0, q.0), refl)
+setting_takes : (vocabulary : Vocabulary) (at : Names) (name text : List ℕ) (op : Op) → IsPath at
+    → setting_at vocabulary at name text ≡ Some op → Takes vocabulary (codes "set") (set_text at name text) op
+unfolding setting_at
+setting_takes vocabulary at name text op path h =
+    let file = bind_some (file_known_as vocabulary name) (λ file. value_at file text >>= λ value. Some (Set at file value)) op h in
+    let value = bind_some (value_at file.0 text) (λ value. Some (Set at file.0 value)) op file.2 in
+    let p = file_takes vocabulary name file.0 file.1 in
+    let q = value_takes file.0 text value.0 value.1 in
+    from_text vocabulary (codes "set") (set_text at name text) (set_text at (file_name file.0) (value_word value.0))
+    (Set at file.0 value.0) op
+    (ap (λ n. set_text at n text) p.1 ∙ ap (set_text at (file_name file.0)) q.2) value.2 ((path, p.0, q.0, q.1), refl)
 
 set_parts_take : (vocabulary : Vocabulary) (text : List ℕ) (words others : List ℕ × List ℕ) (at : Names) (op : Op) → cut text ≡ Some words
     → cut words.1 ≡ Some others → path_at words.0 ≡ Some at → setting_at vocabulary at others.0 others.1 ≡ Some op
     → Takes vocabulary (codes "set") text op
-unfolding setting_at
 set_parts_take vocabulary text words others at op h k path read =
     let q = path_at-is words.0 at path in
     let e = joined_three text words others (path_text at) others.0 others.1 h k (sym q.1) refl refl in
     subst (λ t. Takes vocabulary (codes "set") t op) (sym {b = set_text at others.0 others.1} e)
-    (set_from_takes vocabulary at others.0 others.1 (file_named others.0) op q.0 refl read)
+    (setting_takes vocabulary at others.0 others.1 op q.0 read)
 
 set_takes : (vocabulary : Vocabulary) (text : List ℕ) (op : Op) → set_at vocabulary text ≡ Some op → Takes vocabulary (codes "set") text op
 unfolding set_at
@@ -291,6 +285,13 @@ line_takes vocabulary line op h =
 
 -- ---- what is spelled
 
+value_word_printable : (file : LimitFile) (value : Value) → is_value_of file value ≡ true → IsValueInRange value
+    → is_printable (value_word value) ≡ true
+value_word_printable file Unknown held h = absurd (false≢true held)
+value_word_printable file Max held h = refl
+value_word_printable file (Number value) held h = printable_word (decimal value) (decimal_word value h)
+value_word_printable file (Text text) held h = value_printable text (and_parts (is_text file) (is_line_value text) held).1
+
 -- Its parts are printable.
 line_parts : (vocabulary : Vocabulary) (op : Op) → IsInRange vocabulary op → list_all is_printable (words op) ≡ true
 line_parts vocabulary (Move pid to) h =
@@ -304,12 +305,9 @@ line_parts vocabulary (Mkdir path) h =
 line_parts vocabulary (Rmdir path) h =
     printable_words (words (Rmdir path)) (and_from (is_word (path_text path)) true (path_word path h) refl)
 line_parts vocabulary (Set at file value) h =
-    printable_words (words (Set at file value)) (and_from (is_word (path_text at)) _ (path_word at h.0)
-    (and_from (is_word (file_name file)) _ (file_word file) (and_from (is_word (limit_word value)) true (limit_is_word value h.1) refl)))
-line_parts vocabulary (SetOther at file value) h =
     and_from (is_printable (path_text at)) _ (printable_word (path_text at) (path_word at h.0))
-    (and_from (is_printable (other_name file)) _ (printable_word (other_name file) (other_word file))
-    (and_from (is_printable value) true (value_printable value h.2) refl))
+    (and_from (is_printable (file_name file)) _ (printable_word (file_name file) (file_word file))
+    (and_from (is_printable (value_word value)) true (value_word_printable file value h.2 h.3) refl))
 line_parts vocabulary (Fork parent child) h =
     printable_words (words (Fork parent child)) (and_from (is_word (decimal parent)) _ (decimal_word parent (small_pid parent h.0))
     (and_from (is_word (decimal child)) true (decimal_word child (small_pid child h.1)) refl))
@@ -354,21 +352,13 @@ set_again vocabulary at name text op h one read =
     (Some op) (cut_word name text one)
     (bind_at (path_at (path_text at)) at (λ at. setting_at vocabulary at name text) (Some op) (path_at-text at h) read))
 
-limit_set : (vocabulary : Vocabulary) (at : Names) (file : LimitFile) (value : Limit) → IsLimitInRange value
-    → setting_at vocabulary at (file_name file) (limit_word value) ≡ Some (Set at file value)
+value_set : (vocabulary : Vocabulary) (at : Names) (file : LimitFile) (value : Value) → IsInRange vocabulary (Set at file value)
+    → setting_at vocabulary at (file_name file) (value_word value) ≡ Some (Set at file value)
 unfolding setting_at
-limit_set vocabulary at file value h =
-    ap (set_from vocabulary at (file_name file) (limit_word value)) (file_names.found file)
-    ∙ ap (λ (o : Option Limit). o >>= λ value. Some (Set at file value)) (limit_again value h)
-
-text_set : (vocabulary : Vocabulary) (at : Names) (file : OtherFile) (value : FileText)
-    → IsInRange vocabulary (SetOther at file value) → setting_at vocabulary at (other_name file) value ≡ Some (SetOther at file value)
-unfolding setting_at
-text_set vocabulary at file value h =
-    ap (set_from vocabulary at (other_name file) value) (other_is_beyond file)
-    ∙ ap (λ (o : Option OtherFile). o >>= λ file. text_value_at value >>= λ text. Some (SetOther at file text))
-    (other_again vocabulary file h.1)
-    ∙ ap (λ (o : Option FileText). o >>= λ text. Some (SetOther at file text)) (value_again value h.2)
+value_set vocabulary at file value h =
+    ap (λ (o : Option LimitFile). o >>= λ file. value_at file (value_word value) >>= λ read. Some (Set at file read))
+    (file_again vocabulary file h.1)
+    ∙ ap (λ (o : Option Value). o >>= λ read. Some (Set at file read)) (value_again file value h.2 h.3)
 
 -- a name, a space and what the operation of that name reads
 named_again : (vocabulary : Vocabulary) (name text : List ℕ) (op : Op) → is_word name ≡ true
@@ -390,11 +380,8 @@ line_again vocabulary (Mkdir path) h = named_again vocabulary (codes "mkdir") _ 
 line_again vocabulary (Rmdir path) h = named_again vocabulary (codes "rmdir") _ (Rmdir path) refl (one_again paths Rmdir path h)
 line_again vocabulary (Set at file value) h =
     named_again vocabulary (codes "set") _ (Set at file value) refl
-    (set_again vocabulary at (file_name file) (limit_word value) (Set at file value) h.0 (file_word file)
-    (limit_set vocabulary at file value h.1))
-line_again vocabulary (SetOther at file value) h =
-    named_again vocabulary (codes "set") _ (SetOther at file value) refl
-    (set_again vocabulary at (other_name file) value (SetOther at file value) h.0 (other_word file) (text_set vocabulary at file value h))
+    (set_again vocabulary at (file_name file) (value_word value) (Set at file value) h.0 (file_word file)
+    (value_set vocabulary at file value h))
 line_again vocabulary (Fork parent child) h =
     named_again vocabulary (codes "fork") _ (Fork parent child) refl (two_again pids pids Fork parent child h.0 h.1)
 line_again vocabulary (Exit pid) h = named_again vocabulary (codes "exit") _ (Exit pid) refl (one_again pids Exit pid h)

@@ -6,15 +6,13 @@ use Rattle.std.specs.Fmt.{decimal}
 use Rattle.std.proofs.lemmas.Bool.{and_parts}
 use Rattle.std.proofs.lemmas.Fmt.{length-decimal-le}
 use Rattle.cg_cgroup.specs.Paths.{Names, path_text, IsPath}
-use Rattle.cg_cgroup.specs.Files.{controller_name, is_known, file_name, other_name, entry_text}
-use Rattle.cg_cgroup.specs.declared.files.Limit.{Limit}
-use Rattle.cg_cgroup.specs.declared.files.Limit.TheVariants.{Max, At}
+use Rattle.cg_cgroup.specs.Files.{controller_name, is_known, file_name, entry_text, is_text}
+use Rattle.cg_cgroup.specs.declared.value.Value.{Value}
+use Rattle.cg_cgroup.specs.declared.value.Value.TheVariants.{Unknown, Max, Number, Text}
 use Rattle.cg_cgroup.specs.declared.files.LimitFile.{LimitFile}
 use Rattle.cg_cgroup.specs.declared.files.LimitFile.TheVariants.{MaxDescendants}
 use Rattle.cg_cgroup.specs.declared.files.EntryName.{EntryName}
-use Rattle.cg_cgroup.specs.declared.files.EntryName.TheVariants.{Dir, Procs, SubtreeControl, File, Other}
-use Rattle.cg_cgroup.specs.declared.other_file.OtherFile.{OtherFile}
-use Rattle.cg_cgroup.specs.declared.other_file.OtherFile.TheVariants.{CpuMax}
+use Rattle.cg_cgroup.specs.declared.files.EntryName.TheVariants.{Dir, Procs, SubtreeControl, File}
 use Rattle.cg_cgroup.specs.declared.files.Controller.{Controller}
 use Rattle.cg_cgroup.specs.declared.files.Controller.TheVariants.{Cpu}
 use Rattle.cg_cgroup.specs.declared.files.Vocabulary.{Vocabulary}
@@ -24,8 +22,8 @@ use Rattle.cg_cgroup.proofs.PathEnds.{path_bytes}
 use Rattle.cg_cgroup.specs.Numbers.{is_pid}
 use Rattle.cg_model.specs.declared.changes.Change.{Change}
 use Rattle.cg_model.specs.declared.operation.Op.{Op}
-use Rattle.cg_model.specs.declared.operation.Op.TheVariants.{Move, Control, Mkdir, Rmdir, Set, SetOther, Fork, Exit, Chmod}
-use Rattle.cg_lines.specs.OperationLines.{change_word, are_known, limit_word, mode_word, spelling, IsInRange, IsLimitInRange}
+use Rattle.cg_model.specs.declared.operation.Op.TheVariants.{Move, Control, Mkdir, Rmdir, Set, Fork, Exit, Chmod}
+use Rattle.cg_lines.specs.OperationLines.{change_word, are_known, value_word, mode_word, spelling, is_line_value, is_value_of, IsInRange, IsValueInRange}
 use Rattle.cg_lines.specs.LineLengths.{most_changes, HasFewChanges}
 use Rattle.cg_lines.proofs.LineWords.{IsNoNewline, no_newline, value_length}
 use Rattle.cg_lines.proofs.LineSpelled.{small_pid}
@@ -47,20 +45,18 @@ file_length : (file : LimitFile) → length (file_name file) ≤ 22
 file_length MaxDescendants = omega arith
 file_length file = omega arith
 
-other_length : (file : OtherFile) → length (other_name file) ≤ 22
-other_length CpuMax = omega arith
-other_length file = omega arith
-
 entry_length : (entry : EntryName) → length (entry_text entry) ≤ 22
 entry_length Dir = omega arith
 entry_length Procs = omega arith
 entry_length SubtreeControl = omega arith
 entry_length (File file) = file_length file
-entry_length (Other file) = other_length file
 
-limit_length : (value : Limit) → IsLimitInRange value → length (limit_word value) ≤ 20
-limit_length Max h = omega arith
-limit_length (At value) h = number_length value h
+value_word_length : (file : LimitFile) (value : Value) → is_value_of file value ≡ true → IsValueInRange value
+    → length (value_word value) ≤ 3800
+value_word_length file Unknown held h = omega arith
+value_word_length file Max held h = omega arith
+value_word_length file (Number value) held h = let l = number_length value h in omega (arith, l)
+value_word_length file (Text text) held h = value_length text (and_parts (is_text file) (is_line_value text) held).1
 
 known_length : (controller : Controller) → is_known Format2 controller ≡ true → length (controller_name controller) ≤ 6
 known_length controller known =
@@ -127,11 +123,8 @@ line_length vocabulary (Control at changes) h few =
 line_length vocabulary (Mkdir path) h few = omega (arith, path_length path h, between (codes "mkdir") (path_text path))
 line_length vocabulary (Rmdir path) h few = omega (arith, path_length path h, between (codes "rmdir") (path_text path))
 line_length vocabulary (Set at file value) h few =
-    let words = three (codes "set") (path_text at) (file_name file) (limit_word value) in
-    omega (arith, path_length at h.0, file_length file, limit_length value h.1, words)
-line_length vocabulary (SetOther at file value) h few =
-    let words = three (codes "set") (path_text at) (other_name file) value in
-    omega (arith, path_length at h.0, other_length file, value_length value h.2, words)
+    let words = three (codes "set") (path_text at) (file_name file) (value_word value) in
+    omega (arith, path_length at h.0, file_length file, value_word_length file value h.2 h.3, words)
 line_length vocabulary (Fork parent child) h few =
     omega (arith, pid_length parent h.0, pid_length child h.1, two (codes "fork") (decimal parent) (decimal child))
 line_length vocabulary (Exit pid) h few = omega (arith, pid_length pid h, between (codes "exit") (decimal pid))

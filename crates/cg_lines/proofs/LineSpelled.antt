@@ -14,28 +14,24 @@ use Rattle.std.proofs.lemmas.Str.Parse.{digit_from_value}
 use Rattle.std.proofs.lemmas.Fmt.{decimal_is_IsNumeral, decimal_digit}
 use Rattle.cg_cgroup.specs.Paths.{Name, Names, same_name, is_name, is_name_byte, path_text, IsPath}
 use Rattle.cg_cgroup.specs.Numbers.{is_pid, pid_of, is_mode, mode_of}
-use Rattle.cg_cgroup.specs.Files.{controller_name, is_known, known_as, file_name, file_named, other_name, all_others, entry_text, entry_known_as, format_2_entries, is_beyond}
-use Rattle.cg_cgroup.specs.OtherKinds.{other_named}
-use Rattle.cg_cgroup.specs.declared.files.Limit.{Limit}
-use Rattle.cg_cgroup.specs.declared.files.Limit.TheVariants.{Max, At}
+use Rattle.cg_cgroup.specs.Files.{controller_name, is_known, known_as, all_files, format_2_files, file_name, file_known_as, is_text, is_text_entry, entry_text, entry_known_as, format_2_entries}
+use Rattle.cg_cgroup.specs.declared.value.Value.{Value}
+use Rattle.cg_cgroup.specs.declared.value.Value.TheVariants.{Unknown, Max, Number, Text}
 use Rattle.cg_cgroup.specs.declared.files.Controller.{Controller}
 use Rattle.cg_cgroup.specs.declared.files.Controller.TheVariants.{Cpu}
 use Rattle.cg_cgroup.specs.declared.files.Vocabulary.{Vocabulary}
 use Rattle.cg_cgroup.specs.declared.files.Vocabulary.TheVariants.{Format2, Format4}
-use Rattle.cg_cgroup.specs.declared.other_file.OtherFile.{OtherFile}
-use Rattle.cg_cgroup.specs.declared.other_file.OtherFile.TheVariants.{CpuMax}
-use Rattle.cg_cgroup.specs.declared.told.FileText.{FileText}
 use Rattle.cg_cgroup.specs.declared.files.LimitFile.{LimitFile}
-use Rattle.cg_cgroup.specs.declared.files.LimitFile.TheVariants.{MaxDescendants}
+use Rattle.cg_cgroup.specs.declared.files.LimitFile.TheVariants.{MaxDescendants, MaxDepth, CpuWeight, MemoryMin, MemoryLow, MemoryHigh, MemoryMax, PidsMax}
 use Rattle.cg_cgroup.specs.declared.files.EntryName.{EntryName}
-use Rattle.cg_cgroup.specs.declared.files.EntryName.TheVariants.{Dir, Procs, SubtreeControl, File, Other}
+use Rattle.cg_cgroup.specs.declared.files.EntryName.TheVariants.{Dir, Procs, SubtreeControl, File}
 use Rattle.cg_cgroup.proofs.PathEnds.{path_names, is_name-bytes}
 use Rattle.cg_cgroup.proofs.NameLaws.{again_known, name_known, known_known, entry_names}
 use Rattle.cg_model.proofs.Lists.{find-passes}
 use Rattle.cg_model.specs.declared.changes.Change.{Change}
 use Rattle.cg_cgroup.specs.Values.{is_graphic}
-use Rattle.cg_lines.specs.OperationLines.{is_line_value, is_entry_of, change_word, are_known, limit_word, mode_word, IsLimitInRange}
-use Rattle.cg_lines.specs.LineReading.{number_at, pid_at, limit_at, text_value_at, other_known_as, octal_at, mode_at, sign_at, change_at, changes_at}
+use Rattle.cg_lines.specs.OperationLines.{is_line_value, is_entry_of, is_value_of, change_word, are_known, value_word, mode_word, IsValueInRange}
+use Rattle.cg_lines.specs.LineReading.{number_at, pid_at, number_value_at, text_value_at, value_at, octal_at, mode_at, sign_at, change_at, changes_at}
 use Rattle.cg_cgroup.specs.Options.{◌>>=◌}
 use Rattle.cg_lines.proofs.LineWords.{is_word, are_words}
 use Rattle.cg_lines.proofs.LineNumbers.{number_takes, number_again, decimal_byte}
@@ -80,16 +76,11 @@ pub file_word : (file : LimitFile) → is_word (file_name file) ≡ true
 file_word MaxDescendants = refl
 file_word file = refl
 
-pub other_word : (file : OtherFile) → is_word (other_name file) ≡ true
-other_word CpuMax = refl
-other_word file = refl
-
 pub entry_word : (entry : EntryName) → is_word (entry_text entry) ≡ true
 entry_word Dir = refl
 entry_word Procs = refl
 entry_word SubtreeControl = refl
 entry_word (File file) = file_word file
-entry_word (Other file) = other_word file
 
 sign_word : (on : Bool) (controller : Controller) → is_word (cond on 43 45 ∷ controller_name controller) ≡ true
 sign_word true Cpu = refl
@@ -102,10 +93,6 @@ changes_words [] = refl
 changes_words (change ∷ changes) =
     and_from (is_word (change_word change)) (are_words (map change_word changes)) (sign_word change.on change.controller)
     (changes_words changes)
-
-pub limit_is_word : (value : Limit) → IsLimitInRange value → is_word (limit_word value) ≡ true
-limit_is_word Max h = refl
-limit_is_word (At value) h = decimal_word value h
 
 octal_digit : (n : ℕ) → n ≤ 7 → is_graphic (48 + n) ≡ true
 octal_digit n h = graphic (48 + n) (omega (arith, h)) (omega (arith, h))
@@ -170,38 +157,77 @@ not_max value l = false_from_ne_true (same_name (decimal value) (codes "max")) (
     let d = decimal_byte value 0 l (decimal_is_IsNumeral value l).0.0 in
     omega (arith, d, first))
 
-pub limit_takes : (word : List ℕ) (value : Limit) → limit_at word ≡ Some value → IsLimitInRange value × (word ≡ limit_word value)
-unfolding limit_at
-limit_takes word value h =
-    elim (chosen (same_name word (codes "max")) (Some Max) (option_map At (number_at word)) (Some value) h) [
+number_value_takes : (file : LimitFile) (word : List ℕ) (value : Value) → is_text file ≡ false → number_value_at word ≡ Some value
+    → (is_value_of file value ≡ true) × IsValueInRange value × (word ≡ value_word value)
+unfolding number_value_at
+number_value_takes file word value number h =
+    elim (chosen (same_name word (codes "max")) (Some Max) (option_map Number (number_at word)) (Some value) h) [
       | inl p ↦
-          subst (λ (v : Limit). IsLimitInRange v × (word ≡ limit_word v)) (same_Some Max value p.1)
-          (tt, (bytes_decides word (codes "max")).0 p.0)
+          subst (λ (v : Value). (is_value_of file v ≡ true) × IsValueInRange v × (word ≡ value_word v)) (same_Some Max value p.1)
+          (ap not number, tt, (bytes_decides word (codes "max")).0 p.0)
       | inr p ↦
-          let n = map_some At (number_at word) value p.1 in
-          subst (λ (v : Limit). IsLimitInRange v × (word ≡ limit_word v)) n.2 (number_takes word n.0 n.1)
+          let n = map_some Number (number_at word) value p.1 in
+          let taken = number_takes word n.0 n.1 in
+          subst (λ (v : Value). (is_value_of file v ≡ true) × IsValueInRange v × (word ≡ value_word v)) n.2
+          (ap not number, taken.0, taken.1)
     ]
 
-pub limit_again : (value : Limit) → IsLimitInRange value → limit_at (limit_word value) ≡ Some value
-unfolding limit_at
-limit_again Max h = refl
-limit_again (At value) h =
-    ap (λ (b : Bool). cond b (Some Max) (option_map At (number_at (decimal value)))) (not_max value h)
-    ∙ ap (option_map At) (number_again value h)
+number_value_again : (file : LimitFile) (value : Value) → is_text file ≡ false → is_value_of file value ≡ true → IsValueInRange value
+    → number_value_at (value_word value) ≡ Some value
+unfolding number_value_at
+number_value_again file Unknown number held h = absurd (false≢true held)
+number_value_again file Max number held h = refl
+number_value_again file (Number value) number held h =
+    ap (λ (b : Bool). cond b (Some Max) (option_map Number (number_at (decimal value)))) (not_max value h)
+    ∙ ap (option_map Number) (number_again value h)
+number_value_again file (Text text) number held h =
+    absurd (false≢true (sym number ∙ (and_parts (is_text file) (is_line_value text) held).0))
 
--- ---- values of limit files beyond `LimitFile`
+-- ---- values that are texts
 
-pub value_takes : (text : List ℕ) (value : FileText) → text_value_at text ≡ Some value → (is_line_value value ≡ true) × (text ≡ value)
+text_value_takes : (file : LimitFile) (text : List ℕ) (value : Value) → is_text file ≡ true → text_value_at text ≡ Some value
+    → (is_value_of file value ≡ true) × IsValueInRange value × (text ≡ value_word value)
 unfolding text_value_at
-value_takes text value h =
-    let p = cond_some (is_line_value text) text value h in
-    (subst (λ (v : List ℕ). is_line_value v ≡ true) p.1 p.0, p.1)
+text_value_takes file text value of_text h =
+    let p = cond_some (is_line_value text) (Text text) value h in
+    subst (λ (v : Value). (is_value_of file v ≡ true) × IsValueInRange v × (text ≡ value_word v)) p.1
+    (and_from (is_text file) (is_line_value text) of_text p.0, tt, refl)
 
-pub value_again : (value : FileText) → is_line_value value ≡ true → text_value_at value ≡ Some value
+text_value_again : (file : LimitFile) (value : Value) → is_text file ≡ true → is_value_of file value ≡ true
+    → text_value_at (value_word value) ≡ Some value
 unfolding text_value_at
-value_again value h = ap (λ (b : Bool). cond b (Some value) None) h
+text_value_again file Unknown of_text held = absurd (false≢true held)
+text_value_again file (Text text) of_text held =
+    ap (λ (b : Bool). cond b (Some (Text text)) None) (and_parts (is_text file) (is_line_value text) held).1
+text_value_again file Max of_text held = absurd (false≢true (sym (ap not of_text) ∙ held))
+text_value_again file (Number value) of_text held = absurd (false≢true (sym (ap not of_text) ∙ held))
+
+-- ---- values of either form
+
+pub value_takes : (file : LimitFile) (text : List ℕ) (value : Value) → value_at file text ≡ Some value
+    → (is_value_of file value ≡ true) × IsValueInRange value × (text ≡ value_word value)
+unfolding value_at
+value_takes file text value h =
+    elim (chosen (is_text file) (text_value_at text) (number_value_at text) (Some value) h) [
+      | inl p ↦ text_value_takes file text value p.0 p.1
+      | inr p ↦ number_value_takes file text value p.0 p.1
+    ]
+
+pub value_again : (file : LimitFile) (value : Value) → is_value_of file value ≡ true → IsValueInRange value
+    → value_at file (value_word value) ≡ Some value
+unfolding value_at
+value_again file value held h =
+    elim (is_text file) as (λ b. is_text file ≡ b
+    → cond b (text_value_at (value_word value)) (number_value_at (value_word value)) ≡ Some value) [
+      | true ↦ λ of_text. text_value_again file value of_text held
+      | false ↦ λ number. number_value_again file value number held h
+    ] refl
 
 -- ---- names of entries
+
+not_from_true : (b : Bool) → not b ≡ true → b ≡ false
+not_from_true true h = sym h
+not_from_true false h = refl
 
 -- what is found in a list passes what all of the list pass
 found_passes : {A : Type 0} (test also : A → Bool) (xs : List A) (x : A) → list_all also xs ≡ true → find test xs ≡ Some x → also x ≡ true
@@ -216,40 +242,58 @@ found_passes test also (y ∷ xs) x all h =
 pub entry_takes : (vocabulary : Vocabulary) (text : List ℕ) (entry : EntryName) → entry_known_as vocabulary text ≡ Some entry
     → (is_entry_of vocabulary entry ≡ true) × (text ≡ entry_text entry)
 entry_takes Format2 text entry h = (
-  found_passes (λ name. same_name text (entry_text name)) (λ name. not (is_beyond name)) format_2_entries entry refl h,
+  found_passes (λ name. same_name text (entry_text name)) (λ name. not (is_text_entry name)) format_2_entries entry refl h,
   (bytes_decides text (entry_text entry)).0 (find-passes (λ name. same_name text (entry_text name)) format_2_entries entry h),
 )
 entry_takes Format4 text entry h = (refl, entry_names.named text entry h)
+
+number_again_known : (file : LimitFile) → is_text file ≡ false → file_known_as Format2 (file_name file) ≡ Some file
+number_again_known MaxDescendants number = refl
+number_again_known MaxDepth number = refl
+number_again_known CpuWeight number = refl
+number_again_known MemoryMin number = refl
+number_again_known MemoryLow number = refl
+number_again_known MemoryHigh number = refl
+number_again_known MemoryMax number = refl
+number_again_known PidsMax number = refl
+number_again_known file number = absurd (false≢true (sym number))
+
+all_again_known : (file : LimitFile) → file_known_as Format4 (file_name file) ≡ Some file
+all_again_known MaxDescendants = refl
+all_again_known file = refl
+
+pub file_again : (vocabulary : Vocabulary) (file : LimitFile) → is_entry_of vocabulary (File file) ≡ true
+    → file_known_as vocabulary (file_name file) ≡ Some file
+file_again Format2 file h = number_again_known file (not_from_true (is_text file) h)
+file_again Format4 file h = all_again_known file
+
+number_entry_again : (file : LimitFile) → is_text file ≡ false → entry_known_as Format2 (file_name file) ≡ Some (File file)
+number_entry_again MaxDescendants number = refl
+number_entry_again MaxDepth number = refl
+number_entry_again CpuWeight number = refl
+number_entry_again MemoryMin number = refl
+number_entry_again MemoryLow number = refl
+number_entry_again MemoryHigh number = refl
+number_entry_again MemoryMax number = refl
+number_entry_again PidsMax number = refl
+number_entry_again file number = absurd (false≢true (sym number))
 
 pub entry_again : (vocabulary : Vocabulary) (entry : EntryName) → is_entry_of vocabulary entry ≡ true
     → entry_known_as vocabulary (entry_text entry) ≡ Some entry
 entry_again Format2 Dir h = refl
 entry_again Format2 Procs h = refl
 entry_again Format2 SubtreeControl h = refl
-entry_again Format2 (File MaxDescendants) h = refl
-entry_again Format2 (File file) h = refl
-entry_again Format2 (Other file) h = absurd (false≢true h)
+entry_again Format2 (File file) h = number_entry_again file (not_from_true (is_text file) h)
 entry_again Format4 entry h = entry_names.found entry
 
-pub other_takes : (vocabulary : Vocabulary) (name : List ℕ) (file : OtherFile) → other_known_as vocabulary name ≡ Some file
-    → (is_entry_of vocabulary (Other file) ≡ true) × (name ≡ other_name file)
-other_takes Format2 name file h = absurd (none-some file h)
-other_takes Format4 name file h =
-    (refl, (bytes_decides name (other_name file)).0 (find-passes (λ other. same_name name (other_name other)) all_others file h))
-
-other_found : (file : OtherFile) → other_named (other_name file) ≡ Some file
-other_found CpuMax = refl
-other_found file = refl
-
-pub other_again : (vocabulary : Vocabulary) (file : OtherFile) → is_entry_of vocabulary (Other file) ≡ true
-    → other_known_as vocabulary (other_name file) ≡ Some file
-other_again Format2 file h = absurd (false≢true h)
-other_again Format4 file h = other_found file
-
--- no name is that of two limit files
-pub other_is_beyond : (file : OtherFile) → file_named (other_name file) ≡ None
-other_is_beyond CpuMax = refl
-other_is_beyond file = refl
+pub file_takes : (vocabulary : Vocabulary) (name : List ℕ) (file : LimitFile) → file_known_as vocabulary name ≡ Some file
+    → (is_entry_of vocabulary (File file) ≡ true) × (name ≡ file_name file)
+file_takes Format2 name file h = (
+  found_passes (λ file. same_name name (file_name file)) (λ file. not (is_text file)) format_2_files file refl h,
+  (bytes_decides name (file_name file)).0 (find-passes (λ file. same_name name (file_name file)) format_2_files file h),
+)
+file_takes Format4 name file h =
+    (refl, (bytes_decides name (file_name file)).0 (find-passes (λ file. same_name name (file_name file)) all_files file h))
 
 -- ---- modes
 

@@ -2,26 +2,24 @@
 use Rattle.std.proofs.Common.{◌≡◌, refl, ℕ, zero, suc, ◌-◌, ◌≤◌, Bool, true, false, not, ◌&&◌, ◌||◌, nat_eq, List, [], ◌∷◌, ◌++◌, length, take, flat_map, Option, Some, None, arith, subst}
 use Rattle.cg_cgroup.specs.Paths.{Names, is_root}
 use Rattle.cg_cgroup.specs.Identity.{Identity}
-use Rattle.cg_model.specs.States.{State, row_at, place_at, owner_at, file_at, file_told, entry_at, is_used, has_child, has_live, child_enables, count_below}
+use Rattle.cg_model.specs.States.{State, row_at, place_at, owner_at, file_at, entry_at, is_used, has_child, has_live, child_enables, count_below}
 use Rattle.cg_model.specs.WellFormed.{available_at}
 use Rattle.cg_cgroup.specs.Users.{writes, owns}
 use Rattle.cg_cgroup.specs.Files.{all_controllers, enables, enables_nothing, accepts}
 use Rattle.cg_cgroup.specs.Cgroups.{file_of}
 use Rattle.cg_cgroup.specs.declared.files.Controller.{Controller}
 use Rattle.cg_cgroup.specs.declared.files.LimitFile.{LimitFile}
-use Rattle.cg_cgroup.specs.declared.files.Limit.{Limit}
-use Rattle.cg_cgroup.specs.declared.other_file.OtherFile.{OtherFile}
-use Rattle.cg_cgroup.specs.declared.told.FileText.{FileText}
+use Rattle.cg_cgroup.specs.declared.value.Value.{Value}
 use Rattle.cg_cgroup.specs.declared.files.EntryName.{EntryName}
-use Rattle.cg_cgroup.specs.declared.files.EntryName.TheVariants.{Dir, Procs, SubtreeControl, File, Other}
+use Rattle.cg_cgroup.specs.declared.files.EntryName.TheVariants.{Dir, Procs, SubtreeControl, File}
 use Rattle.cg_cgroup.specs.declared.cgroup.Cgroup.{Cgroup}
 use Rattle.cg_model.specs.Clauses.{unless, absent, present, first}
 use Rattle.cg_model.specs.Changes.{effective}
-use Rattle.cg_model.specs.Bars.{bars, move_bars, control_bars, mkdir_bars, rmdir_bars, set_bars, set_other_bars, fork_bars, exit_bars, chmod_bars, change_bars, may_enable_new, limit_bars, missing_bars, passes, row_above, writes_above}
+use Rattle.cg_model.specs.Bars.{bars, move_bars, control_bars, mkdir_bars, rmdir_bars, set_bars, fork_bars, exit_bars, chmod_bars, change_bars, may_enable_new, limit_bars, missing_bars, passes, row_above, writes_above}
 use Rattle.cg_model.specs.Limits.{is_under}
 use Rattle.cg_model.specs.declared.changes.Change.{Change}
 use Rattle.cg_model.specs.declared.operation.Op.{Op}
-use Rattle.cg_model.specs.declared.operation.Op.TheVariants.{Move, Control, Mkdir, Rmdir, Set, SetOther, Fork, Exit, Chmod}
+use Rattle.cg_model.specs.declared.operation.Op.TheVariants.{Move, Control, Mkdir, Rmdir, Set, Fork, Exit, Chmod}
 use Rattle.cg_model.specs.declared.outcome.Refusal.{Refusal}
 use Rattle.cg_model.specs.declared.outcome.Outcome.{Outcome}
 use Rattle.cg_model.specs.declared.outcome.Outcome.TheVariants.{Done, Refused}
@@ -123,7 +121,7 @@ rmdir_shown st user path =
     ⊕ shown-present op (row_at st path) _ (λ row. shown-unless op (not (has_child st path)) _ (refl, omega arith))
     ⊕ shown-present op (row_at st path) _ (λ row. shown-unless op (not (has_live st path)) _ (refl, omega arith))
 
-set_shown : (st : State) (user : Identity) (at : Names) (file : LimitFile) (value : Limit)
+set_shown : (st : State) (user : Identity) (at : Names) (file : LimitFile) (value : Value)
     → FirstIsShown (Set at file value) (set_bars st user at file value)
 set_shown st user at file value =
     let op = Set at file value in
@@ -131,14 +129,6 @@ set_shown st user at file value =
     ⊕ shown-present op (row_at st at) _ (λ row. shown-absent op (file_of row file) _ (refl, omega arith))
     ⊕ shown-present op (file_at st at file) _ (λ held. shown-unless op (writes user held.entry) _ (refl, omega arith))
     ⊕ shown-present op (file_at st at file) _ (λ held. shown-unless op (accepts file value) _ (refl, omega arith))
-
-set_other_shown : (st : State) (user : Identity) (at : Names) (file : OtherFile) (value : FileText)
-    → FirstIsShown (SetOther at file value) (set_other_bars st user at file)
-set_other_shown st user at file value =
-    let op = SetOther at file value in
-    shown-absent op (row_at st at) _ (refl, omega arith)
-    ⊕ shown-present op (row_at st at) _ (λ row. shown-absent op (file_told st at file) _ (refl, omega arith))
-    ⊕ shown-present op (file_told st at file) _ (λ told. shown-unless op (writes user told.entry) _ (refl, omega arith))
 
 fork_shown : (st : State) (user : Identity) (parent child : ℕ) → FirstIsShown (Fork parent child) (fork_bars st user parent child)
 fork_shown st user parent child =
@@ -153,20 +143,19 @@ exit_shown st user pid =
     shown-absent op (owner_at st pid) _ (refl, omega arith)
     ⊕ shown-present op (owner_at st pid) _ (λ uid. shown-unless op (nat_eq uid user.uid) _ (refl, omega arith))
 
-missing_shown : (st : State) (at : Names) (row : Cgroup) (name : EntryName) (mode : ℕ)
-    → FirstIsShown (Chmod at name mode) (missing_bars st at row name)
-missing_shown st at row Dir mode = shown-none (Chmod at Dir mode)
-missing_shown st at row Procs mode = shown-none (Chmod at Procs mode)
-missing_shown st at row SubtreeControl mode = shown-none (Chmod at SubtreeControl mode)
-missing_shown st at row (Other file) mode = shown-absent (Chmod at (Other file) mode) (file_told st at file) _ (refl, omega arith)
-missing_shown st at row (File file) mode = shown-absent (Chmod at (File file) mode) (file_of row file) _ (refl, omega arith)
+missing_shown : (at : Names) (row : Cgroup) (name : EntryName) (mode : ℕ)
+    → FirstIsShown (Chmod at name mode) (missing_bars row name)
+missing_shown at row Dir mode = shown-none (Chmod at Dir mode)
+missing_shown at row Procs mode = shown-none (Chmod at Procs mode)
+missing_shown at row SubtreeControl mode = shown-none (Chmod at SubtreeControl mode)
+missing_shown at row (File file) mode = shown-absent (Chmod at (File file) mode) (file_of row file) _ (refl, omega arith)
 
 chmod_shown : (st : State) (user : Identity) (at : Names) (name : EntryName) (mode : ℕ)
     → FirstIsShown (Chmod at name mode) (chmod_bars st user at name)
 chmod_shown st user at name mode =
     let op = Chmod at name mode in
     shown-absent op (row_at st at) _ (refl, omega arith)
-    ⊕ shown-present op (row_at st at) _ (λ row. missing_shown st at row name mode)
+    ⊕ shown-present op (row_at st at) _ (λ row. missing_shown at row name mode)
     ⊕ shown-present op (entry_at st at name) _ (λ entry. shown-unless op (owns user entry) _ (refl, omega arith))
 
 pub bars_shown : (st : State) (user : Identity) (op : Op) (refusal : Refusal) → first (bars st user op) ≡ Some refusal
@@ -176,7 +165,6 @@ bars_shown st user (Control at changes) = (control_shown st user at changes).sho
 bars_shown st user (Mkdir path) = (mkdir_shown st user path).shows
 bars_shown st user (Rmdir path) = (rmdir_shown st user path).shows
 bars_shown st user (Set at file value) = (set_shown st user at file value).shows
-bars_shown st user (SetOther at file value) = (set_other_shown st user at file value).shows
 bars_shown st user (Fork parent child) = (fork_shown st user parent child).shows
 bars_shown st user (Exit pid) = (exit_shown st user pid).shows
 bars_shown st user (Chmod at name mode) = (chmod_shown st user at name mode).shows
