@@ -324,6 +324,41 @@ module _ (root : Bool) (enabled : ControllerSet) (entry : Entry) where
             mapped_at (λ controller. refitted_owner (enables enabled controller) entry (brought_owner owners controller)) None controller
       ]
 
+  abbrev fit_numbers : List (Option NumberFile) → List (Option NumberFile)
+  fit_numbers numbers = map (λ file. standing_number root enabled entry file (number_in numbers file)) format_2_files
+
+  abbrev fit_owners : List (Option Entry) → List (Option Entry)
+  fit_owners owners =
+      map (λ controller. refitted_owner (enables enabled controller) entry (brought_owner owners controller)) all_controllers
+
+  abbrev fit_texts : List TextFile → List TextFile
+  fit_texts texts = filter (λ text. stands_at root enabled text.file) texts
+
+  abbrev fit_now : List (Option NumberFile) → Option Entry → List (Option Entry) → List TextFile → LimitFile → Option Held
+  fit_now numbers core owners texts file =
+      kept (fit_numbers numbers) (refitted_owner (not root) entry core) (fit_owners owners) (fit_texts texts) file
+
+  fit_each : (numbers : List (Option NumberFile)) (core : Option Entry) (owners : List (Option Entry)) (texts : List TextFile)
+      (file : LimitFile) → fit_now numbers core owners texts file ≡ standing root enabled entry file (kept numbers core owners texts file)
+  fit_each numbers core owners texts file =
+      elim (is_number_place file) as
+      (λ b. is_number_place file ≡ b
+      → fit_now numbers core owners texts file ≡ standing root enabled entry file (kept numbers core owners texts file)) [
+        | true ↦ λ place.
+            kept_number (fit_numbers numbers) (refitted_owner (not root) entry core) (fit_owners owners) (fit_texts texts) file place
+            ∙ ap (option_map number_held)
+            (numbers_at (λ file. standing_number root enabled entry file (number_in numbers file)) file place)
+            ∙ fit_number (stands_at root enabled file) entry file (number_in numbers file) place
+            ∙ sym (ap (standing root enabled entry file) (kept_number numbers core owners texts file place))
+        | false ↦ λ place.
+            kept_text (fit_numbers numbers) (refitted_owner (not root) entry core) (fit_owners owners) (fit_texts texts) file place
+            ∙ (λ i. named_or (found-filter (stands_at root enabled) texts file i)
+            ((fit_owner core owners file ∙ ap (λ stands. refitted_owner stands entry (owner_in core owners file))
+            (sym (text_stands root enabled file place))) i))
+            ∙ fit_text (stands_at root enabled file) entry file (text_in texts file) (owner_in core owners file) place
+            ∙ sym (ap (standing root enabled entry file) (kept_text numbers core owners texts file place))
+      ] refl
+
   pub fit_kept : (numbers new_numbers : List (Option NumberFile)) (core new_core : Option Entry) (owners new_owners : List (Option Entry))
       (texts new_texts : List TextFile)
       → new_numbers ≡ map (λ file. standing_number root enabled entry file (number_in numbers file)) format_2_files
@@ -333,40 +368,9 @@ module _ (root : Bool) (enabled : ControllerSet) (entry : Entry) where
       → all_kept new_numbers new_core new_owners new_texts ≡ standing_files root enabled entry (all_kept numbers core owners texts)
   fit_kept numbers new_numbers core new_core owners new_owners texts new_texts numbers_are core_is owners_are texts_are =
       (λ i. all_kept (numbers_are i) (core_is i) (owners_are i) (texts_are i))
-      ∙ same_files (standing_files root enabled entry (all_kept numbers core owners texts)) (all_kept made_numbers made_core made_owners made_texts) one
-    where
-      abbrev made_numbers : List (Option NumberFile)
-      made_numbers = map (λ file. standing_number root enabled entry file (number_in numbers file)) format_2_files
-
-      abbrev made_core : Option Entry
-      made_core = refitted_owner (not root) entry core
-
-      abbrev made_owners : List (Option Entry)
-      made_owners = map (λ controller. refitted_owner (enables enabled controller) entry (brought_owner owners controller)) all_controllers
-
-      abbrev made_texts : List TextFile
-      made_texts = filter (λ text. stands_at root enabled text.file) texts
-
-      one : (file : LimitFile) → kept made_numbers made_core made_owners made_texts file
-          ≡ standing root enabled entry file (kept numbers core owners texts file)
-      one file =
-          elim (is_number_place file) as
-          (λ b. is_number_place file ≡ b → kept made_numbers made_core made_owners made_texts file
-          ≡ standing root enabled entry file (kept numbers core owners texts file)) [
-            | true ↦ λ place.
-                kept_number made_numbers made_core made_owners made_texts file place
-                ∙ ap (option_map number_held)
-                (numbers_at (λ file. standing_number root enabled entry file (number_in numbers file)) file place)
-                ∙ fit_number (stands_at root enabled file) entry file (number_in numbers file) place
-                ∙ sym (ap (standing root enabled entry file) (kept_number numbers core owners texts file place))
-            | false ↦ λ place.
-                kept_text made_numbers made_core made_owners made_texts file place
-                ∙ (λ i. named_or (found-filter (stands_at root enabled) texts file i)
-                ((fit_owner core owners file ∙ ap (λ stands. refitted_owner stands entry (owner_in core owners file))
-                (sym (text_stands root enabled file place))) i))
-                ∙ fit_text (stands_at root enabled file) entry file (text_in texts file) (owner_in core owners file) place
-                ∙ sym (ap (standing root enabled entry file) (kept_text numbers core owners texts file place))
-          ] refl
+      ∙ same_files (standing_files root enabled entry (all_kept numbers core owners texts))
+      (all_kept (fit_numbers numbers) (refitted_owner (not root) entry core) (fit_owners owners) (fit_texts texts))
+      (fit_each numbers core owners texts)
 
 module _ (enabled : ControllerSet) (entry : Entry) where
   refit_number : (file : LimitFile) (had : Option NumberFile) → is_number_place file ≡ true
@@ -409,6 +413,35 @@ module _ (enabled : ControllerSet) (entry : Entry) where
             ∙ fit_text (enables enabled controller) entry file said (brought_owner owners controller) place
       ]
 
+  abbrev refit_numbers : List (Option NumberFile) → List (Option NumberFile)
+  refit_numbers numbers = map (λ file. refitted_number enabled entry file (number_in numbers file)) format_2_files
+
+  abbrev refit_texts : List TextFile → List TextFile
+  refit_texts texts = filter (λ text. stands_at false enabled text.file) texts
+
+  abbrev refit_now : List (Option NumberFile) → Option Entry → List (Option Entry) → List TextFile → LimitFile → Option Held
+  refit_now numbers core owners texts file = kept (refit_numbers numbers) core (new_owners owners) (refit_texts texts) file
+
+  refit_each : (numbers : List (Option NumberFile)) (core : Option Entry) (owners : List (Option Entry)) (texts : List TextFile)
+      (file : LimitFile) → refit_now numbers core owners texts file ≡ refitted enabled entry file (kept numbers core owners texts file)
+  refit_each numbers core owners texts file =
+      elim (is_number_place file) as
+      (λ b. is_number_place file ≡ b
+      → refit_now numbers core owners texts file ≡ refitted enabled entry file (kept numbers core owners texts file)) [
+        | true ↦ λ place.
+            kept_number (refit_numbers numbers) core (new_owners owners) (refit_texts texts) file place
+            ∙ ap (option_map number_held) (numbers_at (λ file. refitted_number enabled entry file (number_in numbers file)) file place)
+            ∙ refit_number file (number_in numbers file) place
+            ∙ sym (ap (refitted enabled entry file) (kept_number numbers core owners texts file place))
+        | false ↦ λ place.
+            kept_text (refit_numbers numbers) core (new_owners owners) (refit_texts texts) file place
+            ∙ ap (λ said. named_or said (owner_in core (new_owners owners) file))
+            (found-filter (stands_at false enabled) texts file
+            ∙ ap (λ stands. cond stands (text_in texts file) None) (stands-below enabled file))
+            ∙ refit_text core owners file (text_in texts file) place
+            ∙ sym (ap (refitted enabled entry file) (kept_text numbers core owners texts file place))
+      ] refl
+
   pub refit_kept : (numbers new_numbers : List (Option NumberFile)) (core : Option Entry) (owners owners_now : List (Option Entry))
       (texts new_texts : List TextFile)
       → new_numbers ≡ map (λ file. refitted_number enabled entry file (number_in numbers file)) format_2_files
@@ -417,33 +450,8 @@ module _ (enabled : ControllerSet) (entry : Entry) where
       → all_kept new_numbers core owners_now new_texts ≡ refitted_files enabled entry (all_kept numbers core owners texts)
   refit_kept numbers new_numbers core owners owners_now texts new_texts numbers_are owners_are texts_are =
       (λ i. all_kept (numbers_are i) core (owners_are i) (texts_are i))
-      ∙ same_files (refitted_files enabled entry (all_kept numbers core owners texts)) (all_kept made_numbers core (new_owners owners) made_texts) one
-    where
-      abbrev made_numbers : List (Option NumberFile)
-      made_numbers = map (λ file. refitted_number enabled entry file (number_in numbers file)) format_2_files
-
-      abbrev made_texts : List TextFile
-      made_texts = filter (λ text. stands_at false enabled text.file) texts
-
-      one : (file : LimitFile) → kept made_numbers core (new_owners owners) made_texts file
-          ≡ refitted enabled entry file (kept numbers core owners texts file)
-      one file =
-          elim (is_number_place file) as
-          (λ b. is_number_place file ≡ b → kept made_numbers core (new_owners owners) made_texts file
-          ≡ refitted enabled entry file (kept numbers core owners texts file)) [
-            | true ↦ λ place.
-                kept_number made_numbers core (new_owners owners) made_texts file place
-                ∙ ap (option_map number_held) (numbers_at (λ file. refitted_number enabled entry file (number_in numbers file)) file place)
-                ∙ refit_number file (number_in numbers file) place
-                ∙ sym (ap (refitted enabled entry file) (kept_number numbers core owners texts file place))
-            | false ↦ λ place.
-                kept_text made_numbers core (new_owners owners) made_texts file place
-                ∙ ap (λ said. named_or said (owner_in core (new_owners owners) file))
-                (found-filter (stands_at false enabled) texts file
-                ∙ ap (λ stands. cond stands (text_in texts file) None) (stands-below enabled file))
-                ∙ refit_text core owners file (text_in texts file) place
-                ∙ sym (ap (refitted enabled entry file) (kept_text numbers core owners texts file place))
-          ] refl
+      ∙ same_files (refitted_files enabled entry (all_kept numbers core owners texts))
+      (all_kept (refit_numbers numbers) core (new_owners owners) (refit_texts texts)) (refit_each numbers core owners texts)
 
 -- ---- none
 

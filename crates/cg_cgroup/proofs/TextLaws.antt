@@ -78,7 +78,7 @@ pub found-filter : (test : LimitFile → Bool) (texts : List TextFile) (file : L
     → text_in (filter (λ text. test text.file) texts) file ≡ cond (test file) (text_in texts file) None
 found-filter test [] file = none_either (test file)
   where
-    none_either : (b : Bool) → None ≡ cond b None None
+    none_either : (b : Bool) → text_in [] file ≡ cond b (text_in [] file) None
     none_either true = refl
     none_either false = refl
 found-filter test (text ∷ texts) file =
