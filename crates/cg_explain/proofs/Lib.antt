@@ -1,5 +1,6 @@
 mod Classes
 mod Telling
+mod Naming
 mod Holding
 mod Within
 mod Untold

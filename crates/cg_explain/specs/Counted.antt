@@ -1,7 +1,9 @@
 -- What of a subtree its own limits count.
 use Rattle.std.specs.Prelude.{Bool, ◌&&◌}
 use Rattle.cg_cgroup.specs.Paths.{Names}
+use Rattle.cg_cgroup.specs.Cgroups.{most_in}
 use Rattle.cg_cgroup.specs.declared.cgroup.Cgroup.{Cgroup}
+use Rattle.cg_cgroup.specs.declared.files.LimitFile.TheVariants.{MaxDescendants, MaxDepth}
 use Rattle.cg_model.specs.States.{State, count_below, depth_below}
 use Rattle.cg_model.specs.Limits.{is_within_limit}
 use Rattle.cg_explain.specs.declared.counted.Counted.{Counted}
@@ -9,8 +11,8 @@ use Rattle.cg_explain.specs.declared.counted.Counts.{Counts}
 
 abbrev pub counts_of : State → Names → Cgroup → Counts
 counts_of st path row = record {
-  descendants = record { count = count_below st path; limit = row.max_descendants.value };
-  depth = record { count = depth_below st path; limit = row.max_depth.value };
+  descendants = record { count = count_below st path; limit = most_in row MaxDescendants };
+  depth = record { count = depth_below st path; limit = most_in row MaxDepth };
 }
 
 abbrev pub is_in_limit : Counted → Bool

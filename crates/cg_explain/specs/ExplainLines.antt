@@ -5,7 +5,7 @@ use Rattle.cg_cgroup.specs.Paths.{Names, path_text, parent}
 use Rattle.cg_cgroup.specs.Files.{entry_text, file_name, controller_name}
 use Rattle.cg_cgroup.specs.declared.files.LimitFile.{LimitFile}
 use Rattle.cg_cgroup.specs.declared.files.LimitFile.TheVariants.{MaxDescendants, MaxDepth}
-use Rattle.cg_lines.specs.OperationLines.{mode_word, limit_word}
+use Rattle.cg_lines.specs.OperationLines.{mode_word}
 use Rattle.cg_model.specs.GuardNames.{guard_name}
 use Rattle.cg_model.specs.declared.guard.GuardedEntry.{GuardedEntry}
 use Rattle.cg_model.specs.declared.guard.Guard.TheVariants.{AlreadyOver}
@@ -40,11 +40,15 @@ holds_line subtree at =
 abbrev pub told_line : Names → Told → List ℕ
 told_line subtree told = elim told.by [ None ↦ holds_line subtree told.at | Some class ↦ fails_line subtree told.at class ]
 
+abbrev pub most_word : Option ℕ → List ℕ
+most_word None = codes "max"
+most_word (Some most) = decimal most
+
 -- how many there are, and the limit
 abbrev pub counted_line : Names → LimitFile → Counted → List ℕ
 counted_line subtree file counted =
     line (verdict_word (is_in_limit counted) ∷ guard_name AlreadyOver ∷ path_text subtree ∷ file_name file
-    ∷ decimal counted.count ∷ limit_word counted.limit ∷ [])
+    ∷ decimal counted.count ∷ most_word counted.limit ∷ [])
 
 abbrev pub counts_lines : Names → Counts → List ℕ
 counts_lines subtree counts =

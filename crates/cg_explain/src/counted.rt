@@ -5,15 +5,15 @@ ghost use Rattle.cg_model.specs.Limits.{is_within_limit};
 ghost use Rattle.cg_model.specs.States.{row_at};
 ghost use Rattle.cg_explain.specs.Counted.{counts_of};
 
-use cg_cgroup::files::Limit;
+use cg_cgroup::files::LimitFile;
 use cg_cgroup::path::Path;
 use cg_model::hierarchy::Hierarchy;
 
-/// How many there are of what a limit counts.
+/// How many there are of what a limit counts, and the limit where there is one.
 #[derive(Clone, Copy, Debug, PartialEq, Eq)]
 pub struct Counted {
     pub count: u64,
-    pub limit: Limit,
+    pub limit: Option<u64>,
 }
 
 impl Counted {
@@ -22,8 +22,8 @@ impl Counted {
         ensures { result ≡ is_within_limit self.count self.limit }
     {
         match self.limit {
-            Limit::Max => true,
-            Limit::At(most) => self.count <= most,
+            None => true,
+            Some(most) => self.count <= most,
         }
     }
 }
@@ -45,11 +45,11 @@ pub fn counts_below<H: Hierarchy>(tree: &H, subtree: &Path) -> Option<Counts>
     let cgroup = tree.get(subtree, len)?;
     let descendants = Counted {
         count: tree.count_below(subtree, len),
-        limit: cgroup.max_descendants.value,
+        limit: cgroup.most(LimitFile::MaxDescendants),
     };
     let depth = Counted {
         count: tree.depth_below(subtree, len),
-        limit: cgroup.max_depth.value,
+        limit: cgroup.most(LimitFile::MaxDepth),
     };
     Some(Counts { descendants, depth })
 }

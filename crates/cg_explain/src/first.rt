@@ -2,20 +2,22 @@
 ghost use Rattle.std.specs.Prelude.{◌≡◌, false, IfOk};
 ghost use Rattle.std.specs.List.{All};
 ghost use Rattle.cg_advice.specs.AdviceLines.{IsShown};
+ghost use Rattle.std.specs.Option.{option_map_or};
 ghost use Rattle.cg_cgroup.specs.Paths.{is_root};
+ghost use Rattle.cg_cgroup.specs.Cgroups.{is_named_in};
+ghost use Rattle.cg_model.specs.States.{row_at};
 ghost use Rattle.cg_explain.specs.FirstRow.{class_of, is_told_of, has_line, first_row};
 
-use cg_cgroup::files::EntryName;
+use cg_cgroup::files::{EntryName, LimitFile};
 use cg_cgroup::memory::NoMemory;
 use cg_cgroup::path::Path;
 use cg_cgroup::user::{Entry, User};
 use cg_guards::asked::{asked_count, asked_place};
 use cg_guards::table::{Top, guarded_entry};
-use cg_model::files::told_at;
 use cg_model::guard::GuardedEntry;
 use cg_model::hierarchy::Hierarchy;
 use cg_model::mend::Class;
-use cg_second::reach::spares_untold;
+use cg_second::reach::spares_texts;
 use std::alloc::Global;
 
 /// An entry on which a guard stands. The guard holds where the user reaches it by no class.
@@ -25,8 +27,8 @@ pub struct Told {
     pub by: Option<Class>,
 }
 
-/// Each entry that is there and on which a guard of the subtree stands, in the order of the guards; of its limit files beyond
-/// `LimitFile` those of which something is told, or which the user reaches.
+/// Each entry that is there and on which a guard of the subtree stands, in the order of the guards; of its limit files whose values
+/// are texts those of which somebody speaks, or which the user reaches.
 pub fn first_row<H: Hierarchy>(
     alloc: Global,
     tree: &H,
@@ -38,7 +40,7 @@ pub fn first_row<H: Hierarchy>(
     ensures shown { IfOk result (λ row. All (λ told. IsShown subtree.now told.at) row.items) }
 {
     let top = Top::of(tree, subtree);
-    let passes = spares_untold(tree, std::slice::from_ref(user), subtree);
+    let passes = spares_texts(tree, std::slice::from_ref(user), subtree);
     let mut row = Vec::new(alloc);
     for turn in 0..asked_count(subtree, passes) {
         let Some(at) = guarded_entry(tree, subtree, top, asked_place(subtree, passes, turn)) else {
@@ -64,8 +66,19 @@ pub fn is_told_of<H: Hierarchy>(tree: &H, subtree: &Path, name: EntryName) -> bo
     ensures { result ≡ is_told_of (H.state tree.now) subtree.now name }
 {
     match name {
-        EntryName::Other(file) => told_at(tree, subtree, subtree.depth(), file).is_some(),
-        _ => true,
+        EntryName::File(file) => is_named(tree, subtree, file),
+        EntryName::Dir | EntryName::Procs | EntryName::SubtreeControl => true,
+    }
+}
+
+/// Whether somebody speaks of a limit file of the subtree.
+#[tactic(auto, using(crate::proofs::Naming::named_there, crate::proofs::Naming::named_nowhere))]
+fn is_named<H: Hierarchy>(tree: &H, subtree: &Path, file: LimitFile) -> bool
+    ensures { result ≡ option_map_or (λ row. is_named_in row file) (row_at (H.state tree.now) subtree.now) false }
+{
+    match tree.get(subtree, subtree.depth()) {
+        Some(cgroup) => cgroup.names(file),
+        None => false,
     }
 }
 

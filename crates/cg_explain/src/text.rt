@@ -7,7 +7,7 @@ use crate::counted::Counted;
 use crate::first::Told;
 use crate::second::{Asked, Growing, Staying, Switch, Taking};
 use cg_advice::text::{fails_line, mode_word, owner_word};
-use cg_cgroup::files::{Limit, LimitFile};
+use cg_cgroup::files::LimitFile;
 use cg_cgroup::path::Path;
 use cg_model::guard::{Guard, GuardedEntry};
 use std::alloc::{AllocError, Global};
@@ -52,8 +52,8 @@ pub fn counted_line(
     let file = file.name();
     let count = counted.count;
     match counted.limit {
-        Limit::Max => format!(in alloc; "{verdict} {guard} {place} {file} {count} max\n"),
-        Limit::At(most) => format!(in alloc; "{verdict} {guard} {place} {file} {count} {most}\n"),
+        None => format!(in alloc; "{verdict} {guard} {place} {file} {count} max\n"),
+        Some(most) => format!(in alloc; "{verdict} {guard} {place} {file} {count} {most}\n"),
     }
 }
 

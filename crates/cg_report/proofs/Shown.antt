@@ -4,10 +4,10 @@ use Rattle.std.specs.List.{AllByRecursion}
 use Rattle.cg_cgroup.specs.Paths.{Names}
 use Rattle.cg_cgroup.specs.Identity.{Identity}
 use Rattle.cg_cgroup.specs.Users.{reaches}
-use Rattle.cg_cgroup.specs.Files.{all_files, all_others}
+use Rattle.cg_cgroup.specs.Files.{all_files}
 use Rattle.cg_cgroup.specs.declared.user.Entry.{Entry}
 use Rattle.cg_cgroup.specs.declared.files.EntryName.{EntryName}
-use Rattle.cg_cgroup.specs.declared.files.EntryName.TheVariants.{File, Other}
+use Rattle.cg_cgroup.specs.declared.files.EntryName.TheVariants.{File}
 use Rattle.cg_model.specs.States.{State}
 use Rattle.cg_model.specs.Clauses.{unless, present, first}
 use Rattle.cg_model.specs.declared.operation.Op.{Op}
@@ -49,7 +49,7 @@ guarded_within subtree =
     all-append (Within (length subtree)) (ancestors (length subtree) ++ limit_files (length subtree)) _
     (all-append (Within (length subtree)) (ancestors (length subtree)) (limit_files (length subtree))
     (ancestors_within (length subtree) (length subtree) (omega arith))
-    (files_within (length subtree) (map File all_files ++ map Other all_others)))
+    (files_within (length subtree) (map File all_files)))
     (omega arith, (omega arith, tt))
 
 entry_fails_within : (st : State) (user : Identity) (subtree : Names) (guarded : Guarded) → Within (length subtree) guarded

@@ -2,12 +2,13 @@
 use Rattle.std.proofs.Common.{◌≡◌, ℕ, Bool, true, false, not, ◌&&◌, ◌||◌, cond, List, [], ◌∷◌, ◌++◌, length, take, take_all, Option, Some, None, option_and_then, refl, sym, ap, ◌∙◌, arith}
 use Rattle.std.specs.Prelude.{filter}
 use Rattle.std.specs.List.{list_all, list_any}
-use Rattle.std.proofs.lemmas.Bool.{not-true, not_from_false}
+use Rattle.std.specs.Option.{option_map_or}
+use Rattle.std.proofs.lemmas.Bool.{and_from, and_parts, not-true, not_from_false}
 use Rattle.cg_cgroup.specs.Paths.{Names}
 use Rattle.cg_cgroup.specs.Identity.{Identity}
 use Rattle.cg_cgroup.specs.Users.{reaches}
 use Rattle.cg_cgroup.specs.Files.{all_files, format_2_files, is_text}
-use Rattle.cg_cgroup.specs.Cgroups.{entry_in, is_plain}
+use Rattle.cg_cgroup.specs.Cgroups.{entry_in, is_named_in, is_plain}
 use Rattle.cg_cgroup.specs.Kept.{AreOwners}
 use Rattle.cg_cgroup.specs.declared.user.Entry.{Entry}
 use Rattle.cg_cgroup.specs.declared.files.LimitFile.{LimitFile}
@@ -26,7 +27,8 @@ module _ (users : List Identity) (row : Cgroup) (core : Option Entry) (owners : 
     (are : AreOwners row.files core owners) (by_core : spares_entry users core ≡ true)
     (by_owners : list_all (spares_entry users) owners ≡ true) where
   pub owners_spare : spares_texts_in users row ≡ true
-  owners_spare = texts_pass (spares_entry users) refl row.files core owners plain are by_core by_owners
+  owners_spare =
+      and_from (is_plain row.files) _ plain (texts_pass (spares_entry users) refl row.files core owners plain are by_core by_owners)
 
 -- ---- of a cgroup that is there, and of one that isn't
 
@@ -56,7 +58,19 @@ module _ (st : State) (users : List Identity) (path : Names) (spared : spares_te
   row_spared None h file text = refl
   row_spared (Some row) h file text =
       sym (ap (λ b. not b || spares_entry users (entry_in row (File file))) text)
-      ∙ each_passes (λ file. not (is_text file) || spares_entry users (entry_in row (File file))) h file
+      ∙ each_passes (λ file. not (is_text file) || spares_entry users (entry_in row (File file)))
+      (and_parts (is_plain row.files) _ h).1 file
+
+  row_unnamed : (found : Option Cgroup) → elim found [ None ↦ true | Some row ↦ spares_texts_in users row ] ≡ true → (file : LimitFile)
+      → is_text file ≡ true → option_map_or (λ row. is_named_in row file) found false ≡ false
+  row_unnamed None h file text = refl
+  row_unnamed (Some row) h file text =
+      not-true (is_named_in row file)
+      (sym (ap (λ b. not b || not (is_named_in row file)) text)
+      ∙ each_passes (λ file. not (is_text file) || not (is_named_in row file)) (and_parts (is_plain row.files) _ h).0 file)
+
+  pub none_named : (file : LimitFile) → is_text file ≡ true → option_map_or (λ row. is_named_in row file) (row_at st path) false ≡ false
+  none_named file text = row_unnamed (row_at st path) spared file text
 
   pub none_reached : (file : LimitFile) → is_text file ≡ true → is_reached st users path (File file) ≡ false
   none_reached file text = not_reached users (entry_at st path (File file)) (row_spared (row_at st path) spared file text)
@@ -64,14 +78,14 @@ module _ (st : State) (users : List Identity) (path : Names) (spared : spares_te
   abbrev spares_one : LimitFile → Bool
   spares_one file = not (is_reached st users path (File file))
 
-  texts_pass : (files : List LimitFile) → list_all spares_one (filter is_text files) ≡ true
-  texts_pass [] = refl
-  texts_pass (file ∷ files) =
+  all_spared : (files : List LimitFile) → list_all spares_one (filter is_text files) ≡ true
+  all_spared [] = refl
+  all_spared (file ∷ files) =
       elim (is_text file) as
       (λ b. is_text file ≡ b → list_all spares_one (cond b (file ∷ filter is_text files) (filter is_text files)) ≡ true) [
         | true ↦ λ text. ap (λ b. b && list_all spares_one (filter is_text files)) (not_from_false _ (none_reached file text))
-            ∙ texts_pass files
-        | false ↦ λ _. texts_pass files
+            ∙ all_spared files
+        | false ↦ λ _. all_spared files
       ] refl
 
   joined : (xs ys : List LimitFile) → list_all spares_one ys ≡ true → list_all spares_one xs ≡ list_all spares_one (xs ++ ys)
@@ -80,4 +94,4 @@ module _ (st : State) (users : List Identity) (path : Names) (spared : spares_te
 
   -- so those whose values are numbers are all that is asked
   pub numbers_alone : list_all spares_one format_2_files ≡ spares_files st users path
-  numbers_alone = joined format_2_files (filter is_text all_files) (texts_pass all_files)
+  numbers_alone = joined format_2_files (filter is_text all_files) (all_spared all_files)
