@@ -10,20 +10,15 @@ use Rattle.cg_cgroup.specs.Users.{IsUser, reaches}
 use Rattle.cg_cgroup.specs.Files.{same_entry, accepts}
 use Rattle.cg_cgroup.specs.Cgroups.{entry_in}
 use Rattle.cg_cgroup.specs.declared.user.Entry.{Entry}
-use Rattle.cg_cgroup.specs.declared.files.Limit.{Limit}
-use Rattle.cg_cgroup.specs.declared.files.Limit.TheVariants.{At}
+use Rattle.cg_cgroup.specs.declared.value.Value.{Value}
+use Rattle.cg_cgroup.specs.declared.value.Value.TheVariants.{Number}
+use Rattle.cg_cgroup.specs.Values.{most_of}
 use Rattle.cg_cgroup.specs.declared.files.LimitFile.{LimitFile}
 use Rattle.cg_cgroup.specs.declared.files.LimitFile.TheVariants.{MaxDescendants, MaxDepth}
 use Rattle.cg_cgroup.specs.declared.files.EntryName.{EntryName}
 use Rattle.cg_cgroup.proofs.PathOrder.{same_path_refl}
 use Rattle.cg_cgroup.proofs.CgroupLaws.{same_entry-refl}
-use Rattle.cg_cgroup.specs.declared.files.EntryName.TheVariants.{Other}
-use Rattle.cg_cgroup.specs.declared.other_file.OtherFile.{OtherFile}
-use Rattle.cg_cgroup.proofs.Options.{mapped_from}
-use Rattle.cg_model.proofs.FormedTold.{stands}
-use Rattle.cg_model.proofs.StateEntries.{entry_at-row, told_text-with_mode}
-use Rattle.cg_advice.proofs.OwnerLaws.{told_text-with_owner}
-use Rattle.cg_model.specs.States.{told_text, file_told, State, row_at, entry_at, value_at, paths_of, count_below, depth_below}
+use Rattle.cg_model.specs.States.{State, row_at, entry_at, value_at, paths_of, count_below, depth_below}
 use Rattle.cg_model.specs.WellFormed.{IsWellFormed, enabled_at}
 use Rattle.cg_model.proofs.StateCounts.{paths_of-with_mode, paths_of-with_value, count_below-same_paths, depth_below-same_paths}
 use Rattle.cg_model.proofs.StateEntries.{enabled_at-with_mode, enabled_at-with_value}
@@ -53,7 +48,7 @@ use Rattle.cg_advice.proofs.Running.{run_one, run, through-append, run-limits, l
 paths_of-made_one : (subtree : Names) (mend : Mend) (st : State) → paths_of (made_one subtree mend st) ≡ paths_of st
 paths_of-made_one subtree (Chown len name uid gid) st = paths_of-with_owner st (take len subtree) name uid gid
 paths_of-made_one subtree (Chmod len name mode) st = paths_of-with_mode st (take len subtree) name mode
-paths_of-made_one subtree (Set len file value) st = paths_of-with_value st (take len subtree) file value
+paths_of-made_one subtree (Set len file value) st = paths_of-with_value st (take len subtree) file (Number value)
 
 pub paths_of-made : (changes : List Change) (st : State) → paths_of (made changes st) ≡ paths_of st
 paths_of-made [] st = refl
@@ -64,24 +59,12 @@ enabled_at-made_one : (subtree : Names) (mend : Mend) (st : State) (path : Names
     → enabled_at (made_one subtree mend st) path ≡ enabled_at st path
 enabled_at-made_one subtree (Chown len name uid gid) st path = enabled_at-with_owner st (take len subtree) name uid gid path
 enabled_at-made_one subtree (Chmod len name mode) st path = enabled_at-with_mode st (take len subtree) name mode path
-enabled_at-made_one subtree (Set len file value) st path = enabled_at-with_value st (take len subtree) file value path
+enabled_at-made_one subtree (Set len file value) st path = enabled_at-with_value st (take len subtree) file (Number value) path
 
 pub enabled_at-made : (changes : List Change) (st : State) (path : Names) → enabled_at (made changes st) path ≡ enabled_at st path
 enabled_at-made [] st path = refl
 enabled_at-made (change ∷ changes) st path =
     enabled_at-made changes (made_one change.0 change.1 st) path ∙ enabled_at-made_one change.0 change.1 st path
-
-told_text-made_one : (subtree : Names) (mend : Mend) (st : State) (path : Names) (file : OtherFile)
-    → told_text (made_one subtree mend st) path file ≡ told_text st path file
-told_text-made_one subtree (Chown len name uid gid) st path file = told_text-with_owner st (take len subtree) name uid gid path file
-told_text-made_one subtree (Chmod len name mode) st path file = told_text-with_mode st (take len subtree) name mode path file
-told_text-made_one subtree (Set len limit value) st path file = refl
-
-pub told_text-made : (changes : List Change) (st : State) (path : Names) (file : OtherFile)
-    → told_text (made changes st) path file ≡ told_text st path file
-told_text-made [] st path file = refl
-told_text-made (change ∷ changes) st path file =
-    told_text-made changes (made_one change.0 change.1 st) path file ∙ told_text-made_one change.0 change.1 st path file
 
 -- the processes, the used PIDs and the root's controllers
 pub record SameRest (st new : State) : Type 0 where
@@ -106,7 +89,6 @@ is_advised st pairs =
     let rest = rest-made (mends st pairs) st in record {
       entries = entry_at-advised st pairs;
       values = value_at-advised st pairs;
-      texts = told_text-made (mends st pairs) st;
       enabled = enabled_at-made (mends st pairs) st;
       paths = paths_of-made (mends st pairs) st;
       live = rest.live;
@@ -116,14 +98,16 @@ is_advised st pairs =
 
 -- ---- the counts and the limits
 
-itself : (n : ℕ) → is_within_limit n (At n) ≡ true
+itself : (n : ℕ) → is_within_limit n (Some n) ≡ true
 itself n = le-leb n n (omega arith)
 
 -- a limit that is raised where it is exceeded fits
-raised_fits : (count : ℕ) (limit : Option Limit) → fits_in count (option_map (λ l. cond (fits_in count limit) l (At count)) limit) ≡ true
+raised_fits : (count : ℕ) (value : Option Value)
+    → fits_in count (option_map (λ v. cond (fits_in count value) v (Number count)) value) ≡ true
 raised_fits count None = refl
-raised_fits count (Some l) =
-    elim (is_within_limit count l) as (λ b. is_within_limit count l ≡ b → is_within_limit count (cond b l (At count)) ≡ true)
+raised_fits count (Some v) =
+    elim (is_within_limit count (most_of v)) as
+    (λ b. is_within_limit count (most_of v) ≡ b → is_within_limit count (most_of (cond b v (Number count))) ≡ true)
     [ true ↦ λ e. e | false ↦ λ _. itself count ] refl
 
 -- each subtree is within its limits, and so is each cgroup that was within its own
@@ -133,7 +117,7 @@ module _ (st new : State) (same_paths : paths_of new ≡ paths_of st) (path : Na
   -- of one of the two limits: what it bounds, and by what it is raised
   fits-by : (fits : State → Names → Bool) (below : State → Names → ℕ) (file : LimitFile)
       → ((st : State) (path : Names) → fits st path ≡ fits_in (below st path) (value_at st path file))
-      → ((limit : Limit) → raised st path file limit ≡ cond (fits st path) limit (At (below st path)))
+      → ((value : Value) → raised st path file value ≡ cond (fits st path) value (Number (below st path)))
       → below new path ≡ below st path
       → (named ≡ false → fits st path ≡ true) → fits new path ≡ true
   fits-by fits below file bound raise same kept =
@@ -146,7 +130,7 @@ module _ (st new : State) (same_paths : paths_of new ≡ paths_of st) (path : Na
           → fits_in (below st path) (cond b (option_map (raised st path file) (value_at st path file)) (value_at st path file)) ≡ true
       by_path true kept =
           ap (λ f. fits_in (below st path) (option_map f (value_at st path file))) (λ i limit. raise limit i)
-          ∙ ap (λ b. fits_in (below st path) (option_map (λ l. cond b l (At (below st path))) (value_at st path file))) (bound st path)
+          ∙ ap (λ b. fits_in (below st path) (option_map (λ l. cond b l (Number (below st path))) (value_at st path file))) (bound st path)
           ∙ raised_fits (below st path) (value_at st path file)
       by_path false kept = sym (bound st path) ∙ kept refl
 
@@ -366,7 +350,7 @@ limits-needed st pairs subtree =
 abbrev pub CanBeMade : Mend → Type 0
 CanBeMade (Chown len name uid gid) = Unit {0}
 CanBeMade (Chmod len name mode) = mode ≤ 511
-CanBeMade (Set len file value) = accepts file value ≡ true
+CanBeMade (Set len file value) = accepts file (Number value) ≡ true
 
 abbrev pub IsMakeable : Change → Type 0
 IsMakeable change = CanBeMade change.1
@@ -374,7 +358,7 @@ IsMakeable change = CanBeMade change.1
 formed-made_one : (subtree : Names) (mend : Mend) (st : State) → CanBeMade mend → IsWellFormed st → IsWellFormed (made_one subtree mend st)
 formed-made_one subtree (Chown len name uid gid) st can = formed-with_owner st (take len subtree) name uid gid
 formed-made_one subtree (Chmod len name mode) st can = formed-with_mode st (take len subtree) name mode can
-formed-made_one subtree (Set len file value) st can = formed-with_value st (take len subtree) file value can
+formed-made_one subtree (Set len file value) st can = formed-with_value st (take len subtree) file (Number value) can
 
 pub formed-made : (changes : List Change) (st : State) → AllByRecursion IsMakeable changes → IsWellFormed st
     → IsWellFormed (made changes st)
@@ -398,20 +382,13 @@ is_taken : (value : ℕ) → value ≤ 9223372036854775807 → (nat_le 0 value &
 is_taken value few = and_from _ _ (le-leb 0 value (omega arith)) (le-leb value 9223372036854775807 few)
 
 module _ (st : State) (formed : IsWellFormed st) where
-  row_mode : (path : Names) (name : EntryName) (entry : Entry) → option_and_then (λ row. entry_in row name) (row_at st path) ≡ Some entry
-      → entry.mode ≤ 511
-  row_mode path name entry is =
+  pub entry_mode : (path : Names) (name : EntryName) (entry : Entry) → entry_at st path name ≡ Some entry → entry.mode ≤ 511
+  entry_mode path name entry is =
       elim (row_at st path) as
       (λ found. row_at st path ≡ found → option_and_then (λ row. entry_in row name) found ≡ Some entry → entry.mode ≤ 511) [
         | None ↦ λ _ none. let never : ⊥ = cc in absurd never
         | Some row ↦ λ here some. (formed.rows path row here).modes name entry some
       ] refl is
-
-  pub entry_mode : (path : Names) (name : EntryName) (entry : Entry) → entry_at st path name ≡ Some entry → entry.mode ≤ 511
-  entry_mode path (Other file) entry is =
-      let told = mapped_from (λ told. told.entry) (file_told st path file) entry is in
-      subst (λ (entry : Entry). entry.mode ≤ 511) told.2 (stands st formed path file told.0 told.1).mode
-  entry_mode path name entry is = row_mode path name entry (sym (entry_at-row st path name refl) ∙ is)
 
   entrant_modes : (pairs : List Pair) → AllByRecursion HasMode (entrants st pairs)
   entrant_modes pairs =

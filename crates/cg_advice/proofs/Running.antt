@@ -9,8 +9,8 @@ use Rattle.cg_cgroup.specs.Users.{owns, reaches}
 use Rattle.cg_cgroup.specs.Files.{same_entry, same_file}
 use Rattle.cg_cgroup.specs.Cgroups.{with_mode_of}
 use Rattle.cg_cgroup.specs.declared.user.Entry.{Entry}
-use Rattle.cg_cgroup.specs.declared.files.Limit.{Limit}
-use Rattle.cg_cgroup.specs.declared.files.Limit.TheVariants.{At}
+use Rattle.cg_cgroup.specs.declared.value.Value.{Value}
+use Rattle.cg_cgroup.specs.declared.value.Value.TheVariants.{Number}
 use Rattle.cg_cgroup.specs.declared.files.LimitFile.TheVariants.{MaxDescendants, MaxDepth}
 use Rattle.cg_cgroup.specs.declared.files.LimitFile.{LimitFile}
 use Rattle.cg_cgroup.specs.declared.files.EntryName.{EntryName}
@@ -106,7 +106,7 @@ module _ (path : Names) (name : EntryName) where
       ∙ cond_map (is_it subtree len other) (owned_by uid gid) (entry_at st path name)
   entry_at-made_one subtree (Chmod len other mode) st = entry_at-with_mode st (take len subtree) other mode path name
       ∙ cond_map (is_it subtree len other) (with_mode_of mode) (entry_at st path name)
-  entry_at-made_one subtree (Set len file value) st = entry_at-with_value st (take len subtree) file value path name
+  entry_at-made_one subtree (Set len file value) st = entry_at-with_value st (take len subtree) file (Number value) path name
       ∙ sym (map_same (entry_at st path name))
 
   pub entry_at-made : (changes : List Change) (st : State)
@@ -308,15 +308,15 @@ entry_at-advised st pairs path name =
 -- ---- a value
 
 module _ (path : Names) (file : LimitFile) where
-  abbrev pub hold_mend : Names → Mend → Limit → Limit
+  abbrev pub hold_mend : Names → Mend → Value → Value
   hold_mend subtree (Chown len name uid gid) limit = limit
   hold_mend subtree (Chmod len name mode) limit = limit
-  hold_mend subtree (Set len other value) limit = cond (same_path (take len subtree) path && same_file other file) value limit
+  hold_mend subtree (Set len other value) limit = cond (same_path (take len subtree) path && same_file other file) (Number value) limit
 
-  abbrev pub hold_one : Change → Limit → Limit
+  abbrev pub hold_one : Change → Value → Value
   hold_one change limit = hold_mend change.0 change.1 limit
 
-  abbrev pub hold : List Change → Limit → Limit
+  abbrev pub hold : List Change → Value → Value
   hold changes limit = through hold_one changes limit
 
   value_at-made_one : (subtree : Names) (mend : Mend) (st : State)
@@ -326,15 +326,15 @@ module _ (path : Names) (file : LimitFile) where
   value_at-made_one subtree (Chmod len name mode) st = value_at-with_mode st (take len subtree) name mode path file
       ∙ sym (map_same (value_at st path file))
   value_at-made_one subtree (Set len other value) st =
-      value_at-with_value st (take len subtree) other value path file
-      ∙ cond_map (same_path (take len subtree) path && same_file other file) (λ _. value) (value_at st path file)
+      value_at-with_value st (take len subtree) other (Number value) path file
+      ∙ cond_map (same_path (take len subtree) path && same_file other file) (λ _. Number value) (value_at st path file)
 
   pub value_at-made : (changes : List Change) (st : State)
       → value_at (made changes st) path file ≡ option_map (hold changes) (value_at st path file)
   value_at-made changes st = through-made hold_one (λ st. value_at st path file) value_at-made_one changes st
 
   -- the changes of entries leave it
-  hold-entry : (users : List Identity) (subtree : Names) (at : GuardedEntry) (limit : Limit)
+  hold-entry : (users : List Identity) (subtree : Names) (at : GuardedEntry) (limit : Value)
       → hold (changes_at subtree (entry_mends users at)) limit ≡ limit
   hold-entry users subtree at limit =
       through-at hold_one subtree (chown_of users at) (chmod_of users at) limit
@@ -344,7 +344,7 @@ module _ (path : Names) (file : LimitFile) where
       ∙ through-unless hold_one (nat_eq (shut_mode users at.entry) at.entry.mode) subtree _ limit
       ∙ same_either (nat_eq (shut_mode users at.entry) at.entry.mode) limit
 
-  hold-entries : (all es : List Entrant) (limit : Limit) → hold (flat_map (entry_changes all) es) limit ≡ limit
+  hold-entries : (all es : List Entrant) (limit : Value) → hold (flat_map (entry_changes all) es) limit ≡ limit
   hold-entries all [] limit = refl
   hold-entries all (each ∷ es) limit =
       through-append hold_one (entry_changes all each) (flat_map (entry_changes all) es) limit
@@ -352,9 +352,9 @@ module _ (path : Names) (file : LimitFile) where
       ∙ hold-entries all es limit
 
 -- a limit by whether the two fit
-abbrev raise : Bool → Bool → ℕ → ℕ → LimitFile → Limit → Limit
-raise fits_d fits_h count depth MaxDescendants limit = cond fits_d limit (At count)
-raise fits_d fits_h count depth MaxDepth limit = cond fits_h limit (At depth)
+abbrev raise : Bool → Bool → ℕ → ℕ → LimitFile → Value → Value
+raise fits_d fits_h count depth MaxDescendants limit = cond fits_d limit (Number count)
+raise fits_d fits_h count depth MaxDepth limit = cond fits_h limit (Number depth)
 raise fits_d fits_h count depth file limit = limit
 
 raise-is : (st : State) (subtree : Names) (file : LimitFile)
@@ -364,9 +364,9 @@ raise-is st subtree MaxDescendants = refl
 raise-is st subtree file = refl
 
 -- both limits are set, each where it is exceeded
-both_set : (here fits_d fits_h : Bool) (count depth : ℕ) (file : LimitFile) (limit : Limit)
-    → let first : Limit = cond fits_d limit (cond (here && same_file MaxDescendants file) (At count) limit) in
-    cond fits_h first (cond (here && same_file MaxDepth file) (At depth) first)
+both_set : (here fits_d fits_h : Bool) (count depth : ℕ) (file : LimitFile) (limit : Value)
+    → let first : Value = cond fits_d limit (cond (here && same_file MaxDescendants file) (Number count) limit) in
+    cond fits_h first (cond (here && same_file MaxDepth file) (Number depth) first)
     ≡ cond here (raise fits_d fits_h count depth file limit) limit
 both_set false true true count depth file limit = refl
 both_set false true false count depth file limit = refl
@@ -379,7 +379,7 @@ both_set true true false count depth file limit = refl
 both_set true false true count depth file limit = refl
 both_set true false false count depth file limit = refl
 
-hold-limit : (st : State) (subtree path : Names) (file : LimitFile) (limit : Limit)
+hold-limit : (st : State) (subtree path : Names) (file : LimitFile) (limit : Value)
     → hold path file (limit_changes st subtree) limit ≡ cond (same_path subtree path) (raised st subtree file limit) limit
 hold-limit st subtree path file limit =
     let whole : take (length subtree) subtree ≡ subtree = take_all (length subtree) subtree (omega arith) in
@@ -387,18 +387,18 @@ hold-limit st subtree path file limit =
     ∙ through-unless (hold_one path file) (fits_depth st subtree) subtree _
     (hold path file (changes_at subtree (descendants_of st subtree)) limit)
     ∙ ap (λ first. cond (fits_depth st subtree) first
-    (cond (same_path (take (length subtree) subtree) path && same_file MaxDepth file) (At (depth_below st subtree)) first))
+    (cond (same_path (take (length subtree) subtree) path && same_file MaxDepth file) (Number (depth_below st subtree)) first))
     (through-unless (hold_one path file) (fits_descendants st subtree) subtree _ limit)
-    ∙ ap (λ p. let first : Limit =
+    ∙ ap (λ p. let first : Value =
     cond (fits_descendants st subtree) limit
-    (cond (same_path p path && same_file MaxDescendants file) (At (count_below st subtree)) limit) in
-    cond (fits_depth st subtree) first (cond (same_path p path && same_file MaxDepth file) (At (depth_below st subtree)) first)) whole
+    (cond (same_path p path && same_file MaxDescendants file) (Number (count_below st subtree)) limit) in
+    cond (fits_depth st subtree) first (cond (same_path p path && same_file MaxDepth file) (Number (depth_below st subtree)) first)) whole
     ∙ both_set (same_path subtree path) (fits_descendants st subtree) (fits_depth st subtree) (count_below st subtree)
     (depth_below st subtree) file limit
     ∙ ap (λ f. cond (same_path subtree path) (f limit) limit) (raise-is st subtree file)
 
 -- what is raised once is raised
-raised_again : (fits_d fits_h : Bool) (count depth : ℕ) (file : LimitFile) (limit : Limit)
+raised_again : (fits_d fits_h : Bool) (count depth : ℕ) (file : LimitFile) (limit : Value)
     → raise fits_d fits_h count depth file (raise fits_d fits_h count depth file limit) ≡ raise fits_d fits_h count depth file limit
 raised_again true fits_h count depth MaxDescendants limit = refl
 raised_again false fits_h count depth MaxDescendants limit = refl
@@ -406,8 +406,8 @@ raised_again fits_d true count depth MaxDepth limit = refl
 raised_again fits_d false count depth MaxDepth limit = refl
 raised_again fits_d fits_h count depth file limit = refl
 
-module _ (st : State) (path : Names) (file : LimitFile) (limit : Limit) where
-  abbrev pub so_far : Bool → Limit
+module _ (st : State) (path : Names) (file : LimitFile) (limit : Value) where
+  abbrev pub so_far : Bool → Value
   so_far given = cond given (raised st path file limit) limit
 
   again : (given : Bool) → raised st path file (so_far given) ≡ raised st path file limit
@@ -465,7 +465,7 @@ value_at-advised st pairs path file =
     ∙ ap (λ f. option_map f (value_at st path file)) (λ i limit. all_held limit i)
     ∙ sym (cond_map (is_named pairs path) (raised st path file) (value_at st path file))
   where
-    all_held : (limit : Limit)
+    all_held : (limit : Value)
         → hold path file (mends st pairs) limit ≡ cond (is_named pairs path) (raised st path file limit) limit
     all_held limit =
         through-append (hold_one path file) (flat_map (entry_changes (entrants st pairs)) (met st pairs))

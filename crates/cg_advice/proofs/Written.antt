@@ -6,7 +6,6 @@ use Rattle.std.proofs.lemmas.Bool.{not-true}
 use Rattle.std.proofs.lemmas.Fmt.{decimal_digit}
 use Rattle.std.proofs.lemmas.List.Concat.{flat_map-append}
 use Rattle.cg_cgroup.specs.Paths.{Names}
-use Rattle.cg_cgroup.specs.declared.files.Limit.TheVariants.{At}
 use Rattle.cg_cgroup.specs.declared.files.LimitFile.{LimitFile}
 use Rattle.cg_model.specs.States.{State}
 use Rattle.cg_model.specs.Clauses.{unless}
@@ -77,10 +76,10 @@ entry_written ways subtree at text one two three four all is_one is_two is_three
 pub raised_by : (subtree : Names) (file : LimitFile) (below : Names → ℕ) (fits now : Bool) (len there : ℕ) → len ≡ length subtree
     → fits ≡ now
     → there ≡ below (take len subtree)
-    → unless fits (Set (length subtree) file (At there)) ≡ unless now (Set (length subtree) file (At (below subtree)))
+    → unless fits (Set (length subtree) file there) ≡ unless now (Set (length subtree) file (below subtree))
 raised_by subtree file below fits now len there level same counted =
-    (λ i. unless (same i) (Set (length subtree) file (At (counted i))))
-    ∙ ap (λ path. unless now (Set (length subtree) file (At (below path)))) (take_all len subtree (omega (arith, level)))
+    (λ i. unless (same i) (Set (length subtree) file (counted i)))
+    ∙ ap (λ path. unless now (Set (length subtree) file (below path))) (take_all len subtree (omega (arith, level)))
 
 pub over_written : (st : State) (subtree : Names) (text told one all : List ℕ) (descendants depth : List Mend)
     → not (fits_descendants st subtree && fits_depth st subtree) ≡ true

@@ -2,6 +2,7 @@
 use Rattle.std.specs.Prelude.{ℕ, ◌≤◌, Bool, ◌&&◌, cond, List, [], ◌∷◌, ◌++◌, length, take, Option, Some, None, codes}
 use Rattle.std.specs.List.{flat_map, join_with_byte, list_all}
 use Rattle.std.specs.Fmt.{decimal}
+use Rattle.cg_cgroup.specs.declared.value.Value.TheVariants.{Number}
 use Rattle.cg_cgroup.specs.Paths.{Names, path_text}
 use Rattle.cg_cgroup.specs.Identity.{Identity}
 use Rattle.cg_cgroup.specs.Files.{entry_text}
@@ -36,7 +37,7 @@ owner_word uid gid = decimal uid ++ 58 ∷ decimal gid
 abbrev pub mend_line : Names → Mend → List ℕ
 mend_line subtree (Chown len name uid gid) = line (codes "chown" ∷ path_text (take len subtree) ∷ entry_text name ∷ owner_word uid gid ∷ [])
 mend_line subtree (Chmod len name mode) = spelling (op.Chmod (take len subtree) name mode) ++ 10 ∷ []
-mend_line subtree (Set len file value) = spelling (op.Set (take len subtree) file value) ++ 10 ∷ []
+mend_line subtree (Set len file value) = spelling (op.Set (take len subtree) file (Number value)) ++ 10 ∷ []
 
 abbrev pub mend_lines : Names → List Mend → List ℕ
 mend_lines subtree mends = flat_map (mend_line subtree) mends

@@ -6,7 +6,6 @@ ghost use Rattle.cg_model.specs.WellFormed.{has_row};
 ghost use Rattle.cg_model.specs.Guards.{IsSubtree};
 ghost use Rattle.cg_model.specs.Once.{once};
 ghost use Rattle.cg_lines.specs.OperationLines.{mode_word};
-ghost use Rattle.cg_cgroup.specs.declared.files.Limit.TheVariants.{At};
 ghost use Rattle.cg_model.specs.Clauses.{unless};
 ghost use Rattle.cg_model.specs.Mends.{same_place};
 ghost use Rattle.cg_model.specs.declared.mend.Mend.TheVariants.{Set};
@@ -22,9 +21,10 @@ use crate::mend::{chmod_of, chown_of, class_name};
 use crate::pair::{Entrant, Pair};
 use crate::table::Table;
 use crate::ways::Ways;
-use cg_cgroup::files::{Limit, LimitFile};
+use cg_cgroup::files::LimitFile;
 use cg_cgroup::memory::NoMemory;
 use cg_cgroup::path::Path;
+use cg_cgroup::value::Value;
 use cg_guards::failed::{failed_guard, fits_depth, fits_descendants, is_over};
 use cg_lines::lines::op_text;
 use cg_model::guard::{Guard, GuardedEntry};
@@ -196,7 +196,7 @@ pub fn over_line(alloc: Global, subtree: &Path) -> Result<String, AllocError>
 
 /// A limit of the subtree raised to what is there, where that doesn't fit.
 fn raised(subtree: &Path, file: LimitFile, fits: bool, there: u64) -> Option<Mend>
-    ensures mend { option_to_list result ≡ unless fits (Set (length subtree.now) file (At there)) }
+    ensures mend { option_to_list result ≡ unless fits (Set (length subtree.now) file there) }
     ensures within { IfSome result (λ mend. len_of mend ≤ length subtree.now) }
 {
     if fits {
@@ -205,7 +205,7 @@ fn raised(subtree: &Path, file: LimitFile, fits: bool, there: u64) -> Option<Men
     Some(Mend::Set {
         len: subtree.depth(),
         file,
-        value: Limit::At(there),
+        value: there,
     })
 }
 
@@ -276,6 +276,7 @@ fn mend_line(alloc: Global, subtree: &Path, mend: &Mend) -> Result<Vec<u8>, NoMe
         }
         Mend::Set { len, file, value } => {
             let at = subtree.try_prefix(alloc, len)?;
+            let value = Value::Number(value);
             op_text(alloc, &Op::Set { at, file, value })
         }
     }

@@ -17,9 +17,9 @@ use Rattle.cg_model.specs.Clauses.{unless, present}
 use Rattle.cg_model.specs.Guards.{Guarded, guarded_entries, guarded_entry, entry_failures, over_failures, GuardsHold, found, standing}
 use Rattle.cg_model.specs.Limits.{fits_descendants, fits_depth}
 use Rattle.cg_model.specs.Mended.{without_bits}
-use Rattle.cg_model.specs.Mends.{Change, changes_at, limit_changes, made}
+use Rattle.cg_model.specs.Mends.{limit_changes}
 use Rattle.cg_model.specs.Once.{once}
-use Rattle.cg_model.specs.States.{State, entry_at, count_below, depth_below}
+use Rattle.cg_model.specs.States.{State, entry_at}
 use Rattle.cg_model.specs.WellFormed.{IsWellFormed}
 use Rattle.cg_model.specs.declared.guard.Failed.{Failed}
 use Rattle.cg_model.specs.declared.guard.Guard.TheVariants.{AlreadyOver}
@@ -32,7 +32,7 @@ use Rattle.cg_model.proofs.OnceLaws.{all-once}
 use Rattle.cg_model.proofs.StateCounts.{count_below-same_paths, depth_below-same_paths}
 use Rattle.cg_advice.specs.AdviceLines.{fails_line, over_line}
 use Rattle.cg_advice.specs.WayLines.{Spot, chown_by, chmod_by}
-use Rattle.cg_advice.proofs.Advising.{paths_of-made, enabled_at-made, told_text-made, rest-made, either_true, each-any, all_filtered, fits-raised, CanBeMade, IsMakeable, formed-made, all_flat, makeable, entry_mode, limits_makeable}
+use Rattle.cg_advice.proofs.Advising.{paths_of-made, enabled_at-made, rest-made, either_true, each-any, all_filtered, fits-raised, CanBeMade, IsMakeable, formed-made, all_flat, makeable, entry_mode, limits_makeable}
 use Rattle.cg_advice.proofs.Running.{map_same, through-append, run_one, run, run-limits, entry_at-made, all-unless}
 use Rattle.cg_advice.proofs.Taken.{group_kept, bits-le, group_shut, others_shut, group_stays, others_stays, nobodys, not_reaching, not_writing}
 use Rattle.machine_everybody.specs.Everybody.{Everybody, is_left_out, has_members, lets_anybody_in}
@@ -256,7 +256,6 @@ module _ (st : State) (asked : Everybody) (subtrees : List Names) where
       let rest = rest-made changes st in record {
         entries = entry_at-taken st asked subtrees;
         values = value_at-taken st asked subtrees;
-        texts = told_text-made changes st;
         enabled = enabled_at-made changes st;
         paths = paths_of-made changes st;
         live = rest.live;

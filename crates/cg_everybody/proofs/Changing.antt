@@ -1,11 +1,11 @@
 -- What the changes of the advice do to one entry and to one value, one change after another.
-use Rattle.std.proofs.Common.{◌≡◌, ℕ, Bool, true, false, cond, ◌&&◌, ◌||◌, not, nat_eq, List, [], ◌∷◌, ◌++◌, take, refl, sym, ap, ◌∙◌, Option, Some, None, option_map}
+use Rattle.std.proofs.Common.{◌≡◌, ℕ, Bool, true, false, cond, ◌||◌, not, nat_eq, List, [], ◌∷◌, refl, ap, ◌∙◌, Option, Some, None, option_map}
 use Rattle.std.specs.List.{flat_map, list_any, AllByRecursion}
 use Rattle.std.proofs.lemmas.Bool.{eqb-true}
 use Rattle.cg_cgroup.specs.Cgroups.{with_mode_of}
 use Rattle.cg_cgroup.specs.Paths.{Names, same_path}
 use Rattle.cg_cgroup.specs.declared.files.EntryName.{EntryName}
-use Rattle.cg_cgroup.specs.declared.files.Limit.{Limit}
+use Rattle.cg_cgroup.specs.declared.value.Value.{Value}
 use Rattle.cg_cgroup.specs.declared.files.LimitFile.{LimitFile}
 use Rattle.cg_cgroup.specs.declared.user.Entry.{Entry}
 use Rattle.cg_model.specs.Advised.{raised}
@@ -15,14 +15,13 @@ use Rattle.cg_model.specs.Mended.{without_bits}
 use Rattle.cg_model.specs.Mends.{changes_at, limit_changes, owned_by}
 use Rattle.cg_model.specs.Once.{once}
 use Rattle.cg_model.specs.States.{State, entry_at, value_at}
-use Rattle.cg_model.specs.declared.guard.GuardedEntry.{GuardedEntry}
 use Rattle.cg_model.specs.declared.mend.Mend.TheVariants.{Chown, Chmod}
 use Rattle.cg_model.proofs.Lists.{all-flat_map, all-each}
 use Rattle.cg_model.proofs.OnceLaws.{any-once, all-once}
 use Rattle.cg_advice.specs.WayLines.{Spot, chown_by, chmod_by}
 use Rattle.cg_advice.proofs.Running.{map_same, same_either, through-append, through-at, through-unless, run_one, run, entry_at-made, run-limits, settled, alike, IsThere, this-there, hold_one, hold, value_at-made, hold-limits, among-once}
 use Rattle.machine_everybody.specs.Everybody.{Everybody, lets_anybody_in}
-use Rattle.cg_everybody.specs.Advice.{ways_into, is_spot_at, same_spot, spots_met, spot_changes, everybody_changes, everybody_advised, taken_back, lets_in_at, is_asked_of, advised_but, advised_but_limits}
+use Rattle.cg_everybody.specs.Advice.{ways_into, is_spot_at, same_spot, spots_met, spot_changes, everybody_changes, everybody_advised, taken_back, lets_in_at, is_asked_of, advised_but_limits}
 use Rattle.cg_everybody.specs.Everybody.{entered_by, entrance_of, entrances}
 use Rattle.cg_everybody.proofs.AdviceWritten.{anybody_at}
 
@@ -168,7 +167,7 @@ module _ (st : State) (asked : Everybody) where
 
     module _ (path : Names) (file : LimitFile) where
       -- the changes of entries leave it
-      hold-spot : (spot : Spot) (limit : Limit) → hold path file (spot_changes asked spot) limit ≡ limit
+      hold-spot : (spot : Spot) (limit : Value) → hold path file (spot_changes asked spot) limit ≡ limit
       hold-spot spot limit =
           let ways = ways_into asked spot.1.entry in
           let taken = taken_back asked spot.1.entry in
@@ -180,14 +179,14 @@ module _ (st : State) (asked : Everybody) where
           (Chmod spot.1.len spot.1.name taken.mode) limit
           ∙ same_either (nat_eq taken.mode spot.1.entry.mode) limit
 
-      hold-spots : (spots : List Spot) (limit : Limit) → hold path file (flat_map (spot_changes asked) spots) limit ≡ limit
+      hold-spots : (spots : List Spot) (limit : Value) → hold path file (flat_map (spot_changes asked) spots) limit ≡ limit
       hold-spots [] limit = refl
       hold-spots (spot ∷ spots) limit =
           through-append (hold_one path file) (spot_changes asked spot) (flat_map (spot_changes asked) spots) limit
           ∙ ap (hold path file (flat_map (spot_changes asked) spots)) (hold-spot spot limit)
           ∙ hold-spots spots limit
 
-      all_held : (limit : Limit)
+      all_held : (limit : Value)
           → hold path file (everybody_changes st asked subtrees) limit
           ≡ cond (is_asked_of subtrees path) (raised st path file limit) limit
       all_held limit =
@@ -205,7 +204,7 @@ module _ (st : State) (asked : Everybody) where
           ∙ ap (λ f. option_map f (value_at st path file)) (λ i limit. all_held limit i)
           ∙ out (is_asked_of subtrees path) (value_at st path file)
         where
-          out : (b : Bool) (o : Option Limit)
+          out : (b : Bool) (o : Option Value)
               → option_map (λ limit. cond b (raised st path file limit) limit) o ≡ cond b (option_map (raised st path file) o) o
           out true o = refl
           out false o = map_same o

@@ -1,18 +1,17 @@
 -- What to change so that nobody is let in who is asked about, and the tree with the changes made. Own.
-use Rattle.std.specs.Prelude.{◌≡◌, ℕ, Bool, ◌&&◌, not, cond, List, [], ◌∷◌, ◌++◌, filter, take}
+use Rattle.std.specs.Prelude.{◌≡◌, ℕ, Bool, ◌&&◌, not, cond, List, ◌++◌, filter, take}
 use Rattle.std.specs.List.{flat_map, list_any}
 use Rattle.std.specs.Option.{option_map}
 use Rattle.cg_cgroup.specs.Files.{same_entry}
 use Rattle.cg_cgroup.specs.Paths.{Names, same_path}
 use Rattle.cg_cgroup.specs.declared.files.EntryName.{EntryName}
 use Rattle.cg_cgroup.specs.declared.files.LimitFile.{LimitFile}
-use Rattle.cg_cgroup.specs.declared.other_file.OtherFile.{OtherFile}
 use Rattle.cg_cgroup.specs.declared.user.Entry.{Entry}
 use Rattle.cg_model.specs.Advised.{raised}
 use Rattle.cg_model.specs.Mended.{without_bits}
 use Rattle.cg_model.specs.Mends.{Change, changes_at, limit_changes, made}
 use Rattle.cg_model.specs.Once.{once}
-use Rattle.cg_model.specs.States.{State, entry_at, value_at, told_text, paths_of}
+use Rattle.cg_model.specs.States.{State, entry_at, value_at, paths_of}
 use Rattle.cg_model.specs.WellFormed.{enabled_at}
 use Rattle.cg_model.specs.declared.mend.Class.TheVariants.{Owner, Group, Others}
 use Rattle.cg_advice.specs.AdviceLines.{over_lines}
@@ -89,7 +88,6 @@ pub record IsAdvisedToEverybody (st new : State) (asked : Everybody) (subtrees :
       ≡ option_map (λ entry. cond (lets_in_at st asked subtrees path name) (taken_back asked entry) entry) (entry_at st path name)
   pub values : (path : Names) (file : LimitFile) → value_at new path file
       ≡ cond (is_asked_of subtrees path) (option_map (raised st path file) (value_at st path file)) (value_at st path file)
-  pub texts : (path : Names) (file : OtherFile) → told_text new path file ≡ told_text st path file
   pub enabled : (path : Names) → enabled_at new path ≡ enabled_at st path
   pub paths : paths_of new ≡ paths_of st
   pub live : new.live ≡ st.live
