@@ -4,7 +4,6 @@ use crate::names::{controller_names, none_said};
 use crate::paths::why_no_path;
 use arguments::request::Request;
 use cg_cgroup::files::{Controller, EntryName, LimitFile, Vocabulary};
-use cg_cgroup::other_file::OtherFile;
 use std::alloc::{AllocError, Global};
 use text_places::shown::quoted;
 
@@ -90,13 +89,13 @@ fn form_of(vocabulary: Vocabulary, line: &str) -> &'static str {
     }
 }
 
-/// What a line of `set` looks like: the files of `OtherFile` have texts for values.
+/// What a line of `set` looks like: some files have texts for values.
 fn setting_form(vocabulary: Vocabulary, line: &str) -> &'static str {
     let name = line.split(' ').nth(2).unwrap_or("");
-    if vocabulary == Vocabulary::Format4 && OtherFile::from_name(name).is_some() {
-        "set PATH LIMITFILE VALUE, of at most 3800 printable bytes"
-    } else {
-        "set PATH LIMITFILE NUMBER, or max in place of the number"
+    match vocabulary.file(name) {
+        Some(file) if file.is_text() =>
+            "set PATH LIMITFILE VALUE, of at most 3800 printable bytes",
+        _ => "set PATH LIMITFILE NUMBER, or max in place of the number",
     }
 }
 
@@ -134,7 +133,7 @@ fn word_said(
 fn is_of_format_4(operation: &str, name: &str) -> bool {
     match operation {
         "control" => Controller::from_name(name).is_some(),
-        "set" | "chmod" => OtherFile::from_name(name).is_some(),
+        "set" | "chmod" => LimitFile::from_name(name).is_some(),
         _ => false,
     }
 }
@@ -157,9 +156,13 @@ fn names_at(
 
 /// The names of the limit files of a vocabulary.
 fn file_names(alloc: Global, vocabulary: Vocabulary) -> Result<Vec<&'static str>, AllocError> {
-    let mut names = Vec::from_slice(alloc, &LimitFile::ALL.map(|file| file.name()))?;
-    if vocabulary == Vocabulary::Format4 {
-        names.extend_from_slice(&OtherFile::ALL.map(|file| file.name()))?;
+    let files: &[LimitFile] = match vocabulary {
+        Vocabulary::Format2 => &LimitFile::IN_FORMAT_2,
+        Vocabulary::Format4 => &LimitFile::ALL,
+    };
+    let mut names = Vec::new(alloc);
+    for file in files {
+        names.push(file.name())?;
     }
     Ok(names)
 }

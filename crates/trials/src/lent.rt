@@ -1,11 +1,11 @@
 //! What is lent to a call: whether it is then as it was.
 use crate::said::answer_said;
 use crate::trial::{Ended, Trial, answered};
+use cg_cgroup::cgroup::Cgroup;
+use cg_cgroup::files::LimitFile;
 use cg_cgroup::memory::NoMemory;
-use cg_cgroup::other_file::OtherFile;
 use cg_cgroup::path::Path;
 use cg_cgroup::process::Pid;
-use cg_model::files::told_at;
 use cg_model::hierarchy::Hierarchy;
 use std::alloc::Global;
 use std::fmt::Debug;
@@ -27,7 +27,7 @@ pub fn asked<H: Hierarchy + Drop, T: Debug + Drop, E: Debug + Drop + PartialEq>(
     answer_said(trial.alloc, wanted, kept, &answer)
 }
 
-/// Whether two trees read alike: their paths, the cgroups there and what is told of their files, their live PIDs, and of the
+/// Whether two trees read alike: their paths, the cgroups there and what their files say, their live PIDs, and of the
 /// first hundred PIDs and the live ones the places, owners and whether they were used.
 pub fn reads_alike<H: Hierarchy>(alloc: Global, tree: &H, other: &H) -> Result<bool, NoMemory> {
     let paths = other.paths(alloc)?;
@@ -45,13 +45,31 @@ pub fn reads_alike<H: Hierarchy>(alloc: Global, tree: &H, other: &H) -> Result<b
 fn have_same_rows<H: Hierarchy>(tree: &H, other: &H, paths: &[Path]) -> bool {
     for path in paths {
         let len = path.depth();
-        if tree.get(path, len).copied() != other.get(path, len).copied() {
+        let (Some(cgroup), Some(same)) = (tree.get(path, len), other.get(path, len)) else {
+            return false;
+        };
+        if !is_same_cgroup(cgroup, same) {
             return false;
         }
-        for file in OtherFile::ALL {
-            if told_at(tree, path, len, file) != told_at(other, path, len, file) {
-                return false;
-            }
+    }
+    true
+}
+
+fn is_same_cgroup(cgroup: &Cgroup, other: &Cgroup) -> bool {
+    cgroup.dir == other.dir
+        && cgroup.procs == other.procs
+        && cgroup.subtree_control == other.subtree_control
+        && cgroup.enabled == other.enabled
+        && cgroup.files.has_same_values(&other.files)
+        && have_same_entries(cgroup, other)
+}
+
+fn have_same_entries(cgroup: &Cgroup, other: &Cgroup) -> bool {
+    for file in LimitFile::ALL {
+        if cgroup.files.entry(file) != other.files.entry(file)
+            || cgroup.names(file) != other.names(file)
+        {
+            return false;
         }
     }
     true

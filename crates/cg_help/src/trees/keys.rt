@@ -2,8 +2,7 @@
 use crate::names::{listed, near_name};
 use crate::trees::cures::{belongs, instead, stands_in_a_row};
 use crate::trees::places::shown_value;
-use cg_cgroup::files::Vocabulary;
-use cg_cgroup::other_file::OtherFile;
+use cg_cgroup::files::{LimitFile, Vocabulary};
 use cg_format::fault::Place;
 use cg_text::tree::takes::Takes;
 use cg_text::tree::told::keys::Kind;
@@ -76,7 +75,14 @@ fn first_part(name: &str) -> &str {
 
 /// Whether a key of a table of format 1 or 2 is one of format 4.
 fn is_of_format_4(kind: Kind, key: &str) -> bool {
-    kind == Kind::Files(Vocabulary::Format2) && OtherFile::from_name(key).is_some()
+    kind == Kind::Files(Vocabulary::Format2) && is_text_name(key)
+}
+
+fn is_text_name(name: &str) -> bool {
+    match LimitFile::from_name(name) {
+        Some(file) => file.is_text(),
+        None => false,
+    }
 }
 
 /// What holds where a key is left out that needn't be there.

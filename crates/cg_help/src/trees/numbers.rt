@@ -1,7 +1,8 @@
 //! Owners, modes, values and PIDs that are out of range.
 use crate::trees::cures::size_of;
 use crate::trees::places::{RowAt, shown_value};
-use cg_cgroup::files::{Limit, LimitFile};
+use cg_cgroup::files::LimitFile;
+use cg_cgroup::value::ValueRef;
 use cg_text::tree::told::Told;
 use std::alloc::{AllocError, Global};
 
@@ -49,7 +50,7 @@ pub(super) fn value_said(
 }
 
 fn range_of(file: LimitFile) -> &'static str {
-    if file.accepts(Limit::Max) {
+    if file.accepts(ValueRef::Max) {
         "0 to 9223372036854775807 or \"max\""
     } else {
         "1 to 10000"
