@@ -3,7 +3,6 @@ use crate::judge::{breaks, breaks_from, is_over, plain_tries};
 use crate::random::{Trees, step};
 use cg_cgroup::files::{EntryName, LimitFile};
 use cg_cgroup::memory::NoMemory;
-use cg_cgroup::other_file::OtherFile;
 use cg_cgroup::path::{Path, PathFault};
 use cg_cgroup::user::{Entry, Mode, User};
 use cg_check::check;
@@ -33,7 +32,7 @@ struct Judged {
     escape: Option<Vec<Op>>,
 }
 
-/// The entries of the table of guards, in its order; of limit files beyond `LimitFile` those that stand.
+/// The entries of the table of guards, in its order; of limit files those that stand.
 fn table(alloc: Global, tree: &Rows, subtree: &Path) -> Result<Vec<Guarded>, NoMemory> {
     let mut entries = Vec::new(alloc);
     for len in (0..subtree.depth()).rev() {
@@ -44,14 +43,7 @@ fn table(alloc: Global, tree: &Rows, subtree: &Path) -> Result<Vec<Guarded>, NoM
         })?;
     }
     for file in LimitFile::ALL {
-        entries.push(Guarded {
-            guard: Guard::LimitFile(EntryName::File(file)),
-            at: subtree.try_clone(alloc)?,
-            name: EntryName::File(file),
-        })?;
-    }
-    for file in OtherFile::ALL {
-        let name = EntryName::Other(file);
+        let name = EntryName::File(file);
         if entry_at(tree, subtree, subtree.depth(), name).is_some() {
             entries.push(Guarded {
                 guard: Guard::LimitFile(name),

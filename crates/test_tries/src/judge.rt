@@ -2,16 +2,13 @@
 ghost use Rattle.std.specs.Prelude.{◌≤◌, length};
 
 use crate::random::step;
-use cg_cgroup::files::{Controller, EntryName, Limit, LimitFile};
+use cg_cgroup::files::{Controller, LimitFile};
 use cg_cgroup::memory::NoMemory;
-use cg_cgroup::other_file::OtherFile;
 use cg_cgroup::path::{Path, PathFault};
 use cg_cgroup::process::Pid;
-use cg_cgroup::told::{FileText, ToldFiles};
 use cg_cgroup::user::User;
-use cg_cgroup::value::device_in;
+use cg_cgroup::value::{Lines, Value, ValueRef, device_in};
 use cg_model::changes::{Change, Changes};
-use cg_model::files::entry_at;
 use cg_model::hierarchy::Hierarchy;
 use cg_model::operation::Op;
 use cg_rows::rows::Rows;
@@ -73,7 +70,7 @@ fn is_broken(alloc: Global, start: &Rows, now: &Rows, subtree: &Path) -> Result<
     Ok(is_changed(start, now, subtree) || is_over(now, subtree, now.paths(alloc)?.as_slice()))
 }
 
-/// Whether the subtree is gone, one of its limits is another, or files of a controller came to stand there or stand no more.
+/// Whether the subtree is gone, one of its limits is another, or came to stand there or stands no more.
 fn is_changed(start: &Rows, now: &Rows, subtree: &Path) -> bool {
     let Some(old) = start.get(subtree, subtree.depth()) else {
         return true;
@@ -82,36 +79,20 @@ fn is_changed(start: &Rows, now: &Rows, subtree: &Path) -> bool {
         return true;
     };
     for file in LimitFile::ALL {
-        if old.limit(file) != new.limit(file) {
-            return true;
-        }
-    }
-    for controller in Controller::ALL {
-        if old.other(controller).is_some() != new.other(controller).is_some() {
-            return true;
-        }
-    }
-    is_retold(start, now, subtree)
-}
-
-/// What is told as the value of a limit file beyond `LimitFile`.
-fn text<'a>(told: Option<&'a ToldFiles>, file: OtherFile) -> Option<&'a FileText> {
-    told?.get(file)?.value.as_ref()
-}
-
-/// Whether another value is told of one of the subtree's.
-fn is_retold(start: &Rows, now: &Rows, subtree: &Path) -> bool {
-    let old = start.told(subtree, subtree.depth());
-    let new = now.told(subtree, subtree.depth());
-    if old.is_none() && new.is_none() {
-        return false;
-    }
-    for file in OtherFile::ALL {
-        if text(old, file) != text(new, file) {
+        if !is_same(old.value(file), new.value(file)) {
             return true;
         }
     }
     false
+}
+
+/// Whether a file has the same value twice, or stands at neither time.
+fn is_same(old: Option<ValueRef<'_>>, new: Option<ValueRef<'_>>) -> bool {
+    match (old, new) {
+        (None, None) => true,
+        (Some(old), Some(new)) => old.is_same(new),
+        _ => false,
+    }
 }
 
 /// Each live process, and whether it is inside the subtree.
@@ -150,14 +131,15 @@ pub fn is_over(now: &Rows, subtree: &Path, paths: &[Path]) -> bool {
             deepest = deepest.max(down);
         }
     }
-    is_past(count, cgroup.max_descendants.value) || is_past(deepest, cgroup.max_depth.value)
+    is_past(count, cgroup.most(LimitFile::MaxDescendants))
+        || is_past(deepest, cgroup.most(LimitFile::MaxDepth))
 }
 
 /// Whether so many are more than a limit allows.
-fn is_past(count: u64, limit: Limit) -> bool {
-    match limit {
-        Limit::Max => false,
-        Limit::At(most) => count > most,
+fn is_past(count: u64, most: Option<u64>) -> bool {
+    match most {
+        None => false,
+        Some(most) => count > most,
     }
 }
 
@@ -191,82 +173,72 @@ fn add(tries: &mut Vec<Vec<Op>>, more: Vec<Vec<Op>>) -> Result<(), NoMemory> {
 }
 
 /// Another value that the file accepts.
-fn other_value(file: LimitFile, value: Limit) -> Limit {
-    match file {
-        LimitFile::CpuWeight => match value {
-            Limit::At(100) => Limit::At(1),
-            _ => Limit::At(100),
-        },
-        _ => match value {
-            Limit::Max => Limit::At(0),
-            Limit::At(_) => Limit::Max,
-        },
+fn other_value(
+    alloc: Global,
+    file: LimitFile,
+    had: ValueRef<'_>,
+) -> Result<Value, NoMemory> {
+    if file.is_text() {
+        return Ok(Value::Text(other_text(alloc, file, had)?));
     }
+    Ok(match (file, had) {
+        (LimitFile::CpuWeight, ValueRef::Number(100)) => Value::Number(1),
+        (LimitFile::CpuWeight, _) => Value::Number(100),
+        (_, ValueRef::Max) => Value::Number(0),
+        _ => Value::Max,
+    })
 }
 
 /// A text of a file, behind the device that its value tells of.
 fn on_device(
     alloc: Global,
-    file: OtherFile,
-    had: Option<&FileText>,
-    text: &str,
-) -> Result<FileText, NoMemory> {
+    file: LimitFile,
+    had: ValueRef<'_>,
+    value: ValueRef<'_>,
+) -> Result<Lines, NoMemory> {
     let mut line = String::new(alloc);
-    if let Some(had) = had {
-        if let Some(device) = device_in(&had.text) {
+    if let ValueRef::Text(had) = had {
+        if let Some(device) = device_in(had) {
             if file.is_of_devices() {
                 line.push_str(device)?;
                 line.push(' ')?;
             }
         }
     }
-    line.push_str(text)?;
-    Ok(FileText { text: line })
+    if let ValueRef::Text(text) = value {
+        line.push_str(text)?;
+    }
+    Ok(Lines { text: line })
 }
 
 /// Another text than that of a file, the one that loosens it where it has no such line.
 fn other_text(
     alloc: Global,
-    file: OtherFile,
-    had: Option<&FileText>,
-) -> Result<FileText, NoMemory> {
+    file: LimitFile,
+    had: ValueRef<'_>,
+) -> Result<Lines, NoMemory> {
     let loose = on_device(alloc, file, had, file.loose())?;
     match had {
-        Some(value) if value.text.lines().any(|line| line == loose.text.as_str()) => {
+        ValueRef::Text(text) if text.lines().any(|line| line == loose.text.as_str()) => {
             on_device(alloc, file, had, file.other())
         }
         _ => Ok(loose),
     }
 }
 
-/// The sets of the subtree's limit files beyond `LimitFile`.
-fn other_sets(alloc: Global, tree: &Rows, subtree: &Path) -> Result<Vec<Vec<Op>>, NoMemory> {
-    let mut tries = Vec::new(alloc);
-    let told = tree.told(subtree, subtree.depth());
-    for file in OtherFile::ALL {
-        if entry_at(tree, subtree, subtree.depth(), EntryName::Other(file)).is_some() {
-            let at = subtree.try_clone(alloc)?;
-            let value = other_text(alloc, file, text(told, file))?;
-            tries.push(only(alloc, Op::SetOther { at, file, value })?)?;
-        }
-    }
-    Ok(tries)
-}
-
 /// The sets of the subtree's limits, and the controls at its parent of what is told of.
 fn writes(alloc: Global, tree: &Rows, subtree: &Path) -> Result<Vec<Vec<Op>>, NoMemory> {
     let mut tries = Vec::new(alloc);
     for file in LimitFile::ALL {
-        let held = tree
+        let had = tree
             .get(subtree, subtree.depth())
-            .and_then(|cgroup| cgroup.file(file));
-        if let Some(held) = held {
+            .and_then(|cgroup| cgroup.value(file));
+        if let Some(had) = had {
             let at = subtree.try_clone(alloc)?;
-            let value = other_value(file, held.value);
+            let value = other_value(alloc, file, had)?;
             tries.push(only(alloc, Op::Set { at, file, value })?)?;
         }
     }
-    add(&mut tries, other_sets(alloc, tree, subtree)?)?;
     for controller in Controller::ALL {
         if is_told(tree, controller) {
             for on in [false, true] {

@@ -1,12 +1,11 @@
 //! Small random trees, the same ones each time.
 use cg_cgroup::cgroup::Cgroup;
-use cg_cgroup::files::{Controller, ControllerSet, EntryName, Limit, LimitFile};
+use cg_cgroup::files::{Controller, ControllerSet, EntryName, LimitFile};
 use cg_cgroup::memory::NoMemory;
-use cg_cgroup::other_file::OtherFile;
 use cg_cgroup::path::{Path, PathFault};
 use cg_cgroup::process::Pid;
-use cg_cgroup::told::FileText;
 use cg_cgroup::user::{Mode, User};
+use cg_cgroup::value::{Lines, Value, ValueRef};
 use cg_model::changes::{Change, Changes};
 use cg_model::hierarchy::Hierarchy;
 use cg_model::operation::Op;
@@ -39,10 +38,10 @@ fn child(alloc: Global, random: &mut Random, tree: &Rows) -> Result<Op, PathFaul
 /// Another mode for a random entry.
 fn chmod(alloc: Global, random: &mut Random, tree: &Rows) -> Result<Op, NoMemory> {
     let at = path_of(alloc, random, tree)?;
-    let file = random.one_of(&LimitFile::ALL, LimitFile::MaxDepth);
+    let file = random.one_of(&LimitFile::IN_FORMAT_2, LimitFile::MaxDepth);
     let entries = [EntryName::Dir, EntryName::Procs, EntryName::SubtreeControl];
     let control = random.one_of(&entries, EntryName::Dir);
-    let other = EntryName::Other(random.one_of(&OtherFile::ALL, OtherFile::CpuMax));
+    let other = EntryName::File(text_file(random));
     let entry = random.one_of(&[control, control, EntryName::File(file), other], control);
     let mode = Mode::new(random.one_of(&MODES, 0o600)).unwrap_or(Mode::FILE);
     Ok(Op::Chmod { at, entry, mode })
@@ -51,34 +50,49 @@ fn chmod(alloc: Global, random: &mut Random, tree: &Rows) -> Result<Op, NoMemory
 /// Another value for a random limit.
 fn set(alloc: Global, random: &mut Random, tree: &Rows) -> Result<Op, NoMemory> {
     let at = path_of(alloc, random, tree)?;
-    let file = random.one_of(&LimitFile::ALL, LimitFile::MaxDepth);
-    let values = [
-        Limit::Max,
-        Limit::At(1),
-        Limit::At(2),
-        Limit::At(4),
-        Limit::At(100),
-    ];
-    let value = random.one_of(&values, Limit::Max);
+    let file = random.one_of(&LimitFile::IN_FORMAT_2, LimitFile::MaxDepth);
+    let mosts = [None, Some(1), Some(2), Some(4), Some(100)];
+    let value = match random.one_of(&mosts, None) {
+        None => Value::Max,
+        Some(most) => Value::Number(most),
+    };
     Ok(Op::Set { at, file, value })
 }
 
-/// Another text for a random limit beyond `LimitFile`, among them those that tries set.
-fn set_other(alloc: Global, random: &mut Random, tree: &Rows) -> Result<Op, NoMemory> {
+/// A random limit file whose value is a text.
+fn text_file(random: &mut Random) -> LimitFile {
+    let file = random.one_of(&LimitFile::ALL, LimitFile::CpuMax);
+    if file.is_text() {
+        file
+    } else {
+        LimitFile::CpuMax
+    }
+}
+
+/// The text that a value is.
+fn text_of(value: ValueRef<'static>) -> &'static str {
+    match value {
+        ValueRef::Text(text) => text,
+        _ => "max",
+    }
+}
+
+/// Another text for a random limit file whose value is one, among them those that tries set.
+fn set_text(alloc: Global, random: &mut Random, tree: &Rows) -> Result<Op, NoMemory> {
     let at = path_of(alloc, random, tree)?;
-    let file = random.one_of(&OtherFile::ALL, OtherFile::CpuMax);
+    let file = text_file(random);
     let texts = [
-        file.loose(),
-        file.other(),
+        text_of(file.loose()),
+        text_of(file.other()),
         "8:0 max",
         "8:0 target=max",
         "8:0",
     ];
     let text = random.one_of(&texts, "max");
-    let value = FileText {
+    let value = Value::Text(Lines {
         text: String::from_str(alloc, text)?,
-    };
-    Ok(Op::SetOther { at, file, value })
+    });
+    Ok(Op::Set { at, file, value })
 }
 
 /// A change of a random controller at a random cgroup.
@@ -108,7 +122,7 @@ fn operation(alloc: Global, random: &mut Random, tree: &Rows) -> Result<Op, Path
         0..=2 => child(alloc, random, tree),
         3..=5 => Ok(chmod(alloc, random, tree)?),
         6 => Ok(set(alloc, random, tree)?),
-        7 => Ok(set_other(alloc, random, tree)?),
+        7 => Ok(set_text(alloc, random, tree)?),
         8 => Ok(control(alloc, random, tree)?),
         _ => Ok(movement(alloc, random, tree)?),
     }
