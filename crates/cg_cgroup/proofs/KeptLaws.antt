@@ -471,25 +471,29 @@ none_kept texts none =
 
 -- ---- of which nobody speaks
 
+abbrev passes : List (Option NumberFile) → Option Entry → List (Option Entry) → List TextFile → LimitFile → Bool
+passes numbers core owners texts file =
+    not (is_text file) || not (option_map_or (λ (held : Held). held.named) (kept numbers core owners texts file) false)
+
+plain_each : (numbers : List (Option NumberFile)) (core : Option Entry) (owners : List (Option Entry)) (texts : List TextFile)
+    → texts ≡ [] → (file : LimitFile) → passes numbers core owners texts file ≡ true
+plain_each numbers core owners texts none file =
+    elim (is_number_place file) as (λ b. is_number_place file ≡ b → passes numbers core owners texts file ≡ true) [
+      | true ↦ λ place.
+          ap (λ text. not text || not (option_map_or (λ (held : Held). held.named) (kept numbers core owners texts file) false))
+          (number_form file place)
+      | false ↦ λ place.
+          ap (λ named. not (is_text file) || not named)
+          (ap (λ held. option_map_or (λ (held : Held). held.named) held false) (kept_text numbers core owners texts file place)
+          ∙ named_text (text_in texts file) (owner_in core owners file)
+          ∙ ap (λ texts. is_some (text_in texts file)) none)
+          ∙ or-true (not (is_text file))
+    ] refl
+
 pub plain_kept : (numbers : List (Option NumberFile)) (core : Option Entry) (owners : List (Option Entry)) (texts : List TextFile)
     → texts ≡ [] → is_plain (all_kept numbers core owners texts) ≡ true
-plain_kept numbers core owners texts none = all_pass passes one all_files
-  where
-    abbrev passes : LimitFile → Bool
-    passes file = not (is_text file) || not (option_map_or (λ held. held.named) (kept numbers core owners texts file) false)
-
-    one : (file : LimitFile) → passes file ≡ true
-    one file =
-        elim (is_number_place file) as (λ b. is_number_place file ≡ b → passes file ≡ true) [
-          | true ↦ λ place.
-              ap (λ text. not text || not (option_map_or (λ held. held.named) (kept numbers core owners texts file) false)) (number_form file place)
-          | false ↦ λ place.
-              ap (λ named. not (is_text file) || not named)
-              (ap (λ held. option_map_or (λ held. held.named) held false) (kept_text numbers core owners texts file place)
-              ∙ named_text (text_in texts file) (owner_in core owners file)
-              ∙ ap (λ texts. is_some (text_in texts file)) none)
-              ∙ or-true (not (is_text file))
-        ] refl
+plain_kept numbers core owners texts none =
+    all_pass (passes numbers core owners texts) (plain_each numbers core owners texts none) all_files
 
 unsaid : (text named : Bool) → (not text || not named) ≡ true → text ≡ true → named ≡ false
 unsaid true true h is = cc
@@ -630,52 +634,60 @@ take_text : (changed : Bool) (said from_said : Option TextFile) (owner from_owne
 take_text true said from_said owner from_owner none = sym (ap (λ said. named_or said from_owner) none)
 take_text false said from_said owner from_owner none = refl
 
-pub take_kept : (controllers : ControllerSet) (numbers from_numbers : List (Option NumberFile)) (core from_core : Option Entry)
+abbrev take_numbers : ControllerSet → List (Option NumberFile) → List (Option NumberFile) → List (Option NumberFile)
+take_numbers controllers from_numbers numbers =
+    map (λ file. cond (is_brought_by controllers file) (number_in from_numbers file) (number_in numbers file)) format_2_files
+
+abbrev take_owners : ControllerSet → List (Option Entry) → List (Option Entry) → List (Option Entry)
+take_owners controllers from_owners owners =
+    map (λ controller. cond (enables controllers controller) (brought_owner from_owners controller) (brought_owner owners controller))
+    all_controllers
+
+abbrev left_texts : ControllerSet → List TextFile → List TextFile
+left_texts controllers texts = filter (λ text. not (is_brought_by controllers text.file)) texts
+
+module _ (controllers : ControllerSet) (numbers from_numbers : List (Option NumberFile)) (core from_core : Option Entry)
     (owners from_owners : List (Option Entry)) (texts from_texts : List TextFile)
-    → is_plain (all_kept from_numbers from_core from_owners from_texts) ≡ true
-    → all_kept (map (λ file. cond (is_brought_by controllers file) (number_in from_numbers file) (number_in numbers file)) format_2_files) core
-    (map (λ controller. cond (enables controllers controller) (brought_owner from_owners controller) (brought_owner owners controller))
-    all_controllers) (filter (λ text. not (is_brought_by controllers text.file)) texts)
-    ≡ taken_files controllers (all_kept from_numbers from_core from_owners from_texts) (all_kept numbers core owners texts)
-take_kept controllers numbers from_numbers core from_core owners from_owners texts from_texts plain =
-    same_files
-    (taken_files controllers (all_kept from_numbers from_core from_owners from_texts) (all_kept numbers core owners texts))
-    (all_kept taken_numbers_now core taken_owners_now taken_texts_now) one
-  where
-    abbrev taken_numbers_now : List (Option NumberFile)
-    taken_numbers_now = map (λ file. cond (is_brought_by controllers file) (number_in from_numbers file) (number_in numbers file)) format_2_files
+    (plain : is_plain (all_kept from_numbers from_core from_owners from_texts) ≡ true) where
+  abbrev take_now : LimitFile → Option Held
+  take_now file =
+      kept (take_numbers controllers from_numbers numbers) core (take_owners controllers from_owners owners) (left_texts controllers texts)
+      file
 
-    abbrev taken_owners_now : List (Option Entry)
-    taken_owners_now =
-        map (λ controller. cond (enables controllers controller) (brought_owner from_owners controller) (brought_owner owners controller))
-        all_controllers
+  take_each : (file : LimitFile) → take_now file
+      ≡ cond (is_brought_by controllers file) (kept from_numbers from_core from_owners from_texts file) (kept numbers core owners texts file)
+  take_each file =
+      elim (is_number_place file) as (λ b. is_number_place file ≡ b → take_now file
+      ≡ cond (is_brought_by controllers file) (kept from_numbers from_core from_owners from_texts file)
+      (kept numbers core owners texts file)) [
+        | true ↦ λ place.
+            kept_number (take_numbers controllers from_numbers numbers) core (take_owners controllers from_owners owners)
+            (left_texts controllers texts) file place
+            ∙ ap (option_map number_held)
+            (numbers_at (λ file. cond (is_brought_by controllers file) (number_in from_numbers file) (number_in numbers file)) file place)
+            ∙ take_either (option_map number_held) (is_brought_by controllers file) (number_in from_numbers file) (number_in numbers file)
+            ∙ (λ i. cond (is_brought_by controllers file)
+            (sym (kept_number from_numbers from_core from_owners from_texts file place) i)
+            (sym (kept_number numbers core owners texts file place) i))
+        | false ↦ λ place.
+            kept_text (take_numbers controllers from_numbers numbers) core (take_owners controllers from_owners owners)
+            (left_texts controllers texts) file place
+            ∙ (λ i. named_or (found-filter (λ file. not (is_brought_by controllers file)) texts file i)
+            (take_owner controllers core from_core owners from_owners file i))
+            ∙ take_text (is_brought_by controllers file) (text_in texts file) (text_in from_texts file) (owner_in core owners file)
+            (owner_in from_core from_owners file) (plain_says from_numbers from_core from_owners from_texts plain file place)
+            ∙ (λ i. cond (is_brought_by controllers file)
+            (sym (kept_text from_numbers from_core from_owners from_texts file place) i)
+            (sym (kept_text numbers core owners texts file place) i))
+      ] refl
 
-    abbrev taken_texts_now : List TextFile
-    taken_texts_now = filter (λ text. not (is_brought_by controllers text.file)) texts
-
-    one : (file : LimitFile) → kept taken_numbers_now core taken_owners_now taken_texts_now file
-        ≡ cond (is_brought_by controllers file) (kept from_numbers from_core from_owners from_texts file)
-        (kept numbers core owners texts file)
-    one file =
-        elim (is_number_place file) as
-        (λ b. is_number_place file ≡ b → kept taken_numbers_now core taken_owners_now taken_texts_now file
-        ≡ cond (is_brought_by controllers file) (kept from_numbers from_core from_owners from_texts file)
-        (kept numbers core owners texts file)) [
-          | true ↦ λ place.
-              kept_number taken_numbers_now core taken_owners_now taken_texts_now file place
-              ∙ ap (option_map number_held)
-              (numbers_at (λ file. cond (is_brought_by controllers file) (number_in from_numbers file) (number_in numbers file)) file place)
-              ∙ take_either (option_map number_held) (is_brought_by controllers file) (number_in from_numbers file) (number_in numbers file)
-              ∙ (λ i. cond (is_brought_by controllers file)
-              (sym (kept_number from_numbers from_core from_owners from_texts file place) i)
-              (sym (kept_number numbers core owners texts file place) i))
-          | false ↦ λ place.
-              kept_text taken_numbers_now core taken_owners_now taken_texts_now file place
-              ∙ (λ i. named_or (found-filter (λ file. not (is_brought_by controllers file)) texts file i)
-              (take_owner controllers core from_core owners from_owners file i))
-              ∙ take_text (is_brought_by controllers file) (text_in texts file) (text_in from_texts file) (owner_in core owners file)
-              (owner_in from_core from_owners file) (plain_says from_numbers from_core from_owners from_texts plain file place)
-              ∙ (λ i. cond (is_brought_by controllers file)
-              (sym (kept_text from_numbers from_core from_owners from_texts file place) i)
-              (sym (kept_text numbers core owners texts file place) i))
-        ] refl
+  pub take_kept : all_kept
+      (map (λ file. cond (is_brought_by controllers file) (number_in from_numbers file) (number_in numbers file)) format_2_files) core
+      (map (λ controller. cond (enables controllers controller) (brought_owner from_owners controller) (brought_owner owners controller))
+      all_controllers) (filter (λ text. not (is_brought_by controllers text.file)) texts)
+      ≡ taken_files controllers (all_kept from_numbers from_core from_owners from_texts) (all_kept numbers core owners texts)
+  take_kept =
+      same_files
+      (taken_files controllers (all_kept from_numbers from_core from_owners from_texts) (all_kept numbers core owners texts))
+      (all_kept (take_numbers controllers from_numbers numbers) core (take_owners controllers from_owners owners)
+      (left_texts controllers texts)) take_each
