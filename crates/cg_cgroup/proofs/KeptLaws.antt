@@ -509,9 +509,9 @@ pub plain_says : (numbers : List (Option NumberFile)) (core : Option Entry) (own
 plain_says numbers core owners texts plain file place =
     nothing_said (text_in texts file)
     (sym (named_text (text_in texts file) (owner_in core owners file))
-    ∙ sym (ap (λ held. option_map_or (λ held. held.named) held false) (kept_text numbers core owners texts file place))
-    ∙ unsaid (is_text file) (option_map_or (λ held. held.named) (kept numbers core owners texts file) false)
-    (each_passes (λ file. not (is_text file) || not (option_map_or (λ held. held.named) (kept numbers core owners texts file) false)) plain file)
+    ∙ sym (ap (λ held. option_map_or (λ (held : Held). held.named) held false) (kept_text numbers core owners texts file place))
+    ∙ unsaid (is_text file) (option_map_or (λ (held : Held). held.named) (kept numbers core owners texts file) false)
+    (each_passes (λ file. not (is_text file) || not (option_map_or (λ (held : Held). held.named) (kept numbers core owners texts file) false)) plain file)
     (text_form file place))
 
 -- the texts of two that say nothing are alike
