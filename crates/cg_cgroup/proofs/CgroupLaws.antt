@@ -168,7 +168,8 @@ file_of-with_files_of enabled user row file = refl
 
 -- limit files stand exactly where they belong, if those of the core do
 pub stands-with_files_of : (enabled : ControllerSet) (user : Identity) (row : Cgroup) (file : LimitFile)
-    → (controller_of file ≡ None → is_some (file_of row file) ≡ true) → is_some (file_of (with_files_of enabled user row) file) ≡ stands_under enabled file
+    → (controller_of file ≡ None → is_some (file_of row file) ≡ true)
+    → is_some (file_of (with_files_of enabled user row) file) ≡ stands_under enabled file
 stands-with_files_of enabled user row file core =
     elim (controller_of file) as (λ by. (by ≡ None → is_some (file_of row file) ≡ true) → is_some (elim by [
       | None ↦ file_of row file
@@ -199,7 +200,8 @@ same-with_files_of enabled user row file h =
     ] h
 
 -- a file that no controller brings stays as it is
-pub core-with_files_of : (enabled : ControllerSet) (user : Identity) (row : Cgroup) (file : LimitFile) → is_some (controller_of file) ≡ false
+pub core-with_files_of : (enabled : ControllerSet) (user : Identity) (row : Cgroup) (file : LimitFile)
+    → is_some (controller_of file) ≡ false
     → file_of (with_files_of enabled user row) file ≡ file_of row file
 core-with_files_of enabled user row file free =
     elim (controller_of file) as (λ by. is_some by ≡ false → elim by [

@@ -187,7 +187,8 @@ pub held_at_own : (file : LimitFile) (f : Held → Held) (files : FileMap)
 held_at_own file f files =
     same_files (with_held file f files) (with_at file (option_map f (files.at file)) files) (λ other.
     elim (same_file file other) as
-    (λ b. same_file file other ≡ b → cond b (option_map f (files.at file)) (files.at other) ≡ cond b (option_map f (files.at other)) (files.at other)) [
+    (λ b. same_file file other ≡ b → cond b (option_map f (files.at file)) (files.at other)
+    ≡ cond b (option_map f (files.at other)) (files.at other)) [
       | true ↦ λ same. ap (λ file. option_map f (files.at file)) (same_file-true file other same)
       | false ↦ λ _. refl
     ] refl)
@@ -240,7 +241,8 @@ text_put numbers core owners texts new text place found =
       | true ↦ λ same. ap (kept numbers core owners new) (sym (same_file-true text.file other same)) ∙ own
       | false ↦ λ differs.
           ap
-          (λ said. cond (is_number_place other) (option_map number_held (number_in numbers other)) (named_or said (owner_in core owners other)))
+          (λ said. cond (is_number_place other) (option_map number_held (number_in numbers other))
+          (named_or said (owner_in core owners other)))
           (found other ∙ ap (λ b. cond b (Some text) (text_in texts other)) differs)
     ] refl)
   where
@@ -271,7 +273,8 @@ number_set file files held f g is same =
     both (Some one) = ap Some (same one)
 
 pub text_set : (file : LimitFile) (files : FileMap) (entry : Entry) (f : Held → Held) (new : Held)
-    → Some entry ≡ option_map (λ held. held.entry) (files.at file) → ((held : Held) → files.at file ≡ Some held → held.entry ≡ entry → f held ≡ new)
+    → Some entry ≡ option_map (λ held. held.entry) (files.at file)
+    → ((held : Held) → files.at file ≡ Some held → held.entry ≡ entry → f held ≡ new)
     → with_at file (Some new) files ≡ with_held file f files
 text_set file files entry f new there same =
     ap (λ held. with_at file held files) (sym (changed_from (files.at file) entry f new there same)) ∙ held_at_own file f files
@@ -314,8 +317,8 @@ module _ (root : Bool) (enabled : ControllerSet) (entry : Entry) where
       (λ by. elim by [
         | None ↦ refitted_owner (not root) entry core
         | Some controller ↦
-            brought_owner (map (λ controller. refitted_owner (enables enabled controller) entry (brought_owner owners controller)) all_controllers)
-            controller
+            brought_owner (map (λ controller. refitted_owner (enables enabled controller) entry (brought_owner owners controller))
+            all_controllers) controller
       ]
       ≡ refitted_owner (elim by [ None ↦ not root | Some controller ↦ enables enabled controller ]) entry
       (elim by [ None ↦ core | Some controller ↦ brought_owner owners controller ])) [
@@ -403,8 +406,8 @@ module _ (enabled : ControllerSet) (entry : Entry) where
       ≡ elim by [
         | None ↦ named_or said (elim by [ None ↦ core | Some controller ↦ brought_owner owners controller ])
         | Some controller ↦ cond (enables enabled controller)
-            (Some (unwrap_or (named_or said (elim by [ None ↦ core | Some controller ↦ brought_owner owners controller ])) (untouched entry file)))
-            None
+            (Some (unwrap_or (named_or said (elim by [ None ↦ core | Some controller ↦ brought_owner owners controller ]))
+            (untouched entry file))) None
       ]) [
         | None ↦ refl
         | Some controller ↦
@@ -511,7 +514,8 @@ plain_says numbers core owners texts plain file place =
     (sym (named_text (text_in texts file) (owner_in core owners file))
     ∙ sym (ap (λ held. option_map_or (λ (held : Held). held.named) held false) (kept_text numbers core owners texts file place))
     ∙ unsaid (is_text file) (option_map_or (λ (held : Held). held.named) (kept numbers core owners texts file) false)
-    (each_passes (λ file. not (is_text file) || not (option_map_or (λ (held : Held). held.named) (kept numbers core owners texts file) false)) plain file)
+    (each_passes (λ file. not (is_text file)
+    || not (option_map_or (λ (held : Held). held.named) (kept numbers core owners texts file) false)) plain file)
     (text_form file place))
 
 -- the texts of two that say nothing are alike
@@ -580,7 +584,8 @@ not_plain numbers core owners (text ∷ texts) none some =
 
 owner_held : (said : Option TextFile) (owner : Option Entry) (held : Held) → named_or said owner ≡ Some held → held.named ≡ false
     → owner ≡ Some held.entry
-owner_held (Some text) owner held is named = absurd (true≢false (ap (λ (held : Held). held.named) (same_Some (text_held text) held is) ∙ named))
+owner_held (Some text) owner held is named =
+    absurd (true≢false (ap (λ (held : Held). held.named) (same_Some (text_held text) held is) ∙ named))
 owner_held None None held is named = cc
 owner_held None (Some entry) held is named = ap Some (ap (λ (held : Held). held.entry) (same_Some (unnamed_held entry) held is))
 
@@ -594,10 +599,11 @@ owners_kept numbers core owners texts = record {
   each = λ file held is named.
       elim (is_number_place file) as (λ b. is_number_place file ≡ b → owner_in core owners file ≡ Some held.entry) [
         | true ↦ λ place.
-            absurd (true≢false (sym (number_named (number_in numbers file) held (sym (kept_number numbers core owners texts file place) ∙ is))
-            ∙ named))
+            absurd (true≢false
+            (sym (number_named (number_in numbers file) held (sym (kept_number numbers core owners texts file place) ∙ is)) ∙ named))
         | false ↦ λ place.
-            owner_held (text_in texts file) (owner_in core owners file) held (sym (kept_text numbers core owners texts file place) ∙ is) named
+            owner_held (text_in texts file) (owner_in core owners file) held
+            (sym (kept_text numbers core owners texts file place) ∙ is) named
       ] refl;
 }
 
@@ -630,7 +636,8 @@ take_either f true x y = refl
 take_either f false x y = refl
 
 take_text : (changed : Bool) (said from_said : Option TextFile) (owner from_owner : Option Entry) → from_said ≡ None
-    → named_or (cond (not changed) said None) (cond changed from_owner owner) ≡ cond changed (named_or from_said from_owner) (named_or said owner)
+    → named_or (cond (not changed) said None) (cond changed from_owner owner)
+    ≡ cond changed (named_or from_said from_owner) (named_or said owner)
 take_text true said from_said owner from_owner none = sym (ap (λ said. named_or said from_owner) none)
 take_text false said from_said owner from_owner none = refl
 
@@ -655,7 +662,8 @@ module _ (controllers : ControllerSet) (numbers from_numbers : List (Option Numb
       file
 
   take_each : (file : LimitFile) → take_now file
-      ≡ cond (is_brought_by controllers file) (kept from_numbers from_core from_owners from_texts file) (kept numbers core owners texts file)
+      ≡ cond (is_brought_by controllers file) (kept from_numbers from_core from_owners from_texts file)
+      (kept numbers core owners texts file)
   take_each file =
       elim (is_number_place file) as (λ b. is_number_place file ≡ b → take_now file
       ≡ cond (is_brought_by controllers file) (kept from_numbers from_core from_owners from_texts file)

@@ -18,12 +18,14 @@ use Rattle.cg_cgroup.proofs.AllFiles.{each_passes, all_pass}
 pub plain-taken : (controllers : ControllerSet) (from files : FileMap) → is_plain from ≡ true → is_plain files ≡ true
     → is_plain (taken_files controllers from files) ≡ true
 plain-taken controllers from files there here =
-    all_pass (λ file. not (is_text file) || not (option_map_or (λ (held : Held). held.named) ((taken_files controllers from files).at file) false))
+    all_pass
+    (λ file. not (is_text file) || not (option_map_or (λ (held : Held). held.named) ((taken_files controllers from files).at file) false))
     (λ file.
     elim (is_brought_by controllers file) as (λ b. (not (is_text file)
     || not (option_map_or (λ (held : Held). held.named) (cond b (from.at file) (files.at file)) false)) ≡ true) [
       | true ↦ each_passes (λ file. not (is_text file) || not (option_map_or (λ (held : Held). held.named) (from.at file) false)) there file
-      | false ↦ each_passes (λ file. not (is_text file) || not (option_map_or (λ (held : Held). held.named) (files.at file) false)) here file
+      | false ↦
+          each_passes (λ file. not (is_text file) || not (option_map_or (λ (held : Held). held.named) (files.at file) false)) here file
     ]) all_files
 
 either_way : (text : Bool) → (not text || not (not text)) ≡ true
@@ -71,7 +73,8 @@ module _ (test : Option Entry → Bool) (nothing : test None ≡ true) where
     text_passes file text None is = nothing
     text_passes file text (Some held) is = ap test (sym (are.each file held is (unnamed file held text is))) ∙ owner_passes file
 
-    pub texts_pass : list_all (λ file. not (is_text file) || test (option_map (λ (held : Held). held.entry) (files.at file))) all_files ≡ true
+    pub texts_pass : list_all (λ file. not (is_text file) || test (option_map (λ (held : Held). held.entry) (files.at file))) all_files
+        ≡ true
     texts_pass =
         all_pass (λ file. not (is_text file) || test (option_map (λ (held : Held). held.entry) (files.at file))) (λ file.
         elim (is_text file) as

@@ -58,7 +58,8 @@ pub put_behind : (texts : List TextFile) (text : TextFile) → position (is_of t
 put_behind texts text none file =
     find-append (is_of file) texts (text ∷ [])
     ∙ (elim (same_file text.file file) as
-    (λ b. same_file text.file file ≡ b → option_or (text_in texts file) (cond b (Some text) None) ≡ cond b (Some text) (text_in texts file)) [
+    (λ b. same_file text.file file ≡ b → option_or (text_in texts file) (cond b (Some text) None)
+    ≡ cond b (Some text) (text_in texts file)) [
       | true ↦ λ same.
           let one : text.file ≡ file = same_file-true text.file file same in
           ap (λ found. option_or found (Some text)) (ap (text_in texts) (sym one) ∙ found_nowhere (is_of text.file) texts none)
@@ -83,7 +84,8 @@ found-filter test [] file = none_either (test file)
     none_either false = refl
 found-filter test (text ∷ texts) file =
     elim (test text.file) as
-    (λ kept. test text.file ≡ kept → text_in (cond kept (text ∷ filter (λ text. test text.file) texts) (filter (λ text. test text.file) texts)) file
+    (λ kept. test text.file ≡ kept
+    → text_in (cond kept (text ∷ filter (λ text. test text.file) texts) (filter (λ text. test text.file) texts)) file
     ≡ cond (test file) (cond (same_file text.file file) (Some text) (text_in texts file)) None) [
       | true ↦ λ kept.
           (elim (same_file text.file file) as

@@ -536,8 +536,9 @@ fn refitted_number(
 {
     match file.controller() {
         None => held,
-        Some(controller) if enabled.contains(controller) =>
-            Some(held.unwrap_or(untouched_number(file, entry))),
+        Some(controller) if enabled.contains(controller) => Some(held.unwrap_or(untouched_number(
+            file, entry,
+        ))),
         Some(_) => None,
     }
 }

@@ -12,7 +12,8 @@ put_text-requires c = sym c.is_number_place.ensures ∙ c.if-is_number_place.fal
 
 pub returns-then-is_number_place-clause-ok : goal.returns-then-is_number_place-clause-ok
 returns-then-is_number_place-clause-ok c =
-    let is = ap number_value c.most.ensures ∙ number_had c.args.file (value_now c.args.value) (sym c.is_number_place.ensures ∙ c.if-is_number_place.true) c.requires in
+    let place = sym c.is_number_place.ensures ∙ c.if-is_number_place.true in
+    let is = ap number_value c.most.ensures ∙ number_had c.args.file (value_now c.args.value) place c.requires in
     c.put_number.ensures
     ∙ (λ i. with_at c.args.file (Some (record { entry = c.args.entry; value = is i; named = true })) c.args.self.now)
 
@@ -24,6 +25,7 @@ returns-in_err-put_text-clause-memory c = text_form c.args.file (sym c.is_number
 
 pub returns-clause-ok : goal.returns-clause-ok
 returns-clause-ok c =
-    let is = ap text_value c.in_ok-text.ensures ∙ text_had c.args.file (value_now c.args.value) (sym c.is_number_place.ensures ∙ c.if-is_number_place.false) c.requires in
+    let place = sym c.is_number_place.ensures ∙ c.if-is_number_place.false in
+    let is = ap text_value c.in_ok-text.ensures ∙ text_had c.args.file (value_now c.args.value) place c.requires in
     c.in_ok-put_text.ensures.ok
     ∙ (λ i. with_at c.args.file (Some (record { entry = c.args.entry; value = is i; named = true })) c.args.self.now)

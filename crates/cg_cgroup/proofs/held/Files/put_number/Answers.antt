@@ -10,5 +10,6 @@ index-requires c = omega (arith, c.number.ensures.number, place_within c.args.fi
 pub returns : goal.returns
 returns c =
     ap (λ number. all_kept (set c.self.inside.numbers number c.args.held) _ _ _) c.number.ensures.number
-    ∙ number_put c.self.inside.numbers c.self.inside.core c.self.inside.owners c.self.inside.texts c.args.file c.args.held c.requires (omega arith)
+    ∙ number_put c.self.inside.numbers c.self.inside.core c.self.inside.owners c.self.inside.texts c.args.file c.args.held c.requires
+    (omega arith)
     ∙ ap (with_at c.args.file (option_map number_held c.args.held)) c.self.view_is

@@ -6,7 +6,8 @@ use Rattle.cg_cgroup.proofs.held.Files.put_text.Goals as goal
 
 pub returns-clause-ok : goal.returns-clause-ok
 returns-clause-ok c =
-    text_put c.self.inside.numbers c.self.inside.core c.self.inside.owners c.self.inside.texts _ c.args.text c.requires c.in_ok-put.ensures.ok
+    text_put c.self.inside.numbers c.self.inside.core c.self.inside.owners c.self.inside.texts _ c.args.text c.requires
+    c.in_ok-put.ensures.ok
     ∙ ap (with_at c.args.text.file (Some (text_held c.args.text))) c.self.view_is
 
 pub invariant_of-self : goal.invariant_of-self

@@ -23,7 +23,8 @@ pub returns-then-is_number_place-clause-ok : goal.returns-then-is_number_place-c
 returns-then-is_number_place-clause-ok c =
     let value = value_now c.args.value in
     let most = c.most.result in
-    let is = ap number_value c.most.ensures ∙ number_accepted c.args.file value (sym c.is_number_place.ensures ∙ c.if-is_number_place.true) c.requires in
+    let place = sym c.is_number_place.ensures ∙ c.if-is_number_place.true in
+    let is = ap number_value c.most.ensures ∙ number_accepted c.args.file value place c.requires in
     c.put_number.ensures ∙ ap (λ held. with_at c.args.file (option_map number_held held) c.args.self.now) c.with_most.ensures
     ∙ number_set c.args.file c.args.self.now c.number.result (with_value_of value) (λ (one : NumberFile). record one { most = most })
     c.number.ensures (λ one i. record { entry = one.entry; value = is i; named = true })

@@ -7,7 +7,8 @@ use Rattle.cg_cgroup.proofs.held.Files.try_clone.Goals as goal
 pub returns-in_err-try_clone-clause-err : goal.returns-in_err-try_clone-clause-err
 returns-in_err-try_clone-clause-err c =
     sym (ap is_plain c.self.view_is)
-    ∙ not_plain c.self.inside.numbers c.self.inside.core c.self.inside.owners c.self.inside.texts c.self.invariant c.in_err-try_clone.ensures.err
+    ∙ not_plain c.self.inside.numbers c.self.inside.core c.self.inside.owners c.self.inside.texts c.self.invariant
+    c.in_err-try_clone.ensures.err
 
 pub invariant_of-result : goal.invariant_of-result
 invariant_of-result c = subst HasNoNumbers (sym c.in_ok-try_clone.ensures.ok) c.self.invariant
