@@ -48,7 +48,7 @@ put_there texts text at found file =
           find-set (is_of file) texts at text
           (found_first (is_of file) texts at (ap (λ file. position (is_of file) texts) (sym one) ∙ found)) there.0 same
       | false ↦ λ other.
-          let held : (get_or texts at text).file ≡ text.file = same_file-true (get_or texts at text).file text.file there.1.0 in
+          let held : (get_or texts at text).file ≡ text.file = same_file-true (get_or texts at text).file text.file there.1 in
           find_past (is_of file) texts at text text (ap (λ own. same_file own file) held ∙ other) other
     ] refl
 
