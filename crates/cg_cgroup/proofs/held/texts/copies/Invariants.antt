@@ -2,4 +2,4 @@ use Rattle.std.proofs.Common.{◌≡◌, take}
 use Rattle.cg_cgroup.proofs.held.texts.copies.Given as goal
 
 abbrev pub invariant-loop-text : goal.invariant-loop-text
-invariant-loop-text l = l.copies.items ≡ take l.text-index l.text-items
+invariant-loop-text l = l.copies.items ≡ take l.text-index l.texts
