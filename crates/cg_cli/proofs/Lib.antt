@@ -37,3 +37,4 @@ pub mod FoundPlaces
 pub mod Knowing
 pub mod Auditing
 pub mod ListedRows
+pub mod AsJson

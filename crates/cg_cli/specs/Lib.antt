@@ -25,6 +25,8 @@ pub mod FurtherPairs
 pub mod Pairs
 pub mod Everybody
 pub mod Explaining
+pub mod Formats
 pub mod EachPair
 pub mod SettledPairs
 pub mod SettledRows
+pub mod AsJson
