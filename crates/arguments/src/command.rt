@@ -446,7 +446,7 @@ fn everybody_argument<'a>(alloc: Global) -> Arg<'a>
         .long("everybody")
         .action(ArgAction::SetTrue)
         .help(
-            "Everybody but root in place of --uid, whoever there is: whom each guarded entry lets in",
+            "Asks of everybody but root in place of --uid, whoever there is",
         )
 }
 
