@@ -146,8 +146,8 @@ pub unlisted_said : (how : Listing) (bytes : List ℕ) (given : List (ℕ × Lis
     (λ status. (start : State) (who : List Identity) (paths : List Names) → IsTextOf start bytes → users_read given ≡ Ok who
     → paths_read texts ≡ Ok paths → UnlistedAsNamed start (paired who paths))
 unlisted_said how bytes given texts old new result asked =
-    by_read (named_read given texts asked.0) (λ users subtrees st. named_read given texts asked.0 ≡ Ok (users, subtrees, st)) (ListsNamed how)
-    (λ old new result. IfOk result
+    by_read (named_read given texts asked.0) (λ users subtrees st. named_read given texts asked.0 ≡ Ok (users, subtrees, st))
+    (ListsNamed how) (λ old new result. IfOk result
     (λ status. (start : State) (who : List Identity) (paths : List Names) → IsTextOf start bytes → users_read given ≡ Ok who
     → paths_read texts ≡ Ok paths → UnlistedAsNamed start (paired who paths)))
     (λ fault met known. tt)
