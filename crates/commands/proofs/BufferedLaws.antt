@@ -115,11 +115,13 @@ ReportsPairs-Keeps how (Err fault) old mid new (Ok status) h k = h
 ReportsPairs-Keeps how (Err fault) old mid new (Err NoMemory) h k = (h.0, Keeps-Keeps old mid new h.1 k)
 ReportsPairs-Keeps how (Err fault) old mid new (Err other) h k = (h.0, Keeps-Keeps old mid new h.1 k)
 
-module _ (format : Written) (users : List (ℕ × List ℕ)) (subtrees : List (List ℕ)) (old mid new : Option (List ℕ)) (result : Result ℕ CliFault)
-    (tree : Reading) (k : Keeps mid new) where
+module _ (format : Written) (users : List (ℕ × List ℕ)) (subtrees : List (List ℕ)) (old mid new : Option (List ℕ))
+    (result : Result ℕ CliFault) (tree : Reading) (k : Keeps mid new) where
   AuditSays-by : (settle all : Bool)
-      → MatchBool settle (FurtherSay format all users subtrees old mid result tree) (GuardsSay format all users subtrees old mid result tree)
-      → MatchBool settle (FurtherSay format all users subtrees old new result tree) (GuardsSay format all users subtrees old new result tree)
+      → MatchBool settle (FurtherSay format all users subtrees old mid result tree)
+      (GuardsSay format all users subtrees old mid result tree)
+      → MatchBool settle (FurtherSay format all users subtrees old new result tree)
+      (GuardsSay format all users subtrees old new result tree)
   AuditSays-by true true said = (said.0, said.1, ReportsPairs-Keeps (listing_in (format_of format)) said.0 old mid new result said.2 k)
   AuditSays-by true false said =
       (said.0, said.1, Reports-Keeps (report_on said.0 (first_in (format_of format))) old mid new result said.2 k)
@@ -193,7 +195,8 @@ SettlesAs-Keeps check old mid new result tree said k = (said.0, said.1, Reports-
 
 ExplainSays-Keeps : (explain : Explain) (old mid new : Option (List ℕ)) (result : Result ℕ CliFault) (tree : Reading)
     → ExplainSays explain old mid result tree → Keeps mid new → ExplainSays explain old new result tree
-ExplainSays-Keeps explain old mid new result tree said k = ReportsTold-Keeps (told_in (format_of explain.format)) _ old mid new result said k
+ExplainSays-Keeps explain old mid new result tree said k =
+    ReportsTold-Keeps (told_in (format_of explain.format)) _ old mid new result said k
 
 pub CarriesOut-Keeps : (asked : Request) (files : Files) (given old mid new : Option (List ℕ)) (result : Result ℕ CliFault)
     → CarriesOut asked files given old mid result → Keeps mid new → CarriesOut asked files given old new result
@@ -226,10 +229,12 @@ CarriesOut-Keeps (request.AdvisePairs asked) files given old mid new result h k 
     old mid new result said kept) h k
 CarriesOut-Keeps (request.AuditPairs asked) files given old mid new result h k =
     OnBothTexts-Keeps pairs_read (AuditsOn asked.format) _ _ old mid new result
-    (λ pairs tree said kept. ReportsPairs-Keeps (listing_in (format_of asked.format)) (audit_pairs_report tree pairs) old mid new result said kept) h k
+    (λ pairs tree said kept.
+    ReportsPairs-Keeps (listing_in (format_of asked.format)) (audit_pairs_report tree pairs) old mid new result said kept) h k
 CarriesOut-Keeps (request.ExplainPairs asked) files given old mid new result h k =
     OnBothTexts-Keeps pairs_read (ExplainsOn asked.format) _ _ old mid new result
-    (λ pairs tree said kept. ReportsTold-Keeps (told_in (format_of asked.format)) (explain_pairs_asked tree pairs) old mid new result said kept) h k
+    (λ pairs tree said kept.
+    ReportsTold-Keeps (told_in (format_of asked.format)) (explain_pairs_asked tree pairs) old mid new result said kept) h k
 CarriesOut-Keeps (request.Replay replay) files given old mid new result h k =
     let ops = source files (other_file replay.sources) given in
     OnTreeText-Keeps (source files (tree_file replay.sources) given)

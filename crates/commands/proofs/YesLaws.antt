@@ -105,17 +105,22 @@ unread_pairs (Ok a) (Err other) fault report found is = cc
 unread_pairs (Err other) two fault report found is = cc
 
 -- however it is written
+pub ends_alike : (format : Written) (lines json : Report) → json.ending ≡ lines.ending → (in_format format lines json).ending ≡ lines.ending
+ends_alike written_as.Lines lines json same = refl
+ends_alike written_as.Json lines json same = same
+
 check_zero : (format : Written) (tree : Reading) (uid : ℕ) (gids word : List ℕ)
     → (in_format format (check_report tree uid gids word) (check_json_report tree uid gids word)).ending ≡ Ok 0
     → (check_report tree uid gids word).ending ≡ Ok 0
-check_zero written_as.Lines tree uid gids word is = is
-check_zero written_as.Json tree uid gids word is = sym (check_ending tree uid gids word) ∙ is
+check_zero format tree uid gids word is =
+    sym (ends_alike format (check_report tree uid gids word) (check_json_report tree uid gids word) (check_ending tree uid gids word)) ∙ is
 
 audit_zero : (format : Written) (tree : Reading) (users : List (ℕ × List ℕ)) (subtrees : List (List ℕ))
     → (in_format format (audit_report tree users subtrees) (audit_json_report tree users subtrees)).ending ≡ Ok 0
     → (audit_report tree users subtrees).ending ≡ Ok 0
-audit_zero written_as.Lines tree users subtrees is = is
-audit_zero written_as.Json tree users subtrees is = sym (audit_ending tree users subtrees) ∙ is
+audit_zero format tree users subtrees is =
+    sym (ends_alike format (audit_report tree users subtrees) (audit_json_report tree users subtrees) (audit_ending tree users subtrees))
+    ∙ is
 
 check_refused : (fault : TreeFault) (uid : ℕ) (gids word : List ℕ) → (check_report (Err fault) uid gids word).ending ≡ Ok 0 → ⊥
 check_refused fault uid gids word is =
