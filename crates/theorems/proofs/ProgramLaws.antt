@@ -33,7 +33,7 @@ use Rattle.cg_cli.specs.Advising.{all_pairs, paired, advise_report, advise_pairs
 use Rattle.cg_cli.specs.FurtherAdvice.{AreHeld}
 use Rattle.cg_cli.specs.FurtherPairs.{listed_from, AreFurther, first_pair_status}
 use Rattle.cg_cli.specs.AllPairs.{all_report, ReportsPairsBy}
-use Rattle.cg_cli.specs.AsJson.{answer_json_report, parts_report, may_json_report, check_json_report, audit_json_report, advise_json_report, advise_settled_json_report, advise_pairs_json_report}
+use Rattle.cg_cli.specs.AsJson.{answer_json_report, parts_report, may_json_report, check_json_report, audit_json_report, advise_json_report, advise_pairs_json_report}
 use Rattle.cg_cli.specs.Asking.{CallEnding}
 use Rattle.cg_cli.specs.EachPair.{audit_pairs_report, explain_pairs_asked, UnlistedAsNamed}
 use Rattle.cg_cli.specs.Containment.{answer_report, check_report}
@@ -46,7 +46,6 @@ use Rattle.cg_cli.specs.Everybody.{everybody_report}
 use Rattle.cg_everybody.specs.Everybody.{GuardsHoldForEverybody}
 use Rattle.machine_everybody.specs.Everybody.{Everybody as Whom, IsAsked}
 use Rattle.cg_cli.specs.Settled.{IsSettledFrom}
-use Rattle.cg_cli.specs.SettledAdvice.{advise_settled_report}
 use Rattle.cg_cli.specs.May.{may_report}
 use Rattle.cg_cli.specs.Settling.{AskedReports, IsFurther}
 use Rattle.cg_cli.specs.Audits.{users_read, paths_read, audit_report}
@@ -54,7 +53,7 @@ use Rattle.cg_cli.specs.Once.{same_user}
 use Rattle.cg_cli.specs.Replays.{closed, replay_report}
 use Rattle.cg_cli.specs.Replaying.{Reporting, Replays}
 use Rattle.cg_cli.specs.Reports.{Report, Reports}
-use Rattle.cg_cli.proofs.AsJson.{may_ending, check_ending, audit_ending, advise_ending, advise_pairs_ending, advise_settled_ending}
+use Rattle.cg_cli.proofs.AsJson.{may_ending, check_ending, audit_ending, advise_ending, advise_pairs_ending}
 use Rattle.cg_cli.specs.Upgrades.{Upgrades, IsNewText, upgrade_report}
 use Rattle.cg_faults.specs.declared.fault.CliFault.{CliFault}
 use Rattle.cg_faults.specs.declared.fault.CliFault.TheVariants.{Pid, BadPath}
@@ -78,7 +77,7 @@ use Rattle.arguments.specs.declared.request.Request.TheVariants as request
 use Rattle.streams.specs.declared.write.WriteFailed.{WriteFailed}
 use Rattle.commands.specs.PairLines.{GivenPair, pairs_read, AsksSomething}
 use Rattle.commands.specs.SubtreeLines.{subtrees_read, AreLinesOf}
-use Rattle.commands.specs.Requests.{Files, source, name_of, may_said, check_said, whom, wanted_of, everybody_asked, format_of, in_format, SettlesIn, SettlesAs, AdviseSays, AdvisesOn, AuditsOn, ExplainsOn, EverybodyOn, OnLines, OnBothTexts, GuardsSay, FurtherSay, AuditSays, ExplainSays, replay_said, OnTreeText, OnTree, ReplaysOver, CarriesOut}
+use Rattle.commands.specs.Requests.{Files, source, name_of, may_said, check_said, whom, wanted_of, everybody_asked, format_of, in_format, audit_said, advise_said, advise_settled_said, advise_pairs_said, SettlesIn, SettlesAs, AdviseSays, AdvisesOn, AuditsOn, ExplainsOn, EverybodyOn, OnLines, OnBothTexts, GuardsSay, FurtherSay, AuditSays, ExplainSays, replay_said, OnTreeText, OnTree, ReplaysOver, CarriesOut}
 use Rattle.commands.specs.Runs.{CarriesOutBuffered, LeadsTo, LiesBelow, RunsTo}
 use Rattle.commands.specs.declared.fault.Fault.{Fault}
 use Rattle.commands.specs.declared.fault.Fault.TheVariants.{Usage, Cli}
@@ -342,7 +341,7 @@ module _ (files : Files) (given old new : Option (List ℕ)) (status : ℕ) wher
         → source files (tree_file asked.sources) given ≡ Some text → source files (other_file asked.sources) given ≡ Some pairs
         → IsTextOf st text → length pairs ≤ 16777216
         → (named : List ((ℕ × List ℕ) × List ℕ)) × (pairs_read pairs ≡ Ok named) × AsksSomething pairs
-        × Reports (in_format asked.format (advise_pairs_report (Ok st) named) (advise_pairs_json_report (Ok st) named)) old new (Ok status)
+        × Reports (advise_pairs_said asked.format (Ok st) named) old new (Ok status)
         × ((users : List Identity) (subtrees : List Names) → users_read (map (λ pair. pair.0) named) ≡ Ok users
         → paths_read (map (λ pair. pair.1) named) ≡ Ok subtrees
         → status ≡ 0 → AreContainedAsNamed st (paired users subtrees))
@@ -460,7 +459,7 @@ module _ (files : Files) (given old new : Option (List ℕ)) (status : ℕ) wher
           of_text carried
 
       pub advise_ended : advise.settle ≡ false
-          → Reports (in_format advise.format (advise_report (Ok st) who paths) (advise_json_report (Ok st) who paths)) old new (Ok status)
+          → Reports (advise_said advise.format (Ok st) who paths) old new (Ok status)
           × (status ≡ 0 → (users : List Identity) (subtrees : List Names) → users_read who ≡ Ok users → paths_read paths ≡ Ok subtrees
           → users ≢ [] → AreContained st users subtrees)
       advise_ended guards =
@@ -474,9 +473,8 @@ module _ (files : Files) (given old new : Option (List ℕ)) (status : ℕ) wher
 
       pub advise_settled_ended : (users : List Identity) (subtrees : List Names) → advise.settle ≡ true → users_read who ≡ Ok users
           → paths_read paths ≡ Ok subtrees → users ≢ []
-          → Reports (in_format advise.format (advise_settled_report (Ok st) who paths) (advise_settled_json_report (Ok st) who paths)) old
-          new (Ok status)
-          × (Reports (in_format advise.format (advise_report (Ok st) who paths) (advise_json_report (Ok st) who paths)) old new (Ok status)
+          → Reports (advise_settled_said advise.format (Ok st) who paths) old new (Ok status)
+          × (Reports (advise_said advise.format (Ok st) who paths) old new (Ok status)
           ⊎ Reports (in_format advise.format (record { text = codes "contained\n"; ending = Ok 0 }) (parts_report None)) old new
           (Ok status))
           × (status ≡ 0 → AreHeld st users subtrees
@@ -485,11 +483,9 @@ module _ (files : Files) (given old new : Option (List ℕ)) (status : ℕ) wher
           by_format advise.format (each_alone _ _ advise.settle further told)
         where
           by_format : (format : Written)
-              → Reports (in_format format (advise_settled_report (Ok st) who paths) (advise_settled_json_report (Ok st) who paths)) old new
-              (Ok status)
-              → Reports (in_format format (advise_settled_report (Ok st) who paths) (advise_settled_json_report (Ok st) who paths)) old new
-              (Ok status)
-              × (Reports (in_format format (advise_report (Ok st) who paths) (advise_json_report (Ok st) who paths)) old new (Ok status)
+              → Reports (advise_settled_said format (Ok st) who paths) old new (Ok status)
+              → Reports (advise_settled_said format (Ok st) who paths) old new (Ok status)
+              × (Reports (advise_said format (Ok st) who paths) old new (Ok status)
               ⊎ Reports (in_format format (record { text = codes "contained\n"; ending = Ok 0 }) (parts_report None)) old new (Ok status))
               × (status ≡ 0 → AreHeld st users subtrees
               × (AreSettled st (once same_user users) (once same_path subtrees) ⊎ AreContained st users subtrees))
@@ -544,8 +540,7 @@ module _ (files : Files) (given old new : Option (List ℕ)) (status : ℕ) wher
           )
 
       pub audit_ended : audit.settle ≡ false → audit.all ≡ false
-          → Reports (in_format audit.format (audit_report (Ok st) users subtrees) (audit_json_report (Ok st) users subtrees)) old new
-          (Ok status)
+          → Reports (audit_said audit.format (Ok st) users subtrees) old new (Ok status)
           × (status ≡ 0 → (who : List Identity) (paths : List Names) → users_read users ≡ Ok who → paths_read subtrees ≡ Ok paths
           → who ≢ [] → AreContained st who paths)
       audit_ended guards first =

@@ -51,13 +51,12 @@ ghost use Rattle.cg_cli.specs.Courses.{verdict_status};
 ghost use Rattle.cg_cli.specs.Replays.{is_newline, longest_line, outcome_of, replay_report};
 ghost use Rattle.cg_cli.specs.Containment.{answer_report, check_report};
 ghost use Rattle.cg_cli.specs.Settled.{IsSettledFrom};
-ghost use Rattle.cg_cli.specs.SettledAdvice.{advise_settled_report};
 ghost use Rattle.cg_cli.specs.Settling.{IsFurther};
 ghost use Rattle.cg_cli.specs.Audited.{AreKnownWithEach};
 ghost use Rattle.cg_cli.specs.Audits.{users_read, paths_read, audit_report};
 ghost use Rattle.cg_cli.specs.Once.{same_user};
 ghost use Rattle.cg_cli.specs.AllPairs.{all_report, ReportsPairsBy, UnlistedAreContained};
-ghost use Rattle.cg_cli.specs.AsJson.{answer_json_report, audit_json_report, parts_report, advise_json_report, advise_settled_json_report, advise_pairs_json_report};
+ghost use Rattle.cg_cli.specs.AsJson.{answer_json_report, parts_report};
 ghost use Rattle.cg_cli.specs.Explaining.{explain_asked, ReportsToldBy};
 ghost use Rattle.cg_cli.specs.Formats.{told_in, listing_in, first_in};
 ghost use Rattle.cg_cli.specs.Everybody.{everybody_report};
@@ -94,7 +93,7 @@ ghost use Rattle.arguments.specs.declared.request.Request.{Request};
 ghost use Rattle.arguments.specs.declared.request.Request.TheVariants as request;
 ghost use Rattle.commands.specs.PairLines.{pairs_read, AsksSomething};
 ghost use Rattle.commands.specs.SubtreeLines.{subtrees_read, AreLinesOf};
-ghost use Rattle.commands.specs.Requests.{Files, source, name_of, may_said, check_said, whom, wanted_of, everybody_asked, format_of, in_format, CarriesOut};
+ghost use Rattle.commands.specs.Requests.{Files, source, name_of, may_said, check_said, whom, wanted_of, everybody_asked, format_of, in_format, audit_said, advise_said, advise_settled_said, advise_pairs_said, CarriesOut};
 ghost use Rattle.commands.specs.Runs.{LeadsTo, RunsTo};
 ghost use Rattle.commands.specs.declared.fault.Fault.{Fault};
 ghost use Rattle.streams.specs.declared.write.WriteFailed.{WriteFailed};
@@ -307,8 +306,8 @@ pub fn the_program()
     ensures audit { (audit : Audit) (files : Files) (given old new : Option (List ℕ)) (status : ℕ) (text : List ℕ) (st : State)
         → CarriesOut (request.Audit audit) files given old new (Ok status) → audit.settle ≡ false → audit.all ≡ false
         → source files (name_of audit.tree) given ≡ Some text → IsTextOf st text
-        → Reports (in_format audit.format (audit_report (Ok st) (map ids_of audit.users.items) (map (λ subtree. subtree.now) audit.subtrees.items))
-        (audit_json_report (Ok st) (map ids_of audit.users.items) (map (λ subtree. subtree.now) audit.subtrees.items))) old new (Ok status)
+        → Reports (audit_said audit.format (Ok st) (map ids_of audit.users.items) (map (λ subtree. subtree.now) audit.subtrees.items)) old new
+        (Ok status)
         × (status ≡ 0 → (users : List Identity) (subtrees : List Names) → users_read (map ids_of audit.users.items) ≡ Ok users
         → paths_read (map (λ subtree. subtree.now) audit.subtrees.items) ≡ Ok subtrees → users ≢ [] → AreContained st users subtrees) }
     ensures audit_all { (audit : Audit) (files : Files) (given old new : Option (List ℕ)) (status : ℕ) (text : List ℕ) (st : State)
@@ -340,7 +339,8 @@ pub fn the_program()
         → paths_read (map (λ subtree. subtree.now) audit.subtrees.items) ≡ Ok subtrees
         → (found : ℕ → ℕ → Answer) × (AreKnownWithEach st (once same_user users) (once same_path subtrees) found
         × AreFurther st (once same_user users) (once same_path subtrees) found)
-        × Reports (first_in (format_of audit.format) (listed_from found 0 (once same_user users) (once same_path subtrees))) old new (Ok status)
+        × Reports (first_in (format_of audit.format) (listed_from found 0 (once same_user users) (once same_path subtrees))) old new
+        (Ok status)
         × (status ≡ 0 → users ≢ []
         → AreHeld st users subtrees × AreSettled st (once same_user users) (once same_path subtrees)) }
     ensures audit_all_settled { (audit : Audit) (files : Files) (given old new : Option (List ℕ)) (status : ℕ) (text : List ℕ) (st : State) (users : List Identity) (subtrees : List Names)
@@ -382,18 +382,18 @@ pub fn the_program()
     ensures advise { (advise : Advise) (files : Files) (given old new : Option (List ℕ)) (status : ℕ) (text : List ℕ) (st : State)
         → CarriesOut (request.Advise advise) files given old new (Ok status) → advise.settle ≡ false
         → source files (name_of advise.tree) given ≡ Some text → IsTextOf st text
-        → Reports (in_format advise.format (advise_report (Ok st) (map ids_of advise.users.items) (map (λ subtree. subtree.now) advise.subtrees.items))
-        (advise_json_report (Ok st) (map ids_of advise.users.items) (map (λ subtree. subtree.now) advise.subtrees.items))) old new (Ok status)
+        → Reports (advise_said advise.format (Ok st) (map ids_of advise.users.items) (map (λ subtree. subtree.now) advise.subtrees.items)) old
+        new (Ok status)
         × (status ≡ 0 → (users : List Identity) (subtrees : List Names) → users_read (map ids_of advise.users.items) ≡ Ok users
         → paths_read (map (λ subtree. subtree.now) advise.subtrees.items) ≡ Ok subtrees → users ≢ [] → AreContained st users subtrees) }
     ensures advise_settled { (advise : Advise) (files : Files) (given old new : Option (List ℕ)) (status : ℕ) (text : List ℕ) (st : State) (users : List Identity) (subtrees : List Names)
         → CarriesOut (request.Advise advise) files given old new (Ok status) → advise.settle ≡ true
         → source files (name_of advise.tree) given ≡ Some text → IsTextOf st text → users_read (map ids_of advise.users.items) ≡ Ok users
         → paths_read (map (λ subtree. subtree.now) advise.subtrees.items) ≡ Ok subtrees → users ≢ []
-        → Reports (in_format advise.format (advise_settled_report (Ok st) (map ids_of advise.users.items) (map (λ subtree. subtree.now) advise.subtrees.items))
-        (advise_settled_json_report (Ok st) (map ids_of advise.users.items) (map (λ subtree. subtree.now) advise.subtrees.items))) old new (Ok status)
-        × (Reports (in_format advise.format (advise_report (Ok st) (map ids_of advise.users.items) (map (λ subtree. subtree.now) advise.subtrees.items))
-        (advise_json_report (Ok st) (map ids_of advise.users.items) (map (λ subtree. subtree.now) advise.subtrees.items))) old new (Ok status)
+        → Reports (advise_settled_said advise.format (Ok st) (map ids_of advise.users.items) (map (λ subtree. subtree.now) advise.subtrees.items))
+        old new (Ok status)
+        × (Reports (advise_said advise.format (Ok st) (map ids_of advise.users.items) (map (λ subtree. subtree.now) advise.subtrees.items)) old
+        new (Ok status)
         ⊎ Reports (in_format advise.format (record { text = codes "contained\n"; ending = Ok 0 }) (parts_report None)) old new (Ok status))
         × (status ≡ 0 → AreHeld st users subtrees
         × (AreSettled st (once same_user users) (once same_path subtrees) ⊎ AreContained st users subtrees)) }
@@ -402,7 +402,7 @@ pub fn the_program()
         → source files (tree_file asked.sources) given ≡ Some text → source files (other_file asked.sources) given ≡ Some pairs
         → IsTextOf st text → length pairs ≤ 16777216
         → (named : List ((ℕ × List ℕ) × List ℕ)) × (pairs_read pairs ≡ Ok named) × AsksSomething pairs
-        × Reports (in_format asked.format (advise_pairs_report (Ok st) named) (advise_pairs_json_report (Ok st) named)) old new (Ok status)
+        × Reports (advise_pairs_said asked.format (Ok st) named) old new (Ok status)
         × ((users : List Identity) (subtrees : List Names) → users_read (map (λ pair. pair.0) named) ≡ Ok users
         → paths_read (map (λ pair. pair.1) named) ≡ Ok subtrees
         → status ≡ 0 → AreContainedAsNamed st (paired users subtrees)) }

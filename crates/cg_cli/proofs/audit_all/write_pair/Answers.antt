@@ -42,6 +42,7 @@ returns-in_err-write_whole g c =
 pub returns : goal.returns
 returns g c =
     pair_writes (listing_in c.args.format) c.args.user.now c.args.subtree.now (g.H.Hierarchy.state c.args.tree.now) c.requires.there
-    c.in_ok-answer.answer (g.W.Write.contents c.args.out.now) (g.W.Write.contents c.write_whole.new.out) c.as_slice.result.now c.status.result
+    c.in_ok-answer.answer (g.W.Write.contents c.args.out.now) (g.W.Write.contents c.write_whole.new.out) c.as_slice.result.now
+    c.status.result
     c.in_ok-answer.ensures.answer c.in_default.not-Contained (c.as_slice.ensures.value ∙ c.in_ok-text.ensures) c.status.ensures
     c.in_ok-write_whole.ensures.ok
